@@ -1,0 +1,9 @@
+pub mod Key
+pub mod Winternitz
+pub mod Merkle
+pub mod Texts
+pub mod FirstPath
+pub mod FirstTexts
+pub mod Outside
+pub mod Board
+pub mod FirstCommand

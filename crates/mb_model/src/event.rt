@@ -1,0 +1,124 @@
+//! What happens to a device, and what it answered.
+
+ghost use Rattle.std.specs.Prelude.{◌≡◌, IfOk};
+
+use crate::bytes::Bytes;
+use crate::items::Items;
+use crate::memory::NoMemory;
+use crate::reply::Reply;
+use std::alloc::Global;
+
+/// What a power loss leaves of the write that it falls in: the first `keep` bytes are written, and each byte after
+/// them is one of the first `fill_length` bytes of `fill` (1 to 16), repeated in order.
+#[derive(Clone, Copy, Debug, PartialEq, Eq)]
+pub struct Tear {
+    pub keep: u32,
+    pub fill: [u8; 16],
+    pub fill_length: u8,
+}
+
+/// An event of a script.
+#[derive(Drop)]
+pub enum Event {
+    /// Power comes on.
+    Boot,
+    /// Power goes off.
+    Off,
+    /// Someone opens the case.
+    Tamper,
+    /// Asks how the layers stand.
+    Status,
+    /// Hands control to the next layer.
+    Go,
+    /// Power will fail in the write call with this number, from 1, counted from now on.
+    Cut {
+        count: u32,
+        tear: Tear,
+    },
+    /// An owner's order as bytes, and the noise of which keys are made.
+    Command {
+        text: Bytes,
+        draw: [u8; 32],
+    },
+    /// Keeps a secret under a name in region 2 or 3.
+    Put {
+        region: u8,
+        name: Bytes,
+        value: Bytes,
+    },
+    /// Reads the secret of a name.
+    Get {
+        region: u8,
+        name: Bytes,
+    },
+    /// Forgets the secret of a name.
+    Drop {
+        region: u8,
+        name: Bytes,
+    },
+    /// Signs a message by the region's key of this number.
+    Sign {
+        region: u8,
+        key: u32,
+        message: Bytes,
+    },
+}
+
+/// Events in order.
+pub type Events = Items<Event>;
+
+/// An event, and the reply that it got.
+#[derive(Drop)]
+pub struct Answered {
+    pub event: Event,
+    pub reply: Reply,
+}
+
+impl Event {
+    /// A copy of the event.
+    pub fn copy(&self, alloc: Global) -> Result<Event, NoMemory>
+        ensures { IfOk result (λ event. event ≡ self.now) }
+    {
+        Ok(match self {
+            Event::Boot => Event::Boot,
+            Event::Off => Event::Off,
+            Event::Tamper => Event::Tamper,
+            Event::Status => Event::Status,
+            Event::Go => Event::Go,
+            Event::Cut { count, tear } => Event::Cut {
+                count: *count,
+                tear: *tear,
+            },
+            Event::Command { text, draw } => Event::Command {
+                text: Bytes::copy(alloc, text.as_slice())?,
+                draw: *draw,
+            },
+            Event::Put {
+                region,
+                name,
+                value,
+            } => Event::Put {
+                region: *region,
+                name: Bytes::copy(alloc, name.as_slice())?,
+                value: Bytes::copy(alloc, value.as_slice())?,
+            },
+            Event::Get { region, name } => Event::Get {
+                region: *region,
+                name: Bytes::copy(alloc, name.as_slice())?,
+            },
+            Event::Drop { region, name } => Event::Drop {
+                region: *region,
+                name: Bytes::copy(alloc, name.as_slice())?,
+            },
+            Event::Sign {
+                region,
+                key,
+                message,
+            } => Event::Sign {
+                region: *region,
+                key: *key,
+                message: Bytes::copy(alloc, message.as_slice())?,
+            },
+        })
+    }
+}
