@@ -10,6 +10,7 @@ mod event;
 mod first;
 mod items;
 mod key;
+mod laws;
 mod limits;
 mod memory;
 mod reply;
@@ -19,6 +20,7 @@ pub use event::{Answered, Event, Events, Tear};
 pub use first::{FirstState, Ownership};
 pub use items::{Calls, File, Files, Items};
 pub use key::{Chains, KeySeed, PublicKey, Tree, Trust};
+pub use laws::one_state;
 pub use limits::{
     BBRAM_LENGTH, EVENT_LIMIT, FILE_LIMIT, FLASH_LENGTH, IMAGE_LENGTH, SECTOR_LENGTH,
     SIGNATURE_LIMIT,

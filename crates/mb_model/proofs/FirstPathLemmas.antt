@@ -1,0 +1,96 @@
+-- Lemmas on the first path: bytes spell at most one order, and a sector holds at most one state.
+use Rattle.std.proofs.Common.{◌≡◌, ℕ, ◌+◌, ◌-◌, ◌<◌, ◌≤◌, List, [], ◌∷◌, ◌++◌, length, take, drop, Option, None, Some, refl, sym, ap, ◌∙◌, arith, length-append, append_assoc}
+use Rattle.std.specs.Prelude.{IfSome}
+use Rattle.std.specs.Int.{w16, to_be_bytes}
+use Rattle.mb_model.specs.declared.key.PublicKey.{PublicKey}
+use Rattle.mb_model.specs.declared.key.Trust.{Trust}
+use Rattle.mb_model.specs.declared.key.Trust.TheVariants.{Always, Never, Countersigned}
+use Rattle.mb_model.specs.declared.first.FirstState.{FirstState}
+use Rattle.mb_model.specs.declared.first.Ownership.{Ownership}
+use Rattle.mb_model.specs.Key.{key_bytes}
+use Rattle.mb_model.specs.FirstPath.{trust_byte, IsFirstKey, IsFirstState, ownership_bytes, state_bytes, erased, IsSectorOf, FirstOrder, body_bytes, order_bytes, Spells}
+use Rattle.mb_model.proofs.KeyLemmas.{same_parts, length-key_bytes, key_bytes-same}
+
+-- a list's first byte and its rest are equal where the lists are
+cons_same : (x y : ℕ) (xs ys : List ℕ) → x ∷ xs ≡ y ∷ ys → (x ≡ y) × (xs ≡ ys)
+cons_same x y xs ys e = (cc, cc)
+
+-- a trust's byte determines it
+trust_byte-same : (a b : Trust) → trust_byte a ≡ trust_byte b → a ≡ b
+trust_byte-same a b e = grind arith
+
+-- the first keys are as long as each other
+key_lengths : (a b : PublicKey) → IsFirstKey a → IsFirstKey b → length (key_bytes a) ≡ length (key_bytes b)
+key_lengths a b fa fb = length-key_bytes a fa.sized ∙ sym (length-key_bytes b fb.sized)
+
+-- an owner and a trust with the same two fields are one
+abbrev ownership_of : PublicKey → Trust → Ownership
+ownership_of owner trust = record { owner = owner; trust = trust }
+
+ownership_same : (a b : Ownership) → a.owner ≡ b.owner → a.trust ≡ b.trust → a ≡ b
+ownership_same a b owner trust =
+    ap (λ (x : PublicKey). ownership_of x a.trust) owner ∙ ap (λ (x : Trust). ownership_of b.owner x) trust
+
+-- the bytes of an ownership and any bytes behind them, field by field
+pub owned_bytes-flat : (held : Ownership) (xs : List ℕ)
+    → ownership_bytes (Some held) ++ xs ≡ 1 ∷ (key_bytes held.owner ++ trust_byte held.trust ∷ xs)
+unfolding ownership_bytes
+owned_bytes-flat held xs = append_assoc (1 ∷ key_bytes held.owner) (trust_byte held.trust ∷ []) xs
+
+-- the bytes of an ownership, with any bytes behind them, determine it
+ownership_bytes-same : (a b : Option Ownership) (xs ys : List ℕ) → IfSome a (λ held. IsFirstKey held.owner) → IfSome b (λ held. IsFirstKey held.owner)
+    → ownership_bytes a ++ xs ≡ ownership_bytes b ++ ys → a ≡ b
+unfolding ownership_bytes
+ownership_bytes-same None None xs ys ka kb e = refl
+ownership_bytes-same None (Some b) xs ys ka kb e =
+    let head = cons_same 0 1 _ _ e in
+    absurd (omega (arith, head.0))
+ownership_bytes-same (Some a) None xs ys ka kb e =
+    let head = cons_same 1 0 _ _ e in
+    absurd (omega (arith, head.0))
+ownership_bytes-same (Some a) (Some b) xs ys ka kb e =
+    let head = cons_same 1 1 _ _ (sym (owned_bytes-flat a xs) ∙ e ∙ owned_bytes-flat b ys) in
+    let key = same_parts (key_bytes a.owner) (key_bytes b.owner) _ _ (key_lengths a.owner b.owner ka kb) head.1 in
+    let trust = cons_same (trust_byte a.trust) (trust_byte b.trust) xs ys key.1 in
+    ap Some (ownership_same a b (key_bytes-same a.owner b.owner ka.sized kb.sized key.0) (trust_byte-same a.trust b.trust trust.0))
+
+-- two states with the same three fields are one
+abbrev state_of : List ℕ → PublicKey → Option Ownership → FirstState
+state_of serial one two = record { serial = serial; one = one; two = two }
+
+state_same : (a b : FirstState) → a.serial ≡ b.serial → a.one ≡ b.one → a.two ≡ b.two → a ≡ b
+state_same a b serial one two =
+    ap (λ (x : List ℕ). state_of x a.one a.two) serial
+    ∙ ap (λ (x : PublicKey). state_of b.serial x a.two) one
+    ∙ ap (λ (x : Option Ownership). state_of b.serial b.one x) two
+
+-- the bytes of a state and any bytes behind them, field by field
+pub state_bytes-flat : (state : FirstState) (xs : List ℕ)
+    → state_bytes state ++ xs ≡ 0 ∷ (state.serial ++ (key_bytes state.one ++ (ownership_bytes state.two ++ xs)))
+unfolding state_bytes
+state_bytes-flat state xs =
+    append_assoc (0 ∷ state.serial ++ key_bytes state.one) (ownership_bytes state.two) xs
+    ∙ append_assoc (0 ∷ state.serial) (key_bytes state.one) (ownership_bytes state.two ++ xs)
+
+-- the bytes of a state, with any bytes behind them, determine it
+pub state_bytes-same : (a b : FirstState) (xs ys : List ℕ) → IsFirstState a → IsFirstState b
+    → state_bytes a ++ xs ≡ state_bytes b ++ ys → a ≡ b
+state_bytes-same a b xs ys fa fb e =
+    let head = cons_same 0 0 _ _ (sym (state_bytes-flat a xs) ∙ e ∙ state_bytes-flat b ys) in
+    let serial = same_parts a.serial b.serial _ _ (fa.serial ∙ sym fb.serial) head.1 in
+    let one = same_parts (key_bytes a.one) (key_bytes b.one) _ _ (key_lengths a.one b.one fa.one fb.one) serial.1 in
+    state_same a b serial.0 (key_bytes-same a.one b.one fa.one.sized fb.one.sized one.0) (ownership_bytes-same a.two b.two xs ys fa.two fb.two one.1)
+
+-- a sector holds at most one state
+pub one_state : (sector : List ℕ) (a b : FirstState) → IsSectorOf sector a → IsSectorOf sector b → a ≡ b
+one_state sector a b ha hb = state_bytes-same a b _ _ ha.allowed hb.allowed (sym ha.bytes ∙ hb.bytes)
+
+-- two orders with the same three fields are one
+abbrev order_of : PublicKey → Trust → List ℕ → FirstOrder
+order_of owner trust signature = record { owner = owner; trust = trust; signature = signature }
+
+order_same : (a b : FirstOrder) → a.owner ≡ b.owner → a.trust ≡ b.trust → a.signature ≡ b.signature → a ≡ b
+order_same a b owner trust signature =
+    ap (λ (x : PublicKey). order_of x a.trust a.signature) owner
+    ∙ ap (λ (x : Trust). order_of b.owner x a.signature) trust
+    ∙ ap (λ (x : List ℕ). order_of b.owner b.trust x) signature
