@@ -1,14 +1,14 @@
 -- Lemmas on the first path: bytes spell at most one order, and a sector holds at most one state.
-use Rattle.std.proofs.Common.{◌≡◌, ℕ, ◌+◌, ◌-◌, ◌<◌, ◌≤◌, List, [], ◌∷◌, ◌++◌, length, take, drop, Option, None, Some, refl, sym, ap, ◌∙◌, arith, length-append, append_assoc}
+use Rattle.std.proofs.Common.{◌≡◌, ℕ, List, [], ◌∷◌, ◌++◌, length, drop, Option, None, Some, refl, sym, ap, ◌∙◌, arith, append_assoc}
+use Rattle.std.proofs.lemmas.List.{same_from_push}
 use Rattle.std.specs.Prelude.{IfSome}
 use Rattle.std.specs.Int.{w16, to_be_bytes}
 use Rattle.mb_model.specs.declared.key.PublicKey.{PublicKey}
 use Rattle.mb_model.specs.declared.key.Trust.{Trust}
-use Rattle.mb_model.specs.declared.key.Trust.TheVariants.{Always, Never, Countersigned}
 use Rattle.mb_model.specs.declared.first.FirstState.{FirstState}
 use Rattle.mb_model.specs.declared.first.Ownership.{Ownership}
 use Rattle.mb_model.specs.Key.{key_bytes}
-use Rattle.mb_model.specs.FirstPath.{trust_byte, IsFirstKey, IsFirstState, ownership_bytes, state_bytes, erased, IsSectorOf, FirstOrder, body_bytes, order_bytes, Spells}
+use Rattle.mb_model.specs.FirstPath.{trust_byte, IsFirstKey, IsFirstState, ownership_bytes, state_bytes, IsSectorOf, FirstOrder, body_bytes, order_bytes, Spells}
 use Rattle.mb_model.proofs.KeyLemmas.{same_parts, length-key_bytes, key_bytes-same}
 
 -- a list's first byte and its rest are equal where the lists are
@@ -94,3 +94,22 @@ order_same a b owner trust signature =
     ap (λ (x : PublicKey). order_of x a.trust a.signature) owner
     ∙ ap (λ (x : Trust). order_of b.owner x a.signature) trust
     ∙ ap (λ (x : List ℕ). order_of b.owner b.trust x) signature
+
+-- the bytes of an order, field by field
+pub order_bytes-flat : (order : FirstOrder)
+    → order_bytes order ≡ 1 ∷ 2 ∷ 0 ∷ (key_bytes order.owner ++ trust_byte order.trust ∷ (to_be_bytes w16 (length order.signature) ++ (order.signature ++ 0 ∷ [])))
+unfolding order_bytes body_bytes
+order_bytes-flat order =
+    append_assoc (body_bytes order ++ to_be_bytes w16 (length order.signature)) order.signature (0 ∷ [])
+    ∙ append_assoc (body_bytes order) (to_be_bytes w16 (length order.signature)) (order.signature ++ 0 ∷ [])
+    ∙ append_assoc (1 ∷ 2 ∷ 0 ∷ key_bytes order.owner) (trust_byte order.trust ∷ []) (to_be_bytes w16 (length order.signature) ++ (order.signature ++ 0 ∷ []))
+
+-- bytes spell at most one order
+pub one_order : (text : List ℕ) (a b : FirstOrder) → Spells text a → Spells text b → a ≡ b
+one_order text a b ha hb =
+    let head = cons_same 0 0 _ _ (ap (drop 2) (sym (order_bytes-flat a) ∙ sym ha.bytes ∙ hb.bytes ∙ order_bytes-flat b)) in
+    let owner = same_parts (key_bytes a.owner) (key_bytes b.owner) _ _ (key_lengths a.owner b.owner ha.owner hb.owner) head.1 in
+    let trust = cons_same (trust_byte a.trust) (trust_byte b.trust) _ _ owner.1 in
+    let sized = same_parts (to_be_bytes w16 (length a.signature)) (to_be_bytes w16 (length b.signature)) _ _ refl trust.1 in
+    let signature = same_from_push a.signature b.signature 0 0 sized.1 in
+    order_same a b (key_bytes-same a.owner b.owner ha.owner.sized hb.owner.sized owner.0) (trust_byte-same a.trust b.trust trust.0) signature.0

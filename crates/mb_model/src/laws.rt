@@ -2,9 +2,14 @@
 
 ghost use Rattle.std.specs.Prelude.{◌≡◌, ℕ, List};
 ghost use Rattle.mb_model.specs.declared.first.FirstState.{FirstState};
-ghost use Rattle.mb_model.specs.FirstPath.{IsSectorOf};
+ghost use Rattle.mb_model.specs.FirstPath.{FirstOrder, IsSectorOf, Spells};
 
 /// A sector holds at most one state.
 pub fn one_state()
     ensures { (sector : List ℕ) (a b : FirstState) → IsSectorOf sector a → IsSectorOf sector b → a ≡ b }
+{}
+
+/// Bytes spell at most one order.
+pub fn one_order()
+    ensures { (text : List ℕ) (a b : FirstOrder) → Spells text a → Spells text b → a ≡ b }
 {}

@@ -20,7 +20,7 @@ pub use event::{Answered, Event, Events, Tear};
 pub use first::{FirstState, Ownership};
 pub use items::{Calls, File, Files, Items};
 pub use key::{Chains, KeySeed, PublicKey, Tree, Trust};
-pub use laws::one_state;
+pub use laws::{one_order, one_state};
 pub use limits::{
     BBRAM_LENGTH, EVENT_LIMIT, FILE_LIMIT, FLASH_LENGTH, IMAGE_LENGTH, SECTOR_LENGTH,
     SIGNATURE_LIMIT,
