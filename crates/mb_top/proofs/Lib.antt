@@ -1,0 +1,3 @@
+mod Sectors
+mod Stepping
+mod Served
