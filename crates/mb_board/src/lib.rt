@@ -3,6 +3,9 @@
 //! This crate owns what may be relied on of the hardware. It stands on `mb_model` alone.
 #![tactic(auto)]
 
+mod bank;
 mod board;
+mod sim;
 
 pub use board::{Board, Stopped};
+pub use sim::SimBoard;

@@ -3,6 +3,14 @@
 //! This crate owns what may be relied on of the outside, failing or not. It stands on `mb_model` alone.
 #![tactic(auto)]
 
+mod count;
 mod host;
+mod memory;
+mod real;
 
 pub use host::{Host, HostEnd, HostFailed};
+pub use memory::MemoryHost;
+pub use real::RealHost;
+
+#[cfg(test)]
+mod tests;

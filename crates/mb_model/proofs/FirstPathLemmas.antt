@@ -9,19 +9,24 @@ use Rattle.mb_model.specs.declared.first.FirstState.{FirstState}
 use Rattle.mb_model.specs.declared.first.Ownership.{Ownership}
 use Rattle.mb_model.specs.Key.{key_bytes}
 use Rattle.mb_model.specs.FirstPath.{trust_byte, IsFirstKey, IsFirstState, ownership_bytes, state_bytes, IsSectorOf, FirstOrder, body_bytes, order_bytes, Spells}
-use Rattle.mb_model.proofs.KeyLemmas.{same_parts, length-key_bytes, key_bytes-same}
-
--- a list's first byte and its rest are equal where the lists are
-cons_same : (x y : ℕ) (xs ys : List ℕ) → x ∷ xs ≡ y ∷ ys → (x ≡ y) × (xs ≡ ys)
-cons_same x y xs ys e = (cc, cc)
+use Rattle.mb_model.proofs.KeyLemmas.{cons_same, same_parts, length-key_bytes, key_bytes-same}
 
 -- a trust's byte determines it
 trust_byte-same : (a b : Trust) → trust_byte a ≡ trust_byte b → a ≡ b
 trust_byte-same a b e = grind arith
 
--- the first keys are as long as each other
-key_lengths : (a b : PublicKey) → IsFirstKey a → IsFirstKey b → length (key_bytes a) ≡ length (key_bytes b)
-key_lengths a b fa fb = length-key_bytes a fa.sized ∙ sym (length-key_bytes b fb.sized)
+-- a trust before some bytes: both are determined
+pub trust_front : (a b : Trust) (xs ys : List ℕ) → trust_byte a ∷ xs ≡ trust_byte b ∷ ys → (a ≡ b) × (xs ≡ ys)
+trust_front a b xs ys e =
+    let parts = cons_same (trust_byte a) (trust_byte b) xs ys e in
+    (trust_byte-same a b parts.0, parts.1)
+
+-- a key before some bytes: both are determined
+pub key_front : (a b : PublicKey) (xs ys : List ℕ) → IsFirstKey a → IsFirstKey b → key_bytes a ++ xs ≡ key_bytes b ++ ys → (a ≡ b) × (xs ≡ ys)
+key_front a b xs ys fa fb e =
+    let len = length-key_bytes a fa.sized ∙ sym (length-key_bytes b fb.sized) in
+    let parts = same_parts (key_bytes a) (key_bytes b) xs ys len e in
+    (key_bytes-same a b fa.sized fb.sized parts.0, parts.1)
 
 -- an owner and a trust with the same two fields are one
 abbrev ownership_of : PublicKey → Trust → Ownership
@@ -37,22 +42,22 @@ pub owned_bytes-flat : (held : Ownership) (xs : List ℕ)
 unfolding ownership_bytes
 owned_bytes-flat held xs = append_assoc (1 ∷ key_bytes held.owner) (trust_byte held.trust ∷ []) xs
 
--- the bytes of an ownership, with any bytes behind them, determine it
-ownership_bytes-same : (a b : Option Ownership) (xs ys : List ℕ) → IfSome a (λ held. IsFirstKey held.owner) → IfSome b (λ held. IsFirstKey held.owner)
-    → ownership_bytes a ++ xs ≡ ownership_bytes b ++ ys → a ≡ b
+-- an ownership before some bytes: both are determined
+pub ownership_front : (a b : Option Ownership) (xs ys : List ℕ) → IfSome a (λ held. IsFirstKey held.owner) → IfSome b (λ held. IsFirstKey held.owner)
+    → ownership_bytes a ++ xs ≡ ownership_bytes b ++ ys → (a ≡ b) × (xs ≡ ys)
 unfolding ownership_bytes
-ownership_bytes-same None None xs ys ka kb e = refl
-ownership_bytes-same None (Some b) xs ys ka kb e =
+ownership_front None None xs ys ka kb e = (refl, (cons_same 0 0 xs ys e).1)
+ownership_front None (Some b) xs ys ka kb e =
     let head = cons_same 0 1 _ _ e in
     absurd (omega (arith, head.0))
-ownership_bytes-same (Some a) None xs ys ka kb e =
+ownership_front (Some a) None xs ys ka kb e =
     let head = cons_same 1 0 _ _ e in
     absurd (omega (arith, head.0))
-ownership_bytes-same (Some a) (Some b) xs ys ka kb e =
+ownership_front (Some a) (Some b) xs ys ka kb e =
     let head = cons_same 1 1 _ _ (sym (owned_bytes-flat a xs) ∙ e ∙ owned_bytes-flat b ys) in
-    let key = same_parts (key_bytes a.owner) (key_bytes b.owner) _ _ (key_lengths a.owner b.owner ka kb) head.1 in
-    let trust = cons_same (trust_byte a.trust) (trust_byte b.trust) xs ys key.1 in
-    ap Some (ownership_same a b (key_bytes-same a.owner b.owner ka.sized kb.sized key.0) (trust_byte-same a.trust b.trust trust.0))
+    let owner = key_front a.owner b.owner _ _ ka kb head.1 in
+    let trust = trust_front a.trust b.trust xs ys owner.1 in
+    (ap Some (ownership_same a b owner.0 trust.0), trust.1)
 
 -- two states with the same three fields are one
 abbrev state_of : List ℕ → PublicKey → Option Ownership → FirstState
@@ -78,8 +83,9 @@ pub state_bytes-same : (a b : FirstState) (xs ys : List ℕ) → IsFirstState a 
 state_bytes-same a b xs ys fa fb e =
     let head = cons_same 0 0 _ _ (sym (state_bytes-flat a xs) ∙ e ∙ state_bytes-flat b ys) in
     let serial = same_parts a.serial b.serial _ _ (fa.serial ∙ sym fb.serial) head.1 in
-    let one = same_parts (key_bytes a.one) (key_bytes b.one) _ _ (key_lengths a.one b.one fa.one fb.one) serial.1 in
-    state_same a b serial.0 (key_bytes-same a.one b.one fa.one.sized fb.one.sized one.0) (ownership_bytes-same a.two b.two xs ys fa.two fb.two one.1)
+    let one = key_front a.one b.one _ _ fa.one fb.one serial.1 in
+    let two = ownership_front a.two b.two xs ys fa.two fb.two one.1 in
+    state_same a b serial.0 one.0 two.0
 
 -- a sector holds at most one state
 pub one_state : (sector : List ℕ) (a b : FirstState) → IsSectorOf sector a → IsSectorOf sector b → a ≡ b
@@ -108,8 +114,8 @@ order_bytes-flat order =
 pub one_order : (text : List ℕ) (a b : FirstOrder) → Spells text a → Spells text b → a ≡ b
 one_order text a b ha hb =
     let head = cons_same 0 0 _ _ (ap (drop 2) (sym (order_bytes-flat a) ∙ sym ha.bytes ∙ hb.bytes ∙ order_bytes-flat b)) in
-    let owner = same_parts (key_bytes a.owner) (key_bytes b.owner) _ _ (key_lengths a.owner b.owner ha.owner hb.owner) head.1 in
-    let trust = cons_same (trust_byte a.trust) (trust_byte b.trust) _ _ owner.1 in
+    let owner = key_front a.owner b.owner _ _ ha.owner hb.owner head.1 in
+    let trust = trust_front a.trust b.trust _ _ owner.1 in
     let sized = same_parts (to_be_bytes w16 (length a.signature)) (to_be_bytes w16 (length b.signature)) _ _ refl trust.1 in
     let signature = same_from_push a.signature b.signature 0 0 sized.1 in
-    order_same a b (key_bytes-same a.owner b.owner ha.owner.sized hb.owner.sized owner.0) (trust_byte-same a.trust b.trust trust.0) signature.0
+    order_same a b owner.0 trust.0 signature.0

@@ -1,2 +1,3 @@
 pub mod KeyLemmas
 pub mod FirstPathLemmas
+pub mod Places

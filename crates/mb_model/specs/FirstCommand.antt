@@ -2,18 +2,15 @@
 use Rattle.std.specs.Prelude.{◌≡◌, ◌≢◌, ℕ, ◌≤◌, ◌⊎◌, List, [], ◌∷◌, ◌++◌, length, map, take, codes, Option, Some}
 use Rattle.mb_model.specs.declared.first.FirstState.{FirstState}
 use Rattle.mb_model.specs.declared.event.Answered.{Answered}
+use Rattle.mb_model.specs.declared.role.Role.{Role}
+use Rattle.mb_model.specs.declared.role.Role.TheVariants.{Image, Script, Noise}
 use Rattle.mb_model.specs.Texts.{ended}
 use Rattle.mb_model.specs.FirstPath.{StandsFor, FirstRun}
 use Rattle.mb_model.specs.FirstTexts.{IsFirstScript, IsFirstNoise, script_events, printed_lines}
 use Rattle.mb_model.specs.Outside.{Outside, HasRisen, file_limit, Holds, HoldsTooMuch, OtherFilesStay, Prints, PrintsPart, ReadFails}
 use Rattle.mb_model.specs.Board.{Memory, image_of}
 
--- the three inputs, by their place in the command
-pub data Role : Type 0 where
-  Image : Role
-  Script : Role
-  Noise : Role
-
+-- the word for an input
 abbrev pub role_word : Role → List ℕ
 role_word Image = codes "image"
 role_word Script = codes "script"

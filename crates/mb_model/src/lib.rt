@@ -14,6 +14,7 @@ mod laws;
 mod limits;
 mod memory;
 mod reply;
+mod role;
 
 pub use bytes::Bytes;
 pub use event::{Answered, Event, Events, Tear};
@@ -27,3 +28,4 @@ pub use limits::{
 };
 pub use memory::NoMemory;
 pub use reply::{Reply, Standing};
+pub use role::Role;

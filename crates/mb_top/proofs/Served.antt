@@ -85,15 +85,15 @@ serves_more events start known next power power' memory taken stepped memory' le
       knows = subst (λ m. Knows next power' m.flash) (sym is_memory) (subst (λ p. Knows next p stepped.flash) (sym is_power) knows);
       servable = subst (λ p. IsServable p ledger'.waiting) (sym is_power) (subst (λ w. IsServable (powered e) w) (sym waiting_is) (servable-rest e rest power (subst (λ w. IsServable power w) waits inv.servable)));
       served =
-        ap (λ a. map (λ x. x.event) a ++ ledger'.waiting) answered_is
-        ∙ ap (λ w. map (λ x. x.event) (ledger.answered ++ one ∷ []) ++ w) waiting_is
-        ∙ ap (λ m. m ++ rest) (map-append (λ x. x.event) ledger.answered (one ∷ []))
-        ∙ append_assoc (map (λ x. x.event) ledger.answered) (e ∷ []) rest
-        ∙ ap (λ w. map (λ x. x.event) ledger.answered ++ w) (sym waits)
-        ∙ inv.served;
+          ap (λ a. map (λ x. x.event) a ++ ledger'.waiting) answered_is
+          ∙ ap (λ w. map (λ x. x.event) (ledger.answered ++ one ∷ []) ++ w) waiting_is
+          ∙ ap (λ m. m ++ rest) (map-append (λ x. x.event) ledger.answered (one ∷ []))
+          ∙ append_assoc (map (λ x. x.event) ledger.answered) (e ∷ []) rest
+          ∙ ap (λ w. map (λ x. x.event) ledger.answered ++ w) (sym waits)
+          ∙ inv.served;
       stands = let next = steps' inv.stands.0 inv.stands.1 in (next.0, next.1);
       run = λ first stands.
-        let so_far = inv.run first stands in
-        let new = steps' so_far.0 so_far.1 in
-        (new.0, new.1, subst (λ a. FirstRun first a new.0) (sym answered_is) (run-more ledger.answered one first so_far.0 new.0 so_far.2 new.2));
+          let so_far = inv.run first stands in
+          let new = steps' so_far.0 so_far.1 in
+          (new.0, new.1, subst (λ a. FirstRun first a new.0) (sym answered_is) (run-more ledger.answered one first so_far.0 new.0 so_far.2 new.2));
     }

@@ -1,2 +1,4 @@
+pub mod Script
+pub mod Records
 pub mod Serving
-
+pub mod Ending

@@ -1,0 +1,37 @@
+-- What a host in memory shows: its files, what was printed, and its counts.
+use Rattle.std.specs.Prelude.{◌≡◌, ◌≢◌, ℕ, Bool, List, Option, Some, option_map}
+use Rattle.std.specs.List.{find}
+use Rattle.std.specs.Str.{bytes_eq}
+use Rattle.mb_model.specs.declared.items.File.{File}
+use Rattle.mb_model.specs.Outside.{Outside}
+
+-- where two files have one name the first counts
+pub record Shown : Type 0 where
+  pub files : List File
+  pub printed : List ℕ
+  pub read_faults : ℕ
+  pub absences : ℕ
+  pub write_faults : ℕ
+
+-- the file has this name
+abbrev pub is_named : List ℕ → File → Bool
+is_named name file = bytes_eq file.name name
+
+-- the content of the first file of this name
+abbrev pub content_of : List File → List ℕ → Option (List ℕ)
+content_of files name = option_map (λ file. file.bytes) (find (is_named name) files)
+
+-- a host in memory tells all that it shows
+abbrev pub told : Shown → Outside
+told shown = record {
+  files = Some (content_of shown.files);
+  printed = Some shown.printed;
+  read_faults = shown.read_faults;
+  absences = shown.absences;
+  write_faults = shown.write_faults;
+}
+
+-- the file of this name holds these bytes now, and the others are as they were
+pub record Stores (before after : List File) (name bytes : List ℕ) : Type 0 where
+  pub held : content_of after name ≡ Some bytes
+  pub others : (other : List ℕ) → other ≢ name → content_of after other ≡ content_of before other

@@ -1,0 +1,180 @@
+//! A host whose files and whose output are in memory, and whose calls fail where they are told to.
+
+ghost use Rattle.std.specs.Prelude.{◌≡◌, [], Some, IfOk, OnOk, OnErr, option_copied};
+ghost use Rattle.std.specs.List.{position};
+ghost use Rattle.mb_host.specs.Memory.{Stores, content_of, is_named, told};
+
+use crate::count::raised;
+use crate::host::{Host, HostEnd, HostFailed};
+use mb_model::{Bytes, Calls, FILE_LIMIT, File, Files, NoMemory};
+use std::alloc::Global;
+use std::marker::Model;
+
+/// Files and output in memory, for tests. It tells everything.
+#[derive(Drop)]
+pub struct MemoryHost {
+    alloc: Global,
+    files: Vec<File>,
+    printed: Vec<u8>,
+    failing: Calls,
+    calls: u64,
+    read_faults: u64,
+    absences: u64,
+    write_faults: u64,
+}
+
+impl Model for MemoryHost {
+    ghost use Rattle.mb_host.specs.Memory.{Shown};
+
+    ghost Value = { Shown };
+
+    ghost view = { λ host. record {
+      files = host.files.items;
+      printed = host.printed.items;
+      read_faults = host.read_faults;
+      absences = host.absences;
+      write_faults = host.write_faults;
+    } };
+}
+
+impl MemoryHost {
+    /// A host with these files and nothing printed, which grows by `alloc`. The calls of `read`, `write` and `print`
+    /// whose numbers are in `failing` fail; they are numbered together, from 0.
+    ///
+    /// `NoMemory` where memory is wanted, which no clause rules out: the tests show that a host is made.
+    pub fn new(alloc: Global, files: Files, failing: Calls) -> Result<MemoryHost, NoMemory>
+        ensures { IfOk result (λ host. told host ≡ record {
+          files = Some (content_of files);
+          printed = Some [];
+          read_faults = 0;
+          absences = 0;
+          write_faults = 0;
+        }) }
+    {
+        Ok(MemoryHost {
+            alloc,
+            files: files.into_vec(),
+            printed: Vec::new(alloc),
+            failing,
+            calls: 0,
+            read_faults: 0,
+            absences: 0,
+            write_faults: 0,
+        })
+    }
+
+    /// What was printed so far.
+    pub fn printed(&self) -> &[u8]
+        ensures { (told self.now).printed ≡ Some result.now }
+    {
+        self.printed.as_slice()
+    }
+
+    /// The content of the file of this name.
+    pub fn file(&self, name: &str) -> Option<&[u8]>
+        ensures { (files : _) → (told self.now).files ≡ Some files → option_copied result ≡ files name.now }
+    {
+        content(self.files.as_slice(), name)
+    }
+
+    /// How many reads have failed of themselves.
+    pub fn read_faults(&self) -> u64
+        ensures { result ≡ (told self.now).read_faults }
+    {
+        self.read_faults
+    }
+
+    /// How many reads were of names that are not there.
+    pub fn absences(&self) -> u64
+        ensures { result ≡ (told self.now).absences }
+    {
+        self.absences
+    }
+
+    /// How many writes and prints have failed.
+    pub fn write_faults(&self) -> u64
+        ensures { result ≡ (told self.now).write_faults }
+    {
+        self.write_faults
+    }
+
+    // Counts a call, and says whether it is one of those that fail. No contract sees the number of a call, so which
+    // calls fail is tested.
+    fn call_fails(&mut self) -> bool
+        ensures { self.new ≡ self.old }
+    {
+        let fails = self.failing.as_slice().contains(&self.calls);
+        self.calls = raised(self.calls);
+        fails
+    }
+}
+
+impl Host for MemoryHost {
+    ghost outside = { told };
+
+    fn read(&mut self, alloc: Global, name: &str) -> Result<Vec<u8>, HostEnd> {
+        if self.call_fails() {
+            self.read_faults = raised(self.read_faults);
+            return Err(HostEnd::Failed);
+        }
+        let Some(bytes) = content(self.files.as_slice(), name) else {
+            self.absences = raised(self.absences);
+            return Err(HostEnd::Failed);
+        };
+        if bytes.len() > FILE_LIMIT {
+            return Err(HostEnd::TooLong);
+        }
+        Vec::from_slice(alloc, bytes).map_err(|_| HostEnd::NoMemory)
+    }
+
+    fn write(&mut self, name: &str, bytes: &[u8]) -> Result<(), HostFailed> {
+        if self.call_fails() || store(&mut self.files, self.alloc, name, bytes).is_err() {
+            self.write_faults = raised(self.write_faults);
+            return Err(HostFailed);
+        }
+        Ok(())
+    }
+
+    fn print(&mut self, bytes: &[u8]) -> Result<(), HostFailed> {
+        if self.call_fails() || self.printed.extend_from_slice(bytes).is_err() {
+            self.write_faults = raised(self.write_faults);
+            return Err(HostFailed);
+        }
+        Ok(())
+    }
+}
+
+// The place of the first file of this name.
+fn place(files: &[File], name: &str) -> Option<usize>
+    ensures { result ≡ position (is_named name.now) files.now }
+{
+    files
+        .iter()
+        .position(|file| file.name.as_slice() == name.as_bytes())
+}
+
+// The content of the first file of this name.
+fn content<'a>(files: &'a [File], name: &str) -> Option<&'a [u8]>
+    ensures { option_copied result ≡ content_of files.now name.now }
+{
+    let file = files
+        .iter()
+        .find(|file| file.name.as_slice() == name.as_bytes())?;
+    Some(file.bytes.as_slice())
+}
+
+// Makes these bytes the content of the first file of this name, or of a new file. After an error nothing has changed.
+fn store(files: &mut Vec<File>, alloc: Global, name: &str, bytes: &[u8]) -> Result<(), NoMemory>
+    ensures stored { OnOk result (Stores files.old.items files.new.items name.now bytes.now) }
+    ensures kept { OnErr result (files.new.items ≡ files.old.items) }
+{
+    let bytes = Bytes::copy(alloc, bytes)?;
+    match place(files.as_slice(), name) {
+        Some(at) => files[at].bytes = bytes,
+        None => {
+            let name = Bytes::copy(alloc, name.as_bytes())?;
+            files.push(File { name, bytes })?;
+        }
+    }
+    Ok(())
+}

@@ -1,0 +1,121 @@
+//! One-time signatures: digits, chains, and the one-time key to which chain values belong (RFC 8554, section 4).
+
+ghost use Rattle.std.specs.Prelude.{◌≡◌, ℕ, ◌+◌, ◌-◌, ◌*◌, ◌/◌, ◌^◌, ◌<◌, ◌≤◌, ◌∷◌, ◌++◌, List, length};
+ghost use Rattle.std.specs.Int.{w16, w32, to_be_bytes};
+ghost use Rattle.sha2.specs.Sha256.{sha256};
+ghost use Rattle.mb_model.specs.Key.{digit_bits, chain_count};
+ghost use Rattle.mb_model.specs.Winternitz.{coef, shortfall, checksum, digits_of, steps, one_time_key};
+
+use crate::bytes::{begun, put, value_at};
+use crate::parameters::{chain_count, greatest_digit, hash_digits};
+use mb_model::{Chains, PublicKey};
+use sha2::{Digest, Sha256};
+
+/// D_PBLC (RFC 8554, section 7.1).
+const ONE_TIME_KEY_MARK: [u8; 2] = [0x80, 0x80];
+
+/// The digit with the number `i` (RFC 8554, section 3.1.3).
+#[tactic(auto, using(crate::proofs::Digits::digit_rules), unfolding(mb_model::specs::Winternitz::coef))]
+fn digit(chains: Chains, bytes: &[u8], i: u16) -> u8
+    requires { i * digit_bits chains / 8 < length bytes.now }
+    ensures value { result ≡ coef bytes.now i (digit_bits chains) }
+    ensures bound { result ≤ 2 ^ digit_bits chains - 1 }
+{
+    let i = usize::from(i);
+    match chains {
+        Chains::W1 => 0x01 & (bytes[i / 8] >> (7 - i % 8)),
+        Chains::W2 => 0x03 & (bytes[i / 4] >> (6 - 2 * (i % 4))),
+        Chains::W4 => 0x0f & (bytes[i / 2] >> (4 - 4 * (i % 2))),
+        Chains::W8 => bytes[i],
+    }
+}
+
+/// By how much the digits of a hash fall short of the greatest digit, in all.
+#[tactic(auto, using(crate::proofs::Digits::shortfall_rules))]
+fn shortfall(chains: Chains, hash: &[u8; 32]) -> u16
+    ensures value { result ≡ shortfall hash.now (digit_bits chains) (256 / digit_bits chains) }
+    ensures bound { result ≤ (2 ^ digit_bits chains - 1) * (256 / digit_bits chains) }
+{
+    let greatest = greatest_digit(chains);
+    let mut sum: u16 = 0;
+    for i in 0..hash_digits(chains) {
+        sum += u16::from(greatest - digit(chains, hash, i));
+    }
+    sum
+}
+
+/// The checksum of a hash, as two bytes (RFC 8554, section 4.4).
+#[tactic(auto, unfolding(mb_model::specs::Winternitz::checksum))]
+fn checksum(chains: Chains, hash: &[u8; 32]) -> u16
+    ensures { result ≡ checksum chains hash.now }
+{
+    let sum = shortfall(chains, hash);
+    match chains {
+        Chains::W1 => sum * 128,
+        Chains::W2 => sum * 64,
+        Chains::W4 => sum * 16,
+        Chains::W8 => sum,
+    }
+}
+
+/// The digits that a signature signs: those of the hash, and then those of its checksum (RFC 8554, section 4.5).
+#[tactic(auto, unfolding(mb_model::specs::Winternitz::digits_of))]
+pub(crate) fn digits_of(chains: Chains, hash: &[u8; 32]) -> [u8; 34]
+    ensures { result ≡ digits_of chains hash.now }
+{
+    let mut digits = [0; 34];
+    put(&mut digits, 0, hash);
+    put(&mut digits, 32, &checksum(chains, hash).to_be_bytes());
+    digits
+}
+
+/// What every step of a chain hashes first: the identifier, the leaf's number and the chain's (RFC 8554, section 4.3).
+fn chain_prefix(identifier: &[u8; 16], q: u32, chain: u16) -> [u8; 22]
+    ensures { result ≡ identifier.now ++ to_be_bytes w32 q ++ to_be_bytes w16 chain }
+{
+    let mut prefix = [0; 22];
+    put(&mut prefix, 0, identifier);
+    put(&mut prefix, 16, &q.to_be_bytes());
+    put(&mut prefix, 20, &chain.to_be_bytes());
+    prefix
+}
+
+/// One step of a chain, whose text of 55 bytes is hashed at once.
+fn chain_step(prefix: &[u8; 22], step: u8, value: &[u8; 32]) -> [u8; 32]
+    ensures { result ≡ sha256 (prefix.now ++ step ∷ value.now) }
+{
+    let mut text = [0; 55];
+    put(&mut text, 0, prefix);
+    put(&mut text, 22, &[step]);
+    put(&mut text, 23, value);
+    Sha256::digest(text)
+}
+
+/// A chain's value taken through the steps from `first` up to, and without, `last`.
+#[tactic(auto, using(crate::proofs::Digits::chain_rules))]
+fn chain_end(prefix: &[u8; 22], first: u8, last: u8, value: [u8; 32]) -> [u8; 32]
+    requires { first ≤ last }
+    ensures { (id : List ℕ) (q chain : ℕ) → prefix.now ≡ id ++ to_be_bytes w32 q ++ to_be_bytes w16 chain → result ≡ steps id q chain first last value }
+{
+    let mut link = value;
+    for n in 0..last - first {
+        link = chain_step(prefix, first + n, &link);
+    }
+    link
+}
+
+/// The one-time key to which the digits and the chain values belong (RFC 8554, section 4.6).
+#[tactic(auto, unfolding(mb_model::specs::Winternitz::one_time_key))]
+pub(crate) fn one_time_key(key: &PublicKey, q: u32, digits: &[u8; 34], values: &[u8]) -> [u8; 32]
+    requires { length values.now ≡ 32 * chain_count key.now.chains }
+    ensures { result ≡ one_time_key key.now.chains key.now.identifier q digits.now values.now }
+{
+    let last = greatest_digit(key.chains);
+    let mut hasher = begun(&key.identifier, q, ONE_TIME_KEY_MARK);
+    for i in 0..chain_count(key.chains) {
+        let prefix = chain_prefix(&key.identifier, q, i);
+        let value = value_at(values, usize::from(i));
+        hasher.update(chain_end(&prefix, digit(key.chains, digits, i), last, value));
+    }
+    hasher.finalize()
+}
