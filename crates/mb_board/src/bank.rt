@@ -16,6 +16,7 @@ use std::marker::Model;
 pub struct Bank {
     bytes: Vec<u8>,
     standing: Vec<u8>,
+    // A range wider than what was written costs time alone, so no contract speaks of it.
     /// The first place that was written since the bytes were kept, or the length where none was.
     from: usize,
     /// The place after the last that was written since the bytes were kept, or 0 where none was.

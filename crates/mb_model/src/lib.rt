@@ -15,6 +15,8 @@ mod limits;
 mod memory;
 mod reply;
 mod role;
+#[cfg(test)]
+mod tests;
 
 pub use bytes::Bytes;
 pub use event::{Answered, Event, Events, Tear};

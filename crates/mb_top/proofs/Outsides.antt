@@ -20,10 +20,10 @@ pub after_read-more : (before mid after : Outside) → AfterRead before mid → 
 after_read-more before mid after first second =
     let counted : Outside → Outside = λ o. record o { read_faults = after.read_faults; absences = after.absences } in
     record {
-  stays = second.stays ∙ ap counted first.stays;
-  read_faults = omega (arith, first.read_faults, second.read_faults);
-  absences = omega (arith, first.absences, second.absences);
-}
+      stays = second.stays ∙ ap counted first.stays;
+      read_faults = omega (arith, first.read_faults, second.read_faults);
+      absences = omega (arith, first.absences, second.absences);
+    }
 
 -- what a file holds after reads it held before them
 pub holds-before : (before mid : Outside) (name bytes : List ℕ) → AfterRead before mid → Holds mid name bytes → Holds before name bytes

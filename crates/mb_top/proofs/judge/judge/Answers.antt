@@ -9,7 +9,7 @@ none_of None e = refl
 none_of (Some x) e = absurd (false≢true (sym e))
 
 pub returns-then-is_some : goal.returns-then-is_some
-returns-then-is_some c = 
+returns-then-is_some c =
     let order : FirstOrder = record { owner = c.in-Some.order.owner; trust = c.in-Some.order.trust; signature = c.in-Some.order.signature.now } in
     owned order c.in-Some.ensures.0 (sym c.is_some.ensures ∙ c.if-is_some.true) refl refl
 
@@ -21,9 +21,8 @@ returns-then-not-verify c =
 
 pub returns : goal.returns
 returns c =
-    let order : FirstOrder = record { owner = c.in-Some.order.owner; trust = c.in-Some.order.trust; signature = c.in-Some.order.signature.now } in
-    (
+    let order : FirstOrder = record { owner = c.in-Some.order.owner; trust = c.in-Some.order.trust; signature = c.in-Some.order.signature.now } in (
       c.in-Some.ensures.0.owner,
       established order c.in-Some.ensures.0 (none_of c.args.state.now.two (sym c.is_some.ensures ∙ c.if-is_some.false))
-      (subst (λ b. Verifies c.args.state.now.one (1 ∷ b) order.signature) c.in-Some.ensures.1 (c.verify.ensures.0 c.if-not-verify.false)) refl refl,
+          (subst (λ b. Verifies c.args.state.now.one (1 ∷ b) order.signature) c.in-Some.ensures.1 (c.verify.ensures.0 c.if-not-verify.false)) refl refl,
     )
