@@ -1,23 +1,21 @@
 -- Lemmas on the fields of orders and sectors, each read off the front of the bytes.
-use Rattle.std.proofs.Common.{◌≡◌, ◌≢◌, ℕ, zero, suc, ◌+◌, ◌-◌, ◌<◌, ◌≤◌, List, [], ◌∷◌, ◌++◌, length, take, drop, get_or, replicate, Bool, true, false, eqb, Option, None, Some, refl, sym, ap, subst, ◌∙◌, arith, append_assoc, length-append}
+use Rattle.std.proofs.Common.{◌≡◌, ◌≢◌, ℕ, zero, suc, ◌-◌, ◌<◌, ◌≤◌, List, [], ◌∷◌, ◌++◌, length, take, drop, get_or, replicate, true, eqb, Option, None, Some, refl, sym, ap, subst, ◌∙◌, arith, append_assoc, length-append}
 use Rattle.std.proofs.lemmas.Bool.Decides.{Decides-eqb}
 use Rattle.std.proofs.lemmas.Slice.Eq.{slice_eq-Decides}
-use Rattle.std.proofs.lemmas.List.{take-append-drop, take_at, drop_at, length-take-le, ext_get_or, length-replicate, get_or-replicate}
+use Rattle.std.proofs.lemmas.List.{take-append-drop, take_at, drop_at, ext_get_or, length-replicate, get_or-replicate}
 use Rattle.std.proofs.lemmas.List.Elements.{All-same, All-replicate}
 use Rattle.std.specs.List.{All}
-use Rattle.std.proofs.lemmas.Nat.{be_bytes_2, from_be_bytes-to_be_bytes_2}
+use Rattle.std.proofs.lemmas.Nat.{be_bytes_2}
 use Rattle.std.specs.Cmp.Lexicographic.{pointwise}
 use Rattle.std.specs.Int.{w16, to_be_bytes, from_be_bytes}
 use Rattle.mb_model.specs.declared.key.PublicKey.{PublicKey}
-use Rattle.mb_model.specs.declared.key.Tree.{Tree}
 use Rattle.mb_model.specs.declared.key.Tree.TheVariants.{H5}
-use Rattle.mb_model.specs.declared.key.Chains.{Chains}
 use Rattle.mb_model.specs.declared.key.Chains.TheVariants.{W4}
 use Rattle.mb_model.specs.declared.key.Trust.{Trust}
 use Rattle.mb_model.specs.declared.first.Ownership.{Ownership}
 use Rattle.mb_model.specs.declared.first.FirstState.{FirstState}
 use Rattle.mb_model.specs.Key.{key_bytes, IsSized}
-use Rattle.mb_model.specs.FirstPath.{IsFirstKey, FirstOrder, Spells, body_bytes, order_bytes, trust_byte, ownership_bytes, state_bytes, erased, IsFirstState, IsSectorOf}
+use Rattle.mb_model.specs.FirstPath.{FirstOrder, Spells, body_bytes, order_bytes, trust_byte, ownership_bytes, state_bytes, erased, IsSectorOf}
 use Rattle.mb_model.proofs.KeyLemmas.{cons_same, length-key_bytes, key_bytes-same}
 use Rattle.mb_model.proofs.FirstPathLemmas.{key_front, trust_front, ownership_front, order_bytes-flat, owned_bytes-flat, state_bytes-flat}
 use Rattle.mb_top.specs.Records.{BeginsKey, BeginsTrust, BeginsOwnership, IsSignaturePart}

@@ -15,6 +15,8 @@ mod run;
 mod script;
 mod sector;
 mod serve;
+#[cfg(test)]
+mod tests;
 
 pub use laws::one_script;
 pub use run::top;

@@ -13,6 +13,7 @@ use std::fmt::Write;
 pub fn write_replies(alloc: Global, answered: &[Answered]) -> Result<Vec<u8>, NoMemory>
     ensures { IfOk result (λ text. text.items ≡ printed_lines answered.now) }
 {
+    // Want of memory is the only error: a test shows that the call can succeed.
     let mut text = String::new(alloc);
     for one in answered {
         write_line(&mut text, &one.reply)?;

@@ -138,18 +138,19 @@ pub fn make_events(alloc: Global, orders: Vec<Bytes>, noise: &[u8]) -> Result<Ev
     requires { IsFirstNoise orders.items noise.now }
     ensures { IfOk result (λ events. events ≡ script_events orders.items noise.now) }
 {
+    // Want of memory is the only error: a test shows that the call can succeed.
     let mut events = Events::new(alloc);
     events.push(Event::Boot)?;
-    let mut rest = noise;
+    let mut left = noise;
     for order in orders {
-        let (draw, behind) = rest.split_at(32);
+        let (draw, behind) = left.split_at(32);
         let mut copied = [0; 32];
         copied.copy_from_slice(draw);
         events.push(Event::Command {
             text: order,
             draw: copied,
         })?;
-        rest = behind;
+        left = behind;
     }
     events.push(Event::Off)?;
     Ok(events)

@@ -1,6 +1,5 @@
-use Rattle.std.proofs.Common.{sym, ◌∙◌}
+use Rattle.std.proofs.Common.{◌∙◌}
 use Rattle.mb_model.specs.FirstPath.{FirstOrder, Spells}
-use Rattle.mb_model.specs.declared.key.PublicKey.{PublicKey}
 use Rattle.mb_top.proofs.ScriptLemmas.{clash}
 use Rattle.mb_top.proofs.RecordLemmas.{Spells-head, Spells-owner, Spells-trust, Spells-signature, Spells-from, Spells-body}
 use Rattle.mb_top.proofs.order.read_order.Goals as goal

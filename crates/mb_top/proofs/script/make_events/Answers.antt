@@ -1,5 +1,5 @@
-use Rattle.std.proofs.Common.{◌≡◌, ◌≤◌, ℕ, List, [], ◌∷◌, ◌++◌, ◌*◌, length, sym, ap, subst, ◌∙◌, arith}
-use Rattle.std.proofs.lemmas.List.{nil_from_length, append-nil}
+use Rattle.std.proofs.Common.{ℕ, List, [], ◌∷◌, ◌++◌, length, sym, ap, ◌∙◌, arith}
+use Rattle.std.proofs.lemmas.List.{nil_from_length}
 use Rattle.std.specs.Vec.Iter.{into_iter_items}
 use Rattle.mb_model.specs.FirstTexts.{commands}
 use Rattle.mb_model.specs.declared.event.Event.{Event}
@@ -30,7 +30,7 @@ loop-order-preserved c =
       enough = omega (arith, one_less, c.loop-order.invariant.enough, c.split_at.ensures.back_len);
       made =
           commands-turn c.loop-order.events c.push-in-loop-order.new.self _ _ (into_iter_items c.next.new.self) c.in-Some.order
-          c.loop-order.rest.now c.split_at.result.1.now c.copy_from_slice.new.self
+          c.loop-order.left.now c.split_at.result.1.now c.copy_from_slice.new.self
           c.in-Some.ensures.steps.0 (c.copy_from_slice.ensures.after ∙ c.split_at.ensures.front) c.split_at.ensures.back
           c.in_ok-push-2.ensures.ok c.loop-order.invariant.made;
     }
@@ -39,5 +39,5 @@ pub returns : goal.returns
 returns c =
     let before = c.loop-order.invariant.made ∙ ap (λ (x : List (List ℕ)). event.Boot ∷ commands x c.args.noise.now) c.into_iter-order-iterator.ensures.into_iter_gives.0 in
     let none = nil_from_length (into_iter_items c.loop-order.order-iterator) (sym c.loop-order.order-iterator.rest.ok.0 ∙ c.in-None.ensures.steps.0) in
-    commands-end c.loop-order.events c.push-2.new.self _ (into_iter_items c.loop-order.order-iterator) c.loop-order.rest.now
+    commands-end c.loop-order.events c.push-2.new.self _ (into_iter_items c.loop-order.order-iterator) c.loop-order.left.now
     none c.in_ok-push-3.ensures.ok before

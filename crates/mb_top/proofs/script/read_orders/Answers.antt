@@ -1,9 +1,9 @@
-use Rattle.std.proofs.Common.{◌≡◌, ℕ, ◌<◌, ◌≤◌, List, [], ◌∷◌, ◌++◌, length, sym, ap, subst, ◌∙◌, append_assoc, length-append, arith, eq-eqb}
+use Rattle.std.proofs.Common.{ℕ, List, [], ◌∷◌, ◌++◌, length, sym, ap, subst, ◌∙◌, length-append, arith, eq-eqb}
 use Rattle.std.proofs.lemmas.Bool.{eqb-true}
 use Rattle.std.proofs.lemmas.List.{append-nil, nil_from_length}
 use Rattle.std.proofs.lemmas.Result.{err_from_is_err_and}
 use Rattle.mb_top.specs.Script.{IsRest}
-use Rattle.mb_top.proofs.ScriptLemmas.{IsRest-says, IsRest-over, IsRest-next, IsRest-cons, IsRest-nil, SplitsLine-shorter, clash, too_many, move_one, passed_on}
+use Rattle.mb_top.proofs.ScriptLemmas.{IsRest-says, IsRest-over, IsRest-next, IsRest-cons, IsRest-nil, clash, too_many, move_one, passed_on}
 use Rattle.mb_top.proofs.script.read_orders.Goals as goal
 
 pub returns-in_err-read_line-clause-form : goal.returns-in_err-read_line-clause-form

@@ -1,4 +1,4 @@
-use Rattle.std.proofs.Common.{◌≡◌, ℕ, List, [], ◌∷◌, ◌++◌, length, refl, ap, ◌∙◌, arith, length-append}
+use Rattle.std.proofs.Common.{◌≡◌, [], ◌∷◌, ◌++◌, length, refl, ap, ◌∙◌, arith, length-append}
 use Rattle.mb_model.proofs.KeyLemmas.{length-key_bytes}
 use Rattle.mb_top.proofs.SectorLemmas.{IsSectorOf-filled}
 use Rattle.mb_top.proofs.sector.write_sector.Goals as goal
