@@ -1,14 +1,14 @@
 -- How a command ends, when the line of its status has been printed; and that it is done where all is well.
-use Rattle.std.proofs.Common.{◌≡◌, ◌≢◌, ◌⊎◌, ◌<◌, ◌≤◌, ◌*◌, ℕ, List, [], ◌∷◌, ◌++◌, length, take, codes, Option, None, Some, Result, Ok, Err, OnOk, OnErr, refl, sym, ◌∙◌, ap, subst, inl, inr, arith}
+use Rattle.std.proofs.Common.{◌≡◌, ◌⊎◌, ℕ, List, length, take, codes, Result, Ok, Err, OnOk, OnErr, refl, sym, ◌∙◌, ap, subst, inl, inr, arith}
 use Rattle.std.proofs.Math.Seq.{take-length}
 use Rattle.mb_model.specs.declared.event.Answered.{Answered}
 use Rattle.mb_model.specs.declared.role.Role.{Role}
 use Rattle.mb_model.specs.declared.role.Role.TheVariants.{Image, Script, Noise}
 use Rattle.mb_model.specs.Texts.{ended}
 use Rattle.mb_model.specs.FirstTexts.{IsFirstScript, IsFirstNoise, printed_lines}
-use Rattle.mb_model.specs.Outside.{Outside, HasRisen, Holds, HoldsTooMuch, OtherFilesStay, Prints, PrintsPart, AfterRead, AfterPrint, ReadFails, file_limit}
+use Rattle.mb_model.specs.Outside.{Outside, HasRisen, Holds, HoldsTooMuch, OtherFilesStay, Prints, PrintsPart, AfterRead, AfterPrint, ReadFails}
 use Rattle.mb_model.specs.Board.{Memory}
-use Rattle.mb_model.specs.FirstCommand.{Names, IsRun, IsFirstImage, HasNoForm, HasInputsBefore, IsFormless, HasInputs, IsFaultless, FilesStay, PrintsLine, Ends, done, no_command, too_long, formless, not_read, not_written, not_printed, no_memory, name_of}
+use Rattle.mb_model.specs.FirstCommand.{Names, IsRun, IsFirstImage, IsFormless, HasInputs, IsFaultless, FilesStay, PrintsLine, Ends, done, no_command, too_long, formless, not_read, not_written, not_printed, no_memory, name_of}
 use Rattle.mb_top.specs.declared.end.End.{End}
 use Rattle.mb_top.specs.declared.end.End.TheVariants as end
 use Rattle.mb_top.specs.Ending.{end_line, end_status, Causes}

@@ -1,6 +1,6 @@
 -- What is known of the world outside after reads, and what a command's end then means.
-use Rattle.std.proofs.Common.{◌≡◌, ◌≢◌, ◌⊎◌, ◌<◌, ◌≤◌, ◌^◌, ◌-◌, ℕ, List, [], ◌∷◌, ◌++◌, length, take, Option, None, Some, refl, sym, ◌∙◌, ap, subst, inl, inr, arith, append_assoc}
-use Rattle.mb_model.specs.Outside.{Outside, HasRisen, Holds, HoldsTooMuch, Lacks, OtherFilesStay, Prints, PrintsPart, AfterRead, AfterWrite, AfterPrint, ReadFails}
+use Rattle.std.proofs.Common.{◌≡◌, ◌≤◌, ℕ, List, ◌++◌, Some, refl, sym, ◌∙◌, ap, subst, inl, inr, arith, append_assoc}
+use Rattle.mb_model.specs.Outside.{Outside, HasRisen, Holds, HoldsTooMuch, OtherFilesStay, Prints, AfterRead, AfterPrint, ReadFails}
 use Rattle.mb_model.specs.FirstCommand.{HasNoForm}
 
 -- reads leave the files and what was printed

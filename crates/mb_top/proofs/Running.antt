@@ -1,17 +1,16 @@
 -- From what the parts of a command did to what the command did.
-use Rattle.std.proofs.Common.{◌≡◌, ◌+◌, ◌≤◌, ℕ, List, [], ◌∷◌, ◌++◌, length, map, take, refl, sym, ◌∙◌, ap, subst, arith, length-append}
+use Rattle.std.proofs.Common.{◌≡◌, ℕ, List, map, sym, ◌∙◌, ap, subst, arith, length-append}
 use Rattle.std.proofs.lemmas.List.{take-append-le}
 use Rattle.mb_model.specs.declared.first.FirstState.{FirstState}
 use Rattle.mb_model.specs.declared.event.Answered.{Answered}
 use Rattle.mb_model.specs.declared.role.Role.{Role}
 use Rattle.mb_model.specs.FirstPath.{StandsFor, IsSectorOf, FirstRun, first_sector}
-use Rattle.mb_model.specs.FirstTexts.{IsFirstNoise, script_events}
 use Rattle.mb_model.specs.Outside.{Outside, AfterRead, HasRisen, HoldsTooMuch, ReadFails}
 use Rattle.mb_model.specs.Board.{Memory, Ledger, IsLoaded, image_of, loaded}
-use Rattle.mb_model.specs.FirstCommand.{Names, IsRun, IsFirstImage, HasImage, HasScript, HasNoise, HasNoForm, HasInputsBefore, IsFormless, HasServed, name_of}
+use Rattle.mb_model.specs.FirstCommand.{Names, IsRun, HasNoForm, HasInputsBefore, IsFormless, HasServed, name_of}
 use Rattle.mb_top.specs.declared.end.End.{End}
 use Rattle.mb_top.specs.declared.end.End.TheVariants as end
-use Rattle.mb_top.specs.Ending.{ReadEnds, InputEnds, LoadEnds, HasLoaded, WriteEnds, HasWritten, Causes, IsDone}
+use Rattle.mb_top.specs.Ending.{InputEnds, LoadEnds, HasLoaded, WriteEnds, HasWritten, Causes}
 use Rattle.mb_top.proofs.Outsides.{holds_too_much-before, has_no_form-before, read_fails-before, other_files_stay-before, prints-before, after_read-same, after_read-more, after_read-printed, after_read-write_faults}
 
 -- an input that is not had, behind inputs that were read, ends the reading of all

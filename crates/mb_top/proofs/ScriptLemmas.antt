@@ -1,17 +1,17 @@
 -- Lemmas on lines, hexadecimal words and scripts.
-use Rattle.std.proofs.Common.{◌≡◌, ◌≢◌, ℕ, ◌+◌, ◌<◌, ◌≤◌, ◌⊎◌, inl, inr, List, [], ◌∷◌, ◌++◌, length, drop, map, refl, sym, ap, subst, ◌∙◌, arith, append_assoc, length-append, Bool, true, false, not, ◌&&◌, eqb, eq-eqb, take, Result, Err}
+use Rattle.std.proofs.Common.{◌≡◌, ◌≢◌, ℕ, ◌<◌, ◌≤◌, inl, inr, List, [], ◌∷◌, ◌++◌, length, drop, map, refl, sym, ap, subst, ◌∙◌, arith, append_assoc, length-append, Bool, true, false, not, ◌&&◌, eqb, eq-eqb, take, Result, Err}
 use Rattle.std.specs.Prelude.{codes, Ok, ◌==◌, IsErrOf}
-use Rattle.std.specs.List.{All, AllZip, AllPass, flat_map}
+use Rattle.std.specs.List.{AllZip, flat_map}
 use Rattle.std.proofs.lemmas.Bool.{and_parts}
 use Rattle.std.proofs.lemmas.Bool.Decides.{Decides-eqb}
 use Rattle.std.proofs.lemmas.Slice.Eq.{slice_eq-Decides}
 use Rattle.std.specs.Cmp.Lexicographic.{pointwise}
 use Rattle.std.proofs.lemmas.List.{append-nil, take-append-drop, append_cancel_left, same_from_push}
-use Rattle.std.proofs.lemmas.List.Elements.{All-nil, All-cons, All-head, All-tail, All-same, All-append, All-weaker, length_all_zip}
+use Rattle.std.proofs.lemmas.List.Elements.{All-nil, All-cons, All-head, All-tail, All-same, All-append, All-weaker}
 use Rattle.hex.specs.Hex.{decode_of, is_hex_digit}
 use Rattle.hex.proofs.HexLemmas.{decode_of-ok, decode_of-same}
 use Rattle.mb_model.specs.Texts.{ended, IsText, IsHex}
-use Rattle.mb_model.specs.FirstTexts.{command_line, script_lines, IsFirstScript}
+use Rattle.mb_model.specs.FirstTexts.{command_line, IsFirstScript}
 use Rattle.mb_top.specs.Script.{IsPlain, SplitsLine, Says, IsRest}
 use Rattle.mb_top.specs.declared.script.ScriptEnd.{ScriptEnd}
 use Rattle.mb_top.specs.declared.script.Line.{Line}

@@ -1,4 +1,4 @@
-use Rattle.std.proofs.Common.{◌≡◌, ℕ, List, Err, refl, sym, ap, subst}
+use Rattle.std.proofs.Common.{Err, refl, sym, ap, subst}
 use Rattle.mb_model.specs.FirstTexts.{IsFirstScript}
 use Rattle.mb_top.proofs.input.read_orders.Goals as goal
 

@@ -1,6 +1,6 @@
-use Rattle.std.proofs.Common.{◌≡◌, ◌∷◌, ◌++◌, ℕ, List, [], Option, None, Some, is_some, IsTrue, true, false, refl, sym, ◌∙◌, ap, subst}
+use Rattle.std.proofs.Common.{◌≡◌, ◌∷◌, Option, None, Some, is_some, false, refl, sym, ◌∙◌, subst}
 use Rattle.std.proofs.lemmas.Bool.{false≢true}
-use Rattle.mb_model.specs.FirstPath.{FirstOrder, no_order, owned, unsigned, established, body_bytes}
+use Rattle.mb_model.specs.FirstPath.{FirstOrder, owned, unsigned, established}
 use Rattle.mb_model.specs.Merkle.{Verifies}
 use Rattle.mb_top.proofs.judge.judge.Goals as goal
 

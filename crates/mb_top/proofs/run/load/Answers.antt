@@ -1,12 +1,10 @@
-use Rattle.std.proofs.Common.{◌≡◌, ◌≤◌, ◌+◌, ℕ, List, length, sym, ◌∙◌, ap, subst, arith, All}
+use Rattle.std.proofs.Common.{ℕ, List, length, sym, ◌∙◌, ap, subst, arith, All}
 use Rattle.std.proofs.lemmas.Result.{err_from_is_err_and}
-use Rattle.mb_model.specs.declared.first.FirstState.{FirstState}
 use Rattle.mb_model.specs.declared.role.Role.TheVariants.{Script, Noise}
 use Rattle.mb_model.specs.FirstPath.{IsFirstEvent, IsSectorOf, first_sector}
 use Rattle.mb_model.specs.FirstTexts.{IsFirstScript, IsFirstNoise}
-use Rattle.mb_model.specs.Outside.{AfterRead}
 use Rattle.mb_model.specs.Board.{loaded}
-use Rattle.mb_model.specs.FirstCommand.{HasImage, HasScript, HasInputsBefore}
+use Rattle.mb_model.specs.FirstCommand.{HasImage, HasScript}
 use Rattle.mb_top.specs.Ending.{names_of}
 use Rattle.mb_top.proofs.Scripts.{length-script_events, first_events}
 use Rattle.mb_top.proofs.Outsides.{holds-before, after_read-more}

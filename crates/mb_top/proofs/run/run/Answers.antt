@@ -1,4 +1,4 @@
-use Rattle.std.proofs.Common.{◌≡◌, sym, ap, subst, false}
+use Rattle.std.proofs.Common.{sym, subst, false}
 use Rattle.std.proofs.lemmas.Result.{on_ok_weaker, IfErr-weaker}
 use Rattle.mb_top.specs.Serving.{IsServable}
 use Rattle.mb_top.specs.Ending.{names_of}

@@ -1,4 +1,4 @@
-use Rattle.std.proofs.Common.{◌≡◌, refl}
+use Rattle.std.proofs.Common.{refl}
 use Rattle.mb_model.specs.FirstCommand.{done}
 use Rattle.mb_top.proofs.Finishing.{printed_of, ends_with_status, is_complete}
 use Rattle.mb_top.proofs.run.top.Goals as goal

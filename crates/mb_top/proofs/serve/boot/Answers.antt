@@ -1,4 +1,4 @@
-use Rattle.std.proofs.Common.{◌≡◌, ◌∙◌, sym, subst, ap, refl}
+use Rattle.std.proofs.Common.{◌∙◌, sym, subst, ap, refl}
 use Rattle.mb_model.specs.FirstPath.{IsSectorOf, first_sector}
 use Rattle.mb_top.proofs.Sectors.{first_sector-read}
 use Rattle.mb_top.proofs.serve.boot.Goals as goal

@@ -1,4 +1,4 @@
-use Rattle.std.proofs.Common.{◌≡◌, ◌∙◌, ap, subst, sym}
+use Rattle.std.proofs.Common.{◌∙◌, subst, sym}
 use Rattle.mb_model.specs.FirstPath.{StandsFor, FirstRun}
 use Rattle.mb_top.specs.Serving.{Knows}
 use Rattle.mb_top.proofs.Served.{step_from_standing, serves_more}
