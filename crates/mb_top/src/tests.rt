@@ -9,6 +9,8 @@ use mb_model::{Answered, Event, Reply, Trust};
 use std::test::Fail;
 
 mod once;
+mod runs;
+mod statuses;
 
 /// The first bytes of an image whose layer 2 has no owner; what stands behind them in its first sector is erased.
 const SECTOR: &str =
