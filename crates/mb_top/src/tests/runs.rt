@@ -93,13 +93,16 @@ fn serves_orders(rt: HostRuntime) -> Result<(), Fail> {
     let alloc = rt.alloc();
     let order = hex::decode(alloc, once::ORDER)?;
     let mut turned = hex::decode(alloc, once::ORDER)?;
-    assert!(rt; order.len() == 2_411 && turned.len() == 2_411);
     // The last byte of the path.
-    turned[2_409] ^= 1;
+    if let Some(byte) = turned.get_mut(2_409) {
+        *byte ^= 1;
+    }
+    let mut cut = hex::decode(alloc, once::ORDER)?;
+    cut.truncate(2_410);
     let single = script_of(alloc, &[&order])?;
     let double = script_of(alloc, &[&order, &order])?;
     let turned = script_of(alloc, &[&turned])?;
-    let cut = script_of(alloc, &[&order[..2_410]])?;
+    let cut = script_of(alloc, &[&cut])?;
     for (script, lines, is_owned) in [
         (single, "booted\ndone 1 2\noff\n", true),
         (double, "booted\ndone 1 2\nrefused 12 state\noff\n", true),
