@@ -5,6 +5,7 @@ use super::runs::{file_of, filled, first_image, script_of, status_of};
 use mb_host::MemoryHost;
 use mb_model::{Calls, Files, IMAGE_LENGTH};
 use std::alloc::Global;
+use std::process::Abort;
 use std::test::Fail;
 
 /// The files of the host. There is none with the name `missing`.
@@ -43,76 +44,116 @@ fn host_of(alloc: Global) -> Result<MemoryHost, Fail> {
     Ok(MemoryHost::new(alloc, files, Calls::new(alloc))?)
 }
 
-#[test]
-fn refuses_words_and_inputs(rt: HostRuntime) -> Result<(), Fail> {
+/// What a command has to answer: its status, and the line that is printed.
+#[derive(Clone, Copy)]
+struct Wanted {
+    words: &'static [&'static str],
+    status: u8,
+    line: &'static str,
+}
+
+const fn row(words: &'static [&'static str], status: u8, line: &'static str) -> Wanted {
+    Wanted {
+        words,
+        status,
+        line,
+    }
+}
+
+/// Tries each command on one host, whose files have to stay as they are.
+fn refuses(rt: &(impl Abort + AllocGlobal), table: &[Wanted]) -> Result<(), Fail> {
     let alloc = rt.alloc();
     let before = host_of(alloc)?;
     let mut host = host_of(alloc)?;
-    for (words, status, line) in [
-        ([].as_slice(), 2, "words\n"),
-        (&["run", "image", "script"], 2, "words\n"),
-        (&["run", "", "script", "noise"], 2, "words\n"),
-        (&["run", "image", "", "noise"], 2, "words\n"),
-        (&["run", "image", "script", ""], 2, "words\n"),
-        (&["run", "image", "script", "noise", "few"], 2, "words\n"),
-        (&["go", "image", "script", "noise"], 2, "words\n"),
-        (
-            &["run", "long", "script", "noise"],
-            3,
-            "input image too long\n",
-        ),
-        (&["run", "less", "script", "noise"], 3, "input image form\n"),
-        (&["run", "ones", "script", "noise"], 3, "input image form\n"),
-        (
-            &["run", "image", "long", "noise"],
-            3,
-            "input script too long\n",
-        ),
-        (&["run", "image", "jump", "noise"], 3, "input script form\n"),
-        (
-            &["run", "image", "script", "long"],
-            3,
-            "input noise too long\n",
-        ),
-        (&["run", "image", "script", "few"], 3, "input noise form\n"),
-        (
-            &["run", "missing", "script", "noise"],
-            4,
-            "read failed image\n",
-        ),
-        (
-            &["run", "image", "missing", "noise"],
-            4,
-            "read failed script\n",
-        ),
-        (
-            &["run", "image", "script", "missing"],
-            4,
-            "read failed noise\n",
-        ),
-        // Reading stops at the first input that is not right.
-        (&["run", "ones", "missing", "long"], 3, "input image form\n"),
-        (
-            &["run", "missing", "jump", "long"],
-            4,
-            "read failed image\n",
-        ),
-        (
-            &["run", "image", "jump", "missing"],
-            3,
-            "input script form\n",
-        ),
-    ] {
+    for wanted in table {
         let seen = host.printed().len();
-        assert_eq!(rt; status_of(alloc, words, &mut host)?, status, "{words:?}");
-        assert_eq!(rt;
-            host.printed().get(seen..),
-            Some(line.as_bytes()),
-            "{words:?}"
-        );
+        let status = status_of(alloc, wanted.words, &mut host)?;
+        assert_eq!(rt; status, wanted.status, "{:?}", wanted.words);
+        let printed = host.printed().get(seen..);
+        assert_eq!(rt; printed, Some(wanted.line.as_bytes()), "{:?}", wanted.words);
     }
     for name in NAMES {
         assert!(rt; host.file(name) == before.file(name), "{name}");
     }
     Ok(())
+}
+
+#[test]
+fn refuses_words(rt: HostRuntime) -> Result<(), Fail> {
+    refuses(
+        &rt,
+        &[
+            row(&[], 2, "words\n"),
+            row(&["run", "image", "script"], 2, "words\n"),
+            row(&["run", "", "script", "noise"], 2, "words\n"),
+            row(&["run", "image", "", "noise"], 2, "words\n"),
+            row(&["run", "image", "script", ""], 2, "words\n"),
+            row(&["run", "image", "script", "noise", "few"], 2, "words\n"),
+            row(&["go", "image", "script", "noise"], 2, "words\n"),
+        ],
+    )
+}
+
+#[test]
+fn refuses_inputs(rt: HostRuntime) -> Result<(), Fail> {
+    refuses(
+        &rt,
+        &[
+            row(
+                &["run", "long", "script", "noise"],
+                3,
+                "input image too long\n",
+            ),
+            row(&["run", "less", "script", "noise"], 3, "input image form\n"),
+            row(&["run", "ones", "script", "noise"], 3, "input image form\n"),
+            row(
+                &["run", "image", "long", "noise"],
+                3,
+                "input script too long\n",
+            ),
+            row(&["run", "image", "jump", "noise"], 3, "input script form\n"),
+            row(
+                &["run", "image", "script", "long"],
+                3,
+                "input noise too long\n",
+            ),
+            row(&["run", "image", "script", "few"], 3, "input noise form\n"),
+        ],
+    )
+}
+
+#[test]
+fn misses_inputs(rt: HostRuntime) -> Result<(), Fail> {
+    refuses(
+        &rt,
+        &[
+            row(
+                &["run", "missing", "script", "noise"],
+                4,
+                "read failed image\n",
+            ),
+            row(
+                &["run", "image", "missing", "noise"],
+                4,
+                "read failed script\n",
+            ),
+            row(
+                &["run", "image", "script", "missing"],
+                4,
+                "read failed noise\n",
+            ),
+            // Reading stops at the first input that is not right.
+            row(&["run", "ones", "missing", "long"], 3, "input image form\n"),
+            row(
+                &["run", "missing", "jump", "long"],
+                4,
+                "read failed image\n",
+            ),
+            row(
+                &["run", "image", "jump", "missing"],
+                3,
+                "input script form\n",
+            ),
+        ],
+    )
 }
