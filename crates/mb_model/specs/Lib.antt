@@ -7,3 +7,9 @@ pub mod FirstTexts
 pub mod Outside
 pub mod Board
 pub mod FirstCommand
+pub mod Layers
+pub mod Rules
+pub mod Log
+pub mod Lives
+pub mod Regions
+pub mod Born

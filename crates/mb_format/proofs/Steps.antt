@@ -1,0 +1,88 @@
+-- What a reader of bytes works out step by step: a number or raw bytes at a place, and one item of a list after the other.
+use Rattle.std.proofs.Common.{◌≡◌, ℕ, suc, ◌+◌, ◌-◌, ◌<◌, ◌≤◌, List, [], ◌∷◌, ◌++◌, length, get_or, take, drop, Result, Ok, Err, refl, sym, ap, ◌∙◌, append_assoc, append-nil, add-one, drop-cons, arith}
+use Rattle.std.specs.Int.{Width, byte_len, from_be_bytes}
+use Rattle.std.proofs.lemmas.Bool.{lt-ltb, le-ltb}
+use Rattle.mb_format.specs.Format.{Format}
+use Rattle.mb_format.specs.Combinators.{raw_at, number_at, into_read, with_first, cons, items}
+
+-- ---- fields
+
+pub number_at-short : (w : Width) (bytes : List ℕ) (at : ℕ) → length bytes < at + byte_len w → number_at w bytes at ≡ Err at
+unfolding number_at
+number_at-short w bytes at h = rw (lt-ltb _ _ h) refl
+
+pub number_at-long : (w : Width) (bytes : List ℕ) (at : ℕ) → at + byte_len w ≤ length bytes → number_at w bytes at ≡ Ok (from_be_bytes w (take (byte_len w) (drop at bytes)), at + byte_len w)
+unfolding number_at
+number_at-long w bytes at h = rw (le-ltb _ _ h) refl
+
+pub raw_at-short : (n : ℕ) (bytes : List ℕ) (at : ℕ) → length bytes < at + n → raw_at n bytes at ≡ Err at
+unfolding raw_at
+raw_at-short n bytes at h = rw (lt-ltb _ _ h) refl
+
+pub raw_at-long : (n : ℕ) (bytes : List ℕ) (at : ℕ) → at + n ≤ length bytes → raw_at n bytes at ≡ Ok (take n (drop at bytes), at + n)
+unfolding raw_at
+raw_at-long n bytes at h = rw (le-ltb _ _ h) refl
+
+-- the first of some bytes at a place, and the others
+pub first_of : (n : ℕ) (bytes : List ℕ) (at : ℕ) → at < length bytes → take (suc n) (drop at bytes) ≡ get_or bytes at 0 ∷ take n (drop (at + 1) bytes)
+first_of n bytes at h = rw (add-one, drop-cons bytes at 0 h) refl
+
+pub one_byte : (bytes : List ℕ) (at : ℕ) → at + 1 ≤ length bytes → take 1 (drop at bytes) ≡ get_or bytes at 0 ∷ []
+one_byte bytes at h = first_of 0 bytes at (omega arith)
+
+pub two_bytes : (bytes : List ℕ) (at : ℕ) → at + 2 ≤ length bytes → take 2 (drop at bytes) ≡ get_or bytes at 0 ∷ get_or bytes (at + 1) 0 ∷ []
+two_bytes bytes at h = first_of 1 bytes at (omega arith) ∙ ap (λ (xs : List ℕ). get_or bytes at 0 ∷ xs) (one_byte bytes (at + 1) (omega arith))
+
+pub four_bytes : (bytes : List ℕ) (at : ℕ) → at + 4 ≤ length bytes → take 4 (drop at bytes) ≡ get_or bytes at 0 ∷ get_or bytes (at + 1) 0 ∷ get_or bytes (at + 2) 0 ∷ get_or bytes (at + 3) 0 ∷ []
+four_bytes bytes at h =
+    let e : at + 1 + 1 ≡ at + 2 = omega arith in
+    let d : at + 2 + 1 ≡ at + 3 = omega arith in
+    first_of 3 bytes at (omega arith) ∙ ap (λ (xs : List ℕ). get_or bytes at 0 ∷ xs)
+    (first_of 2 bytes (at + 1) (omega arith) ∙ ap (λ (xs : List ℕ). get_or bytes (at + 1) 0 ∷ xs) (rw e
+    (first_of 1 bytes (at + 2) (omega arith) ∙ ap (λ (xs : List ℕ). get_or bytes (at + 2) 0 ∷ xs) (rw d (one_byte bytes (at + 3) (omega arith))))))
+
+-- ---- a loop over the items of a list
+
+-- what was read with the items before it
+abbrev pub with_front : {A : Type 0} → List A → Result (List A × ℕ) ℕ → Result (List A × ℕ) ℕ
+with_front front (Ok r) = Ok (front ++ r.0, r.1)
+with_front front (Err place) = Err place
+
+-- Before the first item. A loop keeps `with_front` of the items read so far and of what reading the others gives, which
+-- is what reading all of them gives.
+pub items_begin : {A : Type 0} (r : Result (List A × ℕ) ℕ) → with_front [] r ≡ r
+items_begin (Ok r) = refl
+items_begin (Err place) = refl
+
+regroup : {A : Type 0} (front : List A) (a : A) (r : Result (List A × ℕ) ℕ) → with_front front (into_read cons (with_first a r)) ≡ with_front (front ++ a ∷ []) r
+regroup front a (Ok r) = ap (λ xs. Ok (xs, r.1)) (sym (append_assoc front (a ∷ []) r.0))
+regroup front a (Err place) = refl
+
+-- an item was read
+pub items_more : {A S : Type 0} (item : S → Format A) (next : S → A → S) (n i : ℕ) (state : S) (front : List A) (bytes : List ℕ) (at : ℕ) (a : A) (after : ℕ) (total : Result (List A × ℕ) ℕ) → i < n
+    → (item state).reads bytes at ≡ Ok (a, after) → with_front front ((items item next (n - i) state).reads bytes at) ≡ total
+    → with_front (front ++ a ∷ []) ((items item next (n - (i + 1)) (next state a)).reads bytes after) ≡ total
+unfolding items
+items_more item next n i state front bytes at a after total lt e so_far =
+    let k : n - i ≡ suc (n - (i + 1)) = omega arith in
+    let one : with_front front ((items item next (n - i) state).reads bytes at) ≡ with_front (front ++ a ∷ []) ((items item next (n - (i + 1)) (next state a)).reads bytes after) =
+    rw (k, e) (regroup front a ((items item next (n - (i + 1)) (next state a)).reads bytes after)) in
+    sym one ∙ so_far
+
+-- an item failed
+pub items_fail : {A S : Type 0} (item : S → Format A) (next : S → A → S) (n i : ℕ) (state : S) (front : List A) (bytes : List ℕ) (at place : ℕ) (total : Result (List A × ℕ) ℕ) → i < n
+    → (item state).reads bytes at ≡ Err place → with_front front ((items item next (n - i) state).reads bytes at) ≡ total → total ≡ Err place
+unfolding items
+items_fail item next n i state front bytes at place total lt e so_far =
+    let k : n - i ≡ suc (n - (i + 1)) = omega arith in
+    let one : with_front front ((items item next (n - i) state).reads bytes at) ≡ Err place = rw (k, e) refl in
+    sym so_far ∙ one
+
+-- no item is left
+pub items_end : {A S : Type 0} (item : S → Format A) (next : S → A → S) (n i : ℕ) (state : S) (front : List A) (bytes : List ℕ) (at : ℕ) (total : Result (List A × ℕ) ℕ) → n ≤ i
+    → with_front front ((items item next (n - i) state).reads bytes at) ≡ total → total ≡ Ok (front, at)
+unfolding items
+items_end {A} item next n i state front bytes at total le so_far =
+    let k : n - i ≡ 0 = omega arith in
+    let one : with_front front ((items item next (n - i) state).reads bytes at) ≡ Ok (front, at) = rw k (ap (λ (xs : List A). Ok (xs, at)) (append-nil front)) in
+    sym so_far ∙ one

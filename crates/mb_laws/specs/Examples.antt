@@ -1,0 +1,225 @@
+-- The rules at work on small layers; the checker computes each line. Do the definitions say what their words say?
+use Rattle.std.specs.Prelude.{◌≡◌, ℕ, ◌∷◌, ◌++◌, [], List, map, true, false, replicate, None, Some}
+use Rattle.sha2.specs.Sha256.{sha256}
+use Rattle.mb_model.specs.declared.key.PublicKey.{PublicKey}
+use Rattle.mb_model.specs.declared.key.Tree.TheVariants.{H5}
+use Rattle.mb_model.specs.declared.key.Chains.TheVariants.{W4}
+use Rattle.mb_model.specs.declared.key.Trust.{Trust}
+use Rattle.mb_model.specs.declared.key.Trust.TheVariants.{Always, Never, Countersigned}
+use Rattle.mb_model.specs.declared.layer.Layer.{Layer}
+use Rattle.mb_model.specs.declared.layer.Layers.{Layers}
+use Rattle.mb_model.specs.declared.layer.Pair.{Pair}
+use Rattle.mb_model.specs.declared.order.Act.TheVariants as act
+use Rattle.mb_model.specs.declared.order.ChangeKind.TheVariants.{Establish, Surrender, Load, Emergency}
+use Rattle.mb_model.specs.declared.order.KeyKind.TheVariants as kinds
+use Rattle.mb_model.specs.declared.entry.Entry.{Entry}
+use Rattle.mb_model.specs.declared.entry.Entry.TheVariants.{Birth, Change, NewKey}
+use Rattle.mb_model.specs.declared.order.Target.TheVariants as target
+use Rattle.mb_model.specs.declared.reply.Standing.TheVariants as stands
+use Rattle.mb_model.specs.Key.{key_bytes}
+use Rattle.mb_model.specs.Layers.{unowned, standing}
+use Rattle.mb_model.specs.Log.{number_of, layers_of, device_of, used, made}
+use Rattle.mb_model.specs.Lives.{lives_of}
+use Rattle.mb_model.specs.Rules.{authority, condition, TargetHolds, admits, after, placed}
+
+abbrev pub officer : ℕ → PublicKey
+officer n = record { tree = H5; chains = W4; identifier = replicate 16 n; root = replicate 32 n }
+
+-- a layer with an owner and no code
+abbrev pub bare : ℕ → Trust → Layer
+bare n trust = record { owner = Some (officer n); code = None; reliable = false; trust = trust }
+
+-- a layer with an owner and reliable code
+abbrev pub running : ℕ → Trust → Layer
+running n trust =
+    record { owner = Some (officer n); code = Some (record { hash = replicate 32 n; version = 1 }); reliable = true; trust = trust }
+
+-- the layers after a load of this code into layer n by its owner, or from beneath
+abbrev loaded_with : ℕ → Trust → List ℕ → Layer
+loaded_with n trust code =
+    record { owner = Some (officer n); code = Some (record { hash = sha256 code; version = 7 }); reliable = true; trust = trust }
+
+-- code of layer n that is no longer to be relied on
+abbrev doubted : ℕ → Trust → Layer
+doubted n trust = record (running n trust) { reliable = false }
+
+abbrev newborn : Layers
+newborn = record { one = running 1 Always; two = unowned; three = unowned }
+
+abbrev established : Layers
+established = record { one = running 1 Always; two = bare 2 Never; three = unowned }
+
+-- all layers run; layer 2 trusts so, and layer 3 trusts what its owner countersigns
+abbrev all_run : Trust → Layers
+all_run trust = record { one = running 1 Always; two = running 2 trust; three = running 3 Countersigned }
+
+abbrev pub nobody : Pair
+nobody = record { two = false; three = false }
+
+abbrev pub by_two : Pair
+by_two = record { two = true; three = false }
+
+abbrev pub by_three : Pair
+by_three = record { two = false; three = true }
+
+-- which changes layer 2 admits, by its trust and by who countersigned
+pub record AdmissionExamples : Type 0 where
+  pub always : admits (all_run Always) Load 1 nobody 2 ≡ true
+  pub never : admits (all_run Never) Load 1 by_two 2 ≡ false
+  pub countersigned : admits (all_run Countersigned) Load 1 by_two 2 ≡ true
+  pub not_countersigned : admits (all_run Countersigned) Load 1 nobody 2 ≡ false
+  pub countersigned_by_another : admits (all_run Countersigned) Load 1 by_three 2 ≡ false
+  -- the emergency load of layer 2, as layer 3 sees it
+  pub emergency_beneath : admits (all_run Never) Emergency 2 by_three 3 ≡ true
+  -- at its own layer, whatever it trusts
+  pub own_load : admits (all_run Never) Load 2 nobody 2 ≡ true
+  pub own_emergency : admits (all_run Always) Emergency 2 by_two 2 ≡ false
+  -- no layer admits these
+  pub surrender_beneath : admits (all_run Always) Surrender 2 by_three 3 ≡ false
+  pub establish_beneath : admits (all_run Always) Establish 2 by_three 3 ≡ false
+
+-- when an order may be given
+pub record ConditionExamples : Type 0 where
+  pub establish : condition newborn (Some Establish) 2 ≡ true
+  pub establish_owned : condition established (Some Establish) 2 ≡ false
+  pub establish_over_unowned : condition newborn (Some Establish) 3 ≡ false
+  pub establish_one : condition newborn (Some Establish) 1 ≡ false
+  pub surrender : condition established (Some Surrender) 2 ≡ true
+  pub surrender_unowned : condition newborn (Some Surrender) 2 ≡ false
+  pub surrender_one : condition newborn (Some Surrender) 1 ≡ false
+  pub load_one : condition newborn (Some Load) 1 ≡ true
+  pub load_unreliable : condition established (Some Load) 2 ≡ false
+  pub emergency : condition established (Some Emergency) 2 ≡ true
+  pub emergency_unowned : condition newborn (Some Emergency) 2 ≡ false
+  pub emergency_one : condition newborn (Some Emergency) 1 ≡ false
+  pub new_key : condition (all_run Never) None 3 ≡ true
+  pub new_key_unreliable : condition established None 2 ≡ false
+  pub new_key_one : condition newborn None 1 ≡ false
+  -- layer 3 is reliable, and may not run over layer 2, which is not
+  pub new_key_not_runnable : condition (record (all_run Never) { two = doubted 2 Never }) None 3 ≡ false
+
+-- who has to sign
+pub record AuthorityExamples : Type 0 where
+  pub establish : authority newborn (Some Establish) 2 ≡ Some (officer 1)
+  pub surrender : authority established (Some Surrender) 2 ≡ Some (officer 2)
+  pub load : authority (all_run Never) (Some Load) 3 ≡ Some (officer 3)
+  pub emergency : authority (all_run Never) (Some Emergency) 3 ≡ Some (officer 2)
+  pub new_key : authority (all_run Never) None 3 ≡ Some (officer 3)
+  -- nobody may give an order over an unowned layer
+  pub over_unowned : authority newborn (Some Emergency) 3 ≡ None
+
+-- which targets hold of a device with this serial, whose log is its birth
+pub record TargetExamples (serial : List ℕ) : Type 0 where
+  pub same_serial : TargetHolds serial newborn 1 (target.Serial serial)
+  pub length : TargetHolds serial newborn 1 (target.Length 1)
+  pub other_length : TargetHolds serial newborn 1 (target.Length 7) → ⊥
+  pub owner : TargetHolds serial newborn 1 (target.Owner 1 (sha256 (key_bytes (officer 1))))
+  pub unowned_layer : (hash : List ℕ) → TargetHolds serial newborn 1 (target.Owner 2 hash) → ⊥
+  pub code : TargetHolds serial newborn 1 (target.Code 1 (replicate 32 1))
+  pub no_code : (hash : List ℕ) → TargetHolds serial newborn 1 (target.Code 2 hash) → ⊥
+
+-- how layers stand, as a device tells it
+pub record StandingExamples : Type 0 where
+  pub one : standing (record (all_run Never) { two = doubted 2 Never }) 1 ≡ stands.Runnable
+  pub two : standing (record (all_run Never) { two = doubted 2 Never }) 2 ≡ stands.Unreliable
+  pub three : standing (record (all_run Never) { two = doubted 2 Never }) 3 ≡ stands.Reliable
+  pub unowned_layer : standing newborn 2 ≡ stands.Unowned
+
+-- what each kind of change leaves
+pub record AfterExamples : Type 0 where
+  pub establish : after newborn Establish 2 nobody (placed unowned (act.Establish (officer 2) Never)) ≡ established
+  -- layer 3 keeps its owner and its code, and is reliable no more
+  pub surrender : after (all_run Always) Surrender 2 nobody (placed (running 2 Always) act.Surrender)
+      ≡ record { one = running 1 Always; two = unowned; three = doubted 3 Countersigned }
+  -- layer 2 trusts the load of layer 1, and layer 3 would have had to countersign it
+  pub load : (code : List ℕ) → after (all_run Always) Load 1 nobody (placed (running 1 Always) (act.Load 7 Never code))
+      ≡ record { one = loaded_with 1 Never code; two = running 2 Always; three = doubted 3 Countersigned }
+  -- layer 3 countersigned, and layer 2 trusts never
+  pub load_countersigned : (code : List ℕ) → after (all_run Never) Load 1 by_three (placed (running 1 Always) (act.Load 7 Always code))
+      ≡ record { one = loaded_with 1 Always code; two = doubted 2 Never; three = running 3 Countersigned }
+  -- the layer itself is reliable again; the one beneath stays
+  pub emergency : (code : List ℕ) → after (all_run Never) Emergency 2 by_three (placed (doubted 2 Never) (act.Emergency 7 Always code))
+      ≡ record { one = running 1 Always; two = loaded_with 2 Always code; three = running 3 Countersigned }
+
+abbrev pub by_both : Pair
+by_both = record { two = true; three = true }
+
+abbrev pub layers_with : Layer → Layer → Layer → Layers
+layers_with one two three = record { one = one; two = two; three = three }
+
+-- layer n after its second load
+abbrev pub renewed : ℕ → Trust → Layer
+renewed n trust =
+    record { owner = Some (officer n); code = Some (record { hash = replicate 32 n; version = 2 }); reliable = true; trust = trust }
+
+-- the layers of a device's life, in turn
+abbrev pub at_birth : Layers
+at_birth = layers_with (running 1 Always) unowned unowned
+
+abbrev pub with_two : Layers
+with_two = layers_with (running 1 Always) (bare 2 Countersigned) unowned
+
+abbrev pub with_three : Layers
+with_three = layers_with (running 1 Always) (bare 2 Countersigned) (bare 3 Countersigned)
+
+abbrev pub two_runs : Layers
+two_runs = layers_with (running 1 Always) (running 2 Countersigned) (bare 3 Countersigned)
+
+abbrev pub three_runs : Layers
+three_runs = layers_with (running 1 Always) (running 2 Countersigned) (running 3 Countersigned)
+
+abbrev pub one_renewed : Layers
+one_renewed = layers_with (renewed 1 Always) (running 2 Countersigned) (running 3 Countersigned)
+
+abbrev pub three_renewed : Layers
+three_renewed = layers_with (renewed 1 Always) (running 2 Countersigned) (renewed 3 Countersigned)
+
+-- A life: layers 2 and 3 get owners and code, layer 3 gets a key, layer 1 is loaded as 2 and 3 countersign, and layer 3
+-- is loaded. The keys are numbered 0 (the first device key), 1 (the key of layer 3) and 2 (the next device key).
+abbrev pub life : List Entry
+life =
+    Birth (replicate 16 9) (officer 10) at_birth
+    ∷ Change 1 1 Establish 2 nobody with_two nobody None
+    ∷ Change 2 2 Establish 3 nobody with_three by_two None
+    ∷ Change 3 3 Emergency 2 nobody two_runs nobody None
+    ∷ Change 4 4 Emergency 3 nobody three_runs by_two None
+    ∷ NewKey 5 4 1 3 kinds.Epoch (officer 11)
+    ∷ Change 6 5 Load 1 by_both one_renewed by_both (Some (officer 12))
+    ∷ Change 7 6 Load 3 nobody three_renewed by_both None
+    ∷ []
+
+-- what its entries say together
+pub record LogExamples : Type 0 where
+  pub number : number_of life ≡ 6
+  pub layers : layers_of life ≡ three_renewed
+  pub device : device_of life ≡ Some (officer 12)
+  -- the second device key signed the last entry alone
+  pub used : used life ≡ 1
+  pub made : made life ≡ 3
+
+-- a configuration key of layer 2, made behind that life, and a load of layer 3
+abbrev pub longer_life : List Entry
+longer_life =
+    life ++ NewKey 8 6 3 2 kinds.Configuration (officer 13)
+    ∷ Change 9 7 Load 3 nobody three_renewed by_both None
+    ∷ []
+
+-- the numbers of the configurations in which a key lived
+abbrev numbers_of : List Entry → ℕ → List ℕ
+numbers_of log key_number = map (λ item. item.number) (lives_of log key_number)
+
+-- in which configurations its keys lived
+pub record LifeExamples : Type 0 where
+  pub epoch_key : lives_of life 1 ≡
+      record { number = 4; upto = 3; layers = three_runs }
+      ∷ record { number = 5; upto = 3; layers = one_renewed }
+      ∷ record { number = 6; upto = 3; layers = three_renewed }
+      ∷ []
+  pub unknown_key : lives_of life 9 ≡ []
+  pub device_key : lives_of life 2 ≡ []
+  -- the load above layer 2 opens no configuration for its key, and the layer above is left out
+  pub configuration_key : lives_of longer_life 3 ≡
+      record { number = 6; upto = 2; layers = layers_with (renewed 1 Always) (running 2 Countersigned) unowned } ∷ []
+  -- a load of layer 2 ends the configuration key; the epoch key of layer 3, which did not trust it, ends too
+  pub configuration_key_ended : numbers_of (longer_life ++ Change 10 8 Load 2 nobody three_renewed by_two None ∷ []) 3 ≡ 6 ∷ []
+  pub epoch_key_ended : numbers_of (longer_life ++ Change 10 8 Load 2 nobody three_renewed by_two None ∷ []) 1 ≡ 4 ∷ 5 ∷ 6 ∷ 7 ∷ []

@@ -1,0 +1,88 @@
+-- When the key of a region ends, and in which configurations it lived. Which code can have signed with it?
+use Rattle.std.specs.Prelude.{◌≡◌, ℕ, ◌==◌, nat_lt, nat_le, Bool, false, not, ◌&&◌, List, [], ◌∷◌, ◌++◌, map, flat_map, All, if◌then◌else◌}
+use Rattle.std.specs.List.{list_all}
+use Rattle.mb_model.specs.declared.key.PublicKey.{PublicKey}
+use Rattle.mb_model.specs.declared.layer.Layers.{Layers}
+use Rattle.mb_model.specs.declared.order.KeyKind.{KeyKind}
+use Rattle.mb_model.specs.declared.order.KeyKind.TheVariants as kinds
+use Rattle.mb_model.specs.declared.entry.Entry.{Entry}
+use Rattle.mb_model.specs.declared.entry.Entry.TheVariants.{Birth, Change, NewKey, Succession}
+use Rattle.mb_model.specs.declared.state.Configuration.{Configuration}
+use Rattle.mb_model.specs.Layers.{unowned, is_in}
+use Rattle.mb_model.specs.Log.{layers_of}
+
+-- The entry ends each key of this kind and layer that was born before it: an epoch key, where a change does not keep
+-- the region; a configuration key, where a change is at the layer or beneath it.
+abbrev pub ends : KeyKind → ℕ → Entry → Bool
+ends kinds.Epoch L (Change position number kind layer cosigned layers kept next) = not (is_in L kept)
+ends kinds.Configuration L (Change position number kind layer cosigned layers kept next) = nat_le layer L
+ends key_kind L (Birth serial key layers) = false
+ends key_kind L (NewKey position number key_number layer kind key) = false
+ends key_kind L (Succession position key) = false
+
+-- The key with this number is born in the log, in the region of layer L, and no later entry ends it.
+pub record Alive (log : List Entry) (key_number L : ℕ) (kind : KeyKind) (key : PublicKey) : Type 0 where
+  pub before : List Entry
+  pub position : ℕ
+  pub number : ℕ
+  pub later : List Entry
+  pub split : log ≡ before ++ NewKey position number key_number L kind key ∷ later
+  pub lasts : All (λ entry. ends kind L entry ≡ false) later
+
+-- the layers 1 to L; each layer above stands as unowned
+abbrev pub layers_upto : ℕ → Layers → Layers
+layers_upto L layers = record {
+  one = layers.one;
+  two = if nat_lt L 2 then unowned else layers.two;
+  three = if nat_lt L 3 then unowned else layers.three;
+}
+
+-- the configuration of a key of layer L that has this number and these layers
+abbrev pub configuration : ℕ → ℕ → Layers → Configuration
+configuration L number layers = record { number = number; upto = L; layers = layers_upto L layers }
+
+-- an entry of a list, with those before it and those behind it
+pub record Split : Type 0 where
+  pub before : List Entry
+  pub entry : Entry
+  pub later : List Entry
+
+-- the same with one more entry at the front
+abbrev pub behind : Entry → Split → Split
+behind entry split = record split { before = entry ∷ split.before }
+
+-- each entry of a list in order, with those before it and those behind it
+unfoldable pub splits : List Entry → List Split
+splits [] = []
+splits (entry ∷ rest) =
+    record { before = []; entry = entry; later = rest } ∷ map (behind entry) (splits rest)
+
+-- the configuration that an entry opens for a key of layer L: a change at the layer or beneath it opens one
+abbrev pub opened_by : ℕ → Entry → List Configuration
+opened_by L (Birth serial key layers) = []
+opened_by L (Change position number kind layer cosigned layers kept next) =
+    if nat_le layer L then configuration L number layers ∷ [] else []
+opened_by L (NewKey position number key_number layer kind key) = []
+opened_by L (Succession position key) = []
+
+-- the configuration that a later entry opens for a key which it does not end, and which none since the key's own ended
+abbrev pub outlived : KeyKind → ℕ → Split → List Configuration
+outlived kind L split =
+    if list_all (λ entry. not (ends kind L entry)) split.before && not (ends kind L split.entry)
+    then opened_by L split.entry
+    else []
+
+-- the configurations of the key with this number, where an entry makes it: that of its birth, and those that later
+-- entries open while it lives
+abbrev pub lives_from : ℕ → List Entry → Entry → List Entry → List Configuration
+lives_from n before (Birth serial key layers) later = []
+lives_from n before (Change position number kind layer cosigned layers kept next) later = []
+lives_from n before (NewKey position number key_number layer kind key) later =
+    if key_number == n
+    then configuration layer number (layers_of before) ∷ flat_map (outlived kind layer) (splits later)
+    else []
+lives_from n before (Succession position key) later = []
+
+-- the configurations in which the key with this number lived; none where no entry makes such a key
+unfoldable pub lives_of : List Entry → ℕ → List Configuration
+lives_of log n = flat_map (λ split. lives_from n split.before split.entry split.later) (splits log)

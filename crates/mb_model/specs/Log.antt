@@ -1,0 +1,124 @@
+-- The log of a device: what its entries say together, and which entry may follow. Can a log tell of a change that the rules forbid?
+use Rattle.std.specs.Prelude.{◌≡◌, ◌≢◌, ℕ, ◌+◌, ◌==◌, Bool, true, false, ◌&&◌, List, [], ◌∷◌, ◌++◌, length, map, reverse, take_while, count_by, sum_by, Option, None, Some, is_some, is_none, IsSome, IsTrue, unwrap_or}
+use Rattle.std.specs.Option.{option_or}
+use Rattle.mb_model.specs.declared.key.PublicKey.{PublicKey}
+use Rattle.mb_model.specs.declared.layer.Layers.{Layers}
+use Rattle.mb_model.specs.declared.layer.Pair.{Pair}
+use Rattle.mb_model.specs.declared.order.ChangeKind.{ChangeKind}
+use Rattle.mb_model.specs.declared.entry.Entry.{Entry}
+use Rattle.mb_model.specs.declared.entry.Entry.TheVariants.{Birth, Change, NewKey, Succession}
+use Rattle.mb_model.specs.declared.entry.SignedEntry.{SignedEntry}
+use Rattle.mb_model.specs.Layers.{unowned, unowned_layers, layer_of}
+use Rattle.mb_model.specs.Rules.{Condition, CanPlace, after, may_cosign, kept_regions, is_own_load}
+
+-- the entries of a log without their signatures
+abbrev pub entries_of : List SignedEntry → List Entry
+entries_of log = map (λ signed. signed.entry) log
+
+abbrev pub is_change : Entry → Bool
+is_change (Birth serial key layers) = false
+is_change (Change position number kind layer cosigned layers kept next) = true
+is_change (NewKey position number key_number layer kind key) = false
+is_change (Succession position key) = false
+
+-- the layers that an entry names
+abbrev pub layers_in : Entry → Option Layers
+layers_in (Birth serial key layers) = Some layers
+layers_in (Change position number kind layer cosigned layers kept next) = Some layers
+layers_in (NewKey position number key_number layer kind key) = None
+layers_in (Succession position key) = None
+
+-- the device key that an entry names
+abbrev pub device_in : Entry → Option PublicKey
+device_in (Birth serial key layers) = Some key
+device_in (Change position number kind layer cosigned layers kept next) = next
+device_in (NewKey position number key_number layer kind key) = None
+device_in (Succession position key) = Some key
+
+-- how many keys an entry names, a region's key included
+abbrev pub keys_in : Entry → ℕ
+keys_in (Birth serial key layers) = 1
+keys_in (Change position number kind layer cosigned layers kept None) = 0
+keys_in (Change position number kind layer cosigned layers kept (Some next)) = 1
+keys_in (NewKey position number key_number layer kind key) = 1
+keys_in (Succession position key) = 1
+
+-- the last that entries name of something
+unfoldable pub last_of : {X : Type 0} → (Entry → Option X) → List Entry → Option X
+last_of named [] = None
+last_of named (entry ∷ rest) = option_or (last_of named rest) (named entry)
+
+-- the configuration number: how many of the entries are changes
+unfoldable pub number_of : List Entry → ℕ
+number_of log = count_by is_change log
+
+-- the layers of the last birth or change; before the birth none has an owner
+unfoldable pub layers_of : List Entry → Layers
+layers_of log = unwrap_or (last_of layers_in log) unowned_layers
+
+-- the device key that the entries name last
+unfoldable pub device_of : List Entry → Option PublicKey
+device_of log = last_of device_in log
+
+-- how many entries stand after the one that names that key: those at the end that name none
+unfoldable pub used : List Entry → ℕ
+used log = length (take_while (λ entry. is_none (device_in entry)) (reverse log))
+
+-- how many keys the entries name
+unfoldable pub made : List Entry → ℕ
+made log = sum_by keys_in log
+
+-- the entry says that this many stand before it; a birth does not say
+abbrev pub StandsAt : ℕ → Entry → Type 0
+StandsAt n (Birth serial key layers) = Unit {0}
+StandsAt n (Change position number kind layer cosigned layers kept next) = position ≡ n
+StandsAt n (NewKey position number key_number layer kind key) = position ≡ n
+StandsAt n (Succession position key) = position ≡ n
+
+-- the entry has its place behind the others, and its signature the next index of the device key named last
+pub record Ordered (before : List Entry) (entry : Entry) (index : ℕ) : Type 0 where
+  pub position : StandsAt (length before) entry
+  pub next : index ≡ used before
+
+-- the layers at a birth: the owner of layer 1 and its code are there, and nobody owns what is above
+pub record AreFirst (layers : Layers) : Type 0 where
+  pub owned : IsSome layers.one.owner
+  pub reliable : IsTrue layers.one.reliable
+  pub two : layers.two ≡ unowned
+  pub three : layers.three ≡ unowned
+
+-- A change of layer k says what the entries before it make true. Whom and what it places, it says by its own layers.
+pub record RuledChange (before : List Entry) (number : ℕ) (kind : ChangeKind) (k : ℕ) (cosigned : Pair) (layers : Layers) (kept : Pair) (next : Option PublicKey) : Type 0 where
+  pub counted : number ≡ number_of before + 1
+  pub allowed : Condition (layers_of before) (Some kind) k
+  pub placed : CanPlace kind (layer_of (layers_of before) k) (layer_of layers k)
+  pub changed : layers ≡ after (layers_of before) kind k cosigned (layer_of layers k)
+  pub cosigned_two : IsTrue cosigned.two → IsTrue (may_cosign (layers_of before) kind k 2)
+  pub cosigned_three : IsTrue cosigned.three → IsTrue (may_cosign (layers_of before) kind k 3)
+  pub regions : kept ≡ kept_regions (layers_of before) kind k cosigned
+  -- exactly the ordinary load of layer 1 makes the next device key
+  pub renewed : is_some next ≡ (is_own_load kind && k == 1)
+  -- the last index of a device key signs no other change
+  pub last_index : used before ≡ 31 → IsSome next
+
+-- a new key of layer k says what the entries before it make true
+pub record RuledNewKey (before : List Entry) (number key_number k : ℕ) : Type 0 where
+  pub counted : number ≡ number_of before
+  pub key_counted : key_number ≡ made before
+  pub allowed : Condition (layers_of before) None k
+  -- the last index of a device key signs no new key
+  pub last_index : used before ≢ 31
+
+-- By the rules the entry may stand behind the others: a birth at first and nowhere else, and a succession where the
+-- last index of a device key is left.
+abbrev pub Ruled : List Entry → Entry → Type 0
+Ruled before (Birth serial key layers) = (before ≡ []) × AreFirst layers
+Ruled before (Change position number kind layer cosigned layers kept next) =
+    (before ≢ []) × RuledChange before number kind layer cosigned layers kept next
+Ruled before (NewKey position number key_number layer kind key) =
+    (before ≢ []) × RuledNewKey before number key_number layer
+Ruled before (Succession position key) = (before ≢ []) × (used before ≡ 31)
+
+-- each entry of a log may stand behind those before it
+abbrev pub RuledLog : List Entry → Type 0
+RuledLog log = (before : List Entry) (entry : Entry) (rest : List Entry) → log ≡ before ++ entry ∷ rest → Ruled before entry

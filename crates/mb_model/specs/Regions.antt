@@ -1,0 +1,73 @@
+-- What is left of a region after a change, and what may be in it. Has a secret been kept over a change that its layer never agreed to?
+use Rattle.std.specs.Prelude.{◌≡◌, ℕ, ◌<◌, ◌≤◌, nat_lt, Bool, true, false, List, [], ◌∷◌, ◌++◌, All, filter, Option, None, Some, if◌then◌else◌}
+use Rattle.mb_model.specs.declared.key.PublicKey.{PublicKey}
+use Rattle.mb_model.specs.declared.layer.Layers.{Layers}
+use Rattle.mb_model.specs.declared.layer.Pair.{Pair}
+use Rattle.mb_model.specs.declared.order.KeyKind.{KeyKind}
+use Rattle.mb_model.specs.declared.order.KeyKind.TheVariants as kinds
+use Rattle.mb_model.specs.declared.order.ChangeKind.{ChangeKind}
+use Rattle.mb_model.specs.declared.entry.Entry.{Entry}
+use Rattle.mb_model.specs.declared.entry.Entry.TheVariants.{Change, NewKey}
+use Rattle.mb_model.specs.declared.region.Region.{Region}
+use Rattle.mb_model.specs.declared.region.RegionKey.{RegionKey}
+use Rattle.mb_model.specs.declared.state.State.{State}
+use Rattle.mb_model.specs.Rules.{admits, Admits}
+use Rattle.mb_model.specs.Log.{entries_of, layers_of}
+
+-- a region with nothing in it
+abbrev pub empty_region : Region
+empty_region = record { secrets = []; keys = [] }
+
+abbrev pub is_epoch : KeyKind → Bool
+is_epoch kinds.Epoch = true
+is_epoch kinds.Configuration = false
+
+-- the region without its configuration keys
+abbrev pub without_configuration_keys : Region → Region
+without_configuration_keys region = record region { keys = filter (λ key. is_epoch key.kind) region.keys }
+
+-- Region L after a change of layer k, with the layers before the change: a change above leaves it; one that its layer
+-- admits takes its configuration keys; any other empties it.
+abbrev pub region_after : Layers → ChangeKind → ℕ → Pair → ℕ → Region → Region
+region_after layers kind k cosigned L region =
+    if nat_lt L k then region
+    else if admits layers kind k cosigned L then without_configuration_keys region
+    else empty_region
+
+-- the region with a new key behind its others
+abbrev pub with_key : RegionKey → Region → Region
+with_key key region = record region { keys = region.keys ++ key ∷ [] }
+
+-- Layer L admitted each change of the log that has a number above c and is of the layer or beneath it. This looks back
+-- over the log, at the layers as they stood before each such change.
+abbrev pub AdmittedSince : List Entry → ℕ → ℕ → Type 0
+AdmittedSince log c L =
+    (before later : List Entry) (position number : ℕ) (kind : ChangeKind) (k : ℕ) (cosigned : Pair) (layers : Layers) (kept : Pair) (next : Option PublicKey)
+    → log ≡ before ++ Change position number kind k cosigned layers kept next ∷ later
+    → c < number → k ≤ L → Admits (layers_of before) kind k cosigned L
+
+-- The log tells of the birth of the key with this number, in the region of layer L, and of each change since then that
+-- the layer admitted it.
+pub record KeyAdmitted (log : List Entry) (L key_number : ℕ) : Type 0 where
+  pub before : List Entry
+  pub position : ℕ
+  pub number : ℕ
+  pub kind : KeyKind
+  pub key : PublicKey
+  pub later : List Entry
+  pub split : log ≡ before ++ NewKey position number key_number L kind key ∷ later
+  pub admitted : AdmittedSince log number L
+
+-- each secret and each key of region L was admitted by its layer at each change since it came into the region
+pub record RegionKeptRightly (log : List Entry) (L : ℕ) (region : Region) : Type 0 where
+  pub secrets : All (λ secret. AdmittedSince log secret.born L) region.secrets
+  pub keys : All (λ key. KeyAdmitted log L key.number) region.keys
+
+pub record BothKeptRightly (state : State) : Type 0 where
+  pub two : RegionKeptRightly (entries_of state.log) 2 state.two
+  pub three : RegionKeptRightly (entries_of state.log) 3 state.three
+
+-- every secret and key of a device was kept rightly; a dead device has none
+abbrev pub KeptRightly : Option State → Type 0
+KeptRightly None = Unit {0}
+KeptRightly (Some state) = BothKeptRightly state

@@ -1,0 +1,147 @@
+-- Whose order a layer obeys, when, and what is left afterwards. Who can change a layer, and who can keep it from losing its secrets?
+use Rattle.std.specs.Prelude.{◌≡◌, ℕ, ◌-◌, ◌==◌, nat_lt, Bool, true, false, not, ◌&&◌, ◌||◌, List, ◌∷◌, ◌++◌, length, All, Option, None, Some, IsSome, IsSomeAnd, IsTrue, if◌then◌else◌}
+use Rattle.sha2.specs.Sha256.{sha256}
+use Rattle.mb_model.specs.declared.key.PublicKey.{PublicKey}
+use Rattle.mb_model.specs.declared.key.Trust.{Trust}
+use Rattle.mb_model.specs.declared.key.Trust.TheVariants.{Always, Never, Countersigned}
+use Rattle.mb_model.specs.declared.layer.Layer.{Layer}
+use Rattle.mb_model.specs.declared.layer.Layers.{Layers}
+use Rattle.mb_model.specs.declared.layer.Pair.{Pair}
+use Rattle.mb_model.specs.declared.order.ChangeKind.{ChangeKind}
+use Rattle.mb_model.specs.declared.order.ChangeKind.TheVariants.{Establish, Surrender, Load, Emergency}
+use Rattle.mb_model.specs.declared.order.Act.{Act}
+use Rattle.mb_model.specs.declared.order.Act.TheVariants as act
+use Rattle.mb_model.specs.declared.order.Target.{Target}
+use Rattle.mb_model.specs.declared.order.Target.TheVariants as target
+use Rattle.mb_model.specs.Key.{key_bytes}
+use Rattle.mb_model.specs.Layers.{unowned, layer_of, is_owned, is_layer_number, is_upper, is_in, is_runnable}
+
+-- the change that an order makes: none where it makes a new key
+abbrev pub kind_of : Act → Option ChangeKind
+kind_of (act.Establish owner trust) = Some Establish
+kind_of act.Surrender = Some Surrender
+kind_of (act.Load version trust code) = Some Load
+kind_of (act.Emergency version trust code) = Some Emergency
+kind_of (act.NewKey kind) = None
+
+-- Who has to sign an order for layer k: the owner of this layer. An owner is established, and code is loaded in an
+-- emergency, from beneath; all else is up to the layer's own owner.
+abbrev pub signing_layer : Option ChangeKind → ℕ → ℕ
+signing_layer (Some Establish) k = k - 1
+signing_layer (Some Surrender) k = k
+signing_layer (Some Load) k = k
+signing_layer (Some Emergency) k = k - 1
+signing_layer None k = k
+
+-- the key under which an order for layer k has to verify: none where the layer in charge is unowned
+abbrev pub authority : Layers → Option ChangeKind → ℕ → Option PublicKey
+authority layers kind k = (layer_of layers (signing_layer kind k)).owner
+
+-- how the layers have to stand for an order for layer k
+abbrev pub condition : Layers → Option ChangeKind → ℕ → Bool
+condition layers (Some Establish) k = is_upper k && not (is_owned layers k) && is_owned layers (k - 1)
+condition layers (Some Surrender) k = is_upper k && is_owned layers k
+condition layers (Some Load) k = is_layer_number k && is_owned layers k && (layer_of layers k).reliable
+condition layers (Some Emergency) k = is_upper k && is_owned layers k && is_owned layers (k - 1)
+condition layers None k = is_upper k && is_runnable layers k
+
+abbrev pub Condition : Layers → Option ChangeKind → ℕ → Type 0
+Condition layers kind k = IsTrue (condition layers kind k)
+
+-- A target holds of a device with this serial and these layers, whose log has this length. One on a layer without an
+-- owner, or without code, does not.
+abbrev pub TargetHolds : List ℕ → Layers → ℕ → Target → Type 0
+TargetHolds serial layers length (target.Serial named) = named ≡ serial
+TargetHolds serial layers length (target.Length named) = named ≡ length
+TargetHolds serial layers length (target.Owner n hash) =
+    IsSomeAnd (layer_of layers n).owner (λ owner. hash ≡ sha256 (key_bytes owner))
+TargetHolds serial layers length (target.Code n hash) =
+    IsSomeAnd (layer_of layers n).code (λ code. hash ≡ code.hash)
+
+-- the target in this place, from 0, is the first that does not hold
+pub record IsFirstFailing (serial : List ℕ) (layers : Layers) (log_length : ℕ) (targets : List Target) (place : ℕ) : Type 0 where
+  pub before : List Target
+  pub failing : Target
+  pub after : List Target
+  pub split : targets ≡ before ++ failing ∷ after
+  pub place_is : place ≡ length before
+  pub hold : All (TargetHolds serial layers log_length) before
+  pub fails : TargetHolds serial layers log_length failing → ⊥
+
+-- the change puts code in place
+abbrev pub is_load : ChangeKind → Bool
+is_load Establish = false
+is_load Surrender = false
+is_load Load = true
+is_load Emergency = true
+
+-- the layer's own owner puts code in place
+abbrev pub is_own_load : ChangeKind → Bool
+is_own_load Establish = false
+is_own_load Surrender = false
+is_own_load Load = true
+is_own_load Emergency = false
+
+-- a layer with this trust goes along with a load beneath it, which its owner has or has not countersigned
+abbrev pub trusts : Trust → Bool → Bool
+trusts Always cosigned = true
+trusts Never cosigned = false
+trusts Countersigned cosigned = cosigned
+
+-- Layer m admits a change of layer k, which is m or stands beneath it: its own ordinary load, and each load beneath it
+-- that it trusts. The layers are those before the change.
+abbrev pub admits : Layers → ChangeKind → ℕ → Pair → ℕ → Bool
+admits layers kind k cosigned m =
+    if m == k then is_own_load kind
+    else is_load kind && trusts (layer_of layers m).trust (is_in m cosigned)
+
+abbrev pub Admits : Layers → ChangeKind → ℕ → Pair → ℕ → Type 0
+Admits layers kind k cosigned m = IsTrue (admits layers kind k cosigned m)
+
+-- region m is kept over a change of layer k: the change is above it, or its layer admits it
+abbrev pub is_kept : Layers → ChangeKind → ℕ → Pair → ℕ → Bool
+is_kept layers kind k cosigned m = nat_lt m k || admits layers kind k cosigned m
+
+abbrev pub Kept : Layers → ChangeKind → ℕ → Pair → ℕ → Type 0
+Kept layers kind k cosigned m = IsTrue (is_kept layers kind k cosigned m)
+
+-- the regions that are kept over a change of layer k
+abbrev pub kept_regions : Layers → ChangeKind → ℕ → Pair → Pair
+kept_regions layers kind k cosigned =
+    record { two = is_kept layers kind k cosigned 2; three = is_kept layers kind k cosigned 3 }
+
+-- layer m may countersign a change of layer k: the change is a load, and m has an owner and stands above it
+abbrev pub may_cosign : Layers → ChangeKind → ℕ → ℕ → Bool
+may_cosign layers kind k m = is_load kind && nat_lt k m && is_owned layers m
+
+-- what an order puts in place of its layer
+abbrev pub placed : Layer → Act → Layer
+placed old (act.Establish owner trust) = record { owner = Some owner; code = None; reliable = false; trust = trust }
+placed old act.Surrender = unowned
+placed old (act.Load version trust code) =
+    record { owner = old.owner; code = Some (record { hash = sha256 code; version = version }); reliable = true; trust = trust }
+placed old (act.Emergency version trust code) =
+    record { owner = old.owner; code = Some (record { hash = sha256 code; version = version }); reliable = true; trust = trust }
+placed old (act.NewKey kind) = old
+
+-- what a change of a kind can put in place of its layer: some order of the kind does, with code of this name
+abbrev pub CanPlace : ChangeKind → Layer → Layer → Type 0
+CanPlace Establish old new = IsSome new.owner × (new.code ≡ None) × (new.reliable ≡ false)
+CanPlace Surrender old new = new ≡ unowned
+CanPlace Load old new = (new.owner ≡ old.owner) × IsSome new.code × (new.reliable ≡ true)
+CanPlace Emergency old new = (new.owner ≡ old.owner) × IsSome new.code × (new.reliable ≡ true)
+
+-- layer m after a change of layer k that puts `new` there: a layer above stays reliable only where it admits the change
+abbrev pub layer_after : Layers → ChangeKind → ℕ → Pair → Layer → ℕ → Layer
+layer_after layers kind k cosigned new m =
+    if m == k then new
+    else if nat_lt m k then layer_of layers m
+    else record (layer_of layers m) { reliable = (layer_of layers m).reliable && admits layers kind k cosigned m }
+
+-- the layers after a change of layer k that puts `new` there
+unfoldable pub after : Layers → ChangeKind → ℕ → Pair → Layer → Layers
+after layers kind k cosigned new = record {
+  one = layer_after layers kind k cosigned new 1;
+  two = layer_after layers kind k cosigned new 2;
+  three = layer_after layers kind k cosigned new 3;
+}

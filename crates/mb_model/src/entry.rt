@@ -1,0 +1,96 @@
+//! The log of a device, and what is shown of it.
+
+use crate::bytes::Bytes;
+use crate::items::Items;
+use crate::key::PublicKey;
+use crate::layer::{Layers, Pair};
+use crate::order::{ChangeKind, KeyKind};
+
+/// An entry of the log.
+#[derive(Clone, Copy, Debug, PartialEq, Eq)]
+pub enum Entry {
+    /// The device was made: its serial, its first device key, and its layers.
+    Birth {
+        serial: [u8; 16],
+        key: PublicKey,
+        layers: Layers,
+    },
+    /// A layer was changed.
+    Change {
+        /// How many entries stand before this one.
+        position: u32,
+        /// How many changes there are up to this one: the configuration number from here on.
+        number: u32,
+        kind: ChangeKind,
+        /// The layer that was changed, 1 to 3.
+        layer: u8,
+        /// The layers whose owners countersigned.
+        cosigned: Pair,
+        /// The layers afterwards.
+        layers: Layers,
+        /// The regions that were kept.
+        kept: Pair,
+        /// The next device key, where the change makes one.
+        next: Option<PublicKey>,
+    },
+    /// A key was made in a region.
+    NewKey {
+        /// How many entries stand before this one.
+        position: u32,
+        /// The configuration number.
+        number: u32,
+        /// The number of the key in the row of all keys of the device.
+        key_number: u32,
+        /// The region's layer, 2 or 3.
+        layer: u8,
+        kind: KeyKind,
+        key: PublicKey,
+    },
+    /// The device key that signed all it could gives way to the next.
+    Succession {
+        /// How many entries stand before this one.
+        position: u32,
+        key: PublicKey,
+    },
+}
+
+/// Entries in order.
+pub type Entries = Items<Entry>;
+
+/// An entry and the signature of a device key, or of the factory at the birth (RFC 8554, section 5.4).
+#[derive(Clone, Copy, Debug, PartialEq, Eq)]
+pub struct SignedEntry {
+    pub entry: Entry,
+    pub signature: [u8; 2348],
+}
+
+/// The log of a device, at most 128 entries.
+pub type Log = Items<SignedEntry>;
+
+/// An entry as it is stored, where its signature may be missing yet.
+#[derive(Clone, Copy, Debug, PartialEq, Eq)]
+pub struct PublicEntry {
+    pub entry: Entry,
+    pub signature: Option<[u8; 2348]>,
+}
+
+/// Stored entries in order.
+pub type PublicEntries = Items<PublicEntry>;
+
+/// What a region's key signed.
+#[derive(Drop)]
+pub struct Statement {
+    /// The configuration number at which it was signed.
+    pub number: u32,
+    /// At most 128 bytes.
+    pub message: Bytes,
+    /// The region key's signature (RFC 8554, section 5.4).
+    pub signature: [u8; 2348],
+}
+
+/// A chain of certificates: the log of a device or the first entries of it, and maybe a statement.
+#[derive(Drop)]
+pub struct Chain {
+    pub entries: Log,
+    pub statement: Option<Statement>,
+}

@@ -1,0 +1,91 @@
+//! Orders of the layers' owners.
+
+use crate::bytes::Bytes;
+use crate::items::Items;
+use crate::key::{PublicKey, Trust};
+
+/// How long a key of a region lives.
+#[derive(Clone, Copy, Debug, PartialEq, Eq)]
+pub enum KeyKind {
+    /// Until a change that the region is not kept over.
+    Epoch,
+    /// Until any change of its layer or of one beneath it.
+    Configuration,
+}
+
+/// What an order demands of the device: where it does not hold, the order is refused.
+#[derive(Clone, Copy, Debug, PartialEq, Eq)]
+pub enum Target {
+    /// The device has this serial.
+    Serial([u8; 16]),
+    /// The log has this many entries.
+    Length(u32),
+    /// The layer, 1 to 3, has an owner, and this is SHA-256 of the 56 bytes of the owner's key.
+    Owner { layer: u8, hash: [u8; 32] },
+    /// The layer, 1 to 3, has code, and this is SHA-256 of it.
+    Code { layer: u8, hash: [u8; 32] },
+}
+
+/// The targets of an order, at most 8.
+pub type Targets = Items<Target>;
+
+/// What an order does to its layer. Code has at most 32,768 bytes.
+#[derive(Drop)]
+pub enum Act {
+    /// Gives the layer an owner.
+    Establish {
+        owner: PublicKey,
+        trust: Trust,
+    },
+    /// Takes the layer's owner away.
+    Surrender,
+    /// The ordinary load, by the layer's own owner.
+    Load {
+        version: u32,
+        trust: Trust,
+        code: Bytes,
+    },
+    /// The emergency load, by the owner of the layer beneath.
+    Emergency {
+        version: u32,
+        trust: Trust,
+        code: Bytes,
+    },
+    /// Makes a key in the layer's region.
+    NewKey {
+        kind: KeyKind,
+    },
+}
+
+/// The signature of an owner of a higher layer on a load.
+#[derive(Drop)]
+pub struct Countersignature {
+    /// The layer whose owner signed, 2 or 3.
+    pub layer: u8,
+    /// A signature (RFC 8554, section 5.4), at most 9,324 bytes.
+    pub signature: Bytes,
+}
+
+/// The countersignatures of an order, in ascending order of their layers, at most 2.
+pub type Countersignatures = Items<Countersignature>;
+
+/// An order.
+#[derive(Drop)]
+pub struct Order {
+    /// The layer that it is for, 1 to 3.
+    pub layer: u8,
+    pub targets: Targets,
+    pub act: Act,
+    /// The signature of the owner in charge (RFC 8554, section 5.4), at most 9,324 bytes.
+    pub signature: Bytes,
+    pub countersignatures: Countersignatures,
+}
+
+/// The orders that change a layer.
+#[derive(Clone, Copy, Debug, PartialEq, Eq)]
+pub enum ChangeKind {
+    Establish,
+    Surrender,
+    Load,
+    Emergency,
+}

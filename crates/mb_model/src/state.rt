@@ -1,0 +1,120 @@
+//! What a device is, and what of it an order is judged by.
+
+use crate::bytes::Bytes;
+use crate::entry::{Entries, Log};
+use crate::items::Items;
+use crate::key::KeySeed;
+use crate::layer::{Layers, Pair};
+use crate::order::{ChangeKind, KeyKind};
+use crate::region::{Region, RegionKey};
+use crate::stored::Outgoing;
+
+/// The code of each layer that has some, at most 32,768 bytes each.
+#[derive(Drop)]
+pub struct Codes {
+    pub one: Option<Bytes>,
+    pub two: Option<Bytes>,
+    pub three: Option<Bytes>,
+}
+
+/// All that a live device keeps. A dead one keeps nothing.
+#[derive(Drop)]
+pub struct State {
+    /// The device's serial.
+    pub serial: [u8; 16],
+    pub layers: Layers,
+    pub codes: Codes,
+    pub log: Log,
+    /// The device key.
+    pub device: KeySeed,
+    /// How many of the device key's 32 indices are used.
+    pub uses: u32,
+    /// The region of layer 2.
+    pub two: Region,
+    /// The region of layer 3.
+    pub three: Region,
+}
+
+/// What of a state an order is judged by.
+#[derive(Clone, Copy, Debug, PartialEq, Eq)]
+pub struct View {
+    /// The device's serial.
+    pub serial: [u8; 16],
+    pub layers: Layers,
+    /// How many entries the log has.
+    pub length: u32,
+    /// The configuration number.
+    pub number: u32,
+    /// How many keys the log's entries name.
+    pub keys_made: u32,
+    /// The device key.
+    pub device: KeySeed,
+    /// How many of the device key's indices are used.
+    pub uses: u32,
+    /// How many keys region 2 has.
+    pub keys_two: u32,
+    /// How many keys region 3 has.
+    pub keys_three: u32,
+}
+
+/// What an order makes true, for which its entry will stand.
+#[derive(Clone, Copy, Debug, PartialEq, Eq)]
+pub enum Fact {
+    /// A layer is changed.
+    Change {
+        kind: ChangeKind,
+        /// 1 to 3.
+        layer: u8,
+        /// The layers whose owners countersigned.
+        cosigned: Pair,
+        /// The layers afterwards.
+        layers: Layers,
+        /// The regions that are kept.
+        kept: Pair,
+    },
+    /// A key is made in a region.
+    NewKey {
+        /// The region's layer, 2 or 3.
+        layer: u8,
+        kind: KeyKind,
+    },
+}
+
+/// What a fact adds to a device.
+#[derive(Drop)]
+pub struct Bodies {
+    /// The new entries, one or two, not signed yet.
+    pub entries: Entries,
+    /// The device key afterwards.
+    pub device: KeySeed,
+    /// How many of its indices are used, those of the new entries included.
+    pub uses: u32,
+    /// The device key before, where it gives way.
+    pub outgoing: Option<Outgoing>,
+    /// The new key of a region.
+    pub key: Option<RegionKey>,
+}
+
+/// Whether an entry may follow those before it.
+#[derive(Clone, Copy, Debug, PartialEq, Eq)]
+pub enum Follow {
+    Yes,
+    /// It has a wrong position, or its signature a wrong index.
+    Order,
+    /// It breaks the rules of the log.
+    Rules,
+}
+
+/// A configuration in which a key lived.
+#[derive(Clone, Copy, Debug, PartialEq, Eq)]
+pub struct Configuration {
+    /// The configuration number.
+    pub number: u32,
+    /// The key's layer, 2 or 3.
+    pub upto: u8,
+    /// The layers up to the key's. Each layer above stands as one without an owner.
+    pub layers: Layers,
+}
+
+/// The configurations in which a key lived, in order.
+pub type Lives = Items<Configuration>;

@@ -1,0 +1,61 @@
+//! What stands in a device's memory: the decoded records.
+
+use crate::entry::PublicEntries;
+use crate::key::KeySeed;
+use crate::region::RegionKey;
+use crate::state::Codes;
+
+/// A device key that gives way, as long as what it signs last is not signed yet.
+#[derive(Clone, Copy, Debug, PartialEq, Eq)]
+pub struct Outgoing {
+    pub seed: KeySeed,
+    /// How many of its indices are used, 1 to 32, with that of the entry that is not signed yet.
+    pub uses: u32,
+}
+
+/// What is still to be done to a region.
+#[derive(Clone, Copy, Debug, PartialEq, Eq)]
+pub enum Fate {
+    /// It stays.
+    Keep,
+    /// It becomes empty.
+    Empty,
+    /// It loses its configuration keys.
+    DropConfiguration,
+    /// It gets this key, where it has none of that number.
+    AddKey(RegionKey),
+}
+
+/// The work that an order has left to be done.
+#[derive(Clone, Copy, Debug, PartialEq, Eq)]
+pub struct Pending {
+    /// How many entries at the log's end are not signed yet, 1 or 2.
+    pub unsigned: u8,
+    /// The device key that signs the first of them, where it is not the present one.
+    pub outgoing: Option<Outgoing>,
+    /// What becomes of region 2.
+    pub two: Fate,
+    /// What becomes of region 3.
+    pub three: Fate,
+}
+
+/// The root record of the battery-backed memory.
+#[derive(Clone, Copy, Debug, PartialEq, Eq)]
+pub struct Root {
+    /// The area of the flash in force: 0 for the first, 1 for the second.
+    pub area: u8,
+    /// The device's serial.
+    pub serial: [u8; 16],
+    /// The device key.
+    pub device: KeySeed,
+    /// How many of the device key's 32 indices are used, those of entries not signed yet included.
+    pub uses: u32,
+    pub pending: Option<Pending>,
+}
+
+/// The public record of the flash.
+#[derive(Drop)]
+pub struct Public {
+    pub codes: Codes,
+    pub entries: PublicEntries,
+}
