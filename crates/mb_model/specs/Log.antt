@@ -80,14 +80,15 @@ pub record Ordered (before : List Entry) (entry : Entry) (index : ℕ) : Type 0 
   pub position : StandsAt (length before) entry
   pub next : index ≡ used before
 
--- the layers at a birth: the owner of layer 1 and its code are there, and nobody owns what is above
+-- the layers at a birth: layer 1 has an owner and is reliable, and nobody owns what is above
 pub record AreFirst (layers : Layers) : Type 0 where
   pub owned : IsSome layers.one.owner
   pub reliable : IsTrue layers.one.reliable
   pub two : layers.two ≡ unowned
   pub three : layers.three ≡ unowned
 
--- A change of layer k says what the entries before it make true. Whom and what it places, it says by its own layers.
+-- A change of layer k says what the entries before it make true. Which owner, code name and trust it puts there, its own
+-- layer k says.
 pub record RuledChange (before : List Entry) (number : ℕ) (kind : ChangeKind) (k : ℕ) (cosigned : Pair) (layers : Layers) (kept : Pair) (next : Option PublicKey) : Type 0 where
   pub counted : number ≡ number_of before + 1
   pub allowed : Condition (layers_of before) (Some kind) k

@@ -1,6 +1,7 @@
 //! The types of a device with layered owners, and the definitions that contracts of every other crate cite.
 //!
-//! This crate owns the words: what a key, an event and a reply are, when a signature verifies, and what the machine of
+//! This crate owns the words: what a key, a layer, an order, a log and a region are, when a signature verifies, whose
+//! order is obeyed and what it leaves, which entries a log may have, where a key lived, and what the machine of
 //! the first path does. The definitions stand in specs/, a file for each subject. It stands on `sha2` and `hex`, whose
 //! functions on lists the definitions use.
 #![tactic(auto)]
