@@ -1,0 +1,4 @@
+pub mod Exactly
+pub mod Putting
+pub mod Reading
+mod ExampleLaw

@@ -1,0 +1,26 @@
+use Rattle.std.proofs.Common.{ap, ◌∙◌, length, arith}
+use Rattle.std.proofs.lemmas.Result.{err_from_is_err_and}
+use Rattle.mb_bytes.specs.Example.{points}
+use Rattle.mb_bytes.proofs.Exactly.{whole_read, whole_left, whole_failed_at}
+use Rattle.mb_bytes.proofs.ExampleLaw.{example_exact}
+use Rattle.mb_bytes.proofs.example.read_whole_example.Goals as goal
+
+pub returns-in_err-value : goal.returns-in_err-value
+returns-in_err-value c =
+    let p = err_from_is_err_and c.from_residual.result c.from_residual.ensures.1 in
+    let start = c.new-cursor.ensures in
+    rw (p.1, p.2) (whole_failed_at c.new-cursor.result _ c.args.bytes.now example_exact start.all start.first (points c.in_err-value.field-0.0) c.in_err-value.ensures)
+
+pub returns-then-left-gt0 : goal.returns-then-left-gt0
+returns-then-left-gt0 c =
+    let start = c.new-cursor.ensures in
+    let read = c.in_ok-value.ensures in
+    let size = ap length (read.bytes ∙ start.all) in
+    rw c.place.ensures (whole_left c.args.bytes.now example_exact start.all start.first read (omega (arith, size, c.left.ensures)))
+
+pub returns : goal.returns
+returns c =
+    let start = c.new-cursor.ensures in
+    let read = c.in_ok-value.ensures in
+    let size = ap length (read.bytes ∙ start.all) in
+    whole_read c.args.bytes.now example_exact start.all start.first read (omega (arith, size, c.left.ensures))

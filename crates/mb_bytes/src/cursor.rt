@@ -1,0 +1,104 @@
+//! Bytes with a place among them, and the fields that are read from there.
+
+ghost use Rattle.std.specs.Prelude.{◌≡◌, ℕ, ◌+◌, ◌≤◌, length};
+ghost use Rattle.mb_format.specs.Format.{IsBytes};
+
+/// Too few bytes were left for the field that begins at this place.
+#[derive(Clone, Copy, Debug, PartialEq, Eq)]
+pub struct Short {
+    /// The place, counted from the first of the cursor's bytes.
+    pub at: u32,
+}
+
+/// Bytes and a place among them, from which fields are read.
+#[derive(Clone, Copy)]
+pub struct Cursor<'a> {
+    bytes: &'a [u8],
+    place: u32,
+    ghost are_bytes: { IsBytes bytes.now },
+    ghost within: { place ≤ length bytes.now },
+    ghost short: { length bytes.now ≤ 4194304 },
+}
+
+impl<'a> Cursor<'a> {
+    ghost use Rattle.std.specs.Int.{w8, w16, w32};
+    ghost use Rattle.mb_format.specs.Combinators.{number, raw};
+    ghost use Rattle.mb_bytes.specs.Reads.{short_at, Reads, ReadsAs, ReadsExactly, ReadsExactlyAs};
+
+    /// A cursor before the first of these bytes, of which there are at most 4,194,304.
+    pub fn new(bytes: &'a [u8]) -> Cursor<'a>
+        requires { length bytes.now ≤ 4194304 }
+        ensures all { result.bytes.now ≡ bytes.now }
+        ensures first { result.place ≡ 0 }
+    {
+        Cursor { bytes, place: 0 }
+    }
+
+    /// The place, as the number of bytes before it.
+    pub fn place(&self) -> u32
+        ensures { result ≡ self.now.place }
+    {
+        self.place
+    }
+
+    /// The number of bytes from the place on.
+    pub fn left(&self) -> u32
+        ensures { self.now.place + result ≡ length self.now.bytes.now }
+    {
+        self.bytes.len() as u32 - self.place
+    }
+
+    /// The number in the next byte; `Short` exactly where none is left, and the cursor is then unchanged.
+    pub fn take_u8(&mut self) -> Result<u8, Short>
+        ensures reads { Reads short_at (number w8) self.old result self.new }
+        ensures exactly { ReadsExactly short_at (number w8) self.old result self.new }
+    {
+        Ok(u8::from_be_bytes(self.take_array()?))
+    }
+
+    /// The number in the next two bytes, high byte first; `Short` exactly where fewer are left, and the cursor is then
+    /// unchanged.
+    pub fn take_u16(&mut self) -> Result<u16, Short>
+        ensures reads { Reads short_at (number w16) self.old result self.new }
+        ensures exactly { ReadsExactly short_at (number w16) self.old result self.new }
+    {
+        Ok(u16::from_be_bytes(self.take_array()?))
+    }
+
+    /// The number in the next four bytes, high byte first; `Short` exactly where fewer are left, and the cursor is then
+    /// unchanged.
+    pub fn take_u32(&mut self) -> Result<u32, Short>
+        ensures reads { Reads short_at (number w32) self.old result self.new }
+        ensures exactly { ReadsExactly short_at (number w32) self.old result self.new }
+    {
+        Ok(u32::from_be_bytes(self.take_array()?))
+    }
+
+    /// The next N bytes; `Short` exactly where fewer are left, and the cursor is then unchanged.
+    pub fn take_array<const N: usize>(&mut self) -> Result<[u8; N], Short>
+        ensures reads { Reads short_at (raw N) self.old result self.new }
+        ensures exactly { ReadsExactly short_at (raw N) self.old result self.new }
+    {
+        match self.bytes[self.place as usize..].first_chunk::<N>() {
+            Some(field) => {
+                self.place += N as u32;
+                Ok(*field)
+            }
+            None => Err(Short { at: self.place }),
+        }
+    }
+
+    /// The next `length` bytes; `Short` exactly where fewer are left, and the cursor is then unchanged.
+    pub fn take_slice(&mut self, length: u32) -> Result<&'a [u8], Short>
+        ensures reads { ReadsAs (λ slice. slice.now) short_at (raw length) self.old result self.new }
+        ensures exactly { ReadsExactlyAs (λ slice. slice.now) short_at (raw length) self.old result self.new }
+    {
+        if self.left() < length {
+            return Err(Short { at: self.place });
+        }
+        let bytes = self.bytes;
+        let start = self.place;
+        self.place += length;
+        Ok(&bytes[start as usize..self.place as usize])
+    }
+}

@@ -1,0 +1,40 @@
+//! Fields appended to bytes. Each call appends its field, or leaves the bytes as they were where it finds no memory.
+
+ghost use Rattle.std.specs.Int.{w8, w16, w32};
+ghost use Rattle.mb_format.specs.Combinators.{number};
+ghost use Rattle.mb_bytes.specs.Puts.{Puts, Writes};
+
+use mb_model::NoMemory;
+
+/// Appends the number as one byte; where the capacity holds it, the answer is Ok.
+pub fn put_u8(out: &mut Vec<u8>, value: u8) -> Result<(), NoMemory>
+    ensures puts { Puts ((number w8).spelling value) out.old result out.new }
+    ensures writes { Writes ((number w8).spelling value) out.old result out.new }
+{
+    put_slice(out, &value.to_be_bytes())
+}
+
+/// Appends the number as two bytes, high byte first; where the capacity holds them, the answer is Ok.
+pub fn put_u16(out: &mut Vec<u8>, value: u16) -> Result<(), NoMemory>
+    ensures puts { Puts ((number w16).spelling value) out.old result out.new }
+    ensures writes { Writes ((number w16).spelling value) out.old result out.new }
+{
+    put_slice(out, &value.to_be_bytes())
+}
+
+/// Appends the number as four bytes, high byte first; where the capacity holds them, the answer is Ok.
+pub fn put_u32(out: &mut Vec<u8>, value: u32) -> Result<(), NoMemory>
+    ensures puts { Puts ((number w32).spelling value) out.old result out.new }
+    ensures writes { Writes ((number w32).spelling value) out.old result out.new }
+{
+    put_slice(out, &value.to_be_bytes())
+}
+
+/// Appends the bytes; where the capacity holds them, the answer is Ok.
+pub fn put_slice(out: &mut Vec<u8>, bytes: &[u8]) -> Result<(), NoMemory>
+    ensures puts { Puts bytes.now out.old result out.new }
+    ensures writes { Writes bytes.now out.old result out.new }
+{
+    out.extend_from_slice(bytes)?;
+    Ok(())
+}
