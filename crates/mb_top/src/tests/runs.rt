@@ -6,6 +6,7 @@ use mb_board::SimBoard;
 use mb_host::MemoryHost;
 use mb_model::{Bytes, Calls, File, Files, IMAGE_LENGTH, NoMemory};
 use std::alloc::Global;
+use std::process::Abort;
 use std::test::Fail;
 
 /// The words of the command that serves.
@@ -88,54 +89,69 @@ fn holds(alloc: Global, host: &MemoryHost, is_owned: bool) -> Result<bool, Fail>
     Ok(host.file("image") == Some(image.as_slice()))
 }
 
+/// Serves these orders on the first image, and looks at what is printed and at the image.
+fn serves(
+    rt: &(impl Abort + AllocGlobal),
+    orders: &[&[u8]],
+    lines: &str,
+    is_owned: bool,
+) -> Result<(), Fail> {
+    let alloc = rt.alloc();
+    let mut host = host_of(alloc, script_of(alloc, orders)?, &[])?;
+    assert_eq!(rt; status_of(alloc, &RUN, &mut host)?, 0, "{lines:?}");
+    assert_eq!(rt; host.printed(), lines.as_bytes());
+    assert!(rt; holds(alloc, &host, is_owned)?, "{lines:?}");
+    Ok(())
+}
+
 #[test]
 fn serves_orders(rt: HostRuntime) -> Result<(), Fail> {
-    let alloc = rt.alloc();
-    let order = hex::decode(alloc, once::ORDER)?;
-    let mut turned = hex::decode(alloc, once::ORDER)?;
+    let order = hex::decode(rt.alloc(), once::ORDER)?;
+    serves(&rt, &[&order], "booted\ndone 1 2\noff\n", true)?;
+    let lines = "booted\ndone 1 2\nrefused 12 state\noff\n";
+    serves(&rt, &[&order, &order], lines, true)
+}
+
+#[test]
+fn refuses_broken_orders(rt: HostRuntime) -> Result<(), Fail> {
+    let mut turned = hex::decode(rt.alloc(), once::ORDER)?;
     // The last byte of the path.
     if let Some(byte) = turned.get_mut(2_409) {
         *byte ^= 1;
     }
-    let mut cut = hex::decode(alloc, once::ORDER)?;
+    let lines = "booted\nrefused 13 signature\noff\n";
+    serves(&rt, &[&turned], lines, false)?;
+    let mut cut = hex::decode(rt.alloc(), once::ORDER)?;
     cut.truncate(2_410);
-    let single = script_of(alloc, &[&order])?;
-    let double = script_of(alloc, &[&order, &order])?;
-    let turned = script_of(alloc, &[&turned])?;
-    let cut = script_of(alloc, &[&cut])?;
-    for (script, lines, is_owned) in [
-        (single, "booted\ndone 1 2\noff\n", true),
-        (double, "booted\ndone 1 2\nrefused 12 state\noff\n", true),
-        (turned, "booted\nrefused 13 signature\noff\n", false),
-        (cut, "booted\nrefused 10 text\noff\n", false),
-    ] {
-        let mut host = host_of(alloc, script, &[])?;
-        assert_eq!(rt; status_of(alloc, &RUN, &mut host)?, 0, "{lines:?}");
-        assert_eq!(rt; host.printed(), lines.as_bytes());
-        assert!(rt; holds(alloc, &host, is_owned)?, "{lines:?}");
-    }
+    serves(&rt, &[&cut], "booted\nrefused 10 text\noff\n", false)
+}
+
+/// Serves the order on a host whose calls of these numbers fail, and looks at status, line and image.
+fn fails(
+    rt: &(impl Abort + AllocGlobal),
+    failing: &[u64],
+    status: u8,
+    line: &str,
+    is_owned: bool,
+) -> Result<(), Fail> {
+    let alloc = rt.alloc();
+    let order = hex::decode(alloc, once::ORDER)?;
+    let mut host = host_of(alloc, script_of(alloc, &[&order])?, failing)?;
+    assert_eq!(rt; status_of(alloc, &RUN, &mut host)?, status, "{failing:?}");
+    assert_eq!(rt; host.printed(), line.as_bytes(), "{failing:?}");
+    assert!(rt; holds(alloc, &host, is_owned)?, "{failing:?}");
     Ok(())
 }
 
 #[test]
 fn host_calls_fail_in_turn(rt: HostRuntime) -> Result<(), Fail> {
-    let alloc = rt.alloc();
-    let order = hex::decode(alloc, once::ORDER)?;
-    for (failing, status, line, is_owned) in [
-        ([0].as_slice(), 4, "read failed image\n", false),
-        (&[1], 4, "read failed script\n", false),
-        (&[2], 4, "read failed noise\n", false),
-        (&[3], 5, "write failed image\n", false),
-        (&[4], 5, "write failed output\n", true),
-        // The line of the failure is not printed either.
-        (&[0, 1], 4, "", false),
-        (&[3, 4], 5, "", false),
-        (&[4, 5], 5, "", true),
-    ] {
-        let mut host = host_of(alloc, script_of(alloc, &[&order])?, failing)?;
-        assert_eq!(rt; status_of(alloc, &RUN, &mut host)?, status, "{failing:?}");
-        assert_eq!(rt; host.printed(), line.as_bytes(), "{failing:?}");
-        assert!(rt; holds(alloc, &host, is_owned)?, "{failing:?}");
-    }
-    Ok(())
+    fails(&rt, &[0], 4, "read failed image\n", false)?;
+    fails(&rt, &[1], 4, "read failed script\n", false)?;
+    fails(&rt, &[2], 4, "read failed noise\n", false)?;
+    fails(&rt, &[3], 5, "write failed image\n", false)?;
+    fails(&rt, &[4], 5, "write failed output\n", true)?;
+    // The line of the failure is not printed either.
+    fails(&rt, &[0, 1], 4, "", false)?;
+    fails(&rt, &[3, 4], 5, "", false)?;
+    fails(&rt, &[4, 5], 5, "", true)
 }
