@@ -67,7 +67,7 @@ sample_local = bounds.as_record_local sample_into sample_parts
 
 -- ---- values
 
-are_bytes : (bytes : List ℕ) → AllByRecursion (λ b. ltb b 256 ≡ true) bytes → IsBytes bytes
+pub are_bytes : (bytes : List ℕ) → AllByRecursion (λ b. ltb b 256 ≡ true) bytes → IsBytes bytes
 are_bytes [] h i = omega arith
 are_bytes (b ∷ bytes) h zero = ltb-true _ _ h.0
 are_bytes (b ∷ bytes) h (suc i) = are_bytes bytes h.1 i

@@ -313,7 +313,7 @@ raw_that_exact = raw_that_field.exact
 
 -- ---- marks
 
-same_bytes-true : (xs ys : List ℕ) → same_bytes xs ys ≡ true → xs ≡ ys
+pub same_bytes-true : (xs ys : List ℕ) → same_bytes xs ys ≡ true → xs ≡ ys
 same_bytes-true [] [] e = refl
 same_bytes-true [] (y ∷ ys) e = absurd cc
 same_bytes-true (x ∷ xs) [] e = absurd cc
@@ -323,7 +323,7 @@ same_bytes-true (x ∷ xs) (y ∷ ys) e = cons_same x y xs ys (x == y) refl e (s
     cons_same x y xs ys true t e others = cc (eqb-true x y t, others e)
     cons_same x y xs ys false t e others = absurd cc
 
-same_bytes-refl : (xs : List ℕ) → same_bytes xs xs ≡ true
+pub same_bytes-refl : (xs : List ℕ) → same_bytes xs xs ≡ true
 same_bytes-refl [] = refl
 same_bytes-refl (x ∷ xs) = rw (eq-eqb x x refl, same_bytes-refl xs) refl
 

@@ -8,7 +8,8 @@ use Rattle.mb_model.specs.declared.key.Trust.{Trust}
 use Rattle.mb_model.specs.declared.first.FirstState.{FirstState}
 use Rattle.mb_model.specs.declared.first.Ownership.{Ownership}
 use Rattle.mb_model.specs.Key.{key_bytes}
-use Rattle.mb_model.specs.FirstPath.{trust_byte, IsFirstKey, IsFirstState, ownership_bytes, state_bytes, IsSectorOf, FirstOrder, body_bytes, order_bytes, Spells}
+use Rattle.mb_model.specs.LayerFormat.{trust_byte}
+use Rattle.mb_model.specs.FirstPath.{IsFirstKey, IsFirstState, ownership_bytes, state_bytes, IsSectorOf, FirstOrder, body_bytes, order_bytes, Spells}
 use Rattle.mb_model.proofs.KeyLemmas.{cons_same, same_parts, length-key_bytes, key_bytes-same}
 
 -- a trust's byte determines it

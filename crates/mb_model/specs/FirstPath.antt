@@ -5,7 +5,6 @@ use Rattle.mb_model.specs.declared.key.PublicKey.{PublicKey}
 use Rattle.mb_model.specs.declared.key.Tree.TheVariants.{H5}
 use Rattle.mb_model.specs.declared.key.Chains.TheVariants.{W4}
 use Rattle.mb_model.specs.declared.key.Trust.{Trust}
-use Rattle.mb_model.specs.declared.key.Trust.TheVariants.{Always, Never, Countersigned}
 use Rattle.mb_model.specs.declared.first.FirstState.{FirstState}
 use Rattle.mb_model.specs.declared.first.Ownership.{Ownership}
 use Rattle.mb_model.specs.declared.event.Event.{Event}
@@ -14,13 +13,8 @@ use Rattle.mb_model.specs.declared.event.Answered.{Answered}
 use Rattle.mb_model.specs.declared.reply.Reply.{Reply}
 use Rattle.mb_model.specs.declared.reply.Reply.TheVariants as reply
 use Rattle.mb_model.specs.Key.{key_bytes, IsSized}
+use Rattle.mb_model.specs.LayerFormat.{trust_byte}
 use Rattle.mb_model.specs.Merkle.{Verifies}
-
--- a trust as a byte
-abbrev pub trust_byte : Trust → ℕ
-trust_byte Always = 0
-trust_byte Never = 1
-trust_byte Countersigned = 2
 
 -- the owners of the first path have keys of types 5 and 3
 pub record IsFirstKey (key : PublicKey) : Type 0 where

@@ -86,3 +86,23 @@ lives_from n before (Succession position key) later = []
 -- the configurations in which the key with this number lived; none where no entry makes such a key
 unfoldable pub lives_of : List Entry → ℕ → List Configuration
 lives_of log n = flat_map (λ split. lives_from n split.before split.entry split.later) (splits log)
+
+-- what an entry says of a key that it makes
+pub record MadeKey : Type 0 where
+  pub number : ℕ
+  pub kind : KeyKind
+  pub key : PublicKey
+
+-- the key that an entry makes in the region of layer L, where no later entry ends it
+abbrev pub lasting : ℕ → Entry → List Entry → List MadeKey
+lasting L (Birth serial key layers) later = []
+lasting L (Change position number kind layer cosigned layers kept next) later = []
+lasting L (NewKey position number key_number layer kind key) later =
+    if (layer == L) && list_all (λ entry. not (ends kind L entry)) later
+    then record { number = key_number; kind = kind; key = key } ∷ []
+    else []
+lasting L (Succession position key) later = []
+
+-- the keys of layer L that are alive by a log, in the order of their birth
+unfoldable pub alive_keys : List Entry → ℕ → List MadeKey
+alive_keys log L = flat_map (λ split. lasting L split.entry split.later) (splits log)

@@ -123,3 +123,14 @@ Ruled before (Succession position key) = (before ≢ []) × (used before ≡ 31)
 -- each entry of a log may stand behind those before it
 abbrev pub RuledLog : List Entry → Type 0
 RuledLog log = (before : List Entry) (entry : Entry) (rest : List Entry) → log ≡ before ++ entry ∷ rest → Ruled before entry
+
+-- the serial that a birth names
+abbrev pub serial_in : Entry → Option (List ℕ)
+serial_in (Birth serial key layers) = Some serial
+serial_in (Change position number kind layer cosigned layers kept next) = None
+serial_in (NewKey position number key_number layer kind key) = None
+serial_in (Succession position key) = None
+
+-- the serial of the device whose log this is
+unfoldable pub serial_of : List Entry → Option (List ℕ)
+serial_of log = last_of serial_in log

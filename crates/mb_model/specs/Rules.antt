@@ -58,15 +58,14 @@ TargetHolds serial layers length (target.Owner n hash) =
 TargetHolds serial layers length (target.Code n hash) =
     IsSomeAnd (layer_of layers n).code (λ code. hash ≡ code.hash)
 
--- the target in this place, from 0, is the first that does not hold
-pub record IsFirstFailing (serial : List ℕ) (layers : Layers) (log_length : ℕ) (targets : List Target) (place : ℕ) : Type 0 where
-  pub before : List Target
-  pub failing : Target
-  pub after : List Target
-  pub split : targets ≡ before ++ failing ∷ after
+-- the item in this place of a list, from 0, is the first of which P does not hold
+pub record IsFirstFailing {A : Type 0} (P : A → Type 0) (items : List A) (place : ℕ) (item : A) : Type 0 where
+  pub before : List A
+  pub rest : List A
+  pub split : items ≡ before ++ item ∷ rest
   pub place_is : place ≡ length before
-  pub hold : All (TargetHolds serial layers log_length) before
-  pub fails : TargetHolds serial layers log_length failing → ⊥
+  pub hold : All P before
+  pub fails : P item → ⊥
 
 -- the change puts code in place
 abbrev pub is_load : ChangeKind → Bool

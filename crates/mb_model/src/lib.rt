@@ -1,15 +1,17 @@
 //! The types of a device with layered owners, and the definitions that contracts of every other crate cite.
 //!
 //! This crate owns the words: what a key, a layer, an order, a log and a region are, when a signature verifies, whose
-//! order is obeyed and what it leaves, which entries a log may have, where a key lived, and what the machine of
-//! the first path does. The definitions stand in specs/, a file for each subject. It stands on `sha2` and `hex`, whose
-//! functions on lists the definitions use.
+//! order is obeyed and what it leaves, how each record is spelled, what each event comes to, for which state a memory
+//! stands, when a chain is accepted, and what the texts say. The definitions stand in specs/, a file for each subject. It
+//! stands on `mb_format`, in which the records are written, and on the kit's `sha2`, `hex`, `rand_core` and
+//! `rand_chacha`, whose functions on lists the definitions use.
 #![tactic(auto)]
 
 mod bytes;
 mod entry;
 mod event;
 mod first;
+mod formats;
 mod items;
 mod key;
 mod laws;
@@ -30,6 +32,10 @@ pub use bytes::Bytes;
 pub use entry::{Chain, Entries, Entry, Log, PublicEntries, PublicEntry, SignedEntry, Statement};
 pub use event::{Answered, Event, Events, Tear};
 pub use first::{FirstState, Ownership};
+pub use formats::{
+    formats_are_clear, formats_are_short, keys_are_spelled, orders_are_local,
+    whole_formats_are_clear,
+};
 pub use items::{Calls, File, Files, Items};
 pub use key::{Chains, KeySeed, PublicKey, Tree, Trust};
 pub use laws::{one_order, one_state};

@@ -1,9 +1,11 @@
-//! The inputs of commands.
+//! The inputs and outputs of commands.
 
-/// An input of a command, by the word that names it.
+/// An input or an output of a command, by the word that names it.
 #[derive(Clone, Copy, Debug, PartialEq, Eq)]
 pub enum Role {
     Image,
     Script,
     Noise,
+    Key,
+    Public,
 }

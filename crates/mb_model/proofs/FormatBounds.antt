@@ -1,0 +1,250 @@
+-- How long the spellings of records are, and how far an order is read.
+use Rattle.std.proofs.Common.{ℕ, ◌+◌, ◌-◌, ◌≤◌, [], ◌∷◌, length, arith, lit≤}
+use Rattle.mb_format.specs.Format.{IsShort}
+use Rattle.mb_format.proofs.Fields.{wide8, wide16, wide32}
+use Rattle.mb_format.proofs.Bounds as bounds
+use Rattle.mb_model.specs.declared.key.Trust.TheVariants.{Never}
+use Rattle.mb_model.specs.declared.order.Act.TheVariants.{NewKey as MakeKey}
+use Rattle.mb_model.specs.declared.order.Target.TheVariants.{Serial, Length}
+use Rattle.mb_model.specs.declared.stored.Fate.TheVariants.{AddKey}
+use Rattle.mb_model.specs.Key.{tree_type, chains_type}
+use Rattle.mb_model.specs.KeyFormat.{tree_rows, chains_rows, public_key_format, key_seed_format, keyfile_word, keyfile_format}
+use Rattle.mb_model.specs.LayerFormat.{trust_byte, trust_rows, trust_format, code_name_format, Has, has_nothing, has_owner, has_code, has_reliable_code, has_byte, has_rows, has_of, trust_by, owner_by, code_by, reliable_by, layer_by, layer_format, layers_format}
+use Rattle.mb_model.specs.EntryFormat.{change_byte, change_rows, key_kind_byte, key_kind_rows, key_kind_format, pair_byte, pair_rows, pair_format, EntryTag, birth_tag, change_tag, new_key_tag, succession_tag, entry_byte, entry_rows, entry_tag, birth_in, birth_format, change_in, change_format, new_key_in, new_key_format, succession_in, succession_format, entry_by, entry_format, signed_entry_format}
+use Rattle.mb_model.specs.OrderFormat.{TargetTag, serial_tag, length_tag, owner_tag, code_tag, target_byte, target_rows, target_tag, serial_in, length_in, owner_in, code_in, target_by, target_format, OrderKind, establish_kind, surrender_kind, load_kind, emergency_kind, new_key_kind, order_byte, order_rows, order_kind, establish_in, load_in, emergency_in, made_in, load_format, act_by, Body, least_layer, body_by, body_format, sized_signature_format, Climb, countersignature_format, climbed, most_countersigned, countersignatures_format, order_format}
+use Rattle.mb_model.specs.ChainFormat.{statement_format, chain_word, chain_format}
+use Rattle.mb_model.specs.RootFormat.{region_key_format, outgoing_format, FateTag, keep_tag, empty_tag, drop_tag, add_tag, fate_byte, fate_rows, fate_tag, added_in, fate_by, fate_format, pending_format, root_format}
+use Rattle.mb_model.specs.RegionFormat.{is_name, secret_format, secrets_format, least_keys, keys_format, region_format}
+use Rattle.mb_model.specs.PublicFormat.{code_format, codes_format, public_entry_format, public_format}
+
+-- ---- keys and layers
+
+pub public_key_short : IsShort public_key_format 56
+unfolding public_key_format
+public_key_short = bounds.as_record_short _ _
+    (bounds.pair_short (bounds.table_short tree_rows tree_type wide32) (bounds.pair_short (bounds.table_short chains_rows chains_type wide32) (bounds.pair_short bounds.raw_short bounds.raw_short)))
+
+key_seed_short : IsShort key_seed_format 48
+unfolding key_seed_format
+key_seed_short = bounds.as_record_short _ _ (bounds.pair_short bounds.raw_short bounds.raw_short)
+
+pub keyfile_short : IsShort keyfile_format 56
+unfolding keyfile_format
+keyfile_short = bounds.then_value_short (bounds.mark_short keyfile_word) (bounds.as_record_short _ _ (bounds.pair_short key_seed_short (bounds.between_short 0 32 wide32)))
+
+trust_short : IsShort trust_format 1
+unfolding trust_format
+trust_short = bounds.table_short trust_rows trust_byte wide8
+
+code_name_short : IsShort code_name_format 36
+unfolding code_name_format
+code_name_short = bounds.as_record_short _ _ (bounds.pair_short bounds.raw_short (bounds.number_short wide32))
+
+trust_by-short : (has : Has) → IsShort (trust_by has) 1
+trust_by-short has_nothing = bounds.listed_short ((1, Never) ∷ []) trust_byte wide8
+trust_by-short has_owner = trust_short
+trust_by-short has_code = trust_short
+trust_by-short has_reliable_code = trust_short
+
+owner_by-short : (has : Has) → IsShort (owner_by has) 56
+owner_by-short has_nothing = bounds.short_more bounds.nothing_short (lit≤ tt)
+owner_by-short has_owner = bounds.present_short public_key_short
+owner_by-short has_code = bounds.present_short public_key_short
+owner_by-short has_reliable_code = bounds.present_short public_key_short
+
+code_by-short : (has : Has) → IsShort (code_by has) 36
+code_by-short has_nothing = bounds.short_more bounds.nothing_short (lit≤ tt)
+code_by-short has_owner = bounds.short_more bounds.nothing_short (lit≤ tt)
+code_by-short has_code = bounds.present_short code_name_short
+code_by-short has_reliable_code = bounds.present_short code_name_short
+
+reliable_by-short : (has : Has) → IsShort (reliable_by has) 0
+reliable_by-short has_nothing = bounds.nothing_short
+reliable_by-short has_owner = bounds.nothing_short
+reliable_by-short has_code = bounds.nothing_short
+reliable_by-short has_reliable_code = bounds.nothing_short
+
+layer_by-short : (has : Has) → IsShort (layer_by has) 93
+layer_by-short has = bounds.as_record_short _ _
+    (bounds.pair_short (trust_by-short has) (bounds.pair_short (owner_by-short has) (bounds.pair_short (code_by-short has) (reliable_by-short has))))
+
+layer_short : IsShort layer_format 94
+unfolding layer_format
+layer_short = bounds.led_short has_of (bounds.table_short has_rows has_byte wide8) (λ has h. layer_by-short has)
+
+layers_short : IsShort layers_format 282
+unfolding layers_format
+layers_short = bounds.as_record_short _ _ (bounds.pair_short layer_short (bounds.pair_short layer_short layer_short))
+
+-- ---- entries and chains
+
+key_kind_short : IsShort key_kind_format 1
+unfolding key_kind_format
+key_kind_short = bounds.table_short key_kind_rows key_kind_byte wide8
+
+pair_format_short : IsShort pair_format 1
+unfolding pair_format
+pair_format_short = bounds.table_short pair_rows pair_byte wide8
+
+birth_short : IsShort birth_format 354
+unfolding birth_format
+birth_short = bounds.as_value_short _ birth_in (bounds.pair_short bounds.raw_short (bounds.pair_short public_key_short layers_short))
+
+change_short : IsShort change_format 351
+unfolding change_format
+change_short = bounds.as_value_short _ change_in
+    (bounds.pair_short (bounds.number_short wide32) (bounds.pair_short (bounds.number_short wide32) (bounds.pair_short (bounds.table_short change_rows change_byte wide8) (bounds.pair_short (bounds.between_short 1 3 wide8)
+    (bounds.pair_short pair_format_short (bounds.pair_short pair_format_short (bounds.pair_short layers_short (bounds.optional_short public_key_short))))))))
+
+new_key_short : IsShort new_key_format 70
+unfolding new_key_format
+new_key_short = bounds.as_value_short _ new_key_in
+    (bounds.pair_short (bounds.number_short wide32) (bounds.pair_short (bounds.number_short wide32) (bounds.pair_short (bounds.number_short wide32) (bounds.pair_short (bounds.between_short 2 3 wide8) (bounds.pair_short key_kind_short public_key_short)))))
+
+succession_short : IsShort succession_format 60
+unfolding succession_format
+succession_short = bounds.as_value_short _ succession_in (bounds.pair_short (bounds.number_short wide32) public_key_short)
+
+entry_by-short : (tag : EntryTag) → IsShort (entry_by tag) 354
+entry_by-short birth_tag = birth_short
+entry_by-short change_tag = bounds.short_more change_short (lit≤ tt)
+entry_by-short new_key_tag = bounds.short_more new_key_short (lit≤ tt)
+entry_by-short succession_tag = bounds.short_more succession_short (lit≤ tt)
+
+pub entry_short : IsShort entry_format 355
+unfolding entry_format
+entry_short = bounds.led_short entry_tag (bounds.table_short entry_rows entry_byte wide8) (λ tag h. entry_by-short tag)
+
+pub signed_entry_short : IsShort signed_entry_format 2703
+unfolding signed_entry_format
+signed_entry_short = bounds.as_record_short _ _ (bounds.pair_short entry_short bounds.raw_short)
+
+pub statement_short : IsShort statement_format 2481
+unfolding statement_format
+statement_short = bounds.as_record_short _ _ (bounds.pair_short (bounds.number_short wide32) (bounds.pair_short (bounds.sized_short 0 128 wide8) bounds.raw_short))
+
+pub chain_short : IsShort chain_format 348472
+unfolding chain_format
+chain_short = bounds.then_value_short (bounds.mark_short chain_word)
+    (bounds.as_record_short _ _ (bounds.pair_short (bounds.counted_short 1 128 wide16 signed_entry_short) (bounds.optional_short statement_short)))
+
+-- ---- orders
+
+target_by-short : (tag : TargetTag) → IsShort (target_by tag) 33
+target_by-short serial_tag = bounds.short_more (bounds.as_value_short Serial serial_in bounds.raw_short) (lit≤ tt)
+target_by-short length_tag = bounds.short_more (bounds.as_value_short Length length_in (bounds.number_short wide32)) (lit≤ tt)
+target_by-short owner_tag = bounds.as_value_short _ owner_in (bounds.pair_short (bounds.between_short 1 3 wide8) bounds.raw_short)
+target_by-short code_tag = bounds.as_value_short _ code_in (bounds.pair_short (bounds.between_short 1 3 wide8) bounds.raw_short)
+
+target_short : IsShort target_format 34
+unfolding target_format
+target_short = bounds.led_short target_tag (bounds.table_short target_rows target_byte wide8) (λ tag h. target_by-short tag)
+
+load_short : IsShort load_format 32777
+unfolding load_format
+load_short = bounds.pair_short (bounds.number_short wide32) (bounds.pair_short trust_short (bounds.sized_short 0 32768 wide32))
+
+act_by-short : (kind : OrderKind) → IsShort (act_by kind) 32777
+act_by-short establish_kind = bounds.short_more (bounds.as_value_short _ establish_in (bounds.pair_short public_key_short trust_short)) (lit≤ tt)
+act_by-short surrender_kind = bounds.short_more bounds.nothing_short (lit≤ tt)
+act_by-short load_kind = bounds.as_value_short _ load_in load_short
+act_by-short emergency_kind = bounds.as_value_short _ emergency_in load_short
+act_by-short new_key_kind = bounds.short_more (bounds.as_value_short MakeKey made_in key_kind_short) (lit≤ tt)
+
+body_by-short : (kind : OrderKind) → IsShort (body_by kind) 33051
+body_by-short kind = bounds.as_record_short _ _
+    (bounds.pair_short (bounds.between_short (least_layer kind) 3 wide8) (bounds.pair_short (bounds.counted_short 0 8 wide8 target_short) (act_by-short kind)))
+
+pub body_short : IsShort body_format 33052
+unfolding body_format
+body_short = bounds.led_short _ (bounds.table_short order_rows order_byte wide8) (λ kind h. body_by-short kind)
+
+sized_signature_short : IsShort sized_signature_format 9326
+unfolding sized_signature_format
+sized_signature_short = bounds.sized_short 0 9324 wide16
+
+countersignature_short : (climb : Climb) → IsShort (countersignature_format climb) 9327
+countersignature_short climb = bounds.as_record_short _ _ (bounds.pair_short (bounds.between_short (climb.below + 1) (4 - climb.left) wide8) sized_signature_short)
+
+-- at most two owners may countersign, since a body's layer is 1 at least
+pub most_two : (body : Body) → body_format.Allowed body → most_countersigned (order_kind body.act) body.layer ≤ 2
+unfolding body_format
+most_two body h = of_kind (order_kind body.act) body.layer h.1.0.0
+  where
+    of_kind : (kind : OrderKind) (n : ℕ) → least_layer kind ≤ n → most_countersigned kind n ≤ 2
+    of_kind establish_kind n le = lit≤ tt
+    of_kind surrender_kind n le = lit≤ tt
+    of_kind load_kind n le = omega arith
+    of_kind emergency_kind n le = omega arith
+    of_kind new_key_kind n le = lit≤ tt
+
+countersignatures_short : (body : Body) → body_format.Allowed body → IsShort (countersignatures_format body) 18655
+unfolding countersignatures_format
+countersignatures_short body h =
+    bounds.led_short {n = 18654} length (bounds.between_short 0 (most_countersigned (order_kind body.act) body.layer) wide8)
+    (λ n g. (let two = most_two body h in bounds.short_more (bounds.items_short climbed n (record { below = body.layer; left = n }) countersignature_short) (omega (arith, g.1, two))))
+
+pub order_short : IsShort order_format 61033
+unfolding order_format
+order_short = bounds.as_record_short _ _ (bounds.both_short body_short (λ body h. bounds.pair_short sized_signature_short (countersignatures_short body h)))
+
+-- ---- the records of a device's memory
+
+region_key_short : IsShort region_key_format 54
+unfolding region_key_format
+region_key_short = bounds.as_record_short _ _ (bounds.pair_short (bounds.number_short wide32) (bounds.pair_short key_kind_short (bounds.pair_short key_seed_short (bounds.between_short 0 32 wide8))))
+
+outgoing_short : IsShort outgoing_format 49
+unfolding outgoing_format
+outgoing_short = bounds.as_record_short _ _ (bounds.pair_short key_seed_short (bounds.between_short 1 32 wide8))
+
+fate_by-short : (tag : FateTag) → IsShort (fate_by tag) 54
+fate_by-short keep_tag = bounds.short_more bounds.nothing_short (lit≤ tt)
+fate_by-short empty_tag = bounds.short_more bounds.nothing_short (lit≤ tt)
+fate_by-short drop_tag = bounds.short_more bounds.nothing_short (lit≤ tt)
+fate_by-short add_tag = bounds.as_value_short AddKey added_in region_key_short
+
+fate_short : IsShort fate_format 55
+unfolding fate_format
+fate_short = bounds.led_short fate_tag (bounds.table_short fate_rows fate_byte wide8) (λ tag h. fate_by-short tag)
+
+pending_short : IsShort pending_format 161
+unfolding pending_format
+pending_short = bounds.as_record_short _ _ (bounds.pair_short (bounds.between_short 1 2 wide8) (bounds.pair_short (bounds.optional_short outgoing_short) (bounds.pair_short fate_short fate_short)))
+
+pub root_short : IsShort root_format 229
+unfolding root_format
+root_short = bounds.then_value_short (bounds.mark_short (1 ∷ []))
+    (bounds.as_record_short _ _ (bounds.pair_short (bounds.between_short 0 1 wide8) (bounds.pair_short bounds.raw_short (bounds.pair_short key_seed_short (bounds.pair_short (bounds.between_short 0 32 wide8) (bounds.optional_short pending_short))))))
+
+secret_short : IsShort secret_format 166
+unfolding secret_format
+secret_short = bounds.as_record_short _ _ (bounds.pair_short (bounds.sized_that_short is_name 1 32 wide8) (bounds.pair_short (bounds.sized_short 0 128 wide8) (bounds.number_short wide32)))
+
+secrets_short : IsShort secrets_format 2657
+unfolding secrets_format
+secrets_short = bounds.counted_short 0 16 wide8 secret_short
+
+keys_short : (least : ℕ) → IsShort (keys_format least) 433
+unfolding keys_format
+keys_short least = bounds.counted_short least 8 wide8 region_key_short
+
+pub region_short : IsShort region_format 3091
+unfolding region_format
+region_short = bounds.then_value_short (bounds.mark_short (1 ∷ [])) (bounds.as_record_short _ _ (bounds.both_short secrets_short (λ secrets h. keys_short (least_keys secrets))))
+
+code_format_short : IsShort code_format 32773
+unfolding code_format
+code_format_short = bounds.optional_short (bounds.sized_short 0 32768 wide32)
+
+codes_short : IsShort codes_format 98319
+unfolding codes_format
+codes_short = bounds.as_record_short _ _ (bounds.pair_short code_format_short (bounds.pair_short code_format_short code_format_short))
+
+pub public_entry_short : IsShort public_entry_format 2704
+unfolding public_entry_format
+public_entry_short = bounds.as_record_short _ _ (bounds.pair_short entry_short (bounds.optional_short bounds.raw_short))
+
+pub public_short : IsShort public_format 444434
+unfolding public_format
+public_short = bounds.then_value_short (bounds.mark_short (1 ∷ [])) (bounds.as_record_short _ _ (bounds.pair_short codes_short (bounds.counted_short 1 128 wide16 public_entry_short)))

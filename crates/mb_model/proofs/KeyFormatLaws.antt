@@ -1,0 +1,102 @@
+-- Keys and layers are read exactly.
+use Rattle.std.proofs.Common.{◌≡◌, [], ◌∷◌, refl, arith, rules}
+use Rattle.std.specs.Int.{w8, w32}
+use Rattle.mb_format.specs.Format.{IsExact}
+use Rattle.mb_format.specs.Combinators.{number_bytes}
+use Rattle.mb_format.proofs.Rules.{exactly}
+use Rattle.mb_format.proofs.Fields.{IsTable, IsList, wide8, listed_exact, nothing_exact}
+use Rattle.mb_format.proofs.Compositions.{present_exact}
+use Rattle.mb_model.specs.declared.key.PublicKey.{PublicKey}
+use Rattle.mb_model.specs.declared.key.Tree.TheVariants.{H5, H10, H15, H20, H25}
+use Rattle.mb_model.specs.declared.key.Chains.TheVariants.{W1, W2, W4, W8}
+use Rattle.mb_model.specs.declared.key.Trust.TheVariants.{Always, Never, Countersigned}
+use Rattle.mb_model.specs.declared.layer.Layer.{Layer}
+use Rattle.mb_model.specs.Key.{tree_type, chains_type, key_bytes}
+use Rattle.mb_model.specs.KeyFormat.{tree_rows, chains_rows, public_key_format, key_seed_format, keyfile_format}
+use Rattle.mb_model.specs.LayerFormat.{trust_byte, trust_rows, trust_format, code_name_format, Has, has_nothing, has_owner, has_code, has_reliable_code, has_byte, has_rows, has_of, trust_by, owner_by, code_by, reliable_by, layer_by, layer_format, layers_format}
+
+-- ---- keys
+
+pub tree_table : IsTable w32 tree_rows tree_type
+tree_table = record { rows_are = search rules; back = elim [ H5 ↦ refl | H10 ↦ refl | H15 ↦ refl | H20 ↦ refl | H25 ↦ refl ] }
+
+pub chains_table : IsTable w32 chains_rows chains_type
+chains_table = record { rows_are = search rules; back = elim [ W1 ↦ refl | W2 ↦ refl | W4 ↦ refl | W8 ↦ refl ] }
+
+pub public_key_exact : IsExact public_key_format
+unfolding public_key_format
+public_key_exact = search (exactly, tree_table, chains_table) depth 20
+
+pub key_seed_exact : IsExact key_seed_format
+unfolding key_seed_format
+key_seed_exact = search exactly depth 20
+
+pub keyfile_exact : IsExact keyfile_format
+unfolding keyfile_format
+keyfile_exact = search (exactly, key_seed_exact) depth 20
+
+-- a public key is spelled in the bytes that are hashed and signed
+pub public_key_spelling : (key : PublicKey) → public_key_format.spelling key ≡ key_bytes key
+unfolding public_key_format number_bytes key_bytes
+public_key_spelling key = refl
+
+-- ---- layers
+
+pub trust_table : IsTable w8 trust_rows trust_byte
+trust_table = record { rows_are = search rules; back = elim [ Always ↦ refl | Never ↦ refl | Countersigned ↦ refl ] }
+
+pub trust_exact : IsExact trust_format
+unfolding trust_format
+trust_exact = search (exactly, trust_table) depth 20
+
+pub code_name_exact : IsExact code_name_format
+unfolding code_name_format
+code_name_exact = search exactly depth 20
+
+pub has_table : IsTable w8 has_rows has_byte
+has_table = record { rows_are = search rules; back = elim [ has_nothing ↦ refl | has_owner ↦ refl | has_code ↦ refl | has_reliable_code ↦ refl ] }
+
+never_list : IsList w8 ((1, Never) ∷ []) trust_byte
+never_list = record { rows_are = search rules }
+
+pub trust_by-exact : (has : Has) → IsExact (trust_by has)
+trust_by-exact has_nothing = listed_exact wide8 never_list
+trust_by-exact has_owner = trust_exact
+trust_by-exact has_code = trust_exact
+trust_by-exact has_reliable_code = trust_exact
+
+pub owner_by-exact : (has : Has) → IsExact (owner_by has)
+owner_by-exact has_nothing = nothing_exact
+owner_by-exact has_owner = present_exact public_key_exact
+owner_by-exact has_code = present_exact public_key_exact
+owner_by-exact has_reliable_code = present_exact public_key_exact
+
+pub code_by-exact : (has : Has) → IsExact (code_by has)
+code_by-exact has_nothing = nothing_exact
+code_by-exact has_owner = nothing_exact
+code_by-exact has_code = present_exact code_name_exact
+code_by-exact has_reliable_code = present_exact code_name_exact
+
+pub reliable_by-exact : (has : Has) → IsExact (reliable_by has)
+reliable_by-exact has_nothing = nothing_exact
+reliable_by-exact has_owner = nothing_exact
+reliable_by-exact has_code = nothing_exact
+reliable_by-exact has_reliable_code = nothing_exact
+
+pub layer_by-exact : (has : Has) → IsExact (layer_by has)
+layer_by-exact has = search (exactly, trust_by-exact, owner_by-exact, code_by-exact, reliable_by-exact) depth 20
+
+-- what a layer has is what the byte said
+pub has_keyed : (has : Has) (layer : Layer) → (layer_by has).Allowed layer → has_of layer ≡ has
+has_keyed has_nothing layer h = grind arith
+has_keyed has_owner layer h = grind arith
+has_keyed has_code layer h = grind arith
+has_keyed has_reliable_code layer h = grind arith
+
+pub layer_exact : IsExact layer_format
+unfolding layer_format
+layer_exact = search (exactly, has_table, layer_by-exact, has_keyed) depth 20
+
+pub layers_exact : IsExact layers_format
+unfolding layers_format
+layers_exact = search (exactly, layer_exact) depth 20

@@ -1,0 +1,192 @@
+-- When a chain of certificates is accepted, and what it then says of a key. Which code can have made a statement?
+use Rattle.std.specs.Prelude.{◌≡◌, ◌≢◌, ℕ, ◌==◌, Bool, true, false, List, [], ◌∷◌, ◌++◌, length, Any, Contains, Option, None, Some, IsSomeAnd, if◌then◌else◌}
+use Rattle.std.specs.List.{list_any}
+use Rattle.mb_format.specs.Format.{Spells, FailsWhole}
+use Rattle.mb_model.specs.declared.key.PublicKey.{PublicKey}
+use Rattle.mb_model.specs.declared.order.KeyKind.{KeyKind}
+use Rattle.mb_model.specs.declared.entry.Chain.{Chain}
+use Rattle.mb_model.specs.declared.entry.Entry.{Entry}
+use Rattle.mb_model.specs.declared.entry.Entry.TheVariants.{Birth, Change, NewKey, Succession}
+use Rattle.mb_model.specs.declared.entry.SignedEntry.{SignedEntry}
+use Rattle.mb_model.specs.declared.entry.Statement.{Statement}
+use Rattle.mb_model.specs.Merkle.{leaf_number, Verifies}
+use Rattle.mb_model.specs.Log.{entries_of, device_in, last_of, number_of, device_of, serial_of, Ordered, Ruled}
+use Rattle.mb_model.specs.Listing.{Report}
+use Rattle.mb_model.specs.Lives.{alive_keys, lives_of}
+use Rattle.mb_model.specs.ChainFormat.{chain_format}
+use Rattle.mb_model.specs.SignedTexts.{entry_text, statement_text, IsSignedBy}
+
+-- why a chain is not accepted
+pub data ChainRefusal : Type 0 where
+  -- the bytes are no chain: they fail at this place
+  bad_form : ℕ → ChainRefusal
+  -- this entry, from 0, was not signed by the key in charge
+  bad_signature : ℕ → ChainRefusal
+  -- this entry does not stand in its place, or its signature has not the next index
+  bad_order : ℕ → ChainRefusal
+  -- this entry breaks the rules of the log
+  breaks_rules : ℕ → ChainRefusal
+  -- no entry makes the key
+  key_unknown : ChainRefusal
+  -- the key did not sign the statement
+  bad_statement : ChainRefusal
+  -- the statement names one configuration number, and the last of the chain is another
+  wrong_number : ℕ → ℕ → ChainRefusal
+  -- the key has ended
+  key_ended : ChainRefusal
+
+-- the number by which it is told
+abbrev pub refusal_code : ChainRefusal → ℕ
+refusal_code (bad_form place) = 20
+refusal_code (bad_signature i) = 21
+refusal_code (bad_order i) = 22
+refusal_code (breaks_rules i) = 23
+refusal_code key_unknown = 24
+refusal_code bad_statement = 25
+refusal_code (wrong_number named last) = 26
+refusal_code key_ended = 27
+
+-- ---- the entries, each by those before it
+
+-- the key in charge of the next entry: at the birth the factory's root key, and then the device key named last
+abbrev pub in_charge : PublicKey → List Entry → Option PublicKey
+in_charge root [] = Some root
+in_charge root (birth ∷ rest) = device_of (birth ∷ rest)
+
+abbrev pub IsCertified : PublicKey → List Entry → SignedEntry → Type 0
+IsCertified root before signed = IsSignedBy (in_charge root before) (entry_text signed.entry) signed.signature
+
+-- an entry behind others stands in its place; that of the first, and its index, is free
+abbrev pub IsInPlace : List Entry → SignedEntry → Type 0
+IsInPlace before signed = before ≢ [] → Ordered before signed.entry (leaf_number signed.signature)
+
+-- the entry follows from those before it
+pub record IsGood (root : PublicKey) (before : List Entry) (signed : SignedEntry) : Type 0 where
+  pub certified : IsCertified root before signed
+  pub in_place : IsInPlace before signed
+  pub ruled : Ruled before signed.entry
+
+-- each entry of a list does
+abbrev pub AreGood : PublicKey → List SignedEntry → Type 0
+AreGood root log =
+    (before : List SignedEntry) (signed : SignedEntry) (rest : List SignedEntry) → log ≡ before ++ signed ∷ rest
+    → IsGood root (entries_of before) signed
+
+-- entry i of a list, where all before it are good
+pub record IsNext (root : PublicKey) (log : List SignedEntry) (i : ℕ) (before : List SignedEntry) (signed : SignedEntry) : Type 0 where
+  pub rest : List SignedEntry
+  pub split : log ≡ before ++ signed ∷ rest
+  pub place : i ≡ length before
+  pub good : AreGood root before
+
+-- ---- the key and the statement
+
+-- what the entry that makes a key of a region says of it
+pub record KeyEntry : Type 0 where
+  pub layer : ℕ
+  pub kind : KeyKind
+  pub key : PublicKey
+
+abbrev pub key_in : ℕ → Entry → Option KeyEntry
+key_in n (Birth serial key layers) = None
+key_in n (Change position number kind layer cosigned layers kept next) = None
+key_in n (NewKey position number key_number layer kind key) =
+    if key_number == n then Some (record { layer = layer; kind = kind; key = key }) else None
+key_in n (Succession position key) = None
+
+-- the region's key with this number, of which no good chain has two
+unfoldable pub key_of : List Entry → ℕ → Option KeyEntry
+key_of log n = last_of (key_in n) log
+
+-- the region's key with this number is alive by the log
+unfoldable pub is_alive : List Entry → ℕ → ℕ → Bool
+is_alive log n L = list_any (λ made. made.number == n) (alive_keys log L)
+
+-- the key signed the statement, as the chain's device
+abbrev pub IsStated : List Entry → ℕ → PublicKey → Statement → Type 0
+IsStated log n key statement =
+    IsSomeAnd (serial_of log) (λ serial. Verifies key (statement_text serial n statement.number statement.message) statement.signature)
+
+-- what holds of a statement, and of none
+abbrev pub IfStatement : Option Statement → (Statement → Type 0) → Type 0
+IfStatement None P = Unit {0}
+IfStatement (Some statement) P = P statement
+
+-- a statement is of the chain's last configuration, and of a key that is alive
+pub record IsCurrent (log : List Entry) (n : ℕ) (made : KeyEntry) (statement : Statement) : Type 0 where
+  pub signed : IsStated log n made.key statement
+  pub number : statement.number ≡ number_of log
+  pub alive : is_alive log n made.layer ≡ true
+
+-- ---- the verdict
+
+abbrev pub message_of : Option Statement → Option (List ℕ)
+message_of None = None
+message_of (Some statement) = Some statement.message
+
+-- what an accepted chain says of a key
+abbrev pub report_of : Chain → ℕ → KeyEntry → Report
+report_of chain n made = record {
+  layer = made.layer;
+  kind = made.kind;
+  alive = is_alive (entries_of chain.entries) n made.layer;
+  lives = lives_of (entries_of chain.entries) n;
+  message = message_of chain.statement;
+}
+
+-- The bytes are accepted under a root key, for the key with number n, and say this of it.
+pub record Accepts (root : PublicKey) (bytes : List ℕ) (n : ℕ) (report : Report) : Type 0 where
+  pub chain : Chain
+  pub spelled : Spells chain_format bytes chain
+  pub good : AreGood root chain.entries
+  pub made : KeyEntry
+  pub named : key_of (entries_of chain.entries) n ≡ Some made
+  pub current : IfStatement chain.statement (IsCurrent (entries_of chain.entries) n made)
+  pub report_is : report ≡ report_of chain n made
+
+-- A chain whose entries are good, the entry of the key with number n, and the statement.
+pub record IsGoodFor (root : PublicKey) (bytes : List ℕ) (n : ℕ) (log : List Entry) (made : KeyEntry) (statement : Statement) : Type 0 where
+  pub chain : Chain
+  pub spelled : Spells chain_format bytes chain
+  pub good : AreGood root chain.entries
+  pub log_is : log ≡ entries_of chain.entries
+  pub named : key_of log n ≡ Some made
+  pub stated : chain.statement ≡ Some statement
+
+-- The bytes are refused for this, and for nothing that is tried before it.
+abbrev pub IsRefused : PublicKey → List ℕ → ℕ → ChainRefusal → Type 0
+IsRefused root bytes n (bad_form place) = FailsWhole chain_format bytes place
+IsRefused root bytes n (bad_signature i) =
+    (chain : Chain) × Spells chain_format bytes chain × (before : List SignedEntry) × (signed : SignedEntry)
+    × IsNext root chain.entries i before signed × (IsCertified root (entries_of before) signed → ⊥)
+IsRefused root bytes n (bad_order i) =
+    (chain : Chain) × Spells chain_format bytes chain × (before : List SignedEntry) × (signed : SignedEntry)
+    × IsNext root chain.entries i before signed × IsCertified root (entries_of before) signed
+    × (IsInPlace (entries_of before) signed → ⊥)
+IsRefused root bytes n (breaks_rules i) =
+    (chain : Chain) × Spells chain_format bytes chain × (before : List SignedEntry) × (signed : SignedEntry)
+    × IsNext root chain.entries i before signed × IsCertified root (entries_of before) signed
+    × IsInPlace (entries_of before) signed × (Ruled (entries_of before) signed.entry → ⊥)
+IsRefused root bytes n key_unknown =
+    (chain : Chain) × Spells chain_format bytes chain × AreGood root chain.entries
+    × (key_of (entries_of chain.entries) n ≡ None)
+IsRefused root bytes n bad_statement =
+    (log : List Entry) × (made : KeyEntry) × (statement : Statement) × IsGoodFor root bytes n log made statement
+    × (IsStated log n made.key statement → ⊥)
+IsRefused root bytes n (wrong_number named last) =
+    (log : List Entry) × (made : KeyEntry) × (statement : Statement) × IsGoodFor root bytes n log made statement
+    × IsStated log n made.key statement × (named ≡ statement.number) × (last ≡ number_of log) × (named ≢ last)
+IsRefused root bytes n key_ended =
+    (log : List Entry) × (made : KeyEntry) × (statement : Statement) × IsGoodFor root bytes n log made statement
+    × IsStated log n made.key statement × (statement.number ≡ number_of log) × (is_alive log n made.layer ≡ false)
+
+-- ---- chains without forged entries
+
+-- A chain has no forged entry of the device with the log E: a birth that verifies under the root is that of E, and each
+-- later entry that verifies under a device key that E names is an entry of E. Signatures are left out of account.
+pub record Honest (entries : List SignedEntry) (root : PublicKey) (E : List Entry) : Type 0 where
+  pub first : (signed : SignedEntry) (rest : List SignedEntry) → entries ≡ signed ∷ rest
+      → Verifies root (entry_text signed.entry) signed.signature → (later : List Entry) × (E ≡ signed.entry ∷ later)
+  pub later : (before : List SignedEntry) (signed : SignedEntry) (rest : List SignedEntry) → entries ≡ before ++ signed ∷ rest
+      → before ≢ [] → (key : PublicKey) → Any (λ entry. device_in entry ≡ Some key) E
+      → Verifies key (entry_text signed.entry) signed.signature → Contains E signed.entry

@@ -1,0 +1,97 @@
+-- What layers do with their regions: secrets and statements. Who can read a secret, and what does a key sign?
+use Rattle.std.specs.Prelude.{ℕ, ◌+◌, ◌==◌, nat_lt, nat_le, Bool, not, ◌&&◌, ◌||◌, List, [], ◌∷◌, ◌++◌, length, map, filter, find, Option, None, Some, if◌then◌else◌}
+use Rattle.std.specs.List.{list_any}
+use Rattle.mb_format.specs.Combinators.{same_bytes}
+use Rattle.mb_model.specs.declared.entry.Statement.{Statement}
+use Rattle.mb_model.specs.declared.region.Secret.{Secret}
+use Rattle.mb_model.specs.declared.region.RegionKey.{RegionKey}
+use Rattle.mb_model.specs.declared.state.State.{State}
+use Rattle.mb_model.specs.declared.reply.Reply.{Reply}
+use Rattle.mb_model.specs.declared.reply.Reply.TheVariants as reply
+use Rattle.mb_model.specs.Layers.{is_runnable}
+use Rattle.mb_model.specs.Log.{entries_of, number_of}
+use Rattle.mb_model.specs.Signing.{signature_of}
+use Rattle.mb_model.specs.ChainFormat.{statement_format}
+use Rattle.mb_model.specs.SignedTexts.{statement_text}
+use Rattle.mb_model.specs.Refusals.{wrong_layer, region_full, no_such_key, key_spent, refused}
+use Rattle.mb_model.specs.OrderStep.{region_of, with_region}
+
+-- what an event comes to: its reply, and the state afterwards
+abbrev pub Outcome : Type 0
+Outcome = Reply × State
+
+-- the secret has this name
+abbrev pub is_named : List ℕ → Secret → Bool
+is_named name secret = same_bytes secret.name name
+
+-- the secrets with this one in place of the one that has its name, or behind the others where none has
+unfoldable pub with_secret : Secret → List Secret → List Secret
+with_secret new secrets =
+    if list_any (is_named new.name) secrets
+    then map (λ old. if is_named new.name old then new else old) secrets
+    else secrets ++ new ∷ []
+
+-- a secret is kept with the present configuration number; 16 is as many as there may be
+unfoldable pub put_event : ℕ → List ℕ → List ℕ → State → Outcome
+put_event L name value state =
+    let region = region_of state L in
+    let new : Secret = record { name = name; value = value; born = number_of (entries_of state.log) } in
+    if not (list_any (is_named name) region.secrets) && nat_le 16 (length region.secrets)
+    then (refused region_full, state)
+    else (reply.Kept, with_region state L (record region { secrets = with_secret new region.secrets }))
+
+abbrev pub value_reply : Option Secret → Reply
+value_reply None = reply.Absent
+value_reply (Some secret) = reply.Value secret.value
+
+-- a secret is told
+unfoldable pub get_event : ℕ → List ℕ → State → Outcome
+get_event L name state = (value_reply (find (is_named name) (region_of state L).secrets), state)
+
+-- a secret is forgotten
+unfoldable pub drop_event : ℕ → List ℕ → State → Outcome
+drop_event L name state =
+    let region = region_of state L in
+    if list_any (is_named name) region.secrets
+    then (reply.Dropped, with_region state L (record region { secrets = filter (λ secret. not (is_named name secret)) region.secrets }))
+    else (reply.Absent, state)
+
+-- the key has this number
+abbrev pub has_number : ℕ → RegionKey → Bool
+has_number number key = key.number == number
+
+-- the keys, of which the one with this number has been used once more
+unfoldable pub with_use : ℕ → List RegionKey → List RegionKey
+with_use number keys = map (λ key. if has_number number key then record key { uses = key.uses + 1 } else key) keys
+
+-- what a key of a region signs of a message
+unfoldable pub statement_of : State → RegionKey → List ℕ → Statement
+statement_of state key message =
+    let number = number_of (entries_of state.log) in
+    record {
+      number = number;
+      message = message;
+      signature = signature_of key.seed key.uses (statement_text state.serial key.number number message);
+    }
+
+-- the key signs with its next index; it has 32
+abbrev pub sign_with : ℕ → Option RegionKey → List ℕ → State → Outcome
+sign_with L None message state = (refused no_such_key, state)
+sign_with L (Some key) message state =
+    let region = region_of state L in
+    if nat_le 32 key.uses then (refused key_spent, state)
+    else (
+      reply.Signed key.number key.uses (statement_format.spelling (statement_of state key message)),
+      with_region state L (record region { keys = with_use key.number region.keys }),
+    )
+
+-- a message is signed by the key with this number
+unfoldable pub sign_event : ℕ → ℕ → List ℕ → State → Outcome
+sign_event L number message state =
+    sign_with L (find (has_number number) (region_of state L).keys) message state
+
+-- An event on region L at a ratchet is refused where control is past its layer, or the layer may not run.
+abbrev pub on_region : ℕ → ℕ → (State → Outcome) → State → Outcome
+on_region ratchet L event state =
+    if nat_lt L ratchet || not (is_runnable state.layers L) then (refused wrong_layer, state)
+    else event state

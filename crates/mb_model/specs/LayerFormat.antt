@@ -1,0 +1,93 @@
+-- How a layer is spelled: what it has, what it trusts, its owner and the name of its code. Which layer do these bytes hold?
+use Rattle.std.specs.Prelude.{ℕ, Bool, true, false, List, [], ◌∷◌, Option, Some, None}
+use Rattle.std.specs.Int.{w8, w32}
+use Rattle.mb_format.specs.Format.{Format}
+use Rattle.mb_format.specs.Combinators.{raw, number, table, listed, nothing, present, pair, as_record, led}
+use Rattle.mb_model.specs.declared.key.PublicKey.{PublicKey}
+use Rattle.mb_model.specs.declared.key.Trust.{Trust}
+use Rattle.mb_model.specs.declared.key.Trust.TheVariants.{Always, Never, Countersigned}
+use Rattle.mb_model.specs.declared.layer.CodeName.{CodeName}
+use Rattle.mb_model.specs.declared.layer.Layer.{Layer}
+use Rattle.mb_model.specs.declared.layer.Layers.{Layers}
+use Rattle.mb_model.specs.KeyFormat.{public_key_format}
+
+-- a trust as a byte
+abbrev pub trust_byte : Trust → ℕ
+trust_byte Always = 0
+trust_byte Never = 1
+trust_byte Countersigned = 2
+
+abbrev pub trust_rows : List (ℕ × Trust)
+trust_rows = (0, Always) ∷ (1, Never) ∷ (2, Countersigned) ∷ []
+
+unfoldable pub trust_format : Format Trust
+trust_format = table w8 trust_rows trust_byte
+
+-- the name of code: its hash and its version
+unfoldable pub code_name_format : Format CodeName
+code_name_format = as_record (pair (raw 32) (number w32))
+    (λ p. record { hash = p.0; version = p.1 })
+    (λ name. (name.hash, name.version))
+
+-- What a layer has, as a byte: bit 0 for an owner, bit 1 for code, bit 2 for code to be relied on. Each needs those
+-- before it.
+pub data Has : Type 0 where
+  has_nothing has_owner has_code has_reliable_code : Has
+
+abbrev pub has_byte : Has → ℕ
+has_byte has_nothing = 0
+has_byte has_owner = 1
+has_byte has_code = 3
+has_byte has_reliable_code = 7
+
+abbrev pub has_rows : List (ℕ × Has)
+has_rows = (0, has_nothing) ∷ (1, has_owner) ∷ (3, has_code) ∷ (7, has_reliable_code) ∷ []
+
+abbrev pub has_with : Option PublicKey → Option CodeName → Bool → Has
+has_with None code reliable = has_nothing
+has_with (Some owner) None reliable = has_owner
+has_with (Some owner) (Some code) false = has_code
+has_with (Some owner) (Some code) true = has_reliable_code
+
+abbrev pub has_of : Layer → Has
+has_of layer = has_with layer.owner layer.code layer.reliable
+
+-- a layer without an owner trusts never
+abbrev pub trust_by : Has → Format Trust
+trust_by has_nothing = listed w8 ((1, Never) ∷ []) trust_byte
+trust_by has_owner = trust_format
+trust_by has_code = trust_format
+trust_by has_reliable_code = trust_format
+
+abbrev pub owner_by : Has → Format (Option PublicKey)
+owner_by has_nothing = nothing None
+owner_by has_owner = present public_key_format
+owner_by has_code = present public_key_format
+owner_by has_reliable_code = present public_key_format
+
+abbrev pub code_by : Has → Format (Option CodeName)
+code_by has_nothing = nothing None
+code_by has_owner = nothing None
+code_by has_code = present code_name_format
+code_by has_reliable_code = present code_name_format
+
+abbrev pub reliable_by : Has → Format Bool
+reliable_by has_nothing = nothing false
+reliable_by has_owner = nothing false
+reliable_by has_code = nothing false
+reliable_by has_reliable_code = nothing true
+
+-- behind that byte: its trust, its owner and its code name where it has them; that code is reliable takes no byte more
+abbrev pub layer_by : Has → Format Layer
+layer_by has = as_record (pair (trust_by has) (pair (owner_by has) (pair (code_by has) (reliable_by has))))
+    (λ p. record { owner = p.1.0; code = p.1.1.0; reliable = p.1.1.1; trust = p.0 })
+    (λ layer. (layer.trust, (layer.owner, (layer.code, layer.reliable))))
+
+unfoldable pub layer_format : Format Layer
+layer_format = led (table w8 has_rows has_byte) has_of layer_by
+
+-- three layers, from the first on
+unfoldable pub layers_format : Format Layers
+layers_format = as_record (pair layer_format (pair layer_format layer_format))
+    (λ p. record { one = p.0; two = p.1.0; three = p.1.1 })
+    (λ layers. (layers.one, (layers.two, layers.three)))

@@ -1,0 +1,141 @@
+-- The machine of owners and layers: what each event comes to in each phase, and what a power loss leaves. What can a device answer, and what can it then be?
+use Rattle.std.specs.Prelude.{◌≡◌, ℕ, ◌+◌, ◌<◌, nat_lt, Bool, true, false, ◌⊎◌, List, [], ◌∷◌, length, Option, None, Some, Result, Ok, Err, IsTrue, if◌then◌else◌}
+use Rattle.mb_model.specs.declared.event.Event.{Event}
+use Rattle.mb_model.specs.declared.event.Event.TheVariants as event
+use Rattle.mb_model.specs.declared.event.Answered.{Answered}
+use Rattle.mb_model.specs.declared.reply.Reply.{Reply}
+use Rattle.mb_model.specs.declared.reply.Reply.TheVariants as reply
+use Rattle.mb_model.specs.declared.state.State.{State}
+use Rattle.mb_model.specs.Layers.{is_runnable, standing}
+use Rattle.mb_model.specs.Log.{entries_of, number_of}
+use Rattle.mb_model.specs.Refusals.{Refusal, powered_off, wrong_phase, zeroised, wrong_layer, refused}
+use Rattle.mb_model.specs.OrderStep.{OrderStep}
+use Rattle.mb_model.specs.LayerEvents.{Outcome, on_region, put_event, get_event, drop_event, sign_event}
+
+-- where control is: power is off, or the device is on and dead, or layer r runs, which is 1, 2 or 3
+pub data Phase : Type 0 where
+  off : Phase
+  dead : Phase
+  ratchet : ℕ → Phase
+
+-- A device as the machine sees it: its state, none where it is dead; its phase; whether a power loss is armed.
+pub record World : Type 0 where
+  pub state : Option State
+  pub phase : Phase
+  pub armed : Bool
+
+-- what an event comes to in a world
+abbrev pub Told : Type 0
+Told = Reply × World
+
+-- Power comes on.
+abbrev pub boot_event : World → Phase → Option State → Told
+boot_event world off (Some state) = (reply.Booted, record world { phase = ratchet 1 })
+boot_event world off None = (refused zeroised, record world { phase = dead })
+boot_event world dead state = (refused zeroised, world)
+boot_event world (ratchet r) state = (refused wrong_phase, world)
+
+-- The state of a device that is on and alive, and the layer that runs. All but boot, off, tamper and cut need one.
+abbrev pub awake : Phase → Option State → Result (ℕ × State) Refusal
+awake off state = Err powered_off
+awake dead state = Err zeroised
+awake (ratchet r) None = Err zeroised
+awake (ratchet r) (Some state) = Ok (r, state)
+
+abbrev pub awake_in : World → Result (ℕ × State) Refusal
+awake_in world = awake world.phase world.state
+
+-- what is told of how the device stands
+unfoldable pub status_of : State → Reply
+status_of state =
+    reply.Status state.serial (number_of (entries_of state.log)) (length state.log) (standing state.layers 1) (standing state.layers 2) (standing state.layers 3)
+
+abbrev pub status_event : World → Result (ℕ × State) Refusal → Told
+status_event world (Err refusal) = (refused refusal, world)
+status_event world (Ok on) = (status_of on.1, world)
+
+-- Control goes to the next layer, where there is one and it may run. There is no way back but a boot.
+abbrev pub go_event : World → Result (ℕ × State) Refusal → Told
+go_event world (Err refusal) = (refused refusal, world)
+go_event world (Ok on) =
+    if nat_lt 2 on.0 then (refused wrong_phase, world)
+    else if is_runnable on.1.layers (on.0 + 1) then (reply.At (on.0 + 1), record world { phase = ratchet (on.0 + 1) })
+    else (refused wrong_layer, world)
+
+-- what a layer does with a region
+abbrev pub region_event : World → ℕ → (State → Outcome) → Result (ℕ × State) Refusal → Told
+region_event world L does (Err refusal) = (refused refusal, world)
+region_event world L does (Ok on) =
+    let outcome = on_region on.0 L does on.1 in
+    (outcome.0, record world { state = Some outcome.1 })
+
+-- Orders are obeyed while layer 1 runs.
+abbrev pub CommandStep : World → List ℕ → List ℕ → Result (ℕ × State) Refusal → Reply → World → Type 0
+CommandStep world text draw (Err refusal) answer next = (answer ≡ refused refusal) × (next ≡ world)
+CommandStep world text draw (Ok on) answer next =
+    ((on.0 ≡ 1) × ((state : State) × OrderStep on.1 text draw answer state × (next ≡ record world { state = Some state })))
+    ⊎ ((1 < on.0) × (answer ≡ refused wrong_phase) × (next ≡ world))
+
+-- An event has this reply and leads to this world, where memory is found and power holds.
+abbrev pub Machine : World → Event → Reply → World → Type 0
+Machine world event.Boot answer next = (answer, next) ≡ boot_event world world.phase world.state
+Machine world event.Off answer next = (answer ≡ reply.Off) × (next ≡ record world { phase = off })
+Machine world event.Tamper answer next =
+    (answer ≡ reply.Tampered) × (next ≡ record world { phase = off; state = None })
+Machine world (event.Cut count tear) answer next = (answer ≡ reply.Armed) × (next ≡ record world { armed = true })
+Machine world event.Status answer next = (answer, next) ≡ status_event world (awake_in world)
+Machine world (event.Command text draw) answer next = CommandStep world text draw (awake_in world) answer next
+Machine world event.Go answer next = (answer, next) ≡ go_event world (awake_in world)
+Machine world (event.Put L name value) answer next =
+    (answer, next) ≡ region_event world L (put_event L name value) (awake_in world)
+Machine world (event.Get L name) answer next = (answer, next) ≡ region_event world L (get_event L name) (awake_in world)
+Machine world (event.Drop L name) answer next =
+    (answer, next) ≡ region_event world L (drop_event L name) (awake_in world)
+Machine world (event.Sign L key message) answer next =
+    (answer, next) ≡ region_event world L (sign_event L key message) (awake_in world)
+
+-- the events for which memory may be wanted
+abbrev pub may_want_memory : Event → Bool
+may_want_memory event.Boot = true
+may_want_memory event.Status = true
+may_want_memory (event.Command text draw) = true
+may_want_memory (event.Put L name value) = true
+may_want_memory (event.Get L name) = true
+may_want_memory (event.Drop L name) = true
+may_want_memory (event.Sign L key message) = true
+may_want_memory event.Off = false
+may_want_memory event.Tamper = false
+may_want_memory event.Go = false
+may_want_memory (event.Cut count tear) = false
+
+-- the replies to events that write, in whose writes a power loss can fall
+abbrev pub may_be_cut : Reply → Bool
+may_be_cut reply.Booted = true
+may_be_cut (reply.Done number size) = true
+may_be_cut reply.Kept = true
+may_be_cut reply.Dropped = true
+may_be_cut (reply.Signed key index statement) = true
+may_be_cut reply.Off = false
+may_be_cut reply.Tampered = false
+may_be_cut reply.Armed = false
+may_be_cut (reply.At r) = false
+may_be_cut (reply.Value bytes) = false
+may_be_cut reply.Absent = false
+may_be_cut (reply.Status serial number size one two three) = false
+may_be_cut (reply.Refused refusal) = false
+may_be_cut reply.Stopped = false
+may_be_cut reply.NoMemory = false
+
+-- One step: from a world, an event has this reply and leads to next. There is no other way.
+pub data Step (world : World) (event : Event) (answer : Reply) (next : World) : Type 0 where
+  -- the machine's own answer
+  answered : Machine world event answer next → Step world event answer next
+  -- memory was wanted and not found: nothing has changed
+  no_memory : answer ≡ reply.NoMemory → IsTrue (may_want_memory event) → next ≡ world → Step world event answer next
+  -- Power failed where a loss was armed: the event counts wholly or not at all.
+  stopped : (told : Reply) (whole : World) (state : Option State) → answer ≡ reply.Stopped → IsTrue world.armed → Machine world event told whole → IsTrue (may_be_cut told) → (state ≡ world.state) ⊎ (state ≡ whole.state) → next ≡ record { state = state; phase = off; armed = false } → Step world event answer next
+
+-- the answered events are steps, one after another, from a world to next
+abbrev pub Run : World → List Answered → World → Type 0
+Run world [] next = next ≡ world
+Run world (this ∷ rest) next = (mid : World) × Step world this.event this.reply mid × Run mid rest next

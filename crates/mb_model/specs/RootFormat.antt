@@ -1,0 +1,75 @@
+-- How the root record is spelled, in which a device keeps its own key and the work that is still to be done. What does it know when power comes back?
+use Rattle.std.specs.Prelude.{ℕ, List, [], ◌∷◌, Option, Some, None}
+use Rattle.std.specs.Int.{w8, w32}
+use Rattle.mb_format.specs.Format.{Format}
+use Rattle.mb_format.specs.Combinators.{raw, number, between, table, mark, nothing, optional, pair, as_value, as_record, led, then_value}
+use Rattle.mb_model.specs.declared.region.RegionKey.{RegionKey}
+use Rattle.mb_model.specs.declared.stored.Outgoing.{Outgoing}
+use Rattle.mb_model.specs.declared.stored.Fate.{Fate}
+use Rattle.mb_model.specs.declared.stored.Fate.TheVariants.{Keep, Empty, DropConfiguration, AddKey}
+use Rattle.mb_model.specs.declared.stored.Pending.{Pending}
+use Rattle.mb_model.specs.declared.stored.Root.{Root}
+use Rattle.mb_model.specs.KeyFormat.{key_seed_format}
+use Rattle.mb_model.specs.EntryFormat.{key_kind_format}
+
+-- a key of a region: its number, its kind, its seed, and how many of its 32 indices are used
+unfoldable pub region_key_format : Format RegionKey
+region_key_format = as_record (pair (number w32) (pair key_kind_format (pair key_seed_format (between w8 0 32))))
+    (λ p. record { number = p.0; kind = p.1.0; seed = p.1.1.0; uses = p.1.1.1 })
+    (λ key. (key.number, (key.kind, (key.seed, key.uses))))
+
+-- ---- pending work
+
+-- the device key that gives way: its seed and its uses
+unfoldable pub outgoing_format : Format Outgoing
+outgoing_format = as_record (pair key_seed_format (between w8 1 32))
+    (λ p. record { seed = p.0; uses = p.1 })
+    (λ outgoing. (outgoing.seed, outgoing.uses))
+
+pub data FateTag : Type 0 where
+  keep_tag empty_tag drop_tag add_tag : FateTag
+
+abbrev pub fate_byte : FateTag → ℕ
+fate_byte keep_tag = 0
+fate_byte empty_tag = 1
+fate_byte drop_tag = 2
+fate_byte add_tag = 3
+
+abbrev pub fate_rows : List (ℕ × FateTag)
+fate_rows = (0, keep_tag) ∷ (1, empty_tag) ∷ (2, drop_tag) ∷ (3, add_tag) ∷ []
+
+abbrev pub fate_tag : Fate → FateTag
+fate_tag Keep = keep_tag
+fate_tag Empty = empty_tag
+fate_tag DropConfiguration = drop_tag
+fate_tag (AddKey key) = add_tag
+
+abbrev pub added_in : Fate → Option RegionKey
+added_in (AddKey key) = Some key
+added_in _ = None
+
+-- the key that is added stands behind its tag
+abbrev pub fate_by : FateTag → Format Fate
+fate_by keep_tag = nothing Keep
+fate_by empty_tag = nothing Empty
+fate_by drop_tag = nothing DropConfiguration
+fate_by add_tag = as_value region_key_format AddKey added_in
+
+unfoldable pub fate_format : Format Fate
+fate_format = led (table w8 fate_rows fate_byte) fate_tag fate_by
+
+-- pending work: how many entries are unsigned, the outgoing key where there is one, what becomes of regions 2 and 3
+unfoldable pub pending_format : Format Pending
+pending_format = as_record (pair (between w8 1 2) (pair (optional outgoing_format) (pair fate_format fate_format)))
+    (λ p. record { unsigned = p.0; outgoing = p.1.0; two = p.1.1.0; three = p.1.1.1 })
+    (λ pending. (pending.unsigned, (pending.outgoing, (pending.two, pending.three))))
+
+-- ---- the record
+
+-- The root record: its version, the flash area in force, the serial, the device key and its uses, and the pending work
+-- where there is some.
+unfoldable pub root_format : Format Root
+root_format = then_value (mark (1 ∷ []))
+    (as_record (pair (between w8 0 1) (pair (raw 16) (pair key_seed_format (pair (between w8 0 32) (optional pending_format)))))
+    (λ p. record { area = p.0; serial = p.1.0; device = p.1.1.0; uses = p.1.1.1.0; pending = p.1.1.1.1 })
+    (λ root. (root.area, (root.serial, (root.device, (root.uses, root.pending))))))

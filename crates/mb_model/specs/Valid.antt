@@ -1,0 +1,71 @@
+-- When a state is one that a device can have. Does a device hold what its log tells, and nothing else?
+use Rattle.std.specs.Prelude.{◌≡◌, ◌≢◌, ℕ, ◌≤◌, false, List, [], ◌∷◌, ◌++◌, length, map, All, AllPairs, Option, None, Some}
+use Rattle.sha2.specs.Sha256.{sha256}
+use Rattle.mb_model.specs.declared.layer.CodeName.{CodeName}
+use Rattle.mb_model.specs.declared.layer.Layers.{Layers}
+use Rattle.mb_model.specs.declared.entry.Entry.{Entry}
+use Rattle.mb_model.specs.declared.entry.SignedEntry.{SignedEntry}
+use Rattle.mb_model.specs.declared.region.Region.{Region}
+use Rattle.mb_model.specs.declared.region.RegionKey.{RegionKey}
+use Rattle.mb_model.specs.declared.state.Codes.{Codes}
+use Rattle.mb_model.specs.declared.state.State.{State}
+use Rattle.mb_model.specs.Merkle.{leaf_number}
+use Rattle.mb_model.specs.Layers.{layer_of}
+use Rattle.mb_model.specs.Log.{entries_of, number_of, layers_of, device_of, serial_of, used, Ordered, Ruled}
+use Rattle.mb_model.specs.Lives.{MadeKey, alive_keys}
+use Rattle.mb_model.specs.Regions.{empty_region, RegionKeptRightly}
+use Rattle.mb_model.specs.Signing.{public_of}
+use Rattle.mb_model.specs.SignedTexts.{entry_text, IsSignedBy}
+
+-- An entry follows from those before it. Whether the birth is the factory's, the device cannot tell.
+pub record Follows (before : List Entry) (signed : SignedEntry) : Type 0 where
+  pub ruled : Ruled before signed.entry
+  pub in_order : before ≢ [] → Ordered before signed.entry (leaf_number signed.signature)
+  pub verifies : before ≢ [] → IsSignedBy (device_of before) (entry_text signed.entry) signed.signature
+
+-- each entry of a log follows from those before it
+abbrev pub EachFollows : List SignedEntry → Type 0
+EachFollows log =
+    (before : List SignedEntry) (signed : SignedEntry) (rest : List SignedEntry) → log ≡ before ++ signed ∷ rest
+    → Follows (entries_of before) signed
+
+-- code is there exactly where it has a name, and the name's hash is that of the code
+abbrev pub IsNamed : Option CodeName → Option (List ℕ) → Type 0
+IsNamed None None = Unit {0}
+IsNamed (Some name) (Some code) = name.hash ≡ sha256 code
+IsNamed None (Some code) = ⊥
+IsNamed (Some name) None = ⊥
+
+pub record AreNamed (layers : Layers) (codes : Codes) : Type 0 where
+  pub one : IsNamed layers.one.code codes.one
+  pub two : IsNamed layers.two.code codes.two
+  pub three : IsNamed layers.three.code codes.three
+
+-- what a log says of a key that stands in a region
+abbrev pub as_made : RegionKey → MadeKey
+as_made key = record { number = key.number; kind = key.kind; key = public_of key.seed }
+
+-- a region that layer L can have by a log, the layers being these
+pub record IsValidRegion (log : List Entry) (layers : Layers) (L : ℕ) (region : Region) : Type 0 where
+  pub empty : (layer_of layers L).reliable ≡ false → region ≡ empty_region
+  pub names : AllPairs (λ a b. a.name ≢ b.name) region.secrets
+  pub past : All (λ secret. secret.born ≤ number_of log) region.secrets
+  pub few : length region.keys ≤ 8
+  pub keys : map as_made region.keys ≡ alive_keys log L
+  pub kept : RegionKeptRightly log L region
+
+-- a state that a live device can have
+pub record IsValidState (state : State) : Type 0 where
+  pub log : EachFollows state.log
+  pub layers : state.layers ≡ layers_of (entries_of state.log)
+  pub codes : AreNamed state.layers state.codes
+  pub serial : serial_of (entries_of state.log) ≡ Some state.serial
+  pub device : device_of (entries_of state.log) ≡ Some (public_of state.device)
+  pub uses : state.uses ≡ used (entries_of state.log)
+  pub two : IsValidRegion (entries_of state.log) state.layers 2 state.two
+  pub three : IsValidRegion (entries_of state.log) state.layers 3 state.three
+
+-- a state that a device can have; that of a dead device is none
+abbrev pub Valid : Option State → Type 0
+Valid None = Unit {0}
+Valid (Some state) = IsValidState state

@@ -1,0 +1,73 @@
+//! Laws of the formats: each is clear, and how long its spellings are.
+
+ghost use Rattle.std.specs.Prelude.{◌≡◌};
+ghost use Rattle.mb_format.specs.Format.{IsClear, IsClearWhole, IsShort, IsLocal};
+ghost use Rattle.mb_model.specs.declared.key.PublicKey.{PublicKey};
+ghost use Rattle.mb_model.specs.Key.{key_bytes};
+ghost use Rattle.mb_model.specs.KeyFormat.{public_key_format, key_seed_format, keyfile_format};
+ghost use Rattle.mb_model.specs.LayerFormat.{trust_format, layer_format, layers_format};
+ghost use Rattle.mb_model.specs.EntryFormat.{entry_format, signed_entry_format};
+ghost use Rattle.mb_model.specs.OrderFormat.{target_format, body_format, order_format};
+ghost use Rattle.mb_model.specs.ChainFormat.{statement_format, chain_format};
+ghost use Rattle.mb_model.specs.RootFormat.{region_key_format, root_format};
+ghost use Rattle.mb_model.specs.RegionFormat.{secret_format, region_format};
+ghost use Rattle.mb_model.specs.PublicFormat.{public_entry_format, public_format};
+
+/// At each place of any bytes one value of the format is spelled, or one place fails.
+pub fn formats_are_clear()
+    ensures public_key { IsClear public_key_format }
+    ensures key_seed { IsClear key_seed_format }
+    ensures keyfile { IsClear keyfile_format }
+    ensures trust { IsClear trust_format }
+    ensures layer { IsClear layer_format }
+    ensures layers { IsClear layers_format }
+    ensures entry { IsClear entry_format }
+    ensures signed_entry { IsClear signed_entry_format }
+    ensures target { IsClear target_format }
+    ensures body { IsClear body_format }
+    ensures order { IsClear order_format }
+    ensures statement { IsClear statement_format }
+    ensures chain { IsClear chain_format }
+    ensures region_key { IsClear region_key_format }
+    ensures root { IsClear root_format }
+    ensures secret { IsClear secret_format }
+    ensures region { IsClear region_format }
+    ensures public_entry { IsClear public_entry_format }
+    ensures public_record { IsClear public_format }
+{}
+
+/// Any bytes as a whole spell one value of the format, or fail at one place: one behind the last field, where bytes are
+/// left there.
+pub fn whole_formats_are_clear()
+    ensures public_key { IsClearWhole public_key_format }
+    ensures keyfile { IsClearWhole keyfile_format }
+    ensures order { IsClearWhole order_format }
+    ensures statement { IsClearWhole statement_format }
+    ensures chain { IsClearWhole chain_format }
+    ensures root { IsClearWhole root_format }
+    ensures region { IsClearWhole region_format }
+    ensures public_record { IsClearWhole public_format }
+{}
+
+/// How many bytes a spelling has at most.
+pub fn formats_are_short()
+    ensures public_key { IsShort public_key_format 56 }
+    ensures keyfile { IsShort keyfile_format 56 }
+    ensures entry { IsShort entry_format 355 }
+    ensures order { IsShort order_format 61033 }
+    ensures statement { IsShort statement_format 2481 }
+    ensures chain { IsShort chain_format 348472 }
+    ensures root { IsShort root_format 229 }
+    ensures region { IsShort region_format 3091 }
+    ensures public_record { IsShort public_format 444434 }
+{}
+
+/// To read an order no more bytes are looked at than the longest order has.
+pub fn orders_are_local()
+    ensures { IsLocal order_format 61033 }
+{}
+
+/// A public key is spelled as the bytes that are hashed and signed.
+pub fn keys_are_spelled()
+    ensures { (key : PublicKey) → public_key_format.spelling key ≡ key_bytes key }
+{}
