@@ -21,7 +21,7 @@ use Rattle.mb_model.specs.Rules.{CanPlace, is_own_load, admits, Admits, layer_af
 use Rattle.mb_model.specs.Regions.{empty_region, is_epoch, without_configuration_keys, region_after, with_key, AdmittedSince, KeyAdmitted, RegionKeptRightly}
 
 -- what holds of 2 and 3 holds of the number of each layer that has a region
-at_upper : (P : ℕ → Type 0) (L : ℕ) → IsTrue (is_upper L) → P 2 → P 3 → P L
+pub at_upper : (P : ℕ → Type 0) (L : ℕ) → IsTrue (is_upper L) → P 2 → P 3 → P L
 at_upper P L upper two three =
     (elim (L == 2) as (λ b. (L == 2) ≡ b → P L) [
       | true ↦ λ e. let is : 2 ≡ L = grind (arith, e) in subst P is two

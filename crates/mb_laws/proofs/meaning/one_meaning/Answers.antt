@@ -1,0 +1,5 @@
+use Rattle.mb_laws.proofs.MeaningLemmas as lemmas
+use Rattle.mb_laws.proofs.meaning.one_meaning.Goals as goal
+
+pub returns : goal.returns
+returns c = lemmas.one_meaning

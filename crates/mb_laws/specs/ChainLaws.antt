@@ -1,0 +1,56 @@
+-- Laws of chains: each has one verdict at most, and an accepted one tells what its device tells. Can one chain be taken for two?
+use Rattle.std.specs.Prelude.{◌≡◌, ℕ, List, ◌++◌}
+use Rattle.mb_format.specs.Format.{IsBytes}
+use Rattle.mb_model.specs.declared.key.PublicKey.{PublicKey}
+use Rattle.mb_model.specs.declared.entry.Entry.{Entry}
+use Rattle.mb_model.specs.declared.entry.SignedEntry.{SignedEntry}
+use Rattle.mb_model.specs.Log.{entries_of, RuledLog}
+use Rattle.mb_model.specs.Lives.{lives_of}
+use Rattle.mb_model.specs.Valid.{EachFollows}
+use Rattle.mb_model.specs.Acceptance.{ChainRefusal, Accepts, IsRefused, Honest}
+use Rattle.mb_model.specs.Listing.{Report}
+
+-- bytes are never both accepted and refused
+abbrev pub NeverBoth : Type 0
+NeverBoth =
+    (root : PublicKey) (bytes : List ℕ) (n : ℕ) (report : Report) (refusal : ChainRefusal) → IsBytes bytes
+    → Accepts root bytes n report → IsRefused root bytes n refusal → ⊥
+
+-- and never neither accepted nor refused
+abbrev pub NeverNeither : Type 0
+NeverNeither =
+    (root : PublicKey) (bytes : List ℕ) (n : ℕ) → IsBytes bytes → ((report : Report) → Accepts root bytes n report → ⊥)
+    → ((refusal : ChainRefusal) → IsRefused root bytes n refusal → ⊥) → ⊥
+
+-- they are refused for one thing at most
+abbrev pub OneRefusal : Type 0
+OneRefusal =
+    (root : PublicKey) (bytes : List ℕ) (n : ℕ) (a b : ChainRefusal) → IsBytes bytes
+    → IsRefused root bytes n a → IsRefused root bytes n b → a ≡ b
+
+-- and say one thing at most of a key
+abbrev pub OneReport : Type 0
+OneReport =
+    (root : PublicKey) (bytes : List ℕ) (n : ℕ) (a b : Report) → IsBytes bytes
+    → Accepts root bytes n a → Accepts root bytes n b → a ≡ b
+
+-- the entries of an accepted chain obey the rules of the log
+abbrev pub AcceptedIsRuled : Type 0
+AcceptedIsRuled =
+    (root : PublicKey) (bytes : List ℕ) (n : ℕ) (report : Report) (accepts : Accepts root bytes n report)
+    → RuledLog (entries_of accepts.chain.entries)
+
+-- each of them follows from those before it, as in the log of a device
+abbrev pub AcceptedFollows : Type 0
+AcceptedFollows =
+    (root : PublicKey) (bytes : List ℕ) (n : ℕ) (report : Report) (accepts : Accepts root bytes n report)
+    → EachFollows accepts.chain.entries
+
+-- Where no entry was forged, the entries of an accepted chain are the first of its device's log, and the key lived as
+-- these tell.
+abbrev pub HonestIsPrefix : Type 0
+HonestIsPrefix =
+    (root : PublicKey) (bytes : List ℕ) (n : ℕ) (report : Report) (accepts : Accepts root bytes n report)
+    (log : List SignedEntry) → EachFollows log → Honest accepts.chain.entries root (entries_of log)
+    → (past : List Entry) × (later : List Entry) × (entries_of log ≡ past ++ later)
+    × (past ≡ entries_of accepts.chain.entries) × (report.lives ≡ lives_of past n)

@@ -1,0 +1,85 @@
+-- Laws of the machine: what a refusal leaves, and that an event comes to one thing. Can a refused event change anything?
+use Rattle.std.specs.Prelude.{◌≡◌, ℕ, ◌≤◌, ◌⊎◌, List, None}
+use Rattle.mb_format.specs.Format.{IsBytes}
+use Rattle.mb_model.specs.declared.event.Event.{Event}
+use Rattle.mb_model.specs.declared.event.Event.TheVariants as event
+use Rattle.mb_model.specs.declared.order.Order.{Order}
+use Rattle.mb_model.specs.declared.reply.Reply.{Reply}
+use Rattle.mb_model.specs.declared.reply.Reply.TheVariants as reply
+use Rattle.mb_model.specs.declared.state.State.{State}
+use Rattle.mb_model.specs.Refusals.{Refusal}
+use Rattle.mb_model.specs.OrderStep.{Fails, Passes, OrderStep}
+use Rattle.mb_model.specs.Machine.{Phase, off, dead, ratchet, World, Machine, Step}
+
+-- the phase is the same, but where a dead device is booted, which is then on
+abbrev pub PhaseStays : World → Event → World → Type 0
+PhaseStays world given next =
+    (next.phase ≡ world.phase)
+    ⊎ ((given ≡ event.Boot) × (world.state ≡ None) × (world.phase ≡ off) × (next.phase ≡ dead))
+
+-- an event leaves the state, and whether a power loss is armed, and the phase
+pub record Leaves (world : World) (given : Event) (next : World) : Type 0 where
+  pub state : next.state ≡ world.state
+  pub armed : next.armed ≡ world.armed
+  pub phase : PhaseStays world given next
+
+-- a refused event does
+abbrev pub RefusalsLeave : Type 0
+RefusalsLeave = (world : World) (given : Event) (n : ℕ) (next : World) → Step world given (reply.Refused n) next → Leaves world given next
+
+-- one for which no memory is found leaves all
+abbrev pub NoMemoryLeaves : Type 0
+NoMemoryLeaves = (world : World) (given : Event) (next : World) → Step world given reply.NoMemory next → next ≡ world
+
+-- the machine's own answer is never that memory is wanting, or that power failed
+abbrev pub MachineIsWhole : Type 0
+MachineIsWhole =
+    (world : World) (given : Event) (answer : Reply) (next : World) → Machine world given answer next
+    → (answer ≡ reply.NoMemory → ⊥) × (answer ≡ reply.Stopped → ⊥)
+
+-- an order fails one check at most
+abbrev pub OneFailure : Type 0
+OneFailure = (state : State) (order : Order) (a b : Refusal) → Fails state order a → Fails state order b → a ≡ b
+
+-- and none where it passes
+abbrev pub PassesFailNothing : Type 0
+PassesFailNothing = (state : State) (order : Order) (refusal : Refusal) → Passes state order → Fails state order refusal → ⊥
+
+-- no order neither passes nor fails a check
+abbrev pub PassesOrFails : Type 0
+PassesOrFails = (state : State) (order : Order) → (Passes state order → ⊥) → ((refusal : Refusal) → Fails state order refusal → ⊥) → ⊥
+
+-- bytes that are given as an order have one answer, and lead to one state
+abbrev pub OneOrderStep : Type 0
+OneOrderStep =
+    (state : State) (text draw : List ℕ) (a b : Reply) (m n : State) → IsBytes text
+    → OrderStep state text draw a m → OrderStep state text draw b n → (a ≡ b) × (m ≡ n)
+
+-- where it brings an order, the event brings bytes
+abbrev pub BringsBytes : Event → Type 0
+BringsBytes (event.Command text draw) = IsBytes text
+BringsBytes given = Unit {0}
+
+-- an event comes to one thing
+abbrev pub MachineIsFunction : Type 0
+MachineIsFunction =
+    (world : World) (given : Event) (a b : Reply) (m n : World) → BringsBytes given
+    → Machine world given a m → Machine world given b n → (a ≡ b) × (m ≡ n)
+
+-- a layer that runs is layer 1, 2 or 3
+abbrev pub IsPhase : Phase → Type 0
+IsPhase off = Unit {0}
+IsPhase dead = Unit {0}
+IsPhase (ratchet r) = (1 ≤ r) × (r ≤ 3)
+
+-- each step leaves that so
+abbrev pub PhasesStayPhases : Type 0
+PhasesStayPhases =
+    (world : World) (given : Event) (answer : Reply) (next : World) → IsPhase world.phase → Step world given answer next
+    → IsPhase next.phase
+
+-- and then no event is without an answer
+abbrev pub MachineAnswers : Type 0
+MachineAnswers =
+    (world : World) (given : Event) → IsPhase world.phase → BringsBytes given
+    → ((answer : Reply) (next : World) → Machine world given answer next → ⊥) → ⊥

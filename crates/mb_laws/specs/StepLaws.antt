@@ -1,0 +1,19 @@
+-- Laws of the machine. Can a device leave the states that it can have?
+use Rattle.std.specs.Prelude.{List}
+use Rattle.mb_model.specs.declared.event.Event.{Event}
+use Rattle.mb_model.specs.declared.event.Answered.{Answered}
+use Rattle.mb_model.specs.declared.reply.Reply.{Reply}
+use Rattle.mb_model.specs.Machine.{World, Step, Run}
+use Rattle.mb_model.specs.Valid.{Valid}
+
+-- each step from a valid state leads to a valid state
+abbrev pub StepsStayValid : Type 0
+StepsStayValid =
+    (world : World) (event : Event) (answer : Reply) (next : World) → Valid world.state → Step world event answer next
+    → Valid next.state
+
+-- and so does a run
+abbrev pub RunsStayValid : Type 0
+RunsStayValid =
+    (world : World) (answered : List Answered) (next : World) → Valid world.state → Run world answered next
+    → Valid next.state

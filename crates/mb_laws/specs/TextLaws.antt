@@ -1,0 +1,126 @@
+-- Laws of texts, each proved on a public function of its own. Does a text say one thing?
+use Rattle.std.specs.Prelude.{◌≡◌, ℕ, ◌+◌, ◌≤◌, false, List, [], ◌∷◌, ◌++◌, length, replicate, All}
+use Rattle.hex.specs.Hex.{IsBytes}
+use Rattle.mb_model.specs.declared.event.Event.{Event}
+use Rattle.mb_model.specs.declared.event.Event.TheVariants as event
+use Rattle.mb_model.specs.declared.reply.Reply.{Reply}
+use Rattle.mb_model.specs.declared.reply.Reply.TheVariants as reply
+use Rattle.mb_model.specs.declared.order.Order.{Order}
+use Rattle.mb_model.specs.declared.entry.Statement.{Statement}
+use Rattle.mb_model.specs.Replies.{HasLine, reply_line}
+use Rattle.mb_model.specs.Workload.{generated, Draws, DrawnInOrder}
+use Rattle.mb_model.specs.OrderLines.{IsOrderLine, IsStatementLine}
+use Rattle.mb_model.specs.Texts.{IsHex}
+use Rattle.mb_model.specs.Lines.{HasLines, hex_word, number_limit, FailsAtLine, Reads, TextFailsAtLine}
+use Rattle.mb_model.specs.Script.{IsScriptEvent, SaysEvent, is_skipped, IsScript, drawn_event, drawn_events, Drawn}
+
+-- A text of the grammar stands for one value, or one line of it is the first that is wrong, and never both.
+pub record IsClearText {A : Type 0} (Grammar : List (List ℕ) → A → Type 0) : Type 0 where
+  pub one_value : (text : List ℕ) (a b : A) → Reads Grammar text a → Reads Grammar text b → a ≡ b
+  pub one_line : (text : List ℕ) (m n : ℕ) → TextFailsAtLine Grammar text m → TextFailsAtLine Grammar text n → m ≡ n
+  pub never_both : (text : List ℕ) (a : A) (n : ℕ) → Reads Grammar text a → TextFailsAtLine Grammar text n → ⊥
+
+-- each text has lines
+abbrev pub SomeLines : Type 0
+SomeLines = (text : List ℕ) → (lines : List (List ℕ)) × HasLines text lines
+
+-- and no others
+abbrev pub OneListOfLines : Type 0
+OneListOfLines = (text : List ℕ) (a b : List (List ℕ)) → HasLines text a → HasLines text b → a ≡ b
+
+-- the word that is written of bytes is read as these bytes
+abbrev pub WordsAreReadBack : Type 0
+WordsAreReadBack = (bytes : List ℕ) → IsBytes bytes → IsHex (hex_word bytes) bytes
+
+-- each event of a script is one that a line can give
+abbrev pub ScriptsGiveScriptEvents : Type 0
+ScriptsGiveScriptEvents = (lines : List (List ℕ)) (events : List Event) → IsScript lines events → All IsScriptEvent events
+
+-- and so it is with its draw
+abbrev pub DrawsKeepScriptEvents : Type 0
+DrawsKeepScriptEvents =
+    (events : List Event) (noise : List ℕ) (drawn : List Event) → All IsScriptEvent events → Drawn events noise drawn → All IsScriptEvent drawn
+
+-- all lists of bytes in an event are of bytes
+abbrev pub HoldsBytes : Event → Type 0
+HoldsBytes event.Boot = Unit {0}
+HoldsBytes event.Off = Unit {0}
+HoldsBytes event.Tamper = Unit {0}
+HoldsBytes event.Status = Unit {0}
+HoldsBytes event.Go = Unit {0}
+HoldsBytes (event.Cut count tear) = IsBytes tear.fill
+HoldsBytes (event.Command text draw) = IsBytes text
+HoldsBytes (event.Put region name value) = IsBytes value
+HoldsBytes (event.Get region name) = Unit {0}
+HoldsBytes (event.Drop region name) = Unit {0}
+HoldsBytes (event.Sign region key message) = IsBytes message
+
+-- the event as a line gives it
+abbrev pub undrawn : Event → Event
+undrawn (event.Command text draw) = event.Command text (replicate 32 0)
+undrawn other = other
+
+-- an event that a line can give, some line does
+abbrev pub ScriptEventsAreSaid : Type 0
+ScriptEventsAreSaid = (e : Event) → IsScriptEvent e → HoldsBytes e → (line : List ℕ) × SaysEvent line (undrawn e)
+
+-- one event more, and its draw: those before it keep theirs
+abbrev pub DrawsInTurn : Type 0
+DrawsInTurn =
+    (noise : List ℕ) (events : List Event) (e : Event) → drawn_events noise (events ++ e ∷ []) ≡ drawn_events noise events ++ drawn_event noise events e ∷ []
+
+-- no event is left out, and none added
+abbrev pub DrawsKeepCount : Type 0
+DrawsKeepCount = (noise : List ℕ) (events : List Event) → length (drawn_events noise events) ≡ length events
+
+-- the line of one event too many is the first that is wrong
+abbrev pub TooManyEvents : Type 0
+TooManyEvents =
+    (lines later : List (List ℕ)) (line : List ℕ) (events : List Event) → IsScript lines events → length events ≡ 65536
+    → is_skipped line ≡ false → FailsAtLine IsScript (lines ++ line ∷ later) (length lines + 1)
+
+-- a line behind that of an order, be it empty, is wrong
+abbrev pub SecondOrderLine : Type 0
+SecondOrderLine =
+    (line other : List ℕ) (later : List (List ℕ)) (order : Order) → IsOrderLine (line ∷ []) order
+    → FailsAtLine IsOrderLine (line ∷ other ∷ later) 2
+
+-- and so is one behind that of a statement
+abbrev pub SecondStatementLine : Type 0
+SecondStatementLine =
+    (line other : List ℕ) (later : List (List ℕ)) (statement : Statement) → IsStatementLine (line ∷ []) statement
+    → FailsAtLine IsStatementLine (line ∷ other ∷ later) 2
+
+-- where the first line is that of no order, it is wrong, whatever stands behind it
+abbrev pub FirstOrderLine : Type 0
+FirstOrderLine =
+    (line : List ℕ) (later : List (List ℕ)) → ((order : Order) → IsOrderLine (line ∷ []) order → ⊥)
+    → FailsAtLine IsOrderLine (line ∷ later) 1
+
+-- the numbers of a reply are numbers of a text, its bytes are bytes, and its refusal has words
+abbrev pub IsInRange : Reply → Type 0
+IsInRange reply.Booted = Unit {0}
+IsInRange reply.Off = Unit {0}
+IsInRange reply.Tampered = Unit {0}
+IsInRange reply.Armed = Unit {0}
+IsInRange (reply.At layer) = layer ≤ number_limit
+IsInRange (reply.Done number log) = (number ≤ number_limit) × (log ≤ number_limit)
+IsInRange reply.Kept = Unit {0}
+IsInRange reply.Dropped = Unit {0}
+IsInRange (reply.Value value) = IsBytes value
+IsInRange reply.Absent = Unit {0}
+IsInRange (reply.Signed key index statement) = (key ≤ number_limit) × (index ≤ number_limit) × IsBytes statement
+IsInRange (reply.Status serial number log one two three) = IsBytes serial × (number ≤ number_limit) × (log ≤ number_limit)
+IsInRange (reply.Refused number) = (number ≤ number_limit) × HasLine (reply.Refused number)
+IsInRange reply.Stopped = Unit {0}
+IsInRange reply.NoMemory = Unit {0}
+
+-- no two replies have one line
+abbrev pub RepliesDiffer : Type 0
+RepliesDiffer = (a b : Reply) → IsInRange a → IsInRange b → reply_line a ≡ reply_line b → a ≡ b
+
+-- what is drawn for a workload, its number and the number of its rounds say
+abbrev pub OneWorkload : Type 0
+OneWorkload =
+    (number rounds : ℕ) (v w : List ℕ) (d e : Draws) → v ≡ generated number (length v) → w ≡ generated number (length w)
+    → DrawnInOrder v rounds d → DrawnInOrder w rounds e → d ≡ e
