@@ -1,12 +1,17 @@
 -- What a reader of a format gives: the value that is spelled at the cursor's place, or the place that fails.
 use Rattle.std.specs.Prelude.{◌≡◌, ℕ, List, Option, Some, None, Result, Ok, Err}
 use Rattle.mb_format.specs.Format.{Format, SpelledAt, Spells, FailsWhole}
+use Rattle.mb_model.specs.declared.tools.BadRecord.{BadRecord}
 use Rattle.mb_bytes.specs.declared.cursor.Cursor.{Cursor}
 use Rattle.mb_bytes.specs.declared.cursor.Short.{Short}
 
 -- where want of bytes points
 abbrev pub short_at : Short → Option ℕ
 short_at e = Some e.at
+
+-- where a record that is not in its form fails
+abbrev pub bad_at : BadRecord → Option ℕ
+bad_at e = Some e.at
 
 -- the same bytes
 abbrev pub SameBytes : Cursor → Cursor → Type 0

@@ -3,11 +3,21 @@
 ghost use Rattle.std.specs.Prelude.{◌≡◌, ℕ, ◌+◌, ◌≤◌, length};
 ghost use Rattle.mb_format.specs.Format.{IsBytes};
 
+use mb_model::BadRecord;
+
 /// Too few bytes were left for the field that begins at this place.
 #[derive(Clone, Copy, Debug, PartialEq, Eq)]
 pub struct Short {
     /// The place, counted from the first of the cursor's bytes.
     pub at: u32,
+}
+
+impl From<Short> for BadRecord {
+    ghost from_gives = { λ short e. e ≡ record { at = short.at } };
+
+    fn from(short: Short) -> BadRecord {
+        BadRecord { at: short.at }
+    }
 }
 
 /// Bytes and a place among them, from which fields are read.
