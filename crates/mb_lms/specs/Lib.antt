@@ -1,1 +1,2 @@
 pub mod Checking
+pub use Rattle.sha2.specs.Sha256

@@ -1,8 +1,9 @@
 //! LMS signatures of all twenty pairs of types of RFC 8554 with SHA-256: keys as bytes, and whether a signature
 //! verifies.
 //!
-//! This crate owns the spelling of a public key and the verification of a signature, whose text may be fed in pieces.
-//! It stands on `mb_model`, which has the keys and the definitions, and on `sha2`. No call takes memory.
+//! This crate owns the spelling of a public key, the verification of a signature, whose text may be fed in pieces, and
+//! what a signer shares with it: the digits, the start of a chain's step, and a hash that is counted. It stands on
+//! `mb_model`, which has the keys and the definitions, and on `sha2`. No call takes memory.
 #![tactic(auto)]
 
 mod bytes;
@@ -11,10 +12,13 @@ mod key;
 mod one_time;
 mod parameters;
 mod signature;
+mod steps;
 mod tree;
 
 pub use checker::{Checker, verify};
 pub use key::{key_bytes, key_hash, parse_key};
+pub use one_time::{chain_prefix, digit, digits_of};
+pub use steps::{Steps, hash};
 
 #[cfg(test)]
 mod tests;

@@ -16,7 +16,7 @@ const ONE_TIME_KEY_MARK: [u8; 2] = [0x80, 0x80];
 
 /// The digit with the number `i` (RFC 8554, section 3.1.3).
 #[tactic(auto, using(crate::proofs::Digits::digit_rules), unfolding(mb_model::specs::Winternitz::coef))]
-fn digit(chains: Chains, bytes: &[u8], i: u16) -> u8
+pub fn digit(chains: Chains, bytes: &[u8], i: u16) -> u8
     requires { i * digit_bits chains / 8 < length bytes.now }
     ensures value { result ≡ coef bytes.now i (digit_bits chains) }
     ensures bound { result ≤ 2 ^ digit_bits chains - 1 }
@@ -60,7 +60,7 @@ fn checksum(chains: Chains, hash: &[u8; 32]) -> u16
 
 /// The digits that a signature signs: those of the hash, and then those of its checksum (RFC 8554, section 4.5).
 #[tactic(auto, unfolding(mb_model::specs::Winternitz::digits_of))]
-pub(crate) fn digits_of(chains: Chains, hash: &[u8; 32]) -> [u8; 34]
+pub fn digits_of(chains: Chains, hash: &[u8; 32]) -> [u8; 34]
     ensures { result ≡ digits_of chains hash.now }
 {
     let mut digits = [0; 34];
@@ -70,7 +70,7 @@ pub(crate) fn digits_of(chains: Chains, hash: &[u8; 32]) -> [u8; 34]
 }
 
 /// What every step of a chain hashes first: the identifier, the leaf's number and the chain's (RFC 8554, section 4.3).
-fn chain_prefix(identifier: &[u8; 16], q: u32, chain: u16) -> [u8; 22]
+pub fn chain_prefix(identifier: &[u8; 16], q: u32, chain: u16) -> [u8; 22]
     ensures { result ≡ identifier.now ++ to_be_bytes w32 q ++ to_be_bytes w16 chain }
 {
     let mut prefix = [0; 22];

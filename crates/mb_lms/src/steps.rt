@@ -1,0 +1,57 @@
+//! Hashes that are counted.
+
+ghost use Rattle.std.specs.Prelude.{◌≡◌, ◌+◌, ◌<◌, ◌++◌};
+ghost use Rattle.sha2.specs.Sha256.{sha256};
+
+use sha2::{Digest, Sha256};
+use std::marker::Model;
+use std::sync::ledger::{Blank, Book, Ledger, Share};
+
+/// How many hashes were taken. It takes no bytes, and `hash` alone raises it.
+#[derive(Drop)]
+pub struct Steps<L: Ledger> {
+    book: Book<L>,
+    share: Share<L>,
+}
+
+impl<L: Ledger> Model for Steps<L> {
+    ghost use Rattle.std.specs.Prelude.{ℕ, ◌<◌};
+
+    ghost Value = { ℕ };
+
+    ghost view = { λ steps. steps.book.total };
+
+    ghost invariant = { λ steps. 0 < steps.share.parts };
+}
+
+impl<L: Ledger> Steps<L> {
+    /// A count of none yet, over a ledger of at least one part.
+    pub fn begin(blank: Blank) -> Steps<L>
+        requires name { blank.name ≡ L.name }
+        requires parts { blank.parts ≡ L.parts }
+        requires some { 0 < blank.parts }
+        ensures { result ≡ 0 }
+    {
+        let (book, share) = blank.open::<L>();
+        Steps { book, share }
+    }
+
+    fn count(&mut self)
+        ensures { self.new ≡ self.old + 1 }
+    {
+        self.book.add(&mut self.share, 1);
+    }
+}
+
+/// The SHA-256 hash of three pieces joined, which counts as one step.
+pub fn hash<L: Ledger>(a: &[u8], b: &[u8], c: &[u8], steps: &mut Steps<L>) -> [u8; 32]
+    ensures value { result ≡ sha256 (a.now ++ b.now ++ c.now) }
+    ensures counted { steps.new ≡ steps.old + 1 }
+{
+    steps.count();
+    let mut hasher = Sha256::new();
+    hasher.update(a);
+    hasher.update(b);
+    hasher.update(c);
+    hasher.finalize()
+}
