@@ -1,0 +1,20 @@
+//! Signing by LMS keys of types 5 and 3, whose every value is made of a seed (RFC 8554, sections 4 and 5, and
+//! appendix A).
+//!
+//! This crate owns the rights to sign, each of which serves one signature; the tree of a key, which may be kept; and
+//! signing. It stands on `mb_lms`, by whose counted hash alone it hashes, on `mb_model`, and on the laws of
+//! a key's tree in `mb_laws`. No call takes memory.
+#![tactic(auto)]
+
+mod bytes;
+mod one_time;
+mod signing;
+mod tree;
+mod uses;
+
+pub use signing::{public, sign, sign_kept};
+pub use tree::KeptTree;
+pub use uses::{OneUse, Uses, take_index};
+
+#[cfg(test)]
+mod tests;

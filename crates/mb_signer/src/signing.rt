@@ -1,0 +1,154 @@
+//! Signing, by a kept tree or without one (RFC 8554, sections 4.5 and 5.4).
+
+ghost use Rattle.std.specs.Prelude.{◌≡◌, ◌+◌, ◌<◌, ◌≤◌, ◌++◌, take};
+ghost use Rattle.mb_model.specs.declared.key.KeySeed.{KeySeed};
+ghost use Rattle.mb_model.specs.Signing.{signed_values, sibling, path_from, public_of, signature_of};
+ghost use Rattle.mb_signer.specs.Tree.{IsTreeOf};
+
+use crate::bytes::put;
+use crate::one_time::{CHAINS, chain_value, message_hash, randomizer_at};
+use crate::tree::{KeptTree, LEAVES};
+use crate::uses::OneUse;
+use mb_lms::{Steps, digit, digits_of};
+use mb_model::{Chains, KeySeed, PublicKey, Tree};
+use std::marker::Brand;
+use std::sync::ledger::{Blank, Ledger};
+
+/// The LM-OTS type of each signature (RFC 8554, section 4.1).
+const CHAINS_TYPE: u32 = 3;
+
+/// The LMS type of each signature (RFC 8554, section 5.1).
+const TREE_TYPE: u32 = 5;
+
+/// Where the LM-OTS type stands in a signature, behind the index.
+const CHAINS_TYPE_AT: usize = 4;
+
+/// Where C begins in a signature.
+const RANDOMIZER_AT: usize = 8;
+
+/// Where the chain values begin in a signature.
+const VALUES_AT: usize = 40;
+
+/// Where the LMS type stands in a signature.
+const TREE_TYPE_AT: usize = 2184;
+
+/// Where the path begins in a signature.
+const PATH_AT: usize = 2188;
+
+/// The public key that belongs to the seed (RFC 8554, section 5.3).
+pub fn public(seed: &KeySeed) -> PublicKey
+    ensures { result ≡ public_of seed.now }
+{
+    public_counted::<Brand>(seed, Blank::new(1))
+}
+
+#[tactic(auto, unfolding(mb_model::specs::Signing::public_of))]
+fn public_counted<L: Ledger>(seed: &KeySeed, blank: Blank) -> PublicKey
+    requires name { blank.name ≡ L.name }
+    requires parts { blank.parts ≡ L.parts }
+    requires some { 0 < blank.parts }
+    ensures { result ≡ public_of seed.now }
+{
+    let tree = KeptTree::build(seed, &mut Steps::<L>::begin(blank));
+    PublicKey {
+        tree: Tree::H5,
+        chains: Chains::W4,
+        identifier: seed.identifier,
+        root: tree.node(1),
+    }
+}
+
+/// Writes the one signature of `head` followed by `body` at the right's index (RFC 8554, section 5.4.1).
+pub fn sign(right: OneUse, seed: &KeySeed, head: &[u8], body: &[u8], out: &mut [u8; 2348])
+    ensures { out.new ≡ signature_of seed.now right (head.now ++ body.now) }
+{
+    sign_counted::<Brand>(right, seed, head, body, out, Blank::new(1));
+}
+
+fn sign_counted<L: Ledger>(
+    right: OneUse,
+    seed: &KeySeed,
+    head: &[u8],
+    body: &[u8],
+    out: &mut [u8; 2348],
+    blank: Blank,
+)
+    requires name { blank.name ≡ L.name }
+    requires parts { blank.parts ≡ L.parts }
+    requires some { 0 < blank.parts }
+    ensures { out.new ≡ signature_of seed.now right (head.now ++ body.now) }
+{
+    let mut steps = Steps::<L>::begin(blank);
+    let tree = KeptTree::build(seed, &mut steps);
+    sign_kept(right, &tree, seed, head, body, out, &mut steps);
+}
+
+/// Writes the one signature of `head` followed by `body` at the right's index, by the key's tree, in at most 1,074
+/// steps: 67 private values, at most 1,005 steps of chains, C, and the hash of the text (RFC 8554, section 5.4.1).
+pub fn sign_kept<L: Ledger>(
+    right: OneUse,
+    tree: &KeptTree,
+    seed: &KeySeed,
+    head: &[u8],
+    body: &[u8],
+    out: &mut [u8; 2348],
+    steps: &mut Steps<L>,
+)
+    requires { IsTreeOf seed.now tree.now }
+    ensures signature { out.new ≡ signature_of seed.now right (head.now ++ body.now) }
+    ensures cost { steps.new ≤ steps.old + 1074 }
+{
+    let q = right.spent();
+    let randomizer = randomizer_at(seed, q, steps);
+    let hash = message_hash(seed, q, &randomizer, head, body, steps);
+    put(out, 0, &q.to_be_bytes());
+    put(out, CHAINS_TYPE_AT, &CHAINS_TYPE.to_be_bytes());
+    put(out, RANDOMIZER_AT, &randomizer);
+    put_values(out, seed, q, &digits_of(Chains::W4, &hash), steps);
+    put(out, TREE_TYPE_AT, &TREE_TYPE.to_be_bytes());
+    put_path(out, tree, q);
+}
+
+/// Writes the values of all chains, each taken through as many steps as its digit says (RFC 8554, section 4.5).
+fn put_values<L: Ledger>(
+    out: &mut [u8; 2348],
+    seed: &KeySeed,
+    q: u32,
+    digits: &[u8; 34],
+    steps: &mut Steps<L>,
+)
+    ensures values { take TREE_TYPE_AT out.new ≡ take VALUES_AT out.old ++ signed_values seed.now q digits.now CHAINS }
+    ensures cost { steps.new ≤ steps.old + 1072 }
+{
+    for chain in 0..CHAINS {
+        let value = chain_value(seed, q, chain, digit(Chains::W4, digits, chain), steps);
+        put(out, VALUES_AT + 32 * usize::from(chain), &value);
+    }
+}
+
+/// The number of the other node under the same parent.
+fn sibling(number: u32) -> u32
+    requires first { 1 < number }
+    requires last { number < 64 }
+    ensures value { result ≡ sibling number }
+    ensures first { 1 ≤ result }
+    ensures last { result < 64 }
+{
+    if number % 2 == 0 {
+        number + 1
+    } else {
+        number - 1
+    }
+}
+
+/// Writes the siblings of the nodes on the way up from a leaf (RFC 8554, section 5.4.1).
+#[tactic(auto, using(crate::proofs::Paths::path_bounds))]
+fn put_path(out: &mut [u8; 2348], tree: &KeptTree, q: u32)
+    requires { q < LEAVES }
+    ensures { (key : KeySeed) → IsTreeOf key tree.now → out.new ≡ take PATH_AT out.old ++ path_from key (32 + q) 5 }
+{
+    for level in 0..5u32 {
+        let node = tree.node(sibling((LEAVES + q) >> level));
+        put(out, PATH_AT + 32 * level as usize, &node);
+    }
+}
