@@ -10,4 +10,7 @@ mod Inputs
 mod Outsides
 mod Scripts
 mod Running
-mod Finishing
+mod CommandLemmas
+mod Writing
+mod KeygenLemmas
+mod Completing

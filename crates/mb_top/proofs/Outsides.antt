@@ -1,6 +1,9 @@
 -- What is known of the world outside after reads, and what a command's end then means.
-use Rattle.std.proofs.Common.{◌≡◌, ◌≤◌, ℕ, List, ◌++◌, Some, refl, sym, ◌∙◌, ap, subst, inl, inr, arith, append_assoc}
-use Rattle.mb_model.specs.Outside.{Outside, HasRisen, Holds, HoldsTooMuch, OtherFilesStay, Prints, AfterRead, AfterPrint, ReadFails}
+use Rattle.std.proofs.Common.{◌≡◌, ◌≤◌, ℕ, List, ◌++◌, length, Some, Result, Ok, Err, OnOk, OnErr, refl, sym, ◌∙◌, ap, subst, inl, inr, arith, append_assoc}
+use Rattle.std.proofs.Math.Seq.{take-length}
+use Rattle.mb_model.specs.Texts.{ended}
+use Rattle.mb_model.specs.Outside.{Outside, HasRisen, Holds, HoldsTooMuch, OtherFilesStay, Prints, PrintsPart, AfterRead, AfterPrint, ReadFails}
+use Rattle.mb_model.specs.Commands.{PrintsLine, FilesStay}
 use Rattle.mb_model.specs.FirstCommand.{HasNoForm}
 
 -- reads leave the files and what was printed
@@ -36,7 +39,7 @@ pub has_no_form-before : (before mid : Outside) (name : List ℕ) (IsForm : List
 has_no_form-before before mid name IsForm read none =
     record { bytes = none.bytes; held = holds-before before mid name none.bytes read none.held; formless = none.formless }
 
-has_risen-before : (first mid after : ℕ) → first ≤ mid → HasRisen mid after → HasRisen first after
+pub has_risen-before : (first mid after : ℕ) → first ≤ mid → HasRisen mid after → HasRisen first after
 has_risen-before first mid after le (inl rose) = inl (omega arith)
 has_risen-before first mid after le (inr full) = inr full
 
@@ -70,3 +73,43 @@ after_print-read_faults before after h = ap (λ o. o.read_faults) h.stays
 
 pub after_print-absences : (before after : Outside) → AfterPrint before after → after.absences ≡ before.absences
 after_print-absences before after h = ap (λ o. o.absences) h.stays
+
+-- ---- the line of a status
+
+pub prints_line : {T E : Type 0} (printed : Result T E) (mid after : Outside) (line shown : List ℕ) → shown ≡ ended line → OnOk printed (Prints mid after shown)
+    → OnErr printed (PrintsPart mid after shown) → OnErr printed (HasRisen mid.write_faults after.write_faults) → PrintsLine mid after line
+prints_line (Ok x) mid after line shown is whole part failed = inl (subst (λ l. Prints mid after l) is whole)
+prints_line (Err e) mid after line shown is whole part failed = inr (failed, subst (λ l. PrintsPart mid after l) is part)
+
+-- what was printed whole was printed in part
+pub line_in_part : (mid after : Outside) (line : List ℕ) → PrintsLine mid after line → PrintsPart mid after (ended line)
+line_in_part mid after line (inl whole) = (length (ended line), subst (λ l. Prints mid after l) (sym (take-length (ended line))) whole)
+line_in_part mid after line (inr part) = part.1
+
+-- the line, seen from before the reads
+pub line-before : (before mid after : Outside) (line : List ℕ) → AfterRead before mid → PrintsLine mid after line → PrintsLine before after line
+line-before before mid after line reading (inl whole) = inl (prints-before before mid after (ended line) (after_read-printed before mid reading) whole)
+line-before before mid after line reading (inr part) = inr (
+  subst (λ n. HasRisen n after.write_faults) (after_read-write_faults before mid reading) part.0,
+  (part.1.0, prints-before before mid after _ (after_read-printed before mid reading) part.1.1),
+)
+
+pub files_stay-before : (before mid after : Outside) → AfterRead before mid → FilesStay mid after → FilesStay before after
+files_stay-before before mid after reading stay = stay ∙ after_read-files before mid reading
+
+pub files-after_line : (before mid after : Outside) → AfterRead before mid → AfterPrint mid after → FilesStay before after
+files-after_line before mid after reading print = files_stay-before before mid after reading (after_print-files mid after print)
+
+-- a print leaves the causes of a failed read
+pub read_fails-after_print : (before mid after : Outside) (name : List ℕ) → AfterPrint mid after → ReadFails before mid name → ReadFails before after name
+read_fails-after_print before mid after name print (inl fault) =
+    inl (subst (λ n. HasRisen before.read_faults n) (sym (after_print-read_faults mid after print)) fault)
+read_fails-after_print before mid after name print (inr absent) =
+    inr (subst (λ n. HasRisen before.absences n) (sym (after_print-absences mid after print)) absent.0, absent.1)
+
+pub others-after_print : (before mid after : Outside) (name : List ℕ) → AfterPrint mid after → OtherFilesStay before mid name → OtherFilesStay before after name
+others-after_print before mid after name print stay =
+    λ files told. let now = stay files told in (now.0, after_print-files mid after print ∙ now.1, now.2)
+
+pub holds-after_print : (mid after : Outside) (name bytes : List ℕ) → AfterPrint mid after → Holds mid name bytes → Holds after name bytes
+holds-after_print mid after name bytes print held = λ files told. held files (sym (after_print-files mid after print) ∙ told)

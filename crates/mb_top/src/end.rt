@@ -1,10 +1,15 @@
 //! How a command ends, when it is not done.
 
-ghost use Rattle.std.specs.Prelude.{◌≡◌};
+ghost use Rattle.std.specs.Prelude.{◌≡◌, ◌≤◌, ◌++◌, length};
 ghost use Rattle.mb_model.specs.Texts.{ended};
+ghost use Rattle.mb_model.specs.FirstCommand.{role_word};
 ghost use Rattle.mb_top.specs.Ending.{end_line, end_status};
 
+use arrayvec::ArrayString;
 use mb_model::Role;
+
+/// The line of a status, with its LF.
+pub type Line = ArrayString<64>;
 
 /// Why a command is not done.
 #[derive(Clone, Copy, Debug, PartialEq, Eq)]
@@ -15,11 +20,13 @@ pub enum End {
     TooLong(Role),
     /// An input is not in its form.
     Form(Role),
+    /// An input has too few bytes.
+    Length(Role),
     /// An input could not be read.
     NotRead(Role),
-    /// The image could not be written.
-    NotWritten,
-    /// The replies could not be printed.
+    /// An output could not be written.
+    NotWritten(Role),
+    /// The text could not be printed.
     NotPrinted,
     /// Memory was wanted and not found.
     NoMemory,
@@ -32,31 +39,55 @@ impl End {
     {
         match self {
             End::Words => 2,
-            End::TooLong(_) | End::Form(_) => 3,
+            End::TooLong(_) | End::Form(_) | End::Length(_) => 3,
             End::NotRead(_) => 4,
-            End::NotWritten | End::NotPrinted => 5,
+            End::NotWritten(_) | End::NotPrinted => 5,
             End::NoMemory => 6,
         }
     }
 
     /// The line that is printed.
-    pub fn line(self) -> &'static [u8]
-        ensures { result.now ≡ ended (end_line self) }
+    pub fn line(self) -> Line
+        ensures { result.bytes ≡ ended (end_line self) }
     {
         match self {
-            End::Words => b"words\n",
-            End::TooLong(Role::Image) => b"input image too long\n",
-            End::TooLong(Role::Script) => b"input script too long\n",
-            End::TooLong(Role::Noise) => b"input noise too long\n",
-            End::Form(Role::Image) => b"input image form\n",
-            End::Form(Role::Script) => b"input script form\n",
-            End::Form(Role::Noise) => b"input noise form\n",
-            End::NotRead(Role::Image) => b"read failed image\n",
-            End::NotRead(Role::Script) => b"read failed script\n",
-            End::NotRead(Role::Noise) => b"read failed noise\n",
-            End::NotWritten => b"write failed image\n",
-            End::NotPrinted => b"write failed output\n",
-            End::NoMemory => b"no memory\n",
+            End::Words => line_of("words", "", ""),
+            End::TooLong(role) => line_of("input ", role_word(role), " too long"),
+            End::Form(role) => line_of("input ", role_word(role), " form"),
+            End::Length(role) => line_of("input ", role_word(role), " length"),
+            End::NotRead(role) => line_of("read failed ", role_word(role), ""),
+            End::NotWritten(role) => line_of("write failed ", role_word(role), ""),
+            End::NotPrinted => line_of("write failed output", "", ""),
+            End::NoMemory => line_of("no memory", "", ""),
         }
     }
+}
+
+/// The word for an input or an output.
+fn role_word(role: Role) -> &'static str
+    ensures word { result.now ≡ role_word role }
+    ensures short { length result.now ≤ 16 }
+{
+    match role {
+        Role::Image => "image",
+        Role::Script => "script",
+        Role::Noise => "noise",
+        Role::Key => "key",
+        Role::Public => "public",
+    }
+}
+
+/// A line of three parts, each of at most 20 bytes.
+fn line_of(first: &str, second: &str, third: &str) -> Line
+    requires first { length first.now ≤ 20 }
+    requires second { length second.now ≤ 20 }
+    requires third { length third.now ≤ 20 }
+    ensures { result.bytes ≡ ended (first.now ++ second.now ++ third.now) }
+{
+    let mut line = ArrayString::new();
+    line.push_str(first);
+    line.push_str(second);
+    line.push_str(third);
+    line.push_str("\n");
+    line
 }

@@ -6,7 +6,8 @@ ghost use Rattle.mb_model.specs.FirstPath.{IsSectorOf};
 ghost use Rattle.mb_model.specs.FirstTexts.{IsFirstScript, IsFirstNoise, script_events};
 ghost use Rattle.mb_model.specs.Outside.{AfterRead, Holds};
 ghost use Rattle.mb_model.specs.FirstCommand.{IsFirstImage, HasScript};
-ghost use Rattle.mb_top.specs.Ending.{ReadEnds, InputEnds};
+ghost use Rattle.mb_top.specs.Ending.{ReadEnds};
+ghost use Rattle.mb_top.specs.Running.{InputEnds};
 
 use crate::end::End;
 use crate::script::{ScriptEnd, make_events, read_script};
@@ -16,7 +17,12 @@ use mb_model::{Bytes, Events, IMAGE_LENGTH, Role, SECTOR_LENGTH};
 use std::alloc::Global;
 
 /// The bytes of an input.
-fn read_input<H: Host>(alloc: Global, host: &mut H, role: Role, name: &str) -> Result<Vec<u8>, End>
+pub fn read_input<H: Host>(
+    alloc: Global,
+    host: &mut H,
+    role: Role,
+    name: &str,
+) -> Result<Vec<u8>, End>
     ensures after { AfterRead (H.outside host.old) (H.outside host.new) }
     ensures whole { IfOk result (λ bytes. Holds (H.outside host.old) name.now bytes.items) }
     ensures short { IfOk result (λ bytes. vec_len bytes ≤ 4194304) }

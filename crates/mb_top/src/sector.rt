@@ -5,7 +5,8 @@ ghost use Rattle.mb_model.specs.declared.first.FirstState.{FirstState};
 ghost use Rattle.mb_model.specs.declared.first.Ownership.{Ownership};
 ghost use Rattle.mb_model.specs.declared.key.PublicKey.{PublicKey};
 ghost use Rattle.mb_model.specs.declared.key.Trust.{Trust};
-ghost use Rattle.mb_model.specs.FirstPath.{IsFirstKey, IsFirstState, IsSectorOf, ownership_bytes, trust_byte};
+ghost use Rattle.mb_model.specs.FirstPath.{IsFirstKey, IsFirstState, IsSectorOf, ownership_bytes};
+ghost use Rattle.mb_model.specs.LayerFormat.{trust_byte};
 ghost use Rattle.mb_top.specs.Records.{BeginsKey, BeginsTrust, BeginsOwnership, IsFilled};
 
 use mb_lms::{key_bytes, parse_key};

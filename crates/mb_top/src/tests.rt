@@ -8,6 +8,7 @@ use hex::FromHex;
 use mb_model::{Answered, Event, Reply, Trust};
 use std::test::Fail;
 
+mod keys;
 mod once;
 mod runs;
 mod statuses;

@@ -15,10 +15,12 @@ use std::{env, io};
 const USAGE: &[u8] = b"miniboot serves a simulated secure coprocessor.
 
 usage:
-  miniboot run IMAGE SCRIPT NOISE   serves the script on the image, writes the new image over it,
-                                    and prints a line for each reply
-  miniboot --help                   prints this text
-  miniboot --version                prints the version
+  miniboot run IMAGE SCRIPT NOISE    serves the script on the image, writes the new image over it,
+                                     and prints a line for each reply
+  miniboot keygen NOISE KEY PUBLIC   makes an officer's key from the noise, writes its file and its
+                                     public key, and prints the public key's hash
+  miniboot --help                    prints this text
+  miniboot --version                 prints the version
 
 status: 0 done, 2 the words are no command, 3 an input is not in its form,
         4 an input could not be read, 5 an output could not be written, 6 no memory

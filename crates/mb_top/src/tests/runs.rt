@@ -1,7 +1,7 @@
 //! The command `run` on an image and orders that another program made, and over a host whose calls fail.
 
 use super::{SECTOR, once};
-use crate::run::top;
+use crate::commands::top;
 use mb_board::SimBoard;
 use mb_host::MemoryHost;
 use mb_model::{Bytes, Calls, File, Files, IMAGE_LENGTH, NoMemory};

@@ -90,6 +90,8 @@ fn refuses_words(rt: HostRuntime) -> Result<(), Fail> {
             row(&["run", "image", "script", ""], 2, "words\n"),
             row(&["run", "image", "script", "noise", "few"], 2, "words\n"),
             row(&["go", "image", "script", "noise"], 2, "words\n"),
+            row(&["keygen", "few", "", "public"], 2, "words\n"),
+            row(&["keygen", "few", "key", "public", "long"], 2, "words\n"),
         ],
     )
 }

@@ -5,7 +5,7 @@ use Rattle.mb_model.specs.FirstPath.{IsFirstEvent, IsSectorOf, first_sector}
 use Rattle.mb_model.specs.FirstTexts.{IsFirstScript, IsFirstNoise}
 use Rattle.mb_model.specs.Board.{loaded}
 use Rattle.mb_model.specs.FirstCommand.{HasImage, HasScript}
-use Rattle.mb_top.specs.Ending.{names_of}
+use Rattle.mb_top.specs.Words.{run_files}
 use Rattle.mb_top.proofs.Scripts.{length-script_events, first_events}
 use Rattle.mb_top.proofs.Outsides.{holds-before, after_read-more}
 use Rattle.mb_top.proofs.Running.{load_ends, first_sector-image_of}
@@ -26,7 +26,7 @@ pub returns-in_err-orders-clause-err : goal.returns-in_err-orders-clause-err
 returns-in_err-orders-clause-err g c =
     let p = err_from_is_err_and c.from_residual-in_err-orders.result c.from_residual-in_err-orders.ensures.1 in
     let outside = g.H.Host.outside in
-    let names = names_of c.args.names.now in
+    let names = run_files c.args.names.now in
     let form = c.in_ok-image.ensures.form in
     let image : HasImage (outside c.args.host.now) names form.0 = record { image = c.in_ok-image.image.items; held = c.in_ok-image.ensures.whole; is = form.1 } in
     rw (p.1, p.2) (load_ends (outside c.args.host.now) (outside c.read_image.new.host) (outside c.read_orders.new.host) names Script
@@ -36,7 +36,7 @@ pub returns-in_err-events-clause-err : goal.returns-in_err-events-clause-err
 returns-in_err-events-clause-err g c =
     let p = err_from_is_err_and c.from_residual-in_err-events.result c.from_residual-in_err-events.ensures.1 in
     let outside = g.H.Host.outside in
-    let names = names_of c.args.names.now in
+    let names = run_files c.args.names.now in
     let form = c.in_ok-image.ensures.form in
     let image : HasImage (outside c.args.host.now) names form.0 = record { image = c.in_ok-image.image.items; held = c.in_ok-image.ensures.whole; is = form.1 } in
     let orders = c.in_ok-orders.orders.items in
