@@ -17,23 +17,8 @@ done
 
 work=$(mktemp -d)
 trap 'rm -rf "$work"' EXIT
-
-# Proves and builds the program, and runs it once for its version.
-build() {
-    echo "Proving and building the program, and every crate below it where that is not done yet .." >&2
-    if ! (cd "$crate" && rt run -- --version) >"$work/build.log" 2>&1; then
-        cat "$work/build.log" >&2
-        echo "the program was not built" >&2
-        return 1
-    fi
-    # It says that the program is proved, or that nothing has changed since it was.
-    if ! grep -q -e '^logic=proved ' -e '^rt: nothing has changed since the last proved build' "$work/build.log" ||
-        [ ! -x "$crate/out/miniboot" ]; then
-        cat "$work/build.log" >&2
-        echo "the program was not proved" >&2
-        return 1
-    fi
-}
+# shellcheck source=../build.sh
+. "$here/../build.sh"
 
 # The ranges in which two files of one length differ, with their old and new bytes in hexadecimal.
 changes() {
