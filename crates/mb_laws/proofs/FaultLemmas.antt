@@ -1,18 +1,21 @@
 -- An image has one fault at most, and none where it is well formed. A clean memory stands for its state.
-use Rattle.std.proofs.Common.{◌≡◌, ◌≢◌, ℕ, ◌+◌, List, [], ◌++◌, inl, inr, length, map, take, drop, Option, None, Some, refl, sym, ap, subst, ◌∙◌, arith, length-append}
+use Rattle.std.proofs.Common.{◌≡◌, ◌≢◌, ℕ, ◌+◌, ◌≤◌, List, [], ◌∷◌, ◌++◌, inl, inr, length, map, take, drop, Option, None, Some, refl, sym, ap, subst, ◌∙◌, arith, length-append}
 use Rattle.std.specs.Prelude.{◌⊎◌}
 use Rattle.std.proofs.lemmas.List.{append-nil, take-append-drop, length-take, length-drop}
 use Rattle.std.proofs.Math.Seq.{drop-append_seam}
 use Rattle.mb_format.specs.Format.{IsBytes}
 use Rattle.mb_format.proofs.Exact.{IsBytes-drop, IsBytes-spelled}
 use Rattle.mb_model.specs.declared.entry.SignedEntry.{SignedEntry}
+use Rattle.mb_model.specs.declared.key.KeySeed.{KeySeed}
+use Rattle.mb_model.specs.declared.key.PublicKey.{PublicKey}
 use Rattle.mb_model.specs.declared.layer.Layers.{Layers}
 use Rattle.mb_model.specs.declared.region.Region.{Region}
 use Rattle.mb_model.specs.declared.state.State.{State}
 use Rattle.mb_model.specs.declared.stored.Root.{Root}
 use Rattle.mb_model.specs.Log.{entries_of, layers_of}
 use Rattle.mb_model.specs.PublicFormat.{public_format}
-use Rattle.mb_model.specs.Memory.{IsImage, IsBlank, flash_area, Parts, parts_of, BeginsWithRecord}
+use Rattle.mb_model.specs.Factory.{IsFactoryImage}
+use Rattle.mb_model.specs.Memory.{IsImage, IsBlank, life_byte, stretch, flash_area, Parts, parts_of, BeginsWithRecord}
 use Rattle.mb_model.specs.StoredLog.{with_signature, HasIndex, completed}
 use Rattle.mb_model.specs.Meaning.{HoldsRegion, HasRoot, Stored, fated, state_of, StandsFor, is_dead, is_live, IsWellFormed, Fault, bad_length, bad_root, bad_public, bad_region_two, bad_region_three, bad_state, NoPublic, SomePublic, IsFaulty, HasFault}
 use Rattle.mb_model.specs.Valid.{Valid}
@@ -254,3 +257,16 @@ clean_stands_for_it flash bbram state clean begins layers =
 pub blank_is_dead : (bbram : List ℕ) (state : Option State) → IsBlank bbram → Clean bbram state → state ≡ None
 blank_is_dead bbram None blank clean = refl
 blank_is_dead bbram (Some state) blank clean = absurd (not_blank bbram blank clean.alive)
+
+-- ---- a new device
+
+begins_so : (bbram : List ℕ) → 1 ≤ length bbram → life_byte bbram ≡ 0xA5 → stretch bbram 1 3 ≡ 0 ∷ 0 ∷ 0 ∷ [] → take 4 bbram ≡ 0xA5 ∷ 0 ∷ 0 ∷ 0 ∷ []
+unfolding stretch
+begins_so [] long alive selectors = absurd (omega (arith, long))
+begins_so (byte ∷ rest) long alive selectors =
+    ap (λ (t : List ℕ). byte ∷ t) selectors ∙ ap (λ (b : ℕ). b ∷ 0 ∷ 0 ∷ 0 ∷ []) alive
+
+pub factory_begins : (root : KeySeed) (index : ℕ) (owner : PublicKey) (code noise image : List ℕ) (made : IsFactoryImage root index owner code noise image)
+    → take 4 made.bbram ≡ 0xA5 ∷ 0 ∷ 0 ∷ 0 ∷ []
+factory_begins root index owner code noise image made =
+    begins_so made.bbram (omega (arith, made.image_is.2)) made.clean.alive made.selectors

@@ -10,6 +10,7 @@ pub mod FateLemmas
 pub mod ValidStates
 pub mod FatedStates
 pub mod SignatureLemmas
+pub mod DigitProofs
 pub mod ValidLogs
 pub mod ValidOrders
 pub mod ValidSteps

@@ -13,7 +13,8 @@ use Rattle.mb_model.specs.declared.reply.Standing.{Standing}
 use Rattle.mb_model.specs.declared.reply.Standing.TheVariants as stands
 use Rattle.mb_model.specs.Texts.{IsHex}
 use Rattle.mb_model.specs.Lines.{hex_word}
-use Rattle.mb_model.specs.Replies.{standing_word, refusal_words, reply_line}
+use Rattle.mb_model.specs.Refusals.{Refusal, powered_off, wrong_phase, zeroised, wrong_layer, region_full, no_such_key, key_spent, bad_text, wrong_target, wrong_state, wrong_signature, wrong_countersignature, log_full, keys_full, refused}
+use Rattle.mb_model.specs.Replies.{HasLine, standing_word, refusal_words, reply_line}
 use Rattle.mb_laws.specs.TextLaws.{IsInRange}
 use Rattle.mb_laws.proofs.LineLemmas.{Without, isnt, first_same}
 use Rattle.mb_laws.proofs.WordLemmas.{number_front, limited_fits, IsHex-same}
@@ -117,3 +118,21 @@ reply_line-same (reply.Refused k) (reply.Refused l) ra rb e =
 reply_line-same reply.Stopped reply.Stopped ra rb e = refl
 reply_line-same reply.NoMemory reply.NoMemory ra rb e = refl
 reply_line-same a b ra rb e = two_replies a b (λ same. omega (arith, same)) e
+
+-- ---- refusals
+
+pub has_words : (refusal : Refusal) → HasLine (refused refusal)
+has_words powered_off = refl
+has_words wrong_phase = refl
+has_words zeroised = refl
+has_words wrong_layer = refl
+has_words region_full = refl
+has_words no_such_key = refl
+has_words key_spent = refl
+has_words bad_text = refl
+has_words (wrong_target place) = refl
+has_words wrong_state = refl
+has_words wrong_signature = refl
+has_words (wrong_countersignature m) = refl
+has_words log_full = refl
+has_words keys_full = refl

@@ -5,6 +5,7 @@ pub mod AliveLaws
 pub mod ReaderLaws
 pub mod RegionLaws
 pub mod SigningLaws
+pub mod SigningExamples
 pub mod StepLaws
 pub mod TextLaws
 pub mod TextExamples

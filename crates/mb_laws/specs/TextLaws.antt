@@ -7,6 +7,7 @@ use Rattle.mb_model.specs.declared.reply.Reply.{Reply}
 use Rattle.mb_model.specs.declared.reply.Reply.TheVariants as reply
 use Rattle.mb_model.specs.declared.order.Order.{Order}
 use Rattle.mb_model.specs.declared.entry.Statement.{Statement}
+use Rattle.mb_model.specs.Refusals.{Refusal, refused}
 use Rattle.mb_model.specs.Replies.{HasLine, reply_line}
 use Rattle.mb_model.specs.Workload.{generated, Draws, DrawnInOrder}
 use Rattle.mb_model.specs.OrderLines.{IsOrderLine, IsStatementLine}
@@ -124,3 +125,7 @@ abbrev pub OneWorkload : Type 0
 OneWorkload =
     (number rounds : ℕ) (v w : List ℕ) (d e : Draws) → v ≡ generated number (length v) → w ≡ generated number (length w)
     → DrawnInOrder v rounds d → DrawnInOrder w rounds e → d ≡ e
+
+-- each refusal has words
+abbrev pub RefusalsHaveWords : Type 0
+RefusalsHaveWords = (refusal : Refusal) → HasLine (refused refusal)

@@ -31,7 +31,9 @@ pub use laws::{
     ruled_logs_are_bounded, ruled_logs_have_layers, runs_over_reliable, standing_examples,
     target_examples, the_last_counts, unreliable_regions_are_empty,
 };
-pub use meaning::{clean_memories_stand_for_it, images_are_clear, one_meaning};
+pub use meaning::{
+    clean_memories_stand_for_it, factory_memories_begin_so, images_are_clear, one_meaning,
+};
 pub use reader::{a_key_is_met_once, a_key_lives_on, the_flag_is_life};
 pub use refusals::{orders_fail_one_check, refusals_leave_all, the_machine_is_a_function};
 pub use regions::{
@@ -40,11 +42,12 @@ pub use regions::{
     valid_states_have_valid_regions,
 };
 pub use signing::{
-    keys_are_sized, nodes_are_leaves_or_inner, signatures_bear_their_index, signatures_verify,
+    digit_examples, keys_are_sized, nodes_are_leaves_or_inner, signatures_bear_their_index,
+    signatures_verify,
 };
 pub use steps::states_stay_valid;
 pub use texts::{
     drafts_are_clear, draws_in_turn, events_are_bounded, one_workload, order_lines_are_clear,
-    replies_differ, script_events, scripts_are_clear, text_examples, texts_have_lines,
-    words_are_read_back, workload_examples,
+    refusals_have_words, replies_differ, script_events, scripts_are_clear, text_examples,
+    texts_have_lines, words_are_read_back, workload_examples,
 };

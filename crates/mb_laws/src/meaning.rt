@@ -4,7 +4,7 @@ ghost use Rattle.std.specs.Prelude.{◌≡◌, ℕ, List, Option};
 ghost use Rattle.mb_format.specs.Format.{IsBytes};
 ghost use Rattle.mb_model.specs.declared.state.State.{State};
 ghost use Rattle.mb_model.specs.Meaning.{StandsFor};
-ghost use Rattle.mb_laws.specs.MeaningLaws.{OneFault, WellFormedHasNoFault, WellFormedOrFaulty, WellFormedStandsForOne, CleanStandsForIt, BlankIsDead};
+ghost use Rattle.mb_laws.specs.MeaningLaws.{OneFault, WellFormedHasNoFault, WellFormedOrFaulty, WellFormedStandsForOne, CleanStandsForIt, BlankIsDead, FactoryMemoryBegins};
 
 /// The bytes of a memory stand for one state only.
 pub fn one_meaning()
@@ -25,4 +25,9 @@ pub fn images_are_clear()
 pub fn clean_memories_stand_for_it()
     ensures live { CleanStandsForIt }
     ensures dead { BlankIsDead }
+{}
+
+/// The battery-backed memory from the factory begins with these four bytes.
+pub fn factory_memories_begin_so()
+    ensures { FactoryMemoryBegins }
 {}

@@ -3,7 +3,7 @@
 ghost use Rattle.mb_model.specs.Script.{IsScript};
 ghost use Rattle.mb_model.specs.Drafts.{IsDraft};
 ghost use Rattle.mb_model.specs.OrderLines.{IsOrderLine, IsStatementLine};
-ghost use Rattle.mb_laws.specs.TextLaws.{IsClearText, SomeLines, OneListOfLines, WordsAreReadBack, ScriptsGiveScriptEvents, ScriptEventsAreSaid, DrawsKeepScriptEvents, DrawsInTurn, DrawsKeepCount, TooManyEvents, SecondOrderLine, SecondStatementLine, FirstOrderLine, RepliesDiffer, OneWorkload};
+ghost use Rattle.mb_laws.specs.TextLaws.{IsClearText, SomeLines, OneListOfLines, WordsAreReadBack, ScriptsGiveScriptEvents, ScriptEventsAreSaid, DrawsKeepScriptEvents, DrawsInTurn, DrawsKeepCount, TooManyEvents, SecondOrderLine, SecondStatementLine, FirstOrderLine, RepliesDiffer, RefusalsHaveWords, OneWorkload};
 ghost use Rattle.mb_laws.specs.TextExamples.{LineExamples, ScriptExamples, DrawExamples, ReplyExamples, DraftExamples, OrderLineExamples, ListingExamples};
 ghost use Rattle.mb_laws.specs.WorkloadExamples.{WorkloadExamples};
 
@@ -46,6 +46,11 @@ pub fn words_are_read_back()
 /// The line of a reply tells it from every other.
 pub fn replies_differ()
     ensures { RepliesDiffer }
+{}
+
+/// Each refusal of the machine has a line.
+pub fn refusals_have_words()
+    ensures { RefusalsHaveWords }
 {}
 
 /// What a script gives, and what a line can give, are the same, also with draws.
