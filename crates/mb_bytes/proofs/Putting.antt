@@ -31,6 +31,11 @@ puts_stop_later {a} {b} {old} {middle} {new} p q = record {
   no_room = omega (arith, p.len, p.capacity, q.no_room, length-append a b);
 }
 
+-- one put, and behind it another that may find no memory
+pub puts_both : {E : Type 0} {a : List ℕ} (b : List ℕ) {old middle : Vec ℕ} (new : Vec ℕ) (r : Result (Unit {0}) E) → Appends a old middle → Puts b middle r new → Puts (a ++ b) old r new
+puts_both b new (Ok u) p q = puts_then p q
+puts_both b new (Err e) p q = puts_stop_later p q
+
 -- what was appended is taken back
 pub unwritten : {bytes : List ℕ} {old middle new : Vec ℕ} → StopsShort bytes old middle → new.items ≡ take (vec_len old) middle.items → IsUnwritten bytes old new
 unwritten p cut = record { items = cut ∙ p.begins; no_room = p.no_room }
@@ -45,6 +50,10 @@ puts_fits bytes old new (Err e) p room = absurd (omega (arith, p.no_room, room))
 -- the item at a place, and those behind it
 pub item_at : {A : Type 0} (list : List A) (i : ℕ) (d : A) → i < length list → drop i list ≡ get_or list i d ∷ drop (i + 1) list
 item_at list i d lt = rw add-one (drop-cons list i d lt)
+
+-- the same of an item that a loop over a slice has
+pub item_is : {A : Type 0} (list : List A) (i : ℕ) (a : A) → a ≡ get_or list i a → i < length list → drop i list ≡ a ∷ drop (i + 1) list
+item_is list i a e lt = item_at list i a lt ∙ ap (λ x. x ∷ drop (i + 1) list) (sym e)
 
 -- i items were written, and what is left to write completes the list
 pub record IsWriting {A S : Type 0} (item : S → Format A) (next : S → A → S) (list : List A) (i : ℕ) (first state : S) (old now : Vec ℕ) : Type 0 where

@@ -1,10 +1,10 @@
 -- Readers one behind the other, and a list of items read in a loop over their number.
-use Rattle.std.proofs.Common.{◌≡◌, ℕ, ◌+◌, ◌-◌, ◌<◌, ◌≤◌, List, [], ◌∷◌, ◌++◌, refl, ◌∙◌, arith}
+use Rattle.std.proofs.Common.{◌≡◌, ℕ, ◌+◌, ◌-◌, ◌<◌, ◌≤◌, List, [], ◌∷◌, ◌++◌, length, Option, Some, None, refl, ◌∙◌, arith}
 use Rattle.mb_format.specs.Format.{Format}
 use Rattle.mb_format.specs.Combinators.{led, items}
 use Rattle.mb_format.proofs.Steps.{with_front, items_begin, items_more, items_fail, items_end}
 use Rattle.mb_bytes.specs.declared.cursor.Cursor.{Cursor}
-use Rattle.mb_bytes.specs.Reads.{SameBytes, ReadsOk, ReadsErr}
+use Rattle.mb_bytes.specs.Reads.{SameBytes, ReadsOk, ReadsErr, ReadsErrAt}
 
 -- a leading field was read, and the value behind it
 pub led_ok : {K B : Type 0} {f : Format K} {key : B → K} {g : K → Format B} {k : K} {b : B} {old middle new : Cursor} → ReadsOk f old k middle → ReadsOk (g k) middle b new → ReadsOk (led f key g) old b new
@@ -54,3 +54,9 @@ reading_ends {item} {next} {n} {i} {first} {state} {front} {old} {now} le is = r
   bytes = is.bytes;
   reads = items_end item next n i state front old.bytes.now now.place _ le is.so_far;
 }
+
+-- an item of a counted list failed, where the error points at a place or nowhere
+pub list_fails_at : {A S : Type 0} (f : Format ℕ) (item : S → Format A) (next : S → A → S) (first : ℕ → S) {n i : ℕ} {state : S} {front : List A} {old middle now : Cursor} (after : Cursor) (at : Option ℕ)
+    → ReadsOk f old n middle → i < n → IsReading item next n i (first n) state front middle now → ReadsErrAt (item state) now at after → ReadsErrAt (led f length (λ k. items item next k (first k))) old at after
+list_fails_at f item next first after (Some at) p lt is r = led_err_later p (reading_fails lt is r)
+list_fails_at f item next first after None p lt is r = r ∙ is.bytes ∙ p.bytes

@@ -2,16 +2,27 @@
 //!
 //! Numbers are spelled high byte first. The contracts speak of the formats of `mb_format`: `specs/Reads.antt` says what a
 //! reader of a format gives, `specs/Puts.antt` what a writer appends. Readers and writers of whole records, in the crates
-//! above, have the same contracts and are composed of these by `?`.
+//! above, have the same contracts and are composed of these by `?`. What several of those records have in common stands
+//! here too: numbers within bounds, flags, bytes behind their number, keys, trust and kinds of keys.
 //!
-//! It stands on `mb_format`, and on `mb_model` for want of memory.
+//! It stands on `mb_format`, and on `mb_model` for want of memory, for the places of faults and for keys.
 #![tactic(auto)]
 
 mod cursor;
 pub mod example;
+mod fields;
+mod keys;
 mod puts;
 #[cfg(test)]
 mod tests;
 
 pub use cursor::{Cursor, Short};
-pub use puts::{put_slice, put_u8, put_u16, put_u32};
+pub use fields::{
+    bytes_behind_u8, bytes_behind_u16, bytes_behind_u32, flag_at, put_behind_u8, put_behind_u16,
+    put_behind_u32, put_flag, u8_between, u16_between, u32_between,
+};
+pub use keys::{
+    key_kind_at, key_seed_at, public_key_at, put_key_kind, put_key_seed, put_public_key, put_trust,
+    trust_at,
+};
+pub use puts::{put_at, put_slice, put_u8, put_u16, put_u32};

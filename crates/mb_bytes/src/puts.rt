@@ -1,5 +1,7 @@
-//! Fields appended to bytes. Each call appends its field, or leaves the bytes as they were where it finds no memory.
+//! Fields appended to bytes. Each call appends its field, or leaves the bytes as they were where it finds no memory. One
+//! call writes in place.
 
+ghost use Rattle.std.specs.Prelude.{◌≡◌, ◌+◌, ◌≤◌, ◌++◌, length, take, drop};
 ghost use Rattle.std.specs.Int.{w8, w16, w32};
 ghost use Rattle.mb_format.specs.Combinators.{number};
 ghost use Rattle.mb_bytes.specs.Puts.{Puts, Writes};
@@ -37,4 +39,13 @@ pub fn put_slice(out: &mut Vec<u8>, bytes: &[u8]) -> Result<(), NoMemory>
 {
     out.extend_from_slice(bytes)?;
     Ok(())
+}
+
+/// Writes the piece in place, from `at` on.
+pub fn put_at(out: &mut [u8], at: usize, piece: &[u8])
+    requires { at + length piece.now ≤ length out.old }
+    ensures written { take (at + length piece.now) out.new ≡ take at out.old ++ piece.now }
+    ensures behind { drop (at + length piece.now) out.new ≡ drop (at + length piece.now) out.old }
+{
+    out[at..at + piece.len()].copy_from_slice(piece);
 }

@@ -1,0 +1,134 @@
+//! Single fields of records: numbers within bounds, flags, and bytes behind their number.
+//!
+//! Each reader is a part of a larger one: `BadRecord` carries the place at which the field begins that lacks bytes or is
+//! not allowed, and the cursor may then stand anywhere.
+
+ghost use Rattle.std.specs.Prelude.{◌≡◌, ◌<◌, ◌≤◌, ◌++◌, ◌^◌, length, IfOk};
+ghost use Rattle.std.specs.Int.{w8, w16, w32};
+ghost use Rattle.mb_format.specs.Combinators.{number, between, flag, flag_byte, sized};
+ghost use Rattle.mb_bytes.specs.Reads.{bad_at, Reads, ReadsAs};
+ghost use Rattle.mb_bytes.specs.Puts.{Puts};
+
+use crate::{Cursor, put_slice, put_u8, put_u16, put_u32};
+use mb_model::{BadRecord, NoMemory};
+
+/// A number of one byte, from `least` to `most`.
+pub fn u8_between(cursor: &mut Cursor, least: u8, most: u8) -> Result<u8, BadRecord>
+    ensures reads { Reads bad_at (between w8 least most) cursor.old result cursor.new }
+    ensures bounds { IfOk result (λ n. (least ≤ n) × (n ≤ most)) }
+{
+    let at = cursor.place();
+    let number = cursor.take_u8()?;
+    if number < least || number > most {
+        return Err(BadRecord { at });
+    }
+    Ok(number)
+}
+
+/// A number of two bytes, high byte first, from `least` to `most`.
+pub fn u16_between(cursor: &mut Cursor, least: u16, most: u16) -> Result<u16, BadRecord>
+    ensures reads { Reads bad_at (between w16 least most) cursor.old result cursor.new }
+    ensures bounds { IfOk result (λ n. (least ≤ n) × (n ≤ most)) }
+{
+    let at = cursor.place();
+    let number = cursor.take_u16()?;
+    if number < least || number > most {
+        return Err(BadRecord { at });
+    }
+    Ok(number)
+}
+
+/// A number of four bytes, high byte first, from `least` to `most`.
+pub fn u32_between(cursor: &mut Cursor, least: u32, most: u32) -> Result<u32, BadRecord>
+    ensures reads { Reads bad_at (between w32 least most) cursor.old result cursor.new }
+    ensures bounds { IfOk result (λ n. (least ≤ n) × (n ≤ most)) }
+{
+    let at = cursor.place();
+    let number = cursor.take_u32()?;
+    if number < least || number > most {
+        return Err(BadRecord { at });
+    }
+    Ok(number)
+}
+
+/// A byte that is 0 for false or 1 for true.
+pub fn flag_at(cursor: &mut Cursor) -> Result<bool, BadRecord>
+    ensures { Reads bad_at flag cursor.old result cursor.new }
+{
+    let at = cursor.place();
+    match cursor.take_u8()? {
+        0 => Ok(false),
+        1 => Ok(true),
+        _ => Err(BadRecord { at }),
+    }
+}
+
+/// The bytes behind their number, which has one byte and is from `least` to `most`.
+pub fn bytes_behind_u8<'a>(
+    cursor: &mut Cursor<'a>,
+    least: u8,
+    most: u8,
+) -> Result<&'a [u8], BadRecord>
+    ensures { ReadsAs (λ slice. slice.now) bad_at (sized (between w8 least most)) cursor.old result cursor.new }
+{
+    let length = u8_between(cursor, least, most)?;
+    Ok(cursor.take_slice(length as u32)?)
+}
+
+/// The bytes behind their number, which has two bytes and is from `least` to `most`.
+pub fn bytes_behind_u16<'a>(
+    cursor: &mut Cursor<'a>,
+    least: u16,
+    most: u16,
+) -> Result<&'a [u8], BadRecord>
+    ensures { ReadsAs (λ slice. slice.now) bad_at (sized (between w16 least most)) cursor.old result cursor.new }
+{
+    let length = u16_between(cursor, least, most)?;
+    Ok(cursor.take_slice(length as u32)?)
+}
+
+/// The bytes behind their number, which has four bytes and is from `least` to `most`.
+pub fn bytes_behind_u32<'a>(
+    cursor: &mut Cursor<'a>,
+    least: u32,
+    most: u32,
+) -> Result<&'a [u8], BadRecord>
+    ensures { ReadsAs (λ slice. slice.now) bad_at (sized (between w32 least most)) cursor.old result cursor.new }
+{
+    let length = u32_between(cursor, least, most)?;
+    Ok(cursor.take_slice(length)?)
+}
+
+/// Appends a byte that is 0 for false or 1 for true.
+pub fn put_flag(out: &mut Vec<u8>, value: bool) -> Result<(), NoMemory>
+    ensures { Puts (flag.spelling value) out.old result out.new }
+{
+    put_u8(out, value as u8)
+}
+
+/// Appends the number of the bytes, in one byte, and the bytes.
+pub fn put_behind_u8(out: &mut Vec<u8>, bytes: &[u8]) -> Result<(), NoMemory>
+    requires { length bytes.now < 256 }
+    ensures { Puts ((number w8).spelling (length bytes.now) ++ bytes.now) out.old result out.new }
+{
+    put_u8(out, bytes.len() as u8)?;
+    put_slice(out, bytes)
+}
+
+/// Appends the number of the bytes, in two bytes, and the bytes.
+pub fn put_behind_u16(out: &mut Vec<u8>, bytes: &[u8]) -> Result<(), NoMemory>
+    requires { length bytes.now < 65536 }
+    ensures { Puts ((number w16).spelling (length bytes.now) ++ bytes.now) out.old result out.new }
+{
+    put_u16(out, bytes.len() as u16)?;
+    put_slice(out, bytes)
+}
+
+/// Appends the number of the bytes, in four bytes, and the bytes.
+pub fn put_behind_u32(out: &mut Vec<u8>, bytes: &[u8]) -> Result<(), NoMemory>
+    requires { length bytes.now < 2 ^ 32 }
+    ensures { Puts ((number w32).spelling (length bytes.now) ++ bytes.now) out.old result out.new }
+{
+    put_u32(out, bytes.len() as u32)?;
+    put_slice(out, bytes)
+}
