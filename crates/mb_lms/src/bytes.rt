@@ -27,14 +27,6 @@ pub(crate) fn value_at(values: &[u8], i: usize) -> [u8; 32]
     value
 }
 
-/// Writes the piece into `out` from `at` on.
-pub(crate) fn put(out: &mut [u8], at: usize, piece: &[u8])
-    requires { at + length piece.now ≤ length out.old }
-    ensures { take (at + length piece.now) out.new ≡ take at out.old ++ piece.now }
-{
-    out[at..at + piece.len()].copy_from_slice(piece);
-}
-
 /// A hash begun with an identifier, a number and the mark of what is hashed (RFC 8554, section 7.1).
 pub(crate) fn begun(identifier: &[u8; 16], number: u32, mark: [u8; 2]) -> Sha256
     ensures { Holds256 result (identifier.now ++ to_be_bytes w32 number ++ mark) }

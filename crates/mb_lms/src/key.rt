@@ -5,8 +5,9 @@ ghost use Rattle.sha2.specs.Sha256.{sha256};
 ghost use Rattle.mb_model.specs.declared.key.PublicKey.{PublicKey};
 ghost use Rattle.mb_model.specs.Key.{IsSized, key_bytes};
 
-use crate::bytes::{put, u32_at};
+use crate::bytes::u32_at;
 use crate::parameters::{chains_of_type, chains_type, tree_of_type, tree_type};
+use mb_bytes::put_at;
 use mb_model::PublicKey;
 use sha2::{Digest, Sha256};
 
@@ -35,10 +36,10 @@ pub fn key_bytes(key: &PublicKey) -> [u8; 56]
     ensures { result ≡ key_bytes key.now }
 {
     let mut bytes = [0; 56];
-    put(&mut bytes, 0, &tree_type(key.tree).to_be_bytes());
-    put(&mut bytes, 4, &chains_type(key.chains).to_be_bytes());
-    put(&mut bytes, 8, &key.identifier);
-    put(&mut bytes, 24, &key.root);
+    put_at(&mut bytes, 0, &tree_type(key.tree).to_be_bytes());
+    put_at(&mut bytes, 4, &chains_type(key.chains).to_be_bytes());
+    put_at(&mut bytes, 8, &key.identifier);
+    put_at(&mut bytes, 24, &key.root);
     bytes
 }
 

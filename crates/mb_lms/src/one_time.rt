@@ -6,8 +6,9 @@ ghost use Rattle.sha2.specs.Sha256.{sha256};
 ghost use Rattle.mb_model.specs.Key.{digit_bits, chain_count};
 ghost use Rattle.mb_model.specs.Winternitz.{coef, shortfall, checksum, digits_of, steps, one_time_key};
 
-use crate::bytes::{begun, put, value_at};
+use crate::bytes::{begun, value_at};
 use crate::parameters::{chain_count, greatest_digit, hash_digits};
+use mb_bytes::put_at;
 use mb_model::{Chains, PublicKey};
 use sha2::{Digest, Sha256};
 
@@ -64,8 +65,8 @@ pub fn digits_of(chains: Chains, hash: &[u8; 32]) -> [u8; 34]
     ensures { result ≡ digits_of chains hash.now }
 {
     let mut digits = [0; 34];
-    put(&mut digits, 0, hash);
-    put(&mut digits, 32, &checksum(chains, hash).to_be_bytes());
+    put_at(&mut digits, 0, hash);
+    put_at(&mut digits, 32, &checksum(chains, hash).to_be_bytes());
     digits
 }
 
@@ -74,9 +75,9 @@ pub fn chain_prefix(identifier: &[u8; 16], q: u32, chain: u16) -> [u8; 22]
     ensures { result ≡ identifier.now ++ to_be_bytes w32 q ++ to_be_bytes w16 chain }
 {
     let mut prefix = [0; 22];
-    put(&mut prefix, 0, identifier);
-    put(&mut prefix, 16, &q.to_be_bytes());
-    put(&mut prefix, 20, &chain.to_be_bytes());
+    put_at(&mut prefix, 0, identifier);
+    put_at(&mut prefix, 16, &q.to_be_bytes());
+    put_at(&mut prefix, 20, &chain.to_be_bytes());
     prefix
 }
 
@@ -85,9 +86,9 @@ fn chain_step(prefix: &[u8; 22], step: u8, value: &[u8; 32]) -> [u8; 32]
     ensures { result ≡ sha256 (prefix.now ++ step ∷ value.now) }
 {
     let mut text = [0; 55];
-    put(&mut text, 0, prefix);
-    put(&mut text, 22, &[step]);
-    put(&mut text, 23, value);
+    put_at(&mut text, 0, prefix);
+    put_at(&mut text, 22, &[step]);
+    put_at(&mut text, 23, value);
     Sha256::digest(text)
 }
 

@@ -66,8 +66,12 @@ fn expect_signatures(rt: &impl Abort, alloc: Global, vectors: &[Vector]) -> Resu
         assert!(rt; verifies(&key, &text, &sig));
         refuses_turned_bits(rt, &key, &mut text, &mut sig);
         assert!(rt; verifies(&key, &text, &sig));
-        assert!(rt; sig.len() > 4);
+        assert!(rt; sig.len() > 32);
         assert!(rt; !verifies(&key, &text, &sig[..sig.len() - 1]));
+        assert!(rt;
+            !verifies(&key, &text, &sig[..sig.len() - 32]),
+            "a node of the path missing"
+        );
         sig.push(0)?;
         assert!(rt; !verifies(&key, &text, &sig));
         sig.pop();
