@@ -2,5 +2,4 @@ pub mod Chains
 pub mod Nodes
 pub mod Filling
 pub mod Paths
-pub mod Writing
 pub mod Signed

@@ -5,7 +5,7 @@ use Rattle.mb_model.specs.declared.key.KeySeed.{KeySeed}
 use Rattle.mb_model.specs.declared.key.Chains.TheVariants.{W4}
 use Rattle.mb_model.specs.Winternitz.{digits_of, message_hash}
 use Rattle.mb_model.specs.Signing.{randomizer_of, signed_values, signed_digits, path_from, signature_of}
-use Rattle.mb_signer.proofs.Writing.{joined}
+use Rattle.mb_bytes.proofs.InPlace.{joined}
 
 -- the pieces of a signature in a row
 pub record IsPieced (first second third fourth fifth last whole : List ℕ) : Type 0 where

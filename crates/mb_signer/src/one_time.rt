@@ -5,7 +5,8 @@ ghost use Rattle.std.specs.Int.{w16, w32, to_be_bytes};
 ghost use Rattle.mb_model.specs.Winternitz.{chain_step, steps as taken, message_hash};
 ghost use Rattle.mb_model.specs.Signing.{private_value, randomizer_of, public_ends, one_time_public};
 
-use crate::bytes::{marked, put};
+use crate::bytes::marked;
+use mb_bytes::put_at;
 use mb_lms::{Steps, chain_prefix, hash};
 use mb_model::KeySeed;
 use std::sync::ledger::Ledger;
@@ -40,9 +41,9 @@ fn chain_step<L: Ledger>(
     ensures counted { steps.new ≡ steps.old + 1 }
 {
     let mut text = [0; 55];
-    put(&mut text, 0, prefix);
-    put(&mut text, 22, &[step]);
-    put(&mut text, 23, value);
+    put_at(&mut text, 0, prefix);
+    put_at(&mut text, 22, &[step]);
+    put_at(&mut text, 23, value);
     hash(&text, &[], &[], steps)
 }
 
@@ -103,7 +104,7 @@ fn public_ends<L: Ledger>(seed: &KeySeed, q: u32, steps: &mut Steps<L>) -> [u8; 
     let mut ends = no_ends();
     for chain in 0..CHAINS {
         let end = chain_value(seed, q, chain, CHAIN_STEPS, steps);
-        put(&mut ends, 32 * usize::from(chain), &end);
+        put_at(&mut ends, 32 * usize::from(chain), &end);
     }
     ends
 }
@@ -137,7 +138,7 @@ pub(crate) fn message_hash<L: Ledger>(
     ensures counted { steps.new ≡ steps.old + 1 }
 {
     let mut start = [0; 54];
-    put(&mut start, 0, &marked(&seed.identifier, q, MESSAGE_MARK));
-    put(&mut start, 22, randomizer);
+    put_at(&mut start, 0, &marked(&seed.identifier, q, MESSAGE_MARK));
+    put_at(&mut start, 22, randomizer);
     hash(&start, head, body, steps)
 }

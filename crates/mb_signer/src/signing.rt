@@ -5,10 +5,10 @@ ghost use Rattle.mb_model.specs.declared.key.KeySeed.{KeySeed};
 ghost use Rattle.mb_model.specs.Signing.{signed_values, sibling, path_from, public_of, signature_of};
 ghost use Rattle.mb_signer.specs.Tree.{IsTreeOf};
 
-use crate::bytes::put;
 use crate::one_time::{CHAINS, chain_value, message_hash, randomizer_at};
 use crate::tree::{KeptTree, LEAVES};
 use crate::uses::OneUse;
+use mb_bytes::put_at;
 use mb_lms::{Steps, digit, digits_of};
 use mb_model::{Chains, KeySeed, PublicKey, Tree};
 use std::marker::Brand;
@@ -101,11 +101,11 @@ pub fn sign_kept<L: Ledger>(
     let q = right.spent();
     let randomizer = randomizer_at(seed, q, steps);
     let hash = message_hash(seed, q, &randomizer, head, body, steps);
-    put(out, 0, &q.to_be_bytes());
-    put(out, CHAINS_TYPE_AT, &CHAINS_TYPE.to_be_bytes());
-    put(out, RANDOMIZER_AT, &randomizer);
+    put_at(out, 0, &q.to_be_bytes());
+    put_at(out, CHAINS_TYPE_AT, &CHAINS_TYPE.to_be_bytes());
+    put_at(out, RANDOMIZER_AT, &randomizer);
     put_values(out, seed, q, &digits_of(Chains::W4, &hash), steps);
-    put(out, TREE_TYPE_AT, &TREE_TYPE.to_be_bytes());
+    put_at(out, TREE_TYPE_AT, &TREE_TYPE.to_be_bytes());
     put_path(out, tree, q);
 }
 
@@ -122,7 +122,7 @@ fn put_values<L: Ledger>(
 {
     for chain in 0..CHAINS {
         let value = chain_value(seed, q, chain, digit(Chains::W4, digits, chain), steps);
-        put(out, VALUES_AT + 32 * usize::from(chain), &value);
+        put_at(out, VALUES_AT + 32 * usize::from(chain), &value);
     }
 }
 
@@ -149,6 +149,6 @@ fn put_path(out: &mut [u8; 2348], tree: &KeptTree, q: u32)
 {
     for level in 0..5u32 {
         let node = tree.node(sibling((LEAVES + q) >> level));
-        put(out, PATH_AT + 32 * level as usize, &node);
+        put_at(out, PATH_AT + 32 * level as usize, &node);
     }
 }

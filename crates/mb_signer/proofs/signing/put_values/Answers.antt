@@ -1,7 +1,7 @@
 use Rattle.std.proofs.Common.{rules, ◌≡◌, ◌+◌, ◌*◌, take, length, arith}
 use Rattle.mb_model.specs.Signing.{signed_values}
 use Rattle.mb_signer.proofs.Chains.{signed_none, signed_next}
-use Rattle.mb_signer.proofs.Writing.{begun, grown}
+use Rattle.mb_bytes.proofs.InPlace.{begun, grown}
 use Rattle.mb_signer.proofs.signing.put_values.Goals as goal
 
 pub loop-chain-init : goal.loop-chain-init
@@ -16,9 +16,9 @@ loop-chain-preserved g c =
     let long : length c.chain_value-value.result ≡ 32 = search rules in
     record {
       values =
-          grown c.loop-chain.out c.put.new.out (take 40 c.args.out.now) (signed_values c.args.seed.now c.args.q c.args.digits.now c.loop-chain.chain)
+          grown c.loop-chain.out c.put_at.new.out (take 40 c.args.out.now) (signed_values c.args.seed.now c.args.q c.args.digits.now c.loop-chain.chain)
           (signed_values c.args.seed.now c.args.q c.args.digits.now (c.loop-chain.chain + 1)) c.chain_value-value.result (40 + 32 * c.from.result)
-          (40 + 32 * c.loop-chain.chain) (40 + 32 * (c.loop-chain.chain + 1)) c.put.ensures (omega (arith, c.from.ensures))
+          (40 + 32 * c.loop-chain.chain) (40 + 32 * (c.loop-chain.chain + 1)) c.put_at.ensures.written (omega (arith, c.from.ensures))
           (omega (arith, c.from.ensures)) c.loop-chain.invariant.values
           (signed_next c.args.seed.now c.args.q c.args.digits.now c.loop-chain.chain c.digit.result c.chain_value-value.result c.digit.ensures.value
           c.chain_value-value.ensures.value);

@@ -10,19 +10,19 @@ returns-clause-signature g c =
     c.digits_of.ensures
     (record {
       old = c.args.out.now;
-      one = c.put.new.out;
-      two = c.put-2.new.out;
-      three = c.put-3.new.out;
+      one = c.put_at.new.out;
+      two = c.put_at-2.new.out;
+      three = c.put_at-3.new.out;
       four = c.put_values.new.out;
-      five = c.put-4.new.out;
-      first_put = c.put.ensures;
+      five = c.put_at-4.new.out;
+      first_put = c.put_at.ensures.written;
       first_long = search rules;
-      second_put = c.put-2.ensures;
+      second_put = c.put_at-2.ensures.written;
       second_long = search rules;
-      third_put = c.put-3.ensures;
+      third_put = c.put_at-3.ensures.written;
       third_long = search rules;
       fourth_put = c.put_values.ensures.values;
-      fifth_put = c.put-4.ensures;
+      fifth_put = c.put_at-4.ensures.written;
       fifth_long = search rules;
       last_put = c.put_path.ensures c.args.seed.now c.requires;
     })
