@@ -1,0 +1,9 @@
+-- Why no order was read, as a place. Where does the text fail?
+use Rattle.std.specs.Prelude.{ℕ, Option, Some, None}
+use Rattle.mb_command.specs.declared.end.OrderEnd.{OrderEnd}
+use Rattle.mb_command.specs.declared.end.OrderEnd.TheVariants.{NoMemory, BadText}
+
+-- the place at which an error points, and None for want of memory
+abbrev pub text_at : OrderEnd → Option ℕ
+text_at (BadText at) = Some at
+text_at NoMemory = None

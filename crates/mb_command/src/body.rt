@@ -1,0 +1,72 @@
+//! The part of an order that its owner signs.
+
+ghost use Rattle.std.specs.Prelude.{◌≡◌, ◌≤◌, length, take, IfOk};
+ghost use Rattle.mb_model.specs.OrderFormat.{body_by, body_format, body_of, order_body, order_format};
+ghost use Rattle.mb_bytes.specs.Reads.{ReadsAs};
+ghost use Rattle.mb_bytes.specs.Puts.{Puts};
+ghost use Rattle.mb_command.specs.Ends.{text_at};
+ghost use Rattle.mb_command.specs.Parts.{kind_in, body_in, HasLayer};
+ghost use Rattle.mb_command.specs.Writing.{HasShortCode};
+
+use crate::act::{act_at, act_length, put_act};
+use crate::end::OrderEnd;
+use crate::kind::{Kind, kind_at, kind_number, kind_of, least_layer};
+use crate::targets::{put_targets, targets_at, targets_length};
+use mb_bytes::{Cursor, put_u8, u8_between};
+use mb_model::{Act, NoMemory, Order, Targets};
+use std::alloc::Global;
+
+/// The part of an order that its owner signs.
+#[derive(Drop)]
+pub struct SignedPart {
+    /// The layer that the order is for, 1 to 3.
+    pub layer: u8,
+    pub targets: Targets,
+    pub act: Act,
+}
+
+fn behind_kind_at(alloc: Global, cursor: &mut Cursor, kind: Kind) -> Result<SignedPart, OrderEnd>
+    ensures reads { ReadsAs body_in text_at (body_by (kind_in kind)) cursor.old result cursor.new }
+    ensures layer { IfOk result HasLayer }
+{
+    let layer = u8_between(cursor, least_layer(kind), 3)?;
+    let targets = targets_at(alloc, cursor)?;
+    let act = act_at(alloc, cursor, kind)?;
+    Ok(SignedPart {
+        layer,
+        targets,
+        act,
+    })
+}
+
+/// The signed part of an order.
+#[tactic(auto, unfolding(mb_model::specs::OrderFormat::body_format))]
+pub fn body_at(alloc: Global, cursor: &mut Cursor) -> Result<SignedPart, OrderEnd>
+    ensures reads { ReadsAs body_in text_at body_format cursor.old result cursor.new }
+    ensures layer { IfOk result HasLayer }
+{
+    let kind = kind_at(cursor)?;
+    behind_kind_at(alloc, cursor, kind)
+}
+
+/// Appends the signed part of an order.
+#[tactic(auto, unfolding(mb_model::specs::OrderFormat::body_format))]
+pub fn put_body(out: &mut Vec<u8>, order: &Order) -> Result<(), NoMemory>
+    requires targets { length order.now.targets ≤ 8 }
+    requires code { HasShortCode order.now.act }
+    ensures { Puts (body_format.spelling (body_of order.now)) out.old result out.new }
+{
+    put_u8(out, kind_number(kind_of(&order.act)))?;
+    put_u8(out, order.layer)?;
+    put_targets(out, &order.targets)?;
+    put_act(out, &order.act)
+}
+
+/// How many bytes of the order are signed: its body, with which its spelling begins. The order has a spelling.
+pub fn body_length(order: &Order) -> u32
+    requires { order_format.Allowed order.now }
+    ensures length { result ≡ length (order_body order.now) }
+    ensures first { take result (order_format.spelling order.now) ≡ order_body order.now }
+{
+    2 + targets_length(&order.targets) + act_length(&order.act)
+}

@@ -1,0 +1,49 @@
+//! Why no order was read.
+
+ghost use Rattle.std.specs.Prelude.{◌≡◌};
+
+use mb_bytes::Short;
+use mb_model::{BadRecord, NoMemory};
+
+/// Why no order was read.
+#[derive(Clone, Copy, Debug, PartialEq, Eq)]
+pub enum OrderEnd {
+    /// The bytes spell no order.
+    BadText {
+        /// The place at which the first field begins that lacks bytes or is not allowed, or of the first byte behind the
+        /// last field, in bytes from 0.
+        at: u32,
+    },
+    /// Memory was wanted and not found.
+    NoMemory,
+}
+
+impl From<Short> for OrderEnd {
+    ghost use Rattle.mb_command.specs.declared.end.OrderEnd.TheVariants.{BadText};
+
+    ghost from_gives = { λ short e. e ≡ BadText short.at };
+
+    fn from(short: Short) -> OrderEnd {
+        OrderEnd::BadText { at: short.at }
+    }
+}
+
+impl From<BadRecord> for OrderEnd {
+    ghost use Rattle.mb_command.specs.declared.end.OrderEnd.TheVariants.{BadText};
+
+    ghost from_gives = { λ bad e. e ≡ BadText bad.at };
+
+    fn from(bad: BadRecord) -> OrderEnd {
+        OrderEnd::BadText { at: bad.at }
+    }
+}
+
+impl From<NoMemory> for OrderEnd {
+    ghost use Rattle.mb_command.specs.declared.end.OrderEnd.TheVariants.{NoMemory};
+
+    ghost from_gives = { λ _ e. e ≡ NoMemory };
+
+    fn from(_error: NoMemory) -> OrderEnd {
+        OrderEnd::NoMemory
+    }
+}

@@ -1,0 +1,89 @@
+//! Whole orders.
+
+ghost use Rattle.std.specs.Prelude.{◌≤◌, length, IfErr, IfSome};
+ghost use Rattle.mb_model.specs.OrderFormat.{order_format};
+ghost use Rattle.mb_bytes.specs.Reads.{Reads, ReadsWhole};
+ghost use Rattle.mb_bytes.specs.Puts.{Puts, Writes};
+ghost use Rattle.mb_command.specs.Ends.{text_at};
+ghost use Rattle.mb_command.specs.Writing.{IsSized};
+
+use crate::body::{body_at, put_body};
+use crate::countersignatures::{
+    countersignatures_at, put_countersignatures, put_signature, signature_at,
+};
+use crate::end::OrderEnd;
+use mb_bytes::Cursor;
+use mb_model::{NoMemory, Order};
+use std::alloc::Global;
+
+/// More bytes than any order has.
+const ORDER_LIMIT: usize = 65_536;
+
+#[tactic(auto, unfolding(mb_model::specs::OrderFormat::order_format))]
+fn order_at(alloc: Global, cursor: &mut Cursor) -> Result<Order, OrderEnd>
+    ensures { Reads text_at order_format cursor.old result cursor.new }
+{
+    let body = body_at(alloc, cursor)?;
+    let signature = signature_at(alloc, cursor)?;
+    let countersignatures = countersignatures_at(alloc, cursor, &body)?;
+    Ok(Order {
+        layer: body.layer,
+        targets: body.targets,
+        act: body.act,
+        signature,
+        countersignatures,
+    })
+}
+
+fn whole_order(alloc: Global, bytes: &[u8]) -> Result<Order, OrderEnd>
+    requires { length bytes.now ≤ 4194304 }
+    ensures { ReadsWhole text_at order_format bytes.now result }
+{
+    let mut cursor = Cursor::new(bytes);
+    let order = order_at(alloc, &mut cursor)?;
+    if cursor.left() > 0 {
+        return Err(OrderEnd::BadText { at: cursor.place() });
+    }
+    Ok(order)
+}
+
+/// The order that the whole of the bytes spells, of however many bytes. Else `BadText` with the place of the first field
+/// that lacks bytes or is not allowed, or of the first byte behind the last field; it is at most 65,536. An order is
+/// shorter than that, so no more bytes are looked at. Memory is taken for what the order holds, and nothing is said of
+/// when it is found: the tests read orders where there is enough.
+pub fn read_order(alloc: Global, bytes: &[u8]) -> Result<Order, OrderEnd>
+    ensures reads { ReadsWhole text_at order_format bytes.now result }
+    ensures near { IfErr result (λ end. IfSome (text_at end) (λ at. at ≤ 65536)) }
+{
+    match bytes.get(..ORDER_LIMIT) {
+        Some(first) => whole_order(alloc, first),
+        None => whole_order(alloc, bytes),
+    }
+}
+
+#[tactic(auto, unfolding(mb_model::specs::OrderFormat::order_format))]
+fn put_order(out: &mut Vec<u8>, order: &Order) -> Result<(), NoMemory>
+    requires { IsSized order.now }
+    ensures { Puts (order_format.spelling order.now) out.old result out.new }
+{
+    put_body(out, order)?;
+    put_signature(out, &order.signature)?;
+    put_countersignatures(out, &order.countersignatures)
+}
+
+/// Appends the spelling of the order, which has one, or leaves `out` as it was. Where the capacity of `out` holds it, no
+/// memory is taken and the answer is Ok.
+#[tactic(auto, using(crate::proofs::Sizes::sized_of))]
+pub fn write_order(order: &Order, out: &mut Vec<u8>) -> Result<(), NoMemory>
+    requires { order_format.Allowed order.now }
+    ensures { Writes (order_format.spelling order.now) out.old result out.new }
+{
+    let length = out.len();
+    match put_order(out, order) {
+        Ok(()) => Ok(()),
+        Err(error) => {
+            out.truncate(length);
+            Err(error)
+        }
+    }
+}
