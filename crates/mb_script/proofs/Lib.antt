@@ -1,0 +1,6 @@
+pub mod Parts
+pub mod Numbers
+pub mod LineKinds
+pub mod Written
+pub mod Drawings
+pub mod ScriptReading

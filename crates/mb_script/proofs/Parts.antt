@@ -1,0 +1,190 @@
+-- Parts of a line: each is what stands there in one way only.
+use Rattle.std.proofs.Common.{◌≡◌, ◌≢◌, ℕ, ◌-◌, ◌*◌, ◌/◌, ◌≤◌, inl, inr, List, [], ◌∷◌, ◌++◌, length, take, drop, replicate, refl, sym, ap, subst, ◌∙◌, arith, Bool, true, false, not, ◌&&◌, eqb, eq-eqb}
+use Rattle.std.specs.Prelude.{◌==◌, codes, IsTrue, None, Result, Ok, Err}
+use Rattle.std.specs.Fmt.{decimal}
+use Rattle.std.specs.Cmp.Lexicographic.{pointwise}
+use Rattle.std.proofs.lemmas.Bool.{and_parts}
+use Rattle.std.proofs.lemmas.Bool.Decides.{Decides-eqb}
+use Rattle.std.proofs.lemmas.Slice.Eq.{slice_eq-Decides, strip_prefix_is}
+use Rattle.std.specs.Result.{MatchResult}
+use Rattle.std.proofs.lemmas.List.{append_cancel_left, length-take, length-replicate, drop-replicate, take-append-drop}
+use Rattle.std.proofs.lemmas.List.Elements.{All-nil, All-cons}
+use Rattle.hex.specs.Hex.{decode_of, decode_sized}
+use Rattle.hex.specs.declared.error.FromHexError.{FromHexError}
+use Rattle.hex.proofs.HexLemmas.{decode_of-ok, decode_sized-ok, decode_sized-twice}
+use Rattle.mb_model.specs.Layers.{is_upper}
+use Rattle.mb_model.specs.Lines.{IsNumber, number_limit}
+use Rattle.mb_model.specs.declared.event.Tear.{Tear}
+use Rattle.mb_model.specs.Script.{IsName, tear_of}
+use Rattle.mb_laws.proofs.LineLemmas.{Without, isnt, cons_same, first_same, first_none}
+use Rattle.mb_laws.proofs.WordLemmas.{number_front, decimal_spaceless, upper_fits, name_spaceless}
+use Rattle.mb_script.specs.declared.words.NotSaid.{NotSaid}
+use Rattle.mb_script.specs.declared.words.NotSaid.TheVariants as why
+use Rattle.mb_script.specs.Reading.{Finds, IsSplit, HasNumberFirst, HasRegionFirst, HasNameFirst, SaysSecret, SaysTail, kept, none, IsFill}
+
+pub clash : (answer : Bool) → answer ≡ true → answer ≡ false → ⊥
+clash answer is isnt_so = cc
+
+-- ---- bytes without a byte
+
+abbrev without_test : ℕ → List ℕ → Bool
+without_test s [] = true
+without_test s (byte ∷ bytes) = not (byte == s) && without_test s bytes
+
+pub Without-from_test : (s : ℕ) (bytes : List ℕ) → without_test s bytes ≡ true → Without s bytes
+Without-from_test s [] h = All-nil (isnt s)
+Without-from_test s (byte ∷ bytes) h =
+    let parts = and_parts (not (byte == s)) (without_test s bytes) h in
+    let here = parts.0 in
+    All-cons (isnt s) byte bytes (λ is. let same : (byte == s) ≡ true = eq-eqb byte s is in cc) (Without-from_test s bytes parts.1)
+
+-- ---- an error that is passed on
+
+passed_at : {A B : Type 0} (Is : A → Type 0) (Was : B → Type 0) (e : NotSaid) → ((a : A) → Is a → (b : B) × Was b) → Finds {A = B} Was (Err e) → Finds {A = A} Is (Err e)
+passed_at {A} {B} Is Was why.Form back found = λ a is. let b = back a is in found b.0 b.1
+passed_at {A} {B} Is Was why.NoMemory back found = tt
+
+-- where a part is not read, the whole is not
+pub passed : {A B : Type 0} (Is : A → Type 0) (Was : B → Type 0) (r : Result A NotSaid) (e f : NotSaid) → r ≡ Err f → f ≡ e
+    → ((a : A) → Is a → (b : B) × Was b) → Finds {A = B} Was (Err e) → Finds Is r
+passed {A} {B} Is Was r e f was same back found =
+    let whole : r ≡ Err e = cc in
+    subst (λ (x : Result A NotSaid). Finds Is x) (sym whole) (passed_at Is Was e back found)
+
+-- ---- words with a space behind them
+
+-- the word before the first space, and a number before a space
+pub number_word : (most : ℕ) (text word behind : List ℕ) (number : ℕ) (rest : List ℕ) → most ≤ number_limit → IsSplit 32 text word behind
+    → HasNumberFirst most text number rest → IsNumber most word number × (behind ≡ rest)
+number_word most text word behind number rest small split has =
+    let parts = first_same 32 word (decimal number) behind rest split.first (decimal_spaceless number (omega (arith, has.within, small))) (sym split.whole ∙ has.whole) in
+    ((parts.0, has.within), parts.1)
+
+pub number_none : (most : ℕ) (text : List ℕ) (number : ℕ) (rest : List ℕ) → Without 32 text → HasNumberFirst most text number rest → ⊥
+number_none most text number rest without has = first_none 32 text (decimal number) rest without has.whole
+
+pub number_same : (most : ℕ) (text : List ℕ) (m n : ℕ) (a b : List ℕ) → most ≤ number_limit → HasNumberFirst most text m a → HasNumberFirst most text n b → (m ≡ n) × (a ≡ b)
+number_same most text m n a b small ha hb =
+    number_front m n a b (omega (arith, ha.within, small)) (omega (arith, hb.within, small)) (sym ha.whole ∙ hb.whole)
+
+pub region_same : (text : List ℕ) (m n : ℕ) (a b : List ℕ) → HasRegionFirst text m a → HasRegionFirst text n b → (m ≡ n) × (a ≡ b)
+region_same text m n a b ha hb = number_front m n a b (upper_fits m ha.upper) (upper_fits n hb.upper) (sym ha.whole ∙ hb.whole)
+
+upper_within : (region : ℕ) → IsTrue (is_upper region) → (2 ≤ region) × (region ≤ 3)
+upper_within region upper = (grind (arith, upper), grind (arith, upper))
+
+-- a region is a number of at most 3, and at least 2
+pub region_number : (text : List ℕ) (region : ℕ) (rest : List ℕ) → HasRegionFirst text region rest → HasNumberFirst 3 text region rest × (2 ≤ region)
+region_number text region rest has =
+    let within = upper_within region has.upper in
+    (record { within = within.1; whole = has.whole }, within.0)
+
+pub name_word : (text word behind name rest : List ℕ) → IsSplit 32 text word behind → HasNameFirst text name rest → (word ≡ name) × (behind ≡ rest)
+name_word text word behind name rest split has =
+    first_same 32 word name behind rest split.first (name_spaceless name has.named) (sym split.whole ∙ has.whole)
+
+pub name_none : (text name rest : List ℕ) → Without 32 text → HasNameFirst text name rest → ⊥
+name_none text name rest without has = first_none 32 text name rest without has.whole
+
+pub name_same : (text m n a b : List ℕ) → HasNameFirst text m a → HasNameFirst text n b → (m ≡ n) × (a ≡ b)
+name_same text m n a b ha hb =
+    first_same 32 m n a b (name_spaceless m ha.named) (name_spaceless n hb.named) (sym ha.whole ∙ hb.whole)
+
+-- ---- what stands behind the count of a cut
+
+pub tail_same : (tail a b : List ℕ) (j k : ℕ) → SaysTail tail j a → SaysTail tail k b → (j ≡ k) × (a ≡ b)
+tail_same tail a b j k (kept mj ea) (kept mk eb) =
+    let behind = append_cancel_left (codes "keep ") _ _ (sym ea ∙ eb) in
+    let parts = number_front j k (codes "fill " ++ a) (codes "fill " ++ b) (omega (arith, mj)) (omega (arith, mk)) behind in
+    (parts.0, append_cancel_left (codes "fill ") a b parts.1)
+tail_same tail a b j k (kept mj ea) (none zb eb) = absurd (omega (arith, (cons_same 107 102 _ _ (sym ea ∙ eb)).0))
+tail_same tail a b j k (none za ea) (kept mk eb) = absurd (omega (arith, (cons_same 102 107 _ _ (sym ea ∙ eb)).0))
+tail_same tail a b j k (none za ea) (none zb eb) = (za ∙ sym zb, append_cancel_left (codes "fill ") a b (sym ea ∙ eb))
+
+-- ---- bytes that fill
+
+dash_one : (word fill : List ℕ) → IsFill word fill → (word ≢ []) × (decode_of word ≡ Ok fill)
+dash_one word fill is =
+    elim is.spelled [
+      | inl dash ↦ absurd (omega (arith, ap length dash.1, is.some))
+      | inr digits ↦ digits
+    ]
+
+-- a word that fills is digits, two for each byte
+pub fill_digits : (word fill : List ℕ) → IsFill word fill → (decode_of word ≡ Ok fill) × (length word ≡ 2 * length fill)
+fill_digits word fill is =
+    let digits = (dash_one word fill is).1 in
+    (digits, (decode_of-ok word fill digits).2)
+
+-- no byte, or more than 16
+pub fill_sized : (word fill : List ℕ) → IsFill word fill → (1 ≤ length word / 2) × (length word / 2 ≤ 16)
+fill_sized word fill is =
+    let twice = (fill_digits word fill is).1 in
+    let some = is.some in
+    let most = is.most in
+    (omega arith, omega arith)
+
+decoded : (out : List ℕ) (u : Unit {0}) (r : Result (Unit {0}) FromHexError) (d : Result (List ℕ) FromHexError) → r ≡ Ok u
+    → MatchResult d (λ bytes. (r ≡ Ok tt) × (out ≡ bytes)) (λ e. r ≡ Err e) → d ≡ Ok out
+decoded out u r (Ok bytes) is h = ap (λ (x : List ℕ). Ok x) (sym h.1)
+decoded out u r (Err e) is h = absurd (cc (sym is ∙ h))
+
+-- what is decoded into the first part of a field fills, and zeros stand behind it
+pub tear_read : (word out zeros : List ℕ) (keep k : ℕ) (u : Unit {0}) (r : Result (Unit {0}) FromHexError) → r ≡ Ok u → k ≡ length word / 2 → k ≢ 0 → k ≤ 16 → zeros ≡ replicate 16 0
+    → MatchResult (decode_sized word (length (take k zeros))) (λ bytes. (r ≡ Ok tt) × (out ≡ bytes)) (λ e. r ≡ Err e)
+    → (fill : List ℕ) × IsFill word fill × (let tear : Tear = record { keep = keep; fill = out ++ drop k zeros; fill_length = k } in tear ≡ tear_of keep fill)
+tear_read word out zeros keep k u r is half some most blank h =
+    let n = length (take k zeros) in
+    let sized = decoded out u r (decode_sized word n) is h in
+    let n_is : n ≡ k = omega (arith, length-take k zeros, ap length blank, length-replicate {A = ℕ} 16 0) in
+    let twice = decode_sized-ok word n out sized in
+    let digits = sym (decode_sized-twice word n twice) ∙ sized in
+    let long = (decode_of-ok word out digits).2 in
+    let count : length out ≡ k = omega arith in
+    let behind : drop k zeros ≡ replicate (16 - length out) 0 =
+    ap (λ (x : List ℕ). drop k x) blank ∙ drop-replicate k 16 0 ∙ ap (λ (m : ℕ). replicate (16 - m) 0) (sym count) in (
+      out,
+      record {
+        spelled = inr (λ none. omega (arith, ap length none, twice, n_is, some), digits);
+        some = omega (arith, some, count);
+        most = omega (arith, most, count);
+      },
+      λ i. record { keep = keep; fill = out ++ behind i; fill_length = sym count i },
+    )
+
+-- ---- a line's words, one after another
+
+pub secret_name : (text : List ℕ) (m n : ℕ) (a name : List ℕ) → HasRegionFirst text m a → SaysSecret text n name → a ≡ name
+secret_name text m n a name has says =
+    (region_same text m n a name has (record { upper = says.upper; whole = says.whole })).1
+
+pub put_name : (text : List ℕ) (m n : ℕ) (rest name word : List ℕ) → HasRegionFirst text m rest → HasRegionFirst text n (name ++ 32 ∷ word) → IsName name → HasNameFirst rest name word
+put_name text m n rest name word has first named = record { named = named; whole = (region_same text m n rest (name ++ 32 ∷ word) has first).1 }
+
+pub put_word : (text : List ℕ) (m n : ℕ) (rest a b v w : List ℕ) → HasRegionFirst text m rest → HasNameFirst rest a v → HasRegionFirst text n (b ++ 32 ∷ w) → IsName b → v ≡ w
+put_word text m n rest a b v w has name first named = (name_same rest a b v w name (put_name text m n rest b w has first named)).1
+
+pub sign_key : (text : List ℕ) (m n key : ℕ) (rest word : List ℕ) → HasRegionFirst text m rest → HasRegionFirst text n (decimal key ++ 32 ∷ word) → key ≤ number_limit → HasNumberFirst number_limit rest key word
+sign_key text m n key rest word has first within = record { within = within; whole = (region_same text m n rest (decimal key ++ 32 ∷ word) has first).1 }
+
+pub sign_word : (text : List ℕ) (m n j k : ℕ) (rest v w : List ℕ) → HasRegionFirst text m rest → HasNumberFirst number_limit rest j v → HasRegionFirst text n (decimal k ++ 32 ∷ w) → k ≤ number_limit → v ≡ w
+sign_word text m n j k rest v w has number first within =
+    (number_same number_limit rest j k v w (omega arith) number (sign_key text m n k rest w has first within)).1
+
+-- a tail that begins with a count of kept bytes, and does not go on with the word for what fills
+pub tail_none : (text behind rest : List ℕ) (keep : ℕ) → ((word : List ℕ) → text ≢ codes "fill " ++ word) → text ≡ codes "keep " ++ behind
+    → HasNumberFirst 1048576 behind keep rest → ((word : List ℕ) → rest ≢ codes "fill " ++ word) → (n : ℕ) (word : List ℕ) → SaysTail text n word → ⊥
+tail_none text behind rest keep first second number third n word (kept most whole) =
+    let same = append_cancel_left (codes "keep ") behind (decimal n ++ 32 ∷ (codes "fill " ++ word)) (sym second ∙ whole) in
+    third word (number_same 1048576 behind keep n rest (codes "fill " ++ word) (omega arith) number (record { within = most; whole = same })).1
+tail_none text behind rest keep first second number third n word (none zero whole) = first word whole
+
+-- ---- prefixes
+
+pub prefix_none : (text prefix : List ℕ) → pointwise eqb (take (length prefix) text) prefix ≡ false → (rest : List ℕ) → text ≢ prefix ++ rest
+prefix_none text prefix isnt_so = strip_prefix_is Decides-eqb text prefix None isnt_so
+
+pub prefix_some : (text prefix rest : List ℕ) → pointwise eqb (take (length prefix) text) prefix ≡ true → rest ≡ drop (length prefix) text → text ≡ prefix ++ rest
+prefix_some text prefix rest is behind =
+    let front = (slice_eq-Decides Decides-eqb (take (length prefix) text) prefix _ refl).0 is in
+    sym (take-append-drop (length prefix) text) ∙ ap (λ (x : List ℕ). x ++ drop (length prefix) text) front ∙ ap (λ (x : List ℕ). prefix ++ x) (sym behind)

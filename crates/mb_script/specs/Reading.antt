@@ -1,0 +1,77 @@
+-- What the readers of a script give. Is what is read exactly what stands there?
+use Rattle.std.specs.Prelude.{◌≡◌, ◌≢◌, ℕ, ◌≤◌, ◌⊎◌, List, [], ◌∷◌, ◌++◌, length, codes, All, IsTrue, Option, Some, None, Result, Ok, Err}
+use Rattle.std.specs.Fmt.{decimal}
+use Rattle.mb_model.specs.declared.event.Event.{Event}
+use Rattle.mb_model.specs.Layers.{is_upper}
+use Rattle.mb_model.specs.Texts.{IsHex}
+use Rattle.mb_model.specs.Lines.{IsLine, Reads, TextFailsAtLine}
+use Rattle.mb_model.specs.Script.{IsName, IsScript}
+use Rattle.mb_script.specs.declared.script.ScriptEnd.{ScriptEnd}
+use Rattle.mb_script.specs.declared.script.ScriptEnd.TheVariants as end
+use Rattle.mb_script.specs.declared.words.NotSaid.{NotSaid}
+use Rattle.mb_script.specs.declared.words.NotSaid.TheVariants as why
+
+-- ---- a script
+
+-- The text stands for these events, or this line of it is the first that is wrong; of want of memory nothing is said.
+abbrev pub ReadsScript : List ℕ → Result (List Event) ScriptEnd → Type 0
+ReadsScript text (Ok events) = Reads IsScript text events
+ReadsScript text (Err (end.BadLine line)) = TextFailsAtLine IsScript text line
+ReadsScript text (Err end.NoMemory) = Unit {0}
+
+-- ---- parts of a line
+
+-- what is found is so, or nothing is; of want of memory nothing is said
+abbrev pub Finds : {A : Type 0} → (A → Type 0) → Result A NotSaid → Type 0
+Finds Is (Ok a) = Is a
+Finds {A} Is (Err why.Form) = (a : A) → Is a → ⊥
+Finds Is (Err why.NoMemory) = Unit {0}
+
+-- the same where no memory is wanted
+abbrev pub FindsSome : {A : Type 0} → (A → Type 0) → Option A → Type 0
+FindsSome Is (Some a) = Is a
+FindsSome {A} Is None = (a : A) → Is a → ⊥
+
+-- a text is cut at the first of this byte
+pub record IsSplit (byte : ℕ) (text front rest : List ℕ) : Type 0 where
+  pub first : All (λ b. b ≢ byte) front
+  pub whole : text ≡ front ++ byte ∷ rest
+
+-- a text is a number, a space, and what stands behind that
+pub record HasNumberFirst (most : ℕ) (text : List ℕ) (number : ℕ) (rest : List ℕ) : Type 0 where
+  pub within : number ≤ most
+  pub whole : text ≡ decimal number ++ 32 ∷ rest
+
+-- a text is the number of a region, a space, and what stands behind that
+pub record HasRegionFirst (text : List ℕ) (region : ℕ) (rest : List ℕ) : Type 0 where
+  pub upper : IsTrue (is_upper region)
+  pub whole : text ≡ decimal region ++ 32 ∷ rest
+
+-- a text is a name, a space, and what stands behind that
+pub record HasNameFirst (text name rest : List ℕ) : Type 0 where
+  pub named : IsName name
+  pub whole : text ≡ name ++ 32 ∷ rest
+
+-- a word is bytes in hexadecimal that may fill
+pub record IsFill (word fill : List ℕ) : Type 0 where
+  pub spelled : IsHex word fill
+  pub some : 1 ≤ length fill
+  pub most : length fill ≤ 16
+
+-- a text is the number of a region, a space, and a name
+pub record SaysSecret (text : List ℕ) (region : ℕ) (name : List ℕ) : Type 0 where
+  pub upper : IsTrue (is_upper region)
+  pub named : IsName name
+  pub whole : text ≡ decimal region ++ 32 ∷ name
+
+-- What stands behind the count of a cut: how many bytes are kept, where that is said, and the word of the bytes that fill.
+pub data SaysTail (text : List ℕ) (keep : ℕ) (word : List ℕ) : Type 0 where
+  kept : keep ≤ 1048576 → text ≡ codes "keep " ++ decimal keep ++ 32 ∷ (codes "fill " ++ word) → SaysTail text keep word
+  none : keep ≡ 0 → text ≡ codes "fill " ++ word → SaysTail text keep word
+
+-- ---- lines
+
+-- a text is its first line, which has no LF, and what stands behind the line's LF; the last line may lack its LF
+pub record SplitsLine (text first rest : List ℕ) : Type 0 where
+  pub plain : IsLine first
+  pub whole : (text ≡ first ++ 10 ∷ rest) ⊎ ((text ≡ first) × (rest ≡ []))

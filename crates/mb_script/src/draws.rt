@@ -1,0 +1,65 @@
+//! The draws of a script's commands, which its noise gives.
+
+ghost use Rattle.std.specs.Prelude.{◌≡◌, ◌*◌, ◌<◌, ◌≤◌, ◌^◌, [], ◌∷◌, length, drop, IsTrue};
+ghost use Rattle.mb_model.specs.Script.{is_command, commands_in, drawn_event};
+ghost use Rattle.mb_script.specs.Drawing.{PlacesDraws};
+
+use mb_model::{Event, Events};
+
+/// How many bytes a draw has.
+const DRAW: usize = 32;
+
+/// The noise has fewer than 32 bytes for each command.
+#[derive(Clone, Copy, Debug, PartialEq, Eq)]
+pub struct ShortNoise;
+
+/// Gives each command its draw: the i-th, from 0, has the bytes 32 i to 32 i + 31 of the noise, and further noise is not
+/// used. Where the noise has fewer than 32 bytes for each command, the events stay as they were. It takes no memory.
+/// Condition: the events are numbered by a `u32`.
+pub fn place_draws(events: &mut Events, noise: &[u8]) -> Result<(), ShortNoise>
+    requires { length events.old < 2 ^ 32 }
+    ensures { PlacesDraws events.old noise.now result events.new }
+{
+    if noise.len() / DRAW < count_commands(events.as_slice()) {
+        return Err(ShortNoise);
+    }
+    let count = events.as_slice().len() as u32;
+    let mut left = noise;
+    for at in 0..count {
+        // an event is taken out for its draw, so something has to stand in its place
+        let event = events.set(at, Event::Off);
+        let (drawn, behind) = draw_event(event, left);
+        let _placeholder = events.set(at, drawn);
+        left = behind;
+    }
+    Ok(())
+}
+
+/// How many of the events are commands.
+#[tactic(auto, unfolding(mb_model::specs::Script::commands_in))]
+fn count_commands(events: &[Event]) -> usize
+    ensures { result ≡ commands_in events.now }
+{
+    events
+        .iter()
+        .filter(|event| matches!(event, Event::Command { .. }))
+        .count()
+}
+
+/// The event with its draw, the first bytes of the noise where it is a command; and the noise that is left.
+#[tactic(auto, unfolding(mb_model::specs::Script::commands_in, mb_model::specs::Board::part))]
+fn draw_event(event: Event, noise: &[u8]) -> (Event, &[u8])
+    requires { IsTrue (is_command event) → 32 ≤ length noise.now }
+    ensures drawn { result.0 ≡ drawn_event noise.now [] event }
+    ensures left { result.1.now ≡ drop (32 * commands_in (event ∷ [])) noise.now }
+{
+    match event {
+        Event::Command { text, draw: _ } => {
+            let (front, behind) = noise.split_at(DRAW);
+            let mut draw = [0; DRAW];
+            draw.copy_from_slice(front);
+            (Event::Command { text, draw }, behind)
+        }
+        other => (other, noise),
+    }
+}

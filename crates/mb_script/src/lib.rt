@@ -1,0 +1,18 @@
+//! Scripts and replies as text.
+//!
+//! This crate owns the text of a script, which is read into events, the draws that its noise gives them, and the line of
+//! each reply, which is written. It stands on `mb_model`, whose definitions say which events a text stands for, on
+//! `mb_laws` for what these give, and on `mb_bytes` for appending.
+#![tactic(auto)]
+
+mod draws;
+mod events;
+mod replies;
+mod script;
+#[cfg(test)]
+mod tests;
+mod words;
+
+pub use draws::{ShortNoise, place_draws};
+pub use replies::write_reply;
+pub use script::{ScriptEnd, read_script};

@@ -1,0 +1,86 @@
+//! The text of a script, read line by line.
+
+ghost use Rattle.std.specs.Prelude.{◌≡◌, ◌≤◌, length};
+ghost use Rattle.mb_model.specs.Script.{is_skipped};
+ghost use Rattle.mb_script.specs.Reading.{ReadsScript, SplitsLine};
+
+use crate::events::read_event;
+use crate::words::{NotSaid, split_at_byte};
+use mb_model::{Events, NoMemory};
+use std::alloc::Global;
+
+/// The most events of a script.
+const MOST_EVENTS: usize = 65_536;
+
+/// Why a script was not read.
+#[derive(Clone, Copy, Debug, PartialEq, Eq)]
+pub enum ScriptEnd {
+    /// A line is not in the grammar, or says an event too many.
+    BadLine {
+        /// The number of the first such line, from 1.
+        line: u32,
+    },
+    /// Memory was wanted and not found.
+    NoMemory,
+}
+
+impl From<NoMemory> for ScriptEnd {
+    ghost use Rattle.mb_script.specs.declared.script.ScriptEnd.TheVariants as end;
+
+    ghost from_gives = { λ _ e. e ≡ end.NoMemory };
+
+    fn from(_error: NoMemory) -> ScriptEnd {
+        ScriptEnd::NoMemory
+    }
+}
+
+/// The events of a script, in order; the draw of each command is all zeros. A line ends with LF, which the last may lack;
+/// empty lines and lines that begin with `#` are skipped. Condition: the text has at most 4,194,304 bytes.
+///
+/// Errors: `BadLine` with the first line that is not in the grammar or that says the 65,537th event, and `NoMemory`.
+pub fn read_script(alloc: Global, text: &[u8]) -> Result<Events, ScriptEnd>
+    requires { length text.now ≤ 4194304 }
+    ensures { ReadsScript text.now result }
+{
+    let mut events = Events::new(alloc);
+    let mut number: u32 = 0;
+    let mut rest = text;
+    while !rest.is_empty() {
+        let (line, behind) = split_line(rest);
+        number += 1;
+        rest = behind;
+        if is_skipped(line) {
+            continue;
+        }
+        let is_full = events.as_slice().len() == MOST_EVENTS;
+        if is_full {
+            return Err(ScriptEnd::BadLine { line: number });
+        }
+        match read_event(alloc, line) {
+            Ok(event) => events.push(event)?,
+            Err(NotSaid::Form) => return Err(ScriptEnd::BadLine { line: number }),
+            Err(NotSaid::NoMemory) => return Err(ScriptEnd::NoMemory),
+        }
+    }
+    Ok(events)
+}
+
+/// The first line without its LF, and what stands behind that.
+fn split_line(text: &[u8]) -> (&[u8], &[u8])
+    ensures { SplitsLine text.now result.0.now result.1.now }
+{
+    match split_at_byte(text, b'\n') {
+        Some(parts) => parts,
+        None => (text, &[]),
+    }
+}
+
+/// Whether a line says nothing.
+fn is_skipped(line: &[u8]) -> bool
+    ensures { result ≡ is_skipped line.now }
+{
+    match line.first() {
+        Some(byte) => *byte == b'#',
+        None => true,
+    }
+}
