@@ -1,0 +1,7 @@
+pub mod Numbers
+pub mod Wording
+pub mod Headings
+pub mod Lines
+pub mod Drafts
+pub mod Signatures
+pub mod Spelled

@@ -1,5 +1,8 @@
 //! Keys made, written and read, by values of another program.
 
+mod drafts;
+mod orders;
+
 use crate::{BadRecord, Keyfile, make_key, read_keyfile, write_keyfile};
 use hex::FromHex;
 use std::process::Abort;

@@ -1,0 +1,227 @@
+-- The words of a draft's lines: each is what stands there in one way only.
+use Rattle.std.proofs.Common.{◌≡◌, ℕ, ◌+◌, ◌*◌, ◌<◌, inl, inr, List, [], ◌∷◌, ◌++◌, length, take, drop, get_or, ◌≢◌, ◌^◌, refl, sym, ap, subst, ◌∙◌, arith, Bool, true, false, ◌⊎◌, eqb}
+use Rattle.std.specs.Prelude.{codes, IsTrue, Result, Ok, Err, MatchResult}
+use Rattle.std.specs.Fmt.{decimal}
+use Rattle.std.specs.Cmp.Lexicographic.{pointwise}
+use Rattle.std.proofs.lemmas.Bool.Decides.{Decides-eqb}
+use Rattle.std.proofs.lemmas.Slice.Eq.{slice_eq-Decides}
+use Rattle.std.proofs.lemmas.Fmt.{decimal_digit}
+use Rattle.std.proofs.lemmas.List.{take-append-drop, append_cancel_left}
+use Rattle.std.proofs.Math.Seq.{take-append_seam}
+use Rattle.hex.specs.Hex.{decode_sized}
+use Rattle.hex.specs.declared.error.FromHexError.{FromHexError}
+use Rattle.hex.proofs.HexLemmas.{decode_of-ok, decode_sized-twice}
+use Rattle.mb_model.specs.declared.order.KeyKind.{KeyKind}
+use Rattle.mb_model.specs.declared.order.KeyKind.TheVariants as kinds
+use Rattle.mb_model.specs.declared.order.Target.{Target}
+use Rattle.mb_model.specs.declared.order.Target.TheVariants as target
+use Rattle.mb_model.specs.Layers.{is_upper, is_layer_number}
+use Rattle.mb_model.specs.Texts.{IsHex}
+use Rattle.mb_model.specs.Lines.{IsNumber, number_limit}
+use Rattle.mb_model.specs.Drafts.{kind_word, SaysTarget}
+use Rattle.mb_laws.proofs.WordLemmas.{number_front}
+use Rattle.mb_officer.specs.declared.words.NotSaid.{NotSaid}
+use Rattle.mb_officer.specs.declared.words.NotSaid.TheVariants as why
+use Rattle.mb_officer.specs.Drafting.{Finds}
+
+pub clash : (answer : Bool) → answer ≡ true → answer ≡ false → ⊥
+clash answer is isnt = cc
+
+-- ---- what a line begins with
+
+pub begins : (line word rest : List ℕ) → pointwise eqb (take (length word) line) word ≡ true → rest ≡ drop (length word) line → line ≡ word ++ rest
+begins line word rest is behind =
+    let front = (slice_eq-Decides Decides-eqb (take (length word) line) word _ refl).0 is in
+    sym (take-append-drop (length word) line) ∙ ap (λ (x : List ℕ). x ++ drop (length word) line) front ∙ ap (λ (x : List ℕ). word ++ x) (sym behind)
+
+pub begins_not : (line word rest : List ℕ) → pointwise eqb (take (length word) line) word ≡ false → line ≡ word ++ rest → ⊥
+begins_not line word rest isnt e =
+    let front = ap (λ (x : List ℕ). take (length word) x) e ∙ take-append_seam word rest in
+    clash _ ((slice_eq-Decides Decides-eqb (take (length word) line) word _ refl).1 front) isnt
+
+-- whether two words are one
+pub same : (word text slice : List ℕ) (answer : Bool) → answer ≡ pointwise eqb word slice → slice ≡ text → answer ≡ true → word ≡ text
+same word text slice answer is e holds = (slice_eq-Decides Decides-eqb word slice answer is).0 holds ∙ e
+
+pub differs : (word text slice : List ℕ) (answer : Bool) → answer ≡ pointwise eqb word slice → slice ≡ text → answer ≡ false → word ≡ text → ⊥
+differs word text slice answer is e fails was = clash answer ((slice_eq-Decides Decides-eqb word slice answer is).1 (was ∙ sym e)) fails
+
+-- ---- layers
+
+pub digit_of : (n : ℕ) (word : List ℕ) → n < 10 → word ≡ (48 + n) ∷ [] → word ≡ decimal n
+digit_of n word small e = e ∙ sym (decimal_digit n small)
+
+layer_cases : (n : ℕ) → IsTrue (is_layer_number n) → (n ≡ 1) ⊎ (n ≡ 2) ⊎ (n ≡ 3)
+layer_cases n is = grind (arith, is)
+
+upper_cases : (n : ℕ) → IsTrue (is_upper n) → (n ≡ 2) ⊎ (n ≡ 3)
+upper_cases n is = grind (arith, is)
+
+-- a layer's word, before a space, is one of three
+pub layer_space_none : (text rest : List ℕ) (n : ℕ) → ((x : List ℕ) → text ≡ codes "1 " ++ x → ⊥) → ((x : List ℕ) → text ≡ codes "2 " ++ x → ⊥)
+    → ((x : List ℕ) → text ≡ codes "3 " ++ x → ⊥) → IsTrue (is_layer_number n) → text ≡ decimal n ++ 32 ∷ rest → ⊥
+layer_space_none text rest n one two three is e =
+    elim (layer_cases n is) [
+      | inl a ↦ one rest (e ∙ ap (λ (x : ℕ). decimal x ++ 32 ∷ rest) a ∙ ap (λ (x : List ℕ). x ++ 32 ∷ rest) (decimal_digit 1 (omega arith)))
+      | inr (inl b) ↦ two rest (e ∙ ap (λ (x : ℕ). decimal x ++ 32 ∷ rest) b ∙ ap (λ (x : List ℕ). x ++ 32 ∷ rest) (decimal_digit 2 (omega arith)))
+      | inr (inr c) ↦ three rest (e ∙ ap (λ (x : ℕ). decimal x ++ 32 ∷ rest) c ∙ ap (λ (x : List ℕ). x ++ 32 ∷ rest) (decimal_digit 3 (omega arith)))
+    ]
+
+pub layer_word_none : (word : List ℕ) (n : ℕ) → (word ≡ codes "1" → ⊥) → (word ≡ codes "2" → ⊥) → (word ≡ codes "3" → ⊥)
+    → IsTrue (is_layer_number n) → word ≡ decimal n → ⊥
+layer_word_none word n one two three is e =
+    elim (layer_cases n is) [
+      | inl a ↦ one (e ∙ ap (λ (x : ℕ). decimal x) a ∙ decimal_digit 1 (omega arith))
+      | inr (inl b) ↦ two (e ∙ ap (λ (x : ℕ). decimal x) b ∙ decimal_digit 2 (omega arith))
+      | inr (inr c) ↦ three (e ∙ ap (λ (x : ℕ). decimal x) c ∙ decimal_digit 3 (omega arith))
+    ]
+
+pub upper_word_none : (word : List ℕ) (n : ℕ) → (word ≡ codes "2" → ⊥) → (word ≡ codes "3" → ⊥)
+    → IsTrue (is_upper n) → word ≡ decimal n → ⊥
+upper_word_none word n two three is e =
+    elim (upper_cases n is) [
+      | inl b ↦ two (e ∙ ap (λ (x : ℕ). decimal x) b ∙ decimal_digit 2 (omega arith))
+      | inr c ↦ three (e ∙ ap (λ (x : ℕ). decimal x) c ∙ decimal_digit 3 (omega arith))
+    ]
+
+pub layer_front : (text rest : List ℕ) (n : ℕ) → n < 10 → text ≡ (48 + n) ∷ 32 ∷ rest → text ≡ decimal n ++ 32 ∷ rest
+layer_front text rest n small e = e ∙ ap (λ (x : List ℕ). x ++ 32 ∷ rest) (sym (decimal_digit n small))
+
+-- ---- hexadecimal words
+
+pub array_none : (word bytes out : List ℕ) (n m : ℕ) (r : Result (Unit {0}) FromHexError) (e : FromHexError) → r ≡ Err e → 0 < n → m ≡ n
+    → MatchResult (decode_sized word m) (λ read. (r ≡ Ok tt) × (out ≡ read)) (λ f. r ≡ Err f)
+    → length bytes ≡ n → IsHex word bytes → ⊥
+array_none word bytes out n m r e was some room gives sized (inl dash) = omega (arith, some, sized, ap length dash.1)
+array_none word bytes out n m r e was some room gives sized (inr digits) =
+    let twice = (decode_of-ok word bytes digits.1).2 in
+    let read = decode_sized-twice word m (omega (arith, twice, sized, room)) ∙ digits.1 in
+    let found = subst (λ (x : Result (List ℕ) FromHexError). MatchResult x (λ (y : List ℕ). (r ≡ Ok tt) × (out ≡ y)) (λ (f : FromHexError). r ≡ Err f)) read gives in
+    let wrong = found.0 in
+    cc
+
+-- ---- an error that is passed on
+
+passed_at : {A B : Type 0} (Is : A → Type 0) (Was : B → Type 0) (e : NotSaid) → ((a : A) → Is a → (b : B) × Was b) → Finds {A = B} Was (Err e) → Finds {A = A} Is (Err e)
+passed_at {A} {B} Is Was why.Form back found = λ a is. let b = back a is in found b.0 b.1
+passed_at {A} {B} Is Was why.NoMemory back found = tt
+
+-- where a part is not read, the whole is not
+pub passed : {A B : Type 0} (Is : A → Type 0) (Was : B → Type 0) (r : Result A NotSaid) (e f : NotSaid) → r ≡ Err f → f ≡ e
+    → ((a : A) → Is a → (b : B) × Was b) → Finds {A = B} Was (Err e) → Finds Is r
+passed {A} {B} Is Was r e f was same_error back found =
+    let whole : r ≡ Err e = cc in
+    subst (λ (x : Result A NotSaid). Finds Is x) (sym whole) (passed_at {A = A} {B = B} Is Was e back found)
+
+-- the last word, where a line ends in it
+pub word_of : (line word words : List ℕ) (front : List ℕ) → line ≡ front ++ word → line ≡ front ++ words → word ≡ words
+word_of line word words front e f = append_cancel_left front word words (sym e ∙ f)
+
+pub hex_word : (front line word bytes : List ℕ) → line ≡ front ++ word → (other : List ℕ) → IsHex other bytes → line ≡ front ++ other → IsHex word bytes
+hex_word front line word bytes e other is f = subst (λ (x : List ℕ). IsHex x bytes) (word_of line other word front f e) is
+
+-- ---- targets
+
+-- no target says other words
+pub demand_none : (words : List ℕ) (t : Target) → ((x : List ℕ) → words ≡ codes "serial " ++ x → ⊥) → ((x : List ℕ) → words ≡ codes "length " ++ x → ⊥)
+    → ((x : List ℕ) → words ≡ codes "owner " ++ x → ⊥) → ((x : List ℕ) → words ≡ codes "code " ++ x → ⊥) → SaysTarget (codes "target " ++ words) t → ⊥
+demand_none words (target.Serial serial) a b c d says = a says.1.0 (append_cancel_left (codes "target ") words (codes "serial " ++ says.1.0) says.1.2)
+demand_none words (target.Length n) a b c d says = b (decimal n) (append_cancel_left (codes "target ") words (codes "length " ++ decimal n) says.1)
+demand_none words (target.Owner layer hash) a b c d says =
+    c (decimal layer ++ 32 ∷ says.2.0) (append_cancel_left (codes "target ") words (codes "owner " ++ decimal layer ++ 32 ∷ says.2.0) says.2.2)
+demand_none words (target.Code layer hash) a b c d says =
+    d (decimal layer ++ 32 ∷ says.2.0) (append_cancel_left (codes "target ") words (codes "code " ++ decimal layer ++ 32 ∷ says.2.0) says.2.2)
+
+-- a target's line begins with its word
+pub target_word : (line : List ℕ) (t : Target) → SaysTarget line t → (words : List ℕ) × (line ≡ codes "target " ++ words)
+target_word line (target.Serial serial) says = (codes "serial " ++ says.1.0, says.1.2)
+target_word line (target.Length n) says = (codes "length " ++ decimal n, says.1)
+target_word line (target.Owner layer hash) says = (codes "owner " ++ decimal layer ++ 32 ∷ says.2.0, says.2.2)
+target_word line (target.Code layer hash) says = (codes "code " ++ decimal layer ++ 32 ∷ says.2.0, says.2.2)
+
+-- two letters of a line, from a place on
+abbrev pub letters_at : ℕ → List ℕ → ℕ
+letters_at n line = 256 * get_or line n 0 + get_or line (n + 1) 0
+
+abbrev target_letters : Target → ℕ
+target_letters (target.Serial serial) = letters_at 0 (codes "serial")
+target_letters (target.Length n) = letters_at 0 (codes "length")
+target_letters (target.Owner layer hash) = letters_at 0 (codes "owner")
+target_letters (target.Code layer hash) = letters_at 0 (codes "code")
+
+says_letters : (line : List ℕ) (t : Target) → SaysTarget line t → letters_at 7 line ≡ target_letters t
+says_letters line (target.Serial serial) says = ap (letters_at 7) says.1.2
+says_letters line (target.Length n) says = ap (letters_at 7) says.1
+says_letters line (target.Owner layer hash) says = ap (letters_at 7) says.2.2
+says_letters line (target.Code layer hash) says = ap (letters_at 7) says.2.2
+
+-- a layer, a space, and the word of a hash
+pub record IsHashed (words : List ℕ) : Type 0 where
+  pub layer : ℕ
+  pub hash : List ℕ
+  pub word : List ℕ
+  pub numbered : IsTrue (is_layer_number layer)
+  pub sized : length hash ≡ 32
+  pub spelled : IsHex word hash
+  pub whole : words ≡ decimal layer ++ 32 ∷ word
+
+pub owner_parts : (words : List ℕ) (t : Target) → SaysTarget (codes "target owner " ++ words) t → IsHashed words
+owner_parts words (target.Owner layer hash) says = record {
+  layer = layer;
+  hash = hash;
+  word = says.2.0;
+  numbered = says.0;
+  sized = says.1;
+  spelled = says.2.1;
+  whole = append_cancel_left (codes "target owner ") words (decimal layer ++ 32 ∷ says.2.0) says.2.2;
+}
+owner_parts words t says = absurd (omega (arith, says_letters (codes "target owner " ++ words) t says))
+
+pub code_parts : (words : List ℕ) (t : Target) → SaysTarget (codes "target code " ++ words) t → IsHashed words
+code_parts words (target.Code layer hash) says = record {
+  layer = layer;
+  hash = hash;
+  word = says.2.0;
+  numbered = says.0;
+  sized = says.1;
+  spelled = says.2.1;
+  whole = append_cancel_left (codes "target code ") words (decimal layer ++ 32 ∷ says.2.0) says.2.2;
+}
+code_parts words t says = absurd (omega (arith, says_letters (codes "target code " ++ words) t says))
+
+pub serial_parts : (word : List ℕ) (t : Target) → SaysTarget (codes "target serial " ++ word) t → (serial : List ℕ) × (length serial ≡ 16) × IsHex word serial
+serial_parts word (target.Serial serial) says =
+    (serial, says.0, hex_word (codes "target serial ") (codes "target serial " ++ word) word serial refl says.1.0 says.1.1 says.1.2)
+serial_parts word t says = absurd (omega (arith, says_letters (codes "target serial " ++ word) t says))
+
+pub length_parts : (word : List ℕ) (t : Target) → SaysTarget (codes "target length " ++ word) t → (n : ℕ) × IsNumber number_limit word n
+length_parts word (target.Length n) says = (n, (append_cancel_left (codes "target length ") word (decimal n) says.1, says.0))
+length_parts word t says = absurd (omega (arith, says_letters (codes "target length " ++ word) t says))
+
+pub numbered_fits : (n : ℕ) → IsTrue (is_layer_number n) → n < 2 ^ 64
+numbered_fits n numbered = grind (arith, numbered)
+
+-- one layer and one word stand there
+pub layered_same : (words a b : List ℕ) (m n : ℕ) → IsTrue (is_layer_number m) → IsTrue (is_layer_number n) → words ≡ decimal m ++ 32 ∷ a
+    → words ≡ decimal n ++ 32 ∷ b → (m ≡ n) × (a ≡ b)
+layered_same words a b m n im jn e f = number_front m n a b (numbered_fits m im) (numbered_fits n jn) (sym e ∙ f)
+
+pub hash_none : (words word : List ℕ) (n : ℕ) → IsTrue (is_layer_number n) → words ≡ decimal n ++ 32 ∷ word
+    → ((hash : List ℕ) → (length hash ≡ 32) × IsHex word hash → ⊥) → IsHashed words → ⊥
+hash_none words word n is e none hashed =
+    let parts = layered_same words word hashed.word n hashed.layer is hashed.numbered e hashed.whole in
+    none hashed.hash (hashed.sized, subst (λ (x : List ℕ). IsHex x hashed.hash) (sym parts.1) hashed.spelled)
+
+pub upper_numbered : (n : ℕ) → IsTrue (is_upper n) → IsTrue (is_layer_number n)
+upper_numbered n is = grind (arith, is)
+
+pub numbered_upper : (n : ℕ) → IsTrue (is_layer_number n) → n ≢ 1 → IsTrue (is_upper n)
+numbered_upper n is not_one = grind (arith, is, not_one)
+
+-- ---- kinds of keys
+
+pub kind_word_same : (j k : KeyKind) → kind_word j ≡ kind_word k → j ≡ k
+kind_word_same kinds.Epoch kinds.Epoch e = refl
+kind_word_same kinds.Epoch kinds.Configuration e = absurd (omega (arith, ap length e))
+kind_word_same kinds.Configuration kinds.Epoch e = absurd (omega (arith, ap length e))
+kind_word_same kinds.Configuration kinds.Configuration e = refl

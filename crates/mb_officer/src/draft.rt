@@ -1,0 +1,348 @@
+//! The draft of an order, read line by line.
+
+ghost use Rattle.std.specs.Prelude.{◌≡◌, ◌≤◌, ◌∷◌, ◌++◌, [], List, length, codes, IsTrue, IfOk, MatchOption, None, Some};
+ghost use Rattle.std.specs.Fmt.{decimal};
+ghost use Rattle.mb_model.specs.Layers.{is_upper};
+ghost use Rattle.mb_model.specs.Drafts.{kind_word};
+ghost use Rattle.mb_model.specs.OrderFormat.{order_format};
+ghost use Rattle.mb_officer.specs.Drafting.{FindsSome, SplitsLine, IsHeading, load_act, drafted, IsSound, SaysRest, TellsNext, AddsTarget, IsFirst, ReadsDraft};
+
+use crate::words::{
+    NotSaid, behind, read_code, read_layer, read_owner, read_target, read_trust, read_version,
+    split_layer,
+};
+use mb_model::{
+    Act, Bytes, Countersignatures, KeyKind, NoMemory, Order, PublicKey, Target, Targets, Trust,
+};
+use std::alloc::Global;
+
+/// The most targets of an order.
+const MOST_TARGETS: usize = 8;
+
+/// Why a draft was not read.
+#[derive(Clone, Copy, Debug, PartialEq, Eq)]
+pub enum DraftEnd {
+    /// A line is not in the grammar, or the text ends too early.
+    BadLine {
+        /// The number of the first such line, from 1, or of the line after the last.
+        line: u32,
+    },
+    /// Memory was wanted and not found.
+    NoMemory,
+}
+
+/// Which of the two loads is ordered.
+#[derive(Clone, Copy, Debug, PartialEq, Eq)]
+pub(crate) enum Loading {
+    Ordinary,
+    Emergency,
+}
+
+/// What a first line orders.
+#[derive(Clone, Copy, Debug, PartialEq, Eq)]
+pub(crate) enum Kind {
+    Establish,
+    Surrender,
+    Load(Loading),
+    NewKey(KeyKind),
+}
+
+/// What the lines so far say, besides the targets.
+#[derive(Drop)]
+pub(crate) enum Said {
+    /// No line was read.
+    Nothing,
+    /// What is ordered of which layer.
+    Heading {
+        kind: Kind,
+        layer: u8,
+    },
+    /// And the new owner.
+    Owner {
+        layer: u8,
+        owner: PublicKey,
+    },
+    /// And the version of the code.
+    Version {
+        loading: Loading,
+        layer: u8,
+        version: u32,
+    },
+    /// And the trust.
+    Trust {
+        loading: Loading,
+        layer: u8,
+        version: u32,
+        trust: Trust,
+    },
+    /// All that is ordered.
+    All {
+        layer: u8,
+        act: Act,
+    },
+}
+
+/// The order that a draft says, with a signature of no bytes and without countersignatures. The text has at most
+/// 4,194,304 bytes.
+///
+/// Errors: `BadLine` with the first line that is not in the grammar, or with the line after the last where the text ends
+/// too early, and `NoMemory`.
+pub fn read_draft(alloc: Global, text: &[u8]) -> Result<Order, DraftEnd>
+    requires { length text.now ≤ 4194304 }
+    ensures read { ReadsDraft text.now result }
+    ensures spelled { IfOk result (λ order. order_format.Allowed order) }
+{
+    let mut said = Said::Nothing;
+    let mut targets = Targets::new(alloc);
+    let mut number: u32 = 1;
+    let mut rest = text;
+    while !rest.is_empty() {
+        let (line, later) = split_line(rest);
+        match read_line(alloc, said, &mut targets, line) {
+            Ok(next) => said = next,
+            Err(NotSaid::Form) => return Err(DraftEnd::BadLine { line: number }),
+            Err(NotSaid::NoMemory) => return Err(DraftEnd::NoMemory),
+        }
+        number += 1;
+        rest = later;
+    }
+    match finish(alloc, said, targets) {
+        Some(order) => Ok(order),
+        None => Err(DraftEnd::BadLine { line: number }),
+    }
+}
+
+/// The first line without its LF, and what stands behind that.
+fn split_line(text: &[u8]) -> (&[u8], &[u8])
+    ensures { SplitsLine text.now result.0.now result.1.now }
+{
+    match text.iter().position(|byte| *byte == b'\n') {
+        Some(at) => (&text[..at], &text[at + 1..]),
+        None => (text, &[]),
+    }
+}
+
+/// The order, where nothing is left to be said.
+fn finish(alloc: Global, said: Said, targets: Targets) -> Option<Order>
+    requires { IsSound said targets }
+    ensures { FindsSome (SaysRest said targets []) result }
+{
+    match said {
+        Said::Heading { kind, layer } => match kind {
+            Kind::Surrender => Some(unsigned(alloc, layer, targets, Act::Surrender)),
+            Kind::NewKey(kind) => Some(unsigned(alloc, layer, targets, Act::NewKey { kind })),
+            Kind::Establish => None,
+            Kind::Load(_) => None,
+        },
+        Said::All { layer, act } => Some(unsigned(alloc, layer, targets, act)),
+        Said::Nothing => None,
+        Said::Owner { .. } => None,
+        Said::Version { .. } => None,
+        Said::Trust { .. } => None,
+    }
+}
+
+/// The order that nobody has signed yet.
+fn unsigned(alloc: Global, layer: u8, targets: Targets, act: Act) -> Order
+    ensures { result ≡ drafted layer targets act }
+{
+    Order {
+        layer,
+        targets,
+        act,
+        signature: Bytes::from_vec(Vec::new(alloc)),
+        countersignatures: Countersignatures::new(alloc),
+    }
+}
+
+/// What the lines say with one more.
+fn read_line(alloc: Global, said: Said, targets: &mut Targets, line: &[u8]) -> Result<Said, NotSaid>
+    requires { IsSound said targets.old }
+    ensures { TellsNext said targets.old line.now result targets.new }
+{
+    match said {
+        Said::Nothing => {
+            let Some((kind, layer)) = read_heading(line) else {
+                return Err(NotSaid::Form);
+            };
+            Ok(Said::Heading { kind, layer })
+        }
+        Said::Heading { kind, layer } => match read_target(line) {
+            Some(target) => add_target(kind, layer, targets, target),
+            None => read_first(kind, layer, line).ok_or(NotSaid::Form),
+        },
+        Said::Owner { layer, owner } => end_establish(layer, owner, line),
+        Said::Version {
+            loading,
+            layer,
+            version,
+        } => trust_load(loading, layer, version, line),
+        Said::Trust {
+            loading,
+            layer,
+            version,
+            trust,
+        } => {
+            let code = read_code(alloc, line)?;
+            let act = load_of(loading, version, trust, code);
+            Ok(Said::All { layer, act })
+        }
+        Said::All { .. } => Err(NotSaid::Form),
+    }
+}
+
+/// All of an establish, where the line says the trust.
+fn end_establish(layer: u8, owner: PublicKey, line: &[u8]) -> Result<Said, NotSaid>
+    ensures { (targets : List Target) → IsSound (Said.Owner layer owner) targets → TellsNext (Said.Owner layer owner) targets line.now result targets }
+{
+    match read_trust(line) {
+        Some(trust) => Ok(Said::All {
+            layer,
+            act: Act::Establish { owner, trust },
+        }),
+        None => Err(NotSaid::Form),
+    }
+}
+
+/// A load with its trust, where the line says it.
+fn trust_load(loading: Loading, layer: u8, version: u32, line: &[u8]) -> Result<Said, NotSaid>
+    ensures { (targets : List Target) → IsSound (Said.Version loading layer version) targets → TellsNext (Said.Version loading layer version) targets line.now result targets }
+{
+    match read_trust(line) {
+        Some(trust) => Ok(Said::Trust {
+            loading,
+            layer,
+            version,
+            trust,
+        }),
+        None => Err(NotSaid::Form),
+    }
+}
+
+/// One target more, where there is room for it.
+fn add_target(kind: Kind, layer: u8, targets: &mut Targets, target: Target) -> Result<Said, NotSaid>
+    ensures { AddsTarget kind layer targets.old target result targets.new }
+{
+    if targets.as_slice().len() == MOST_TARGETS {
+        return Err(NotSaid::Form);
+    }
+    targets.push(target)?;
+    Ok(Said::Heading { kind, layer })
+}
+
+/// What the first line behind the targets says.
+fn read_first(kind: Kind, layer: u8, line: &[u8]) -> Option<Said>
+    ensures { FindsSome (IsFirst kind layer line.now) result }
+{
+    match kind {
+        Kind::Establish => match read_owner(line) {
+            Some(owner) => Some(Said::Owner { layer, owner }),
+            None => None,
+        },
+        Kind::Load(loading) => match read_version(line) {
+            Some(version) => Some(Said::Version {
+                loading,
+                layer,
+                version,
+            }),
+            None => None,
+        },
+        Kind::Surrender => None,
+        Kind::NewKey(_) => None,
+    }
+}
+
+/// The load of this kind.
+fn load_of(loading: Loading, version: u32, trust: Trust, code: Bytes) -> Act
+    ensures { result ≡ load_act loading version trust code }
+{
+    match loading {
+        Loading::Ordinary => Act::Load {
+            version,
+            trust,
+            code,
+        },
+        Loading::Emergency => Act::Emergency {
+            version,
+            trust,
+            code,
+        },
+    }
+}
+
+/// What a draft's first line orders, and of which layer.
+fn read_heading(line: &[u8]) -> Option<(Kind, u8)>
+    ensures { FindsSome (λ heading. IsHeading line.now heading.0 heading.1) result }
+{
+    let Some(words) = behind(line, b"order ") else {
+        return None;
+    };
+    if let Some(word) = behind(words, b"establish ") {
+        return with_layer(Kind::Establish, read_upper(word));
+    }
+    if let Some(word) = behind(words, b"surrender ") {
+        return with_layer(Kind::Surrender, read_upper(word));
+    }
+    if let Some(word) = behind(words, b"load ") {
+        return with_layer(Kind::Load(Loading::Ordinary), read_layer(word));
+    }
+    if let Some(word) = behind(words, b"emergency ") {
+        return with_layer(Kind::Load(Loading::Emergency), read_upper(word));
+    }
+    match behind(words, b"newkey ") {
+        Some(words) => read_key(words),
+        None => None,
+    }
+}
+
+/// What is ordered, with the layer that was found.
+fn with_layer(kind: Kind, layer: Option<u8>) -> Option<(Kind, u8)>
+    ensures { MatchOption layer (result ≡ None) (λ n. result ≡ Some (kind, n)) }
+{
+    match layer {
+        Some(layer) => Some((kind, layer)),
+        None => None,
+    }
+}
+
+/// The layer, 2 or 3, that the word is.
+fn read_upper(word: &[u8]) -> Option<u8>
+    ensures { FindsSome (λ layer. IsTrue (is_upper layer) × (word.now ≡ decimal layer)) result }
+{
+    if word == b"2".as_slice() {
+        Some(2)
+    } else if word == b"3".as_slice() {
+        Some(3)
+    } else {
+        None
+    }
+}
+
+/// What a new key's first line orders, and of which layer, 2 or 3.
+fn read_key(words: &[u8]) -> Option<(Kind, u8)>
+    ensures { FindsSome (λ heading. IsHeading (codes "order newkey " ++ words.now) heading.0 heading.1) result }
+{
+    let Some((layer, word)) = split_layer(words) else {
+        return None;
+    };
+    if layer == 1 {
+        return None;
+    }
+    match read_kind(word) {
+        Some(kind) => Some((Kind::NewKey(kind), layer)),
+        None => None,
+    }
+}
+
+/// The kind of key that the word is.
+fn read_kind(word: &[u8]) -> Option<KeyKind>
+    ensures { FindsSome (λ kind. word.now ≡ kind_word kind) result }
+{
+    if word == b"epoch".as_slice() {
+        Some(KeyKind::Epoch)
+    } else if word == b"configuration".as_slice() {
+        Some(KeyKind::Configuration)
+    } else {
+        None
+    }
+}

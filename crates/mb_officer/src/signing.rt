@@ -1,0 +1,186 @@
+//! Orders signed and countersigned by an officer's key.
+
+ghost use Rattle.std.specs.Prelude.{◌≡◌, ◌≢◌, ◌↔◌, ◌<◌, ◌≤◌, ◌++◌, ◌∷◌, [], List, length, All, IfOk, OnOk, OnErr, IsErrOf, IsTrue};
+ghost use Rattle.mb_model.specs.Layers.{is_upper};
+ghost use Rattle.mb_model.specs.OrderFormat.{order_body, order_format};
+ghost use Rattle.mb_model.specs.Signing.{signature_of};
+ghost use Rattle.mb_officer.specs.Signed.{used_once, signed_order, countersigned_order, with_countersignature, is_load, IsCountersignable};
+
+use crate::keyfile::NONE_LEFT;
+use mb_command::{body_length, write_order};
+use mb_model::{Act, Bytes, Countersignature, Countersignatures, Keyfile, NoMemory, Order};
+use mb_signer::{Uses, sign, take_index};
+use std::alloc::Global;
+
+/// What the text begins with that the owner in charge signs.
+const ORDER: u8 = 1;
+
+/// What the text begins with that the owner of a higher layer signs.
+const COUNTERSIGNATURE: u8 = 2;
+
+/// Why nothing was signed. Key and order are then as before.
+#[derive(Clone, Copy, Debug, PartialEq, Eq)]
+pub enum SignEnd {
+    /// The key has no index left.
+    Spent,
+    /// The order is no load, the layer is not above the order's, or that layer's countersignature is there.
+    NotCountersignable,
+    /// Memory was wanted and not found.
+    NoMemory,
+}
+
+impl From<NoMemory> for SignEnd {
+    ghost use Rattle.mb_officer.specs.declared.signing.SignEnd.TheVariants as end;
+
+    ghost from_gives = { λ _ e. e ≡ end.NoMemory };
+
+    fn from(_error: NoMemory) -> SignEnd {
+        SignEnd::NoMemory
+    }
+}
+
+/// Signs the order by the key, in place of the signature that it has, and answers the index of the signature. The order
+/// has a spelling, and the key's next index is at most 32.
+///
+/// Errors: `Spent` exactly where the next index is 32, and `NoMemory`.
+pub fn sign_order(alloc: Global, k: &mut Keyfile, order: &mut Order) -> Result<u32, SignEnd>
+    requires next { k.old.next ≤ 32 }
+    requires spelled { order_format.Allowed order.old }
+    ensures signed { IfOk result (λ index. (index ≡ k.old.next) × (k.new ≡ used_once k.old) × (order.new ≡ signed_order k.old order.old)) }
+    ensures spelled { OnOk result (order_format.Allowed order.new) }
+    ensures spent { IsErrOf result SignEnd.Spent ↔ (k.old.next ≡ 32) }
+    ensures countersignable { IsErrOf result SignEnd.NotCountersignable → ⊥ }
+    ensures unchanged { OnErr result ((k.new ≡ k.old) × (order.new ≡ order.old)) }
+{
+    if k.next == NONE_LEFT {
+        return Err(SignEnd::Spent);
+    }
+    let body = body_of(alloc, order)?;
+    let room = signature_room(alloc)?;
+    order.signature = signature_at(k, &[ORDER], body.as_slice(), room);
+    Ok(use_up(k))
+}
+
+/// Adds the countersignature by the key of the owner of the layer, 2 or 3, in its place by layers, and answers the index
+/// of the signature. The order has a spelling, and the key's next index is at most 32.
+///
+/// Errors: `NotCountersignable` exactly where the order is no load, the layer is not above the order's, or that layer's
+/// countersignature is there; else `Spent` exactly where the next index is 32; and `NoMemory`.
+pub fn countersign(
+    alloc: Global,
+    k: &mut Keyfile,
+    layer: u8,
+    order: &mut Order,
+) -> Result<u32, SignEnd>
+    requires next { k.old.next ≤ 32 }
+    requires spelled { order_format.Allowed order.old }
+    requires layer { IsTrue (is_upper layer) }
+    ensures signed { IfOk result (λ index. (index ≡ k.old.next) × (k.new ≡ used_once k.old) × (order.new ≡ countersigned_order k.old layer order.old)) }
+    ensures spelled { OnOk result (order_format.Allowed order.new) }
+    ensures countersignable { IsErrOf result SignEnd.NotCountersignable ↔ (IsCountersignable order.old layer → ⊥) }
+    ensures spent { IsErrOf result SignEnd.Spent ↔ (IsCountersignable order.old layer × (k.old.next ≡ 32)) }
+    ensures unchanged { OnErr result ((k.new ≡ k.old) × (order.new ≡ order.old)) }
+{
+    if !is_countersignable(order, layer) {
+        return Err(SignEnd::NotCountersignable);
+    }
+    if k.next == NONE_LEFT {
+        return Err(SignEnd::Spent);
+    }
+    let body = body_of(alloc, order)?;
+    let empty = Bytes::from_vec(Vec::new(alloc));
+    let own_room = signature_room(alloc)?;
+    order.countersignatures.push(Countersignature {
+        layer,
+        signature: empty,
+    })?;
+    let signature = signature_at(k, &[COUNTERSIGNATURE, layer], body.as_slice(), own_room);
+    put_in_place(
+        &mut order.countersignatures,
+        Countersignature { layer, signature },
+    );
+    Ok(use_up(k))
+}
+
+/// Uses up the key's next index, which is told.
+fn use_up(k: &mut Keyfile) -> u32
+    requires { k.old.next ≤ 31 }
+    ensures index { result ≡ k.old.next }
+    ensures used { k.new ≡ used_once k.old }
+{
+    let index = k.next;
+    k.next = index + 1;
+    index
+}
+
+/// Whether the owner of the layer may countersign the order.
+fn is_countersignable(order: &Order, layer: u8) -> bool
+    ensures { IsTrue result ↔ IsCountersignable order.now layer }
+{
+    if !is_load(&order.act) || order.layer >= layer {
+        return false;
+    }
+    order
+        .countersignatures
+        .as_slice()
+        .iter()
+        .all(|other| other.layer != layer)
+}
+
+/// Whether the order is an ordinary load or an emergency load.
+fn is_load(act: &Act) -> bool
+    ensures { result ≡ is_load act.now }
+{
+    matches!(act, Act::Load { .. } | Act::Emergency { .. })
+}
+
+/// Puts the countersignature among those before the last, which it replaces; they are at most one, of another layer.
+fn put_in_place(list: &mut Countersignatures, countersignature: Countersignature)
+    requires some { 0 < length list.old }
+    requires most { length list.old ≤ 2 }
+    ensures { (before : List Countersignature) (place : Countersignature) → list.old ≡ before ++ place ∷ [] → All (λ other. other.layer ≢ countersignature.layer) before → list.new ≡ with_countersignature countersignature before }
+{
+    let last = list.as_slice().len() as u32 - 1;
+    if last > 0 && list.as_slice()[0].layer > countersignature.layer {
+        let later = list.set(0, countersignature);
+        list.set(last, later);
+    } else {
+        list.set(last, countersignature);
+    }
+}
+
+/// The body of the order, the part that its owners sign.
+fn body_of(alloc: Global, order: &Order) -> Result<Bytes, NoMemory>
+    requires { order_format.Allowed order.now }
+    ensures { IfOk result (λ body. body ≡ order_body order.now) }
+{
+    let mut spelling = Vec::new(alloc);
+    write_order(order, &mut spelling)?;
+    spelling.truncate(body_length(order) as usize);
+    Ok(Bytes::from_vec(spelling))
+}
+
+/// Room for a signature.
+fn signature_room(alloc: Global) -> Result<Vec<u8>, NoMemory>
+    ensures { IfOk result (λ room. length room.items ≡ 2348) }
+{
+    Ok(Vec::from_slice(alloc, &[0; 2348])?)
+}
+
+/// The signature of the head and the body by the key, at its next index, in the room for it.
+fn signature_at(k: &Keyfile, head: &[u8], body: &[u8], room: Vec<u8>) -> Bytes
+    requires next { k.now.next ≤ 31 }
+    requires room { length room.items ≡ 2348 }
+    ensures signature { result ≡ signature_of k.now.seed k.now.next (head.now ++ body.now) }
+    ensures length { length result ≡ 2348 }
+{
+    let mut room = room;
+    let mut uses = Uses::stored(k.next);
+    let Some(right) = take_index(&mut uses) else {
+        unreachable!();
+    };
+    let mut signature = [0; 2348];
+    sign(right, &k.seed, head, body, &mut signature);
+    room.copy_from_slice(&signature);
+    Bytes::from_vec(room)
+}
