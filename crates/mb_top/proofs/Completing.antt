@@ -1,5 +1,5 @@
 -- From a command to what its words say; and that a command is done where all is well.
-use Rattle.std.proofs.Common.{◌≡◌, ◌⊎◌, ℕ, List, [], codes, length, Option, Some, Result, Ok, Err, refl, sym, ◌∙◌, ap, subst, inl, inr, arith}
+use Rattle.std.proofs.Common.{◌≡◌, ◌⊎◌, ℕ, List, [], length, Option, Some, Result, Ok, Err, sym, ◌∙◌, ap, subst, inl, inr, arith}
 use Rattle.mb_model.specs.declared.event.Answered.{Answered}
 use Rattle.mb_model.specs.declared.role.Role.{Role}
 use Rattle.mb_model.specs.declared.role.Role.TheVariants.{Image, Script, Noise, Key, Public}

@@ -1,5 +1,5 @@
 -- From what the parts of a command did to what the command did.
-use Rattle.std.proofs.Common.{◌≡◌, ℕ, List, ◌++◌, map, take, codes, Result, Ok, Err, OnOk, IfErr, refl, sym, ◌∙◌, ap, subst, arith, length-append}
+use Rattle.std.proofs.Common.{◌≡◌, ℕ, List, map, take, codes, Result, Ok, Err, OnOk, IfErr, refl, sym, ◌∙◌, ap, subst, arith, length-append}
 use Rattle.std.proofs.lemmas.List.{take-append-le}
 use Rattle.mb_model.specs.declared.first.FirstState.{FirstState}
 use Rattle.mb_model.specs.declared.event.Answered.{Answered}
@@ -7,13 +7,13 @@ use Rattle.mb_model.specs.declared.role.Role.{Role}
 use Rattle.mb_model.specs.FirstPath.{StandsFor, IsSectorOf, FirstRun, first_sector}
 use Rattle.mb_model.specs.Texts.{ended}
 use Rattle.mb_model.specs.FirstTexts.{printed_lines}
-use Rattle.mb_model.specs.Outside.{Outside, AfterRead, AfterPrint, HasRisen, HoldsTooMuch, ReadFails}
+use Rattle.mb_model.specs.Outside.{Outside, AfterRead, HasRisen, HoldsTooMuch, ReadFails}
 use Rattle.mb_model.specs.Board.{Memory, Ledger, IsLoaded, image_of, loaded}
 use Rattle.mb_model.specs.Commands.{PrintsLine}
 use Rattle.mb_model.specs.FirstCommand.{Names, HasNoForm, HasInputsBefore, IsFormless, HasServed, RunEnds, done, too_long, formless, not_read, not_written, not_printed, no_memory, name_of}
 use Rattle.mb_top.specs.declared.end.End.{End}
 use Rattle.mb_top.specs.declared.end.End.TheVariants as end
-use Rattle.mb_top.specs.Ending.{Leads, end_line, end_status}
+use Rattle.mb_top.specs.Ending.{Leads, end_line}
 use Rattle.mb_top.specs.Running.{InputEnds, LoadEnds, HasLoaded, WriteEnds, HasWritten}
 use Rattle.mb_top.proofs.Outsides.{holds_too_much-before, has_no_form-before, has_risen-later, read_fails-before, read_fails-after_print, other_files_stay-before, others-after_print, holds-after_print, prints-before, prints-more, line-before, line_in_part, files-after_line, after_read-same, after_read-more, after_read-printed, after_read-write_faults}
 

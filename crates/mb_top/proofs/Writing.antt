@@ -1,5 +1,5 @@
 -- Outputs written one after another, and what is printed behind them.
-use Rattle.std.proofs.Common.{◌≡◌, ◌≢◌, ℕ, ◌⊎◌, ◌+◌, ◌<◌, ◌≤◌, Bool, true, false, List, [], ◌∷◌, ◌++◌, codes, length, take, drop, get_or, map, Option, Some, if◌then◌else◌, Result, Ok, Err, OnOk, OnErr, IfErr, refl, sym, ◌∙◌, ap, subst, inl, inr, arith}
+use Rattle.std.proofs.Common.{◌≡◌, ◌≢◌, ℕ, ◌⊎◌, ◌+◌, ◌<◌, Bool, true, false, List, [], ◌∷◌, ◌++◌, codes, length, take, drop, get_or, map, Option, Some, if◌then◌else◌, Ok, Err, refl, sym, ◌∙◌, ap, subst, inl, inr, arith}
 use Rattle.std.proofs.Math.Seq.{take-suc, drop-cons}
 use Rattle.std.proofs.Common.{add-one}
 use Rattle.std.proofs.lemmas.List.{take-append-drop, get_or-map, length-map}
@@ -7,8 +7,8 @@ use Rattle.mb_format.specs.Combinators.{same_bytes}
 use Rattle.mb_format.proofs.Fields.{same_bytes-true, same_bytes-refl}
 use Rattle.mb_model.specs.declared.role.Role.{Role}
 use Rattle.mb_model.specs.Texts.{ended}
-use Rattle.mb_model.specs.Outside.{Outside, HasRisen, Holds, OtherFilesStay, Prints, PrintsPart, AfterWrite, AfterPrint}
-use Rattle.mb_model.specs.Commands.{Output, PrintsLine, files_with, AreWritten, AreWrittenBut, OutputEnds, done, not_written, not_printed, Command, write, CommandEnds}
+use Rattle.mb_model.specs.Outside.{Outside, HasRisen, Holds, Prints, PrintsPart, AfterWrite, AfterPrint}
+use Rattle.mb_model.specs.Commands.{Output, PrintsLine, files_with, done, not_written, not_printed, write, CommandEnds}
 use Rattle.mb_model.specs.FirstCommand.{role_word}
 use Rattle.mb_top.specs.declared.end.End.{End}
 use Rattle.mb_top.specs.declared.end.End.TheVariants as end

@@ -1,7 +1,7 @@
 -- How the parts of a command end, before the line of its status is printed.
 use Rattle.std.specs.Prelude.{◌≡◌, ℕ, List, ◌++◌, codes, Result, Ok, Err}
 use Rattle.mb_model.specs.declared.role.Role.{Role}
-use Rattle.mb_model.specs.Outside.{Outside, AfterRead, AfterPrint, HoldsTooMuch, ReadFails}
+use Rattle.mb_model.specs.Outside.{Outside, AfterPrint, HoldsTooMuch, ReadFails}
 use Rattle.mb_model.specs.Commands.{PrintsLine}
 use Rattle.mb_model.specs.FirstCommand.{role_word}
 use Rattle.mb_top.specs.declared.end.End.{End}

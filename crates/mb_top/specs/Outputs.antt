@@ -1,5 +1,5 @@
 -- What has become of the outputs of a command, before its text or the line of its status is printed.
-use Rattle.std.specs.Prelude.{◌≡◌, ℕ, ◌≤◌, List, ◌∷◌, ◌++◌}
+use Rattle.std.specs.Prelude.{◌≡◌, ◌≤◌, List, ◌∷◌, ◌++◌}
 use Rattle.mb_model.specs.declared.role.Role.{Role}
 use Rattle.mb_model.specs.Outside.{Outside, HasRisen}
 use Rattle.mb_model.specs.Commands.{AreWritten, AreWrittenBut, Output as Written}
