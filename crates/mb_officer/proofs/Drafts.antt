@@ -1,5 +1,5 @@
 -- A whole draft: where it may end, and which line is the first that is wrong.
-use Rattle.std.proofs.Common.{◌≡◌, ℕ, ◌+◌, ◌≤◌, inl, inr, List, [], ◌∷◌, ◌++◌, length, refl, sym, ap, subst, ◌∙◌, arith, append_assoc, length-append, replicate}
+use Rattle.std.proofs.Common.{◌≡◌, ℕ, ◌+◌, ◌<◌, ◌≤◌, inl, inr, List, [], ◌∷◌, ◌++◌, length, refl, sym, ap, subst, ◌∙◌, arith, append_assoc, length-append, replicate}
 use Rattle.std.specs.Prelude.{codes}
 use Rattle.std.specs.List.{AllZip}
 use Rattle.std.specs.Fmt.{decimal}
@@ -18,14 +18,16 @@ use Rattle.mb_model.specs.Lines.{HasLines, spaced, Begins, bad, short, Reads, Te
 use Rattle.mb_model.specs.Drafts.{SaysTarget, trust_line, order_words, SayAct, IsDraft}
 use Rattle.hex.specs.Hex.{decode_pairs}
 use Rattle.mb_model.specs.Texts.{IsHex}
-use Rattle.mb_laws.proofs.LineLemmas.{cons_none, HasLines-on, HasLines-over, HasLines-nil, HasLines-same, HasLines-always}
+use Rattle.mb_laws.proofs.LineLemmas.{cons_none, HasLines-nil, HasLines-always}
 use Rattle.mb_model.specs.declared.order.KeyKind.{KeyKind}
 use Rattle.mb_officer.specs.declared.draft.Loading.{Loading}
 use Rattle.mb_officer.specs.declared.draft.Kind.{Kind}
 use Rattle.mb_officer.specs.declared.draft.Kind.TheVariants as kind
 use Rattle.mb_officer.specs.declared.draft.Said.{Said}
 use Rattle.mb_officer.specs.declared.draft.Said.TheVariants as said
-use Rattle.mb_officer.specs.Drafting.{SplitsLine, load_act, kind_of, heading_line, drafted, IsSound, SaysTargets, SaysCode, SaysLoad, SaysOwner, SaysRest, Follows}
+use Rattle.mb_words.proofs.NextLines.{with_line}
+use Rattle.mb_words.specs.Words.{SplitsLine}
+use Rattle.mb_officer.specs.Drafting.{load_act, kind_of, heading_line, drafted, IsSound, SaysTargets, SaysCode, SaysLoad, SaysOwner, SaysRest, Follows}
 use Rattle.mb_officer.proofs.Lines.{establish_load, from_owner, from_version}
 use Rattle.mb_officer.proofs.Headings.{from_targets}
 
@@ -238,29 +240,17 @@ HasRead-start text targets none = record {
   only = λ more order says. says;
 }
 
--- a line and the lines behind it are those of what is left
-line_before : (rest line later : List ℕ) → SplitsLine rest line later → (rest ≡ [] → ⊥) → (behind : List (List ℕ)) → HasLines later behind → HasLines rest (line ∷ behind)
-line_before rest line later splits some behind has =
-    elim splits.whole [
-      | inl ends_so ↦ HasLines-on rest line later behind splits.plain ends_so has
-      | inr last ↦
-          let none = HasLines-same later behind [] has (subst (λ (x : List ℕ). HasLines x []) (sym last.1) HasLines-nil) in
-          let alone = HasLines-over line splits.plain (λ empty. some (last.0 ∙ empty)) in
-          subst (λ (x : List ℕ). HasLines x (line ∷ behind)) (sym last.0)
-          (subst (λ (x : List (List ℕ)). HasLines line (line ∷ x)) (sym none) alone)
-    ]
-
 longer : (before : List (List ℕ)) (line : List ℕ) (more : List (List ℕ)) → (before ++ line ∷ []) ++ more ≡ before ++ line ∷ more
 longer before line more = append_assoc before (line ∷ []) more
 
 pub HasRead-step : (text rest line later : List ℕ) (number next_number : ℕ) (s next : Said) (targets after : List Target) → HasRead text rest number s targets
-    → SplitsLine rest line later → (rest ≡ [] → ⊥) → Follows s targets line next after → next_number ≡ number + 1 → HasRead text later next_number next after
+    → SplitsLine rest line later → 0 < length rest → Follows s targets line next after → next_number ≡ number + 1 → HasRead text later next_number next after
 HasRead-step text rest line later number next_number s next targets after read splits some follows counts = record {
   before = read.before ++ line ∷ [];
   counted = omega (arith, counts, read.counted, length-append read.before (line ∷ []));
   lines = λ behind has.
       subst (λ (x : List (List ℕ)). HasLines text x) (sym (longer read.before line behind))
-      (read.lines (line ∷ behind) (line_before rest line later splits some behind has));
+      (read.lines (line ∷ behind) (with_line rest line later behind splits some has));
   sound = follows.sound;
   on = λ more order says.
       subst (λ (x : List (List ℕ)). IsDraft x order) (sym (longer read.before line more)) (read.on (line ∷ more) order (follows.on more order says));
@@ -274,13 +264,13 @@ begins_so text rest number s targets read =
     record { more = end.more; value = end.order; stands = read.on end.more end.order end.says }
 
 pub HasRead-bad : (text rest line later : List ℕ) (number : ℕ) (s : Said) (targets : List Target) → HasRead text rest number s targets
-    → SplitsLine rest line later → (rest ≡ [] → ⊥) → ((more : List (List ℕ)) (order : Order) → SaysRest s targets (line ∷ more) order → ⊥)
+    → SplitsLine rest line later → 0 < length rest → ((more : List (List ℕ)) (order : Order) → SaysRest s targets (line ∷ more) order → ⊥)
     → TextFailsAtLine IsDraft text number
 HasRead-bad text rest line later number s targets read splits some none =
     let behind = HasLines-always later in
     record {
       lines = read.before ++ line ∷ behind.0;
-      has = read.lines (line ∷ behind.0) (line_before rest line later splits some behind.0 behind.1);
+      has = read.lines (line ∷ behind.0) (with_line rest line later behind.0 splits some behind.1);
       fails = bad read.before line behind.0 refl (begins_so text rest number s targets read)
           (λ begins.
           none begins.more begins.value
@@ -311,19 +301,3 @@ HasRead-short text rest number s targets read none nothing = record {
       (λ order is. nothing order (read.only [] order (subst (λ (x : List (List ℕ)). IsDraft x order) (sym (append-nil read.before)) is)))
       read.counted;
 }
-
-shorter_some : (rest later : List ℕ) → length later ≡ 0 → (rest ≡ [] → ⊥) → length later + 1 ≤ length rest
-shorter_some [] later none some = absurd (some refl)
-shorter_some (byte ∷ rest) later none some = omega (arith, none)
-
--- what is left is less
-pub SplitsLine-shorter : (rest line later : List ℕ) → SplitsLine rest line later → (rest ≡ [] → ⊥) → length later + 1 ≤ length rest
-SplitsLine-shorter rest line later splits some =
-    elim splits.whole [
-      | inl ends_so ↦
-          let len = ap length ends_so ∙ length-append line (10 ∷ later) in
-          omega (arith, len)
-      | inr last ↦
-          let none = ap length last.1 in
-          shorter_some rest later none some
-    ]

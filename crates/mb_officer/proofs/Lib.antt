@@ -1,4 +1,3 @@
-pub mod Numbers
 pub mod Wording
 pub mod Headings
 pub mod Lines

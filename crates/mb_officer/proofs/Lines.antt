@@ -22,8 +22,8 @@ use Rattle.std.proofs.lemmas.Fmt.{decimal_injective}
 use Rattle.mb_model.proofs.KeyLemmas.{key_bytes-same}
 use Rattle.mb_laws.proofs.WordLemmas.{IsHex-same, limited_fits}
 use Rattle.mb_laws.proofs.DraftLemmas.{targets_same}
-use Rattle.mb_officer.specs.declared.words.NotSaid.{NotSaid}
-use Rattle.mb_officer.specs.declared.words.NotSaid.TheVariants as why
+use Rattle.mb_words.specs.declared.said.NotSaid.{NotSaid}
+use Rattle.mb_words.specs.declared.said.NotSaid.TheVariants as why
 use Rattle.mb_officer.specs.declared.draft.Loading.{Loading}
 use Rattle.mb_officer.specs.declared.draft.Loading.TheVariants as loading
 use Rattle.mb_officer.specs.declared.draft.Kind.{Kind}
@@ -32,7 +32,8 @@ use Rattle.mb_officer.specs.declared.draft.Said.{Said}
 use Rattle.mb_officer.specs.declared.draft.Said.TheVariants as said
 use Rattle.mb_officer.proofs.Wording.{letters_at}
 use Rattle.mb_officer.proofs.Headings.{from_targets, first_is, to_targets, heading_same}
-use Rattle.mb_officer.specs.Drafting.{FindsSome, load_act, kind_of, may_order, IsHeading, drafted, IsSound, SaysTargets, SaysCode, SaysLoad, SaysOwner, SaysRest, Follows, TellsNext, AddsTarget, IsFirst}
+use Rattle.mb_words.specs.Words.{FindsSome}
+use Rattle.mb_officer.specs.Drafting.{load_act, kind_of, may_order, IsHeading, drafted, IsSound, SaysTargets, SaysCode, SaysLoad, SaysOwner, SaysRest, Follows, TellsNext, AddsTarget, IsFirst}
 
 -- ---- targets
 

@@ -1,5 +1,5 @@
 -- How a draft is read, line by line. Is what is read exactly what stands there?
-use Rattle.std.specs.Prelude.{◌≡◌, ℕ, ◌≤◌, ◌⊎◌, List, [], ◌∷◌, ◌++◌, length, codes, IsTrue, Bool, ◌≢◌, Option, Some, None, Result, Ok, Err}
+use Rattle.std.specs.Prelude.{◌≡◌, ℕ, ◌≤◌, List, [], ◌∷◌, ◌++◌, length, codes, IsTrue, Bool, ◌≢◌, Result, Ok, Err}
 use Rattle.std.specs.List.{AllZip}
 use Rattle.std.specs.Fmt.{decimal}
 use Rattle.mb_model.specs.declared.key.PublicKey.{PublicKey}
@@ -10,11 +10,11 @@ use Rattle.mb_model.specs.declared.order.Target.{Target}
 use Rattle.mb_model.specs.declared.order.Order.{Order}
 use Rattle.mb_model.specs.Key.{key_bytes, IsSized}
 use Rattle.mb_model.specs.Layers.{is_layer_number, is_upper}
-use Rattle.mb_model.specs.Lines.{IsLine, spaced, number_limit, Reads, TextFailsAtLine}
+use Rattle.mb_model.specs.Lines.{spaced, number_limit, Reads, TextFailsAtLine}
 use Rattle.mb_model.specs.Script.{EndsInHex}
 use Rattle.mb_model.specs.Drafts.{kind_word, SaysTarget, trust_line, SayAct, IsDraft}
-use Rattle.mb_officer.specs.declared.words.NotSaid.{NotSaid}
-use Rattle.mb_officer.specs.declared.words.NotSaid.TheVariants as why
+use Rattle.mb_words.specs.declared.said.NotSaid.{NotSaid}
+use Rattle.mb_words.specs.declared.said.NotSaid.TheVariants as why
 use Rattle.mb_officer.specs.declared.draft.DraftEnd.{DraftEnd}
 use Rattle.mb_officer.specs.declared.draft.DraftEnd.TheVariants as end
 use Rattle.mb_officer.specs.declared.draft.Loading.{Loading}
@@ -31,24 +31,6 @@ abbrev pub ReadsDraft : List ℕ → Result Order DraftEnd → Type 0
 ReadsDraft text (Ok order) = Reads IsDraft text order
 ReadsDraft text (Err (end.BadLine line)) = TextFailsAtLine IsDraft text line
 ReadsDraft text (Err end.NoMemory) = Unit {0}
-
--- ---- parts of a line
-
--- what is found is so, or nothing is; of want of memory nothing is said
-abbrev pub Finds : {A : Type 0} → (A → Type 0) → Result A NotSaid → Type 0
-Finds Is (Ok a) = Is a
-Finds {A} Is (Err why.Form) = (a : A) → Is a → ⊥
-Finds Is (Err why.NoMemory) = Unit {0}
-
--- the same where no memory is wanted
-abbrev pub FindsSome : {A : Type 0} → (A → Type 0) → Option A → Type 0
-FindsSome Is (Some a) = Is a
-FindsSome {A} Is None = (a : A) → Is a → ⊥
-
--- a text is its first line, which has no LF, and what stands behind the line's LF; the last line may lack its LF
-pub record SplitsLine (text first rest : List ℕ) : Type 0 where
-  pub plain : IsLine first
-  pub whole : (text ≡ first ++ 10 ∷ rest) ⊎ ((text ≡ first) × (rest ≡ []))
 
 -- ---- the first line
 

@@ -5,15 +5,16 @@ ghost use Rattle.std.specs.Fmt.{decimal};
 ghost use Rattle.mb_model.specs.Layers.{is_upper};
 ghost use Rattle.mb_model.specs.Drafts.{kind_word};
 ghost use Rattle.mb_model.specs.OrderFormat.{order_format};
-ghost use Rattle.mb_officer.specs.Drafting.{FindsSome, SplitsLine, IsHeading, load_act, drafted, IsSound, SaysRest, TellsNext, AddsTarget, IsFirst, ReadsDraft};
+ghost use Rattle.mb_words.specs.Words.{FindsSome};
+ghost use Rattle.mb_officer.specs.Drafting.{IsHeading, load_act, drafted, IsSound, SaysRest, TellsNext, AddsTarget, IsFirst, ReadsDraft};
 
 use crate::words::{
-    NotSaid, behind, read_code, read_layer, read_owner, read_target, read_trust, read_version,
-    split_layer,
+    read_code, read_layer, read_owner, read_target, read_trust, read_version, split_layer,
 };
 use mb_model::{
     Act, Bytes, Countersignatures, KeyKind, NoMemory, Order, PublicKey, Target, Targets, Trust,
 };
+use mb_words::{NotSaid, behind, split_line};
 use std::alloc::Global;
 
 /// The most targets of an order.
@@ -109,16 +110,6 @@ pub fn read_draft(alloc: Global, text: &[u8]) -> Result<Order, DraftEnd>
     match finish(alloc, said, targets) {
         Some(order) => Ok(order),
         None => Err(DraftEnd::BadLine { line: number }),
-    }
-}
-
-/// The first line without its LF, and what stands behind that.
-fn split_line(text: &[u8]) -> (&[u8], &[u8])
-    ensures { SplitsLine text.now result.0.now result.1.now }
-{
-    match text.iter().position(|byte| *byte == b'\n') {
-        Some(at) => (&text[..at], &text[at + 1..]),
-        None => (text, &[]),
     }
 }
 

@@ -4,7 +4,8 @@
 //! read line by line; and the signing and countersigning of orders, each of which uses up one index of a key. It stands
 //! on `mb_bytes`, by whose cursor it reads a key file, on `mb_command`, which writes the bytes that are signed, on
 //! `mb_signer`, which signs, on `mb_lms`, which reads a public key, on `mb_model`, which has the formats and what a draft
-//! says, on the laws of lines and words in `mb_laws`, and on `sha2` and `hex`.
+//! says, on `mb_words`, which reads lines word by word, on the laws of lines and words in `mb_laws`, and on `sha2` and
+//! `hex`.
 #![tactic(auto)]
 
 mod draft;

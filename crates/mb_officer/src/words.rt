@@ -1,87 +1,21 @@
 //! The words of a draft's lines.
 
-ghost use Rattle.std.specs.Prelude.{◌≡◌, ◌≤◌, ◌<◌, ◌+◌, ◌*◌, ◌^◌, ◌++◌, ◌∷◌, [], ℕ, List, length, codes, MatchOption, SomeIff, IsTrue};
+ghost use Rattle.std.specs.Prelude.{◌≡◌, ◌≤◌, ◌++◌, ◌∷◌, [], ℕ, List, length, codes, MatchOption, IsTrue};
 ghost use Rattle.std.specs.Fmt.{decimal};
 ghost use Rattle.mb_model.specs.Key.{key_bytes, IsSized};
 ghost use Rattle.mb_model.specs.Layers.{is_layer_number};
-ghost use Rattle.mb_model.specs.Texts.{IsHex};
-ghost use Rattle.mb_model.specs.Lines.{IsNumber, number_limit, spaced};
+ghost use Rattle.mb_model.specs.Lines.{number_limit, spaced};
 ghost use Rattle.mb_model.specs.Script.{EndsInHex};
 ghost use Rattle.mb_model.specs.Drafts.{SaysTarget, trust_line};
-ghost use Rattle.mb_officer.specs.Drafting.{Finds, FindsSome};
+ghost use Rattle.mb_words.specs.Words.{Finds, FindsSome};
 
-use hex::FromHexError;
 use mb_lms::parse_key;
-use mb_model::{Bytes, NoMemory, PublicKey, Target, Trust};
+use mb_model::{Bytes, PublicKey, Target, Trust};
+use mb_words::{NotSaid, behind, read_array, read_hex, read_number};
 use std::alloc::Global;
-
-/// The most digits of a number.
-const MOST_DIGITS: usize = 10;
 
 /// The most bytes of a layer's code.
 const MOST_OF_CODE: usize = 32_768;
-
-/// Why a line was not read.
-#[derive(Clone, Copy, Debug, PartialEq, Eq)]
-pub(crate) enum NotSaid {
-    /// It is not in the grammar.
-    Form,
-    /// Memory was wanted and not found.
-    NoMemory,
-}
-
-impl From<NoMemory> for NotSaid {
-    ghost use Rattle.mb_officer.specs.declared.words.NotSaid.TheVariants as why;
-
-    ghost from_gives = { λ _ e. e ≡ why.NoMemory };
-
-    fn from(_error: NoMemory) -> NotSaid {
-        NotSaid::NoMemory
-    }
-}
-
-/// What stands behind the word, where the line begins with it.
-pub(crate) fn behind<'a>(line: &'a [u8], word: &[u8]) -> Option<&'a [u8]>
-    ensures { MatchOption result ((rest : List ℕ) → line.now ≡ word.now ++ rest → ⊥) (λ rest. line.now ≡ word.now ++ rest.now) }
-{
-    match line.strip_prefix(word) {
-        Some(rest) => Some(rest),
-        None => None,
-    }
-}
-
-/// The number of the word.
-fn read_number(word: &[u8]) -> Option<u32>
-    ensures { FindsSome (IsNumber number_limit word.now) result }
-{
-    if word.len() > MOST_DIGITS {
-        return None;
-    }
-    let Some((last, front)) = word.split_last() else {
-        return None;
-    };
-    if *last < b'0' || *last > b'9' {
-        return None;
-    }
-    let digit = u32::from(*last - b'0');
-    if front.is_empty() {
-        return Some(digit);
-    }
-    match read_number(front) {
-        Some(tens) if tens > 0 => add_digit(tens, digit),
-        _ => None,
-    }
-}
-
-/// The number with one digit more behind it.
-fn add_digit(tens: u32, digit: u32) -> Option<u32>
-    ensures { SomeIff result (10 * tens + digit < 2 ^ 32) (10 * tens + digit) }
-{
-    match tens.checked_mul(10) {
-        Some(number) => number.checked_add(digit),
-        None => None,
-    }
-}
 
 /// The layer, 1 to 3, that the word is.
 pub(crate) fn read_layer(word: &[u8]) -> Option<u8>
@@ -114,35 +48,6 @@ pub(crate) fn split_layer(text: &[u8]) -> Option<(u8, &[u8])>
     }
 }
 
-/// The N bytes of a hexadecimal word.
-fn read_array<const N: usize>(word: &[u8]) -> Option<[u8; N]>
-    requires { 0 < N }
-    ensures { FindsSome (λ bytes. (length bytes ≡ N) × IsHex word.now bytes) result }
-{
-    let mut bytes = [0; N];
-    match hex::decode_to_slice(word, &mut bytes) {
-        Ok(()) => Some(bytes),
-        Err(_) => None,
-    }
-}
-
-/// The bytes of a hexadecimal word.
-fn read_hex(alloc: Global, word: &[u8]) -> Result<Bytes, NotSaid>
-    ensures { Finds (IsHex word.now) result }
-{
-    if word == b"-".as_slice() {
-        return Ok(Bytes::from_vec(Vec::new(alloc)));
-    }
-    if word.is_empty() {
-        return Err(NotSaid::Form);
-    }
-    match hex::decode(alloc, word) {
-        Ok(bytes) => Ok(Bytes::from_vec(bytes)),
-        Err(FromHexError::OutOfMemory) => Err(NotSaid::NoMemory),
-        Err(_) => Err(NotSaid::Form),
-    }
-}
-
 /// The target that a line says.
 pub(crate) fn read_target(line: &[u8]) -> Option<Target>
     ensures { FindsSome (SaysTarget line.now) result }
@@ -164,7 +69,7 @@ fn read_demand(words: &[u8]) -> Option<Target>
         return Some(Target::Serial(serial));
     }
     if let Some(word) = behind(words, b"length ") {
-        let Some(length) = read_number(word) else {
+        let Some(length) = read_number(word, u32::MAX) else {
             return None;
         };
         return Some(Target::Length(length));
@@ -237,7 +142,7 @@ pub(crate) fn read_version(line: &[u8]) -> Option<u32>
     ensures { FindsSome (λ version. (version ≤ number_limit) × (line.now ≡ spaced (codes "version" ∷ decimal version ∷ []))) result }
 {
     match behind(line, b"version ") {
-        Some(word) => read_number(word),
+        Some(word) => read_number(word, u32::MAX),
         None => None,
     }
 }

@@ -1,5 +1,4 @@
 pub mod Parts
-pub mod Numbers
 pub mod LineKinds
 pub mod Written
 pub mod Drawings

@@ -1,13 +1,10 @@
 -- Parts of a line: each is what stands there in one way only.
-use Rattle.std.proofs.Common.{◌≡◌, ◌≢◌, ℕ, ◌-◌, ◌*◌, ◌/◌, ◌≤◌, inl, inr, List, [], ◌∷◌, ◌++◌, length, take, drop, replicate, refl, sym, ap, subst, ◌∙◌, arith, Bool, true, false, not, ◌&&◌, eqb, eq-eqb}
-use Rattle.std.specs.Prelude.{◌==◌, codes, IsTrue, None, Result, Ok, Err}
+use Rattle.std.proofs.Common.{◌≡◌, ◌≢◌, ℕ, ◌-◌, ◌*◌, ◌/◌, ◌≤◌, inl, inr, List, [], ◌∷◌, ◌++◌, length, take, drop, replicate, sym, ap, ◌∙◌, arith, Bool, true, not, ◌&&◌, eq-eqb}
+use Rattle.std.specs.Prelude.{◌==◌, codes, IsTrue, Result, Ok, Err}
 use Rattle.std.specs.Fmt.{decimal}
-use Rattle.std.specs.Cmp.Lexicographic.{pointwise}
 use Rattle.std.proofs.lemmas.Bool.{and_parts}
-use Rattle.std.proofs.lemmas.Bool.Decides.{Decides-eqb}
-use Rattle.std.proofs.lemmas.Slice.Eq.{slice_eq-Decides, strip_prefix_is}
 use Rattle.std.specs.Result.{MatchResult}
-use Rattle.std.proofs.lemmas.List.{append_cancel_left, length-take, length-replicate, drop-replicate, take-append-drop}
+use Rattle.std.proofs.lemmas.List.{append_cancel_left, length-take, length-replicate, drop-replicate}
 use Rattle.std.proofs.lemmas.List.Elements.{All-nil, All-cons}
 use Rattle.hex.specs.Hex.{decode_of, decode_sized}
 use Rattle.hex.specs.declared.error.FromHexError.{FromHexError}
@@ -18,12 +15,8 @@ use Rattle.mb_model.specs.declared.event.Tear.{Tear}
 use Rattle.mb_model.specs.Script.{IsName, tear_of}
 use Rattle.mb_laws.proofs.LineLemmas.{Without, isnt, cons_same, first_same, first_none}
 use Rattle.mb_laws.proofs.WordLemmas.{number_front, decimal_spaceless, upper_fits, name_spaceless}
-use Rattle.mb_script.specs.declared.words.NotSaid.{NotSaid}
-use Rattle.mb_script.specs.declared.words.NotSaid.TheVariants as why
-use Rattle.mb_script.specs.Reading.{Finds, IsSplit, HasNumberFirst, HasRegionFirst, HasNameFirst, SaysSecret, SaysTail, kept, none, IsFill}
-
-pub clash : (answer : Bool) → answer ≡ true → answer ≡ false → ⊥
-clash answer is isnt_so = cc
+use Rattle.mb_words.specs.Words.{IsSplit}
+use Rattle.mb_script.specs.Reading.{HasNumberFirst, HasRegionFirst, HasNameFirst, SaysSecret, SaysTail, kept, none, IsFill}
 
 -- ---- bytes without a byte
 
@@ -37,19 +30,6 @@ Without-from_test s (byte ∷ bytes) h =
     let parts = and_parts (not (byte == s)) (without_test s bytes) h in
     let here = parts.0 in
     All-cons (isnt s) byte bytes (λ is. let same : (byte == s) ≡ true = eq-eqb byte s is in cc) (Without-from_test s bytes parts.1)
-
--- ---- an error that is passed on
-
-passed_at : {A B : Type 0} (Is : A → Type 0) (Was : B → Type 0) (e : NotSaid) → ((a : A) → Is a → (b : B) × Was b) → Finds {A = B} Was (Err e) → Finds {A = A} Is (Err e)
-passed_at {A} {B} Is Was why.Form back found = λ a is. let b = back a is in found b.0 b.1
-passed_at {A} {B} Is Was why.NoMemory back found = tt
-
--- where a part is not read, the whole is not
-pub passed : {A B : Type 0} (Is : A → Type 0) (Was : B → Type 0) (r : Result A NotSaid) (e f : NotSaid) → r ≡ Err f → f ≡ e
-    → ((a : A) → Is a → (b : B) × Was b) → Finds {A = B} Was (Err e) → Finds Is r
-passed {A} {B} Is Was r e f was same back found =
-    let whole : r ≡ Err e = cc in
-    subst (λ (x : Result A NotSaid). Finds Is x) (sym whole) (passed_at Is Was e back found)
 
 -- ---- words with a space behind them
 
@@ -178,13 +158,3 @@ tail_none text behind rest keep first second number third n word (kept most whol
     let same = append_cancel_left (codes "keep ") behind (decimal n ++ 32 ∷ (codes "fill " ++ word)) (sym second ∙ whole) in
     third word (number_same 1048576 behind keep n rest (codes "fill " ++ word) (omega arith) number (record { within = most; whole = same })).1
 tail_none text behind rest keep first second number third n word (none zero whole) = first word whole
-
--- ---- prefixes
-
-pub prefix_none : (text prefix : List ℕ) → pointwise eqb (take (length prefix) text) prefix ≡ false → (rest : List ℕ) → text ≢ prefix ++ rest
-prefix_none text prefix isnt_so = strip_prefix_is Decides-eqb text prefix None isnt_so
-
-pub prefix_some : (text prefix rest : List ℕ) → pointwise eqb (take (length prefix) text) prefix ≡ true → rest ≡ drop (length prefix) text → text ≡ prefix ++ rest
-prefix_some text prefix rest is behind =
-    let front = (slice_eq-Decides Decides-eqb (take (length prefix) text) prefix _ refl).0 is in
-    sym (take-append-drop (length prefix) text) ∙ ap (λ (x : List ℕ). x ++ drop (length prefix) text) front ∙ ap (λ (x : List ℕ). prefix ++ x) (sym behind)

@@ -1,5 +1,5 @@
 -- How far a script has been read.
-use Rattle.std.proofs.Common.{◌≡◌, ◌≢◌, ℕ, ◌+◌, ◌<◌, ◌≤◌, inl, inr, List, [], ◌∷◌, ◌++◌, length, length-append, refl, sym, ap, subst, ◌∙◌, arith, append_assoc, Bool, true, false}
+use Rattle.std.proofs.Common.{◌≡◌, ◌≢◌, ℕ, ◌+◌, ◌<◌, ◌≤◌, List, [], ◌∷◌, ◌++◌, length, length-append, refl, sym, ap, subst, ◌∙◌, arith, append_assoc, Bool, true, false}
 use Rattle.std.specs.Prelude.{not, filter}
 use Rattle.std.specs.List.{AllZip}
 use Rattle.std.proofs.lemmas.List.{append-nil}
@@ -7,9 +7,10 @@ use Rattle.std.proofs.lemmas.List.Elements.{filter-append}
 use Rattle.mb_model.specs.declared.event.Event.{Event}
 use Rattle.mb_model.specs.Lines.{HasLines, Begins, FailsAtLine, bad, Reads, TextFailsAtLine}
 use Rattle.mb_model.specs.Script.{SaysEvent, is_skipped, IsScript}
-use Rattle.mb_laws.proofs.LineLemmas.{HasLines-on, HasLines-over, HasLines-nil, HasLines-same, HasLines-always, Begins-all}
+use Rattle.mb_laws.proofs.LineLemmas.{HasLines-nil, HasLines-always, Begins-all}
 use Rattle.mb_laws.proofs.EventLemmas.{too_many_events}
-use Rattle.mb_script.specs.Reading.{SplitsLine}
+use Rattle.mb_words.specs.Words.{SplitsLine}
+use Rattle.mb_words.proofs.NextLines.{shorter, with_line}
 
 -- Some lines are behind, and stand for these events; whatever lines the rest has, the text has those and these.
 pub record IsReadTo (text rest : List ℕ) (events : List Event) (number : ℕ) : Type 0 where
@@ -36,24 +37,6 @@ all_read text rest events number is none = record {
 }
 
 -- ---- one line more
-
-pub shorter : (rest line behind : List ℕ) → SplitsLine rest line behind → 0 < length rest → length behind < length rest
-shorter rest line behind splits some =
-    elim splits.whole [
-      | inl ends ↦ omega (arith, ap length ends, length-append line (10 ∷ behind))
-      | inr last ↦ omega (arith, some, ap length last.1)
-    ]
-
--- the lines of what stands behind a line, with it
-with_line : (rest line behind : List ℕ) (more : List (List ℕ)) → SplitsLine rest line behind → 0 < length rest → HasLines behind more → HasLines rest (line ∷ more)
-with_line rest line behind more splits some has =
-    elim splits.whole [
-      | inl ends ↦ HasLines-on rest line behind more splits.plain ends has
-      | inr last ↦
-          let none = HasLines-same [] more [] (subst (λ (x : List ℕ). HasLines x more) last.1 has) HasLines-nil in
-          let alone = HasLines-over line splits.plain (λ empty. omega (arith, some, ap length last.0, ap length empty)) in
-          subst (λ (x : List (List ℕ)). HasLines rest (line ∷ x)) (sym none) (subst (λ (x : List ℕ). HasLines x (line ∷ [])) (sym last.0) alone)
-    ]
 
 one_more : (text rest line behind : List ℕ) (events more_events : List Event) (number : ℕ) (is : IsReadTo text rest events number) → SplitsLine rest line behind → 0 < length rest
     → IsScript (is.before ++ line ∷ []) more_events → IsReadTo text behind more_events (number + 1)

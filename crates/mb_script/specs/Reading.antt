@@ -1,15 +1,13 @@
 -- What the readers of a script give. Is what is read exactly what stands there?
-use Rattle.std.specs.Prelude.{◌≡◌, ◌≢◌, ℕ, ◌≤◌, ◌⊎◌, List, [], ◌∷◌, ◌++◌, length, codes, All, IsTrue, Option, Some, None, Result, Ok, Err}
+use Rattle.std.specs.Prelude.{◌≡◌, ℕ, ◌≤◌, List, ◌∷◌, ◌++◌, length, codes, IsTrue, Result, Ok, Err}
 use Rattle.std.specs.Fmt.{decimal}
 use Rattle.mb_model.specs.declared.event.Event.{Event}
 use Rattle.mb_model.specs.Layers.{is_upper}
 use Rattle.mb_model.specs.Texts.{IsHex}
-use Rattle.mb_model.specs.Lines.{IsLine, Reads, TextFailsAtLine}
+use Rattle.mb_model.specs.Lines.{Reads, TextFailsAtLine}
 use Rattle.mb_model.specs.Script.{IsName, IsScript}
 use Rattle.mb_script.specs.declared.script.ScriptEnd.{ScriptEnd}
 use Rattle.mb_script.specs.declared.script.ScriptEnd.TheVariants as end
-use Rattle.mb_script.specs.declared.words.NotSaid.{NotSaid}
-use Rattle.mb_script.specs.declared.words.NotSaid.TheVariants as why
 
 -- ---- a script
 
@@ -20,22 +18,6 @@ ReadsScript text (Err (end.BadLine line)) = TextFailsAtLine IsScript text line
 ReadsScript text (Err end.NoMemory) = Unit {0}
 
 -- ---- parts of a line
-
--- what is found is so, or nothing is; of want of memory nothing is said
-abbrev pub Finds : {A : Type 0} → (A → Type 0) → Result A NotSaid → Type 0
-Finds Is (Ok a) = Is a
-Finds {A} Is (Err why.Form) = (a : A) → Is a → ⊥
-Finds Is (Err why.NoMemory) = Unit {0}
-
--- the same where no memory is wanted
-abbrev pub FindsSome : {A : Type 0} → (A → Type 0) → Option A → Type 0
-FindsSome Is (Some a) = Is a
-FindsSome {A} Is None = (a : A) → Is a → ⊥
-
--- a text is cut at the first of this byte
-pub record IsSplit (byte : ℕ) (text front rest : List ℕ) : Type 0 where
-  pub first : All (λ b. b ≢ byte) front
-  pub whole : text ≡ front ++ byte ∷ rest
 
 -- a text is a number, a space, and what stands behind that
 pub record HasNumberFirst (most : ℕ) (text : List ℕ) (number : ℕ) (rest : List ℕ) : Type 0 where
@@ -68,10 +50,3 @@ pub record SaysSecret (text : List ℕ) (region : ℕ) (name : List ℕ) : Type 
 pub data SaysTail (text : List ℕ) (keep : ℕ) (word : List ℕ) : Type 0 where
   kept : keep ≤ 1048576 → text ≡ codes "keep " ++ decimal keep ++ 32 ∷ (codes "fill " ++ word) → SaysTail text keep word
   none : keep ≡ 0 → text ≡ codes "fill " ++ word → SaysTail text keep word
-
--- ---- lines
-
--- a text is its first line, which has no LF, and what stands behind the line's LF; the last line may lack its LF
-pub record SplitsLine (text first rest : List ℕ) : Type 0 where
-  pub plain : IsLine first
-  pub whole : (text ≡ first ++ 10 ∷ rest) ⊎ ((text ≡ first) × (rest ≡ []))

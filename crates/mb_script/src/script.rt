@@ -2,11 +2,11 @@
 
 ghost use Rattle.std.specs.Prelude.{◌≡◌, ◌≤◌, length};
 ghost use Rattle.mb_model.specs.Script.{is_skipped};
-ghost use Rattle.mb_script.specs.Reading.{ReadsScript, SplitsLine};
+ghost use Rattle.mb_script.specs.Reading.{ReadsScript};
 
 use crate::events::read_event;
-use crate::words::{NotSaid, split_at_byte};
 use mb_model::{Events, NoMemory};
+use mb_words::{NotSaid, split_line};
 use std::alloc::Global;
 
 /// The most events of a script.
@@ -63,16 +63,6 @@ pub fn read_script(alloc: Global, text: &[u8]) -> Result<Events, ScriptEnd>
         }
     }
     Ok(events)
-}
-
-/// The first line without its LF, and what stands behind that.
-fn split_line(text: &[u8]) -> (&[u8], &[u8])
-    ensures { SplitsLine text.now result.0.now result.1.now }
-{
-    match split_at_byte(text, b'\n') {
-        Some(parts) => parts,
-        None => (text, &[]),
-    }
 }
 
 /// Whether a line says nothing.

@@ -1,6 +1,7 @@
 use Rattle.std.proofs.Common.{arith, refl}
 use Rattle.std.specs.Prelude.{codes}
-use Rattle.mb_officer.proofs.Wording.{same, differs, digit_of, upper_word_none}
+use Rattle.mb_words.proofs.Parts.{same, differs}
+use Rattle.mb_officer.proofs.Wording.{digit_of, upper_word_none}
 use Rattle.mb_officer.proofs.draft.read_upper.Goals as goal
 
 pub returns-then-eq : goal.returns-then-eq

@@ -1,7 +1,7 @@
 use Rattle.std.proofs.Common.{sym, subst, List, ℕ, ◌++◌}
 use Rattle.std.specs.Prelude.{codes}
 use Rattle.mb_model.specs.Drafts.{SaysTarget}
-use Rattle.mb_officer.specs.Drafting.{FindsSome}
+use Rattle.mb_words.specs.Words.{FindsSome}
 use Rattle.mb_officer.proofs.words.read_demand.Goals as goal
 
 pub returns-in-Some-behind-2 : goal.returns-in-Some-behind-2

@@ -1,6 +1,7 @@
 use Rattle.std.proofs.Common.{arith, refl}
 use Rattle.std.specs.Prelude.{codes}
-use Rattle.mb_officer.proofs.Wording.{same, differs, digit_of, layer_word_none}
+use Rattle.mb_words.proofs.Parts.{same, differs}
+use Rattle.mb_officer.proofs.Wording.{digit_of, layer_word_none}
 use Rattle.mb_officer.proofs.words.read_layer.Goals as goal
 
 pub returns-then-eq : goal.returns-then-eq

@@ -3,7 +3,7 @@ use Rattle.std.specs.Prelude.{codes}
 use Rattle.std.proofs.lemmas.Result.{err_from_is_err_and}
 use Rattle.mb_model.specs.Script.{SaysEvent}
 use Rattle.mb_script.specs.Reading.{SaysSecret}
-use Rattle.mb_script.proofs.Parts.{passed}
+use Rattle.mb_words.proofs.Parts.{passed}
 use Rattle.mb_script.proofs.LineKinds.{get_says}
 use Rattle.mb_script.proofs.events.read_get.Goals as goal
 

@@ -3,7 +3,8 @@ use Rattle.std.specs.Prelude.{codes}
 use Rattle.std.proofs.lemmas.Result.{err_from_is_err_and}
 use Rattle.mb_model.specs.Texts.{IsHex}
 use Rattle.mb_model.specs.Script.{SaysEvent, IsShort}
-use Rattle.mb_script.proofs.Parts.{passed, put_name, put_word}
+use Rattle.mb_words.proofs.Parts.{passed}
+use Rattle.mb_script.proofs.Parts.{put_name, put_word}
 use Rattle.mb_script.proofs.LineKinds.{put_says}
 use Rattle.mb_script.proofs.events.read_put.Goals as goal
 

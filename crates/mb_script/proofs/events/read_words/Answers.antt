@@ -2,7 +2,7 @@ use Rattle.std.proofs.Common.{sym, ◌∙◌, ◌≢◌}
 use Rattle.std.specs.Prelude.{codes}
 use Rattle.std.proofs.lemmas.Bool.Decides.{Decides-eqb}
 use Rattle.std.proofs.lemmas.Slice.Eq.{slice_eq-Decides}
-use Rattle.mb_script.proofs.Parts.{clash}
+use Rattle.mb_words.proofs.Parts.{clash}
 use Rattle.mb_script.proofs.LineKinds.{words_none}
 use Rattle.mb_script.proofs.events.read_words.Goals as goal
 

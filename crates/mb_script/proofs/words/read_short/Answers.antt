@@ -2,7 +2,7 @@ use Rattle.std.proofs.Common.{List, ℕ}
 use Rattle.std.proofs.lemmas.Result.{err_from_is_err_and}
 use Rattle.mb_model.specs.Texts.{IsHex}
 use Rattle.mb_model.specs.Script.{IsShort}
-use Rattle.mb_script.proofs.Parts.{passed}
+use Rattle.mb_words.proofs.Parts.{passed}
 use Rattle.mb_script.proofs.words.read_short.Goals as goal
 
 pub returns-in_err-bytes : goal.returns-in_err-bytes

@@ -1,6 +1,6 @@
 use Rattle.std.proofs.Common.{sym, ◌∙◌, arith}
 use Rattle.std.proofs.lemmas.Fmt.{decimal_injective}
-use Rattle.mb_script.proofs.words.read_number.Goals as goal
+use Rattle.mb_words.proofs.numbers.read_number.Goals as goal
 
 pub returns-in_default : goal.returns-in_default
 returns-in_default c = λ n is.

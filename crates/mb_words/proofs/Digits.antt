@@ -7,7 +7,7 @@ use Rattle.std.proofs.lemmas.Fmt.{decimal_digit, decimal_step, decimal_nonempty,
 use Rattle.std.proofs.lemmas.List.{same_from_push}
 use Rattle.mb_model.specs.Lines.{IsNumber, number_limit}
 use Rattle.mb_laws.proofs.WordLemmas.{limited_fits}
-use Rattle.mb_script.specs.Reading.{FindsSome}
+use Rattle.mb_words.specs.Words.{FindsSome}
 
 -- what stands before the last digit of a number
 pub data IsFront (n : ℕ) (front : List ℕ) : Type 0 where

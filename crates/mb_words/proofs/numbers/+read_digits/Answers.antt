@@ -2,9 +2,9 @@ use Rattle.std.proofs.Common.{arith}
 use Rattle.std.proofs.lemmas.List.{nil_from_length}
 use Rattle.std.proofs.lemmas.Bool.{eqb-true, eqb-false}
 use Rattle.std.proofs.Common.{sym, ◌∙◌}
-use Rattle.mb_script.proofs.Numbers.{too_long, empty_none, last_digit, one_digit, added, leading_zero, front_none}
-use Rattle.mb_script.proofs.words.+read_digits.Goals as goal
-use Rattle.mb_script.proofs.words.+read_digits.Goals.{then-last-lt48-via-then-last-lt48, then-last-lt48-via-else-last-lt48+then-last-gt57}
+use Rattle.mb_words.proofs.Digits.{too_long, empty_none, last_digit, one_digit, added, leading_zero, front_none}
+use Rattle.mb_words.proofs.numbers.+read_digits.Goals as goal
+use Rattle.mb_words.proofs.numbers.+read_digits.Goals.{then-last-lt48-via-then-last-lt48, then-last-lt48-via-else-last-lt48+then-last-gt57}
 
 pub returns-then-word-gt-MOST_DIGITS : goal.returns-then-word-gt-MOST_DIGITS
 returns-then-word-gt-MOST_DIGITS t c = λ n is. too_long c.args.word.now n c.if-word-gt-MOST_DIGITS.true is
