@@ -1,5 +1,5 @@
 -- An example is read exactly.
-use Rattle.mb_format.specs.Format.{IsExact}
+use Rattle.mb_format.specs.Reading.{IsExact}
 use Rattle.mb_format.proofs.Rules.{exactly}
 use Rattle.mb_bytes.specs.Example.{values, example}
 

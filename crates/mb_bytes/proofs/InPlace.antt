@@ -1,4 +1,4 @@
--- Pieces that are written in place, one behind another: what then stands at the front.
+-- Pieces that are written in place, one after another: what then stands at the front.
 use Rattle.std.proofs.Common.{◌≡◌, ℕ, ◌+◌, List, [], ◌++◌, length, take, ◌≤◌, sym, ap, ◌∙◌, append-nil, append_assoc}
 use Rattle.std.proofs.lemmas.List.{take_all}
 
@@ -13,7 +13,7 @@ grown old new front pieces more piece at from to put e f stood next =
     ∙ ap (λ (x : List ℕ). x ++ piece) (ap (λ (n : ℕ). take n old) e ∙ stood)
     ∙ append_assoc front pieces piece ∙ ap (λ (x : List ℕ). front ++ x) (sym next)
 
--- one piece more behind a front
+-- one piece more after a front
 pub joined : (old new front piece : List ℕ) (at to : ℕ) →
     take (at + length piece) new ≡ take at old ++ piece → at + length piece ≡ to → take at old ≡ front → take to new ≡ front ++ piece
 joined old new front piece at to put e stood =

@@ -1,4 +1,4 @@
--- Writers one behind the other.
+-- Writers one after the other.
 use Rattle.std.proofs.Common.{◌≡◌, ℕ, suc, ◌+◌, ◌-◌, ◌<◌, ◌≤◌, List, [], ◌∷◌, ◌++◌, length, get_or, take, drop, Result, Ok, Err, refl, sym, ap, ◌∙◌, append_assoc, append-nil, add-one, drop-cons, length-append, arith}
 use Rattle.std.proofs.lemmas.List.{take-take, take_at, take_all, take-append-le}
 use Rattle.std.specs.Global.{Vec}
@@ -12,7 +12,7 @@ use Rattle.mb_bytes.specs.Puts.{Appends, StopsShort, IsUnwritten, Puts}
 pub length_items : (v : Vec ℕ) → length v.items ≡ vec_len v
 length_items v = sym v.ok.0
 
--- one put behind another
+-- one put after another
 pub puts_then : {a b : List ℕ} {old middle new : Vec ℕ} → Appends a old middle → Appends b middle new → Appends (a ++ b) old new
 puts_then {a} {b} {old} {middle} {new} p q = record {
   items = q.items ∙ ap (λ (xs : List ℕ). xs ++ b) p.items ∙ append_assoc old.items a b;
@@ -31,7 +31,7 @@ puts_stop_later {a} {b} {old} {middle} {new} p q = record {
   no_room = omega (arith, p.len, p.capacity, q.no_room, length-append a b);
 }
 
--- one put, and behind it another that may find no memory
+-- one put, and after it another that may find no memory
 pub puts_both : {E : Type 0} {a : List ℕ} (b : List ℕ) {old middle : Vec ℕ} (new : Vec ℕ) (r : Result (Unit {0}) E) → Appends a old middle → Puts b middle r new → Puts (a ++ b) old r new
 puts_both b new (Ok u) p q = puts_then p q
 puts_both b new (Err e) p q = puts_stop_later p q
@@ -47,7 +47,7 @@ puts_fits bytes old new (Err e) p room = absurd (omega (arith, p.no_room, room))
 
 -- ---- a loop over the items of a list
 
--- the item at a place, and those behind it
+-- the item at an offset, and those after it
 pub item_at : {A : Type 0} (list : List A) (i : ℕ) (d : A) → i < length list → drop i list ≡ get_or list i d ∷ drop (i + 1) list
 item_at list i d lt = rw add-one (drop-cons list i d lt)
 

@@ -2,7 +2,8 @@
 use Rattle.std.proofs.Common.{◌≡◌, ℕ, ◌-◌, ◌<◌, ◌≤◌, List, take, drop, Option, Some, None, Result, Ok, Err, refl, sym, ◌∙◌, take-append-drop, arith}
 use Rattle.std.specs.Prelude.{IfErr, IfSome}
 use Rattle.std.specs.List.{slice_range}
-use Rattle.mb_format.specs.Format.{Format, IsBytes, IsExact, IsLocal, IsExactWhole, FailsWhole}
+use Rattle.mb_format.specs.Format.{Format, IsBytes, FailsWhole}
+use Rattle.mb_format.specs.Reading.{IsExact, IsLocal, IsExactWhole}
 use Rattle.mb_format.proofs.Exact.{IsBytes-spelled}
 use Rattle.mb_format.proofs.Whole.{IsExactWhole-from_exact, reads_whole-cut, reads_whole-near}
 use Rattle.mb_bytes.specs.Reads.{ReadsWholeAs, FailsWholeAt}
@@ -38,12 +39,12 @@ whole_near {A} {f} exact is bytes h at fails =
     let whole : IsExactWhole f = IsExactWhole-from_exact exact in
     reads_whole-near is bytes at h (whole.failed bytes at h fails)
 
-near_at : {A : Type 0} {f : Format A} {n : ℕ} → IsExact f → IsLocal f n → (bytes : List ℕ) → IsBytes bytes → (m : ℕ) → n ≤ m → (at : Option ℕ) → FailsWholeAt f bytes at → IfSome at (λ place. place ≤ m)
+near_at : {A : Type 0} {f : Format A} {n : ℕ} → IsExact f → IsLocal f n → (bytes : List ℕ) → IsBytes bytes → (m : ℕ) → n ≤ m → (at : Option ℕ) → FailsWholeAt f bytes at → IfSome at (λ offset. offset ≤ m)
 near_at exact is bytes h m le (Some at) fails = let near = whole_near exact is bytes h at fails in omega arith
 near_at exact is bytes h m le None fails = tt
 
--- the place at which an error points is no further on
+-- the offset at which an error points is no further on
 pub reads_near : {A X E : Type 0} {f : Format A} {n : ℕ} (view : X → A) (points : E → Option ℕ) → IsExact f → IsLocal f n → (bytes : List ℕ) → IsBytes bytes → (m : ℕ) → n ≤ m → (r : Result X E)
-    → ReadsWholeAs view points f bytes r → IfErr r (λ e. IfSome (points e) (λ place. place ≤ m))
+    → ReadsWholeAs view points f bytes r → IfErr r (λ e. IfSome (points e) (λ offset. offset ≤ m))
 reads_near view points exact is bytes h m le (Ok x) read = tt
 reads_near view points exact is bytes h m le (Err e) read = near_at exact is bytes h m le (points e) read

@@ -15,7 +15,7 @@ example = as_record (pair (number w32) (pair (raw 4) values))
     (λ p. record { number = p.0; name = p.1.0; values = p.1.1 })
     (λ e. (e.number, (e.name, e.values)))
 
--- the place at which an error points
+-- the offset at which an error points
 abbrev pub points : NotRead → Option ℕ
 points (BadRecord at) = Some at
 points NoMemory = None

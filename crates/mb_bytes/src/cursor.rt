@@ -1,14 +1,14 @@
-//! Bytes with a place among them, and the fields that are read from there.
+//! Bytes with an offset among them, and the fields that are read from there.
 
 ghost use Rattle.std.specs.Prelude.{◌≡◌, ℕ, ◌+◌, ◌≤◌, length};
 ghost use Rattle.mb_format.specs.Format.{IsBytes};
 
 use mb_model::BadRecord;
 
-/// Too few bytes were left for the field that begins at this place.
+/// Too few bytes were left for the field that begins at this offset.
 #[derive(Clone, Copy, Debug, PartialEq, Eq)]
 pub struct Short {
-    /// The place, counted from the first of the cursor's bytes.
+    /// The offset, counted from the first of the cursor's bytes.
     pub at: u32,
 }
 
@@ -20,13 +20,13 @@ impl From<Short> for BadRecord {
     }
 }
 
-/// Bytes and a place among them, from which fields are read.
+/// Bytes and an offset among them, from which fields are read.
 #[derive(Clone, Copy)]
 pub struct Cursor<'a> {
     bytes: &'a [u8],
-    place: u32,
+    offset: u32,
     ghost are_bytes: { IsBytes bytes.now },
-    ghost within: { place ≤ length bytes.now },
+    ghost within: { offset ≤ length bytes.now },
     ghost short: { length bytes.now ≤ 4194304 },
 }
 
@@ -39,23 +39,23 @@ impl<'a> Cursor<'a> {
     pub fn new(bytes: &'a [u8]) -> Cursor<'a>
         requires { length bytes.now ≤ 4194304 }
         ensures all { result.bytes.now ≡ bytes.now }
-        ensures first { result.place ≡ 0 }
+        ensures first { result.offset ≡ 0 }
     {
-        Cursor { bytes, place: 0 }
+        Cursor { bytes, offset: 0 }
     }
 
-    /// The place, as the number of bytes before it.
-    pub fn place(&self) -> u32
-        ensures { result ≡ self.now.place }
+    /// The offset, as the number of bytes before it.
+    pub fn offset(&self) -> u32
+        ensures { result ≡ self.now.offset }
     {
-        self.place
+        self.offset
     }
 
-    /// The number of bytes from the place on.
+    /// The number of bytes from the offset on.
     pub fn left(&self) -> u32
-        ensures { self.now.place + result ≡ length self.now.bytes.now }
+        ensures { self.now.offset + result ≡ length self.now.bytes.now }
     {
-        self.bytes.len() as u32 - self.place
+        self.bytes.len() as u32 - self.offset
     }
 
     /// The number in the next byte; `Short` exactly where none is left, and the cursor is then unchanged.
@@ -89,12 +89,12 @@ impl<'a> Cursor<'a> {
         ensures reads { Reads short_at (raw N) self.old result self.new }
         ensures exactly { ReadsExactly short_at (raw N) self.old result self.new }
     {
-        match self.bytes[self.place as usize..].first_chunk::<N>() {
+        match self.bytes[self.offset as usize..].first_chunk::<N>() {
             Some(field) => {
-                self.place += N as u32;
+                self.offset += N as u32;
                 Ok(*field)
             }
-            None => Err(Short { at: self.place }),
+            None => Err(Short { at: self.offset }),
         }
     }
 
@@ -104,11 +104,11 @@ impl<'a> Cursor<'a> {
         ensures exactly { ReadsExactlyAs (λ slice. slice.now) short_at (raw length) self.old result self.new }
     {
         if self.left() < length {
-            return Err(Short { at: self.place });
+            return Err(Short { at: self.offset });
         }
         let bytes = self.bytes;
-        let start = self.place;
-        self.place += length;
-        Ok(&bytes[start as usize..self.place as usize])
+        let start = self.offset;
+        self.offset += length;
+        Ok(&bytes[start as usize..self.offset as usize])
     }
 }

@@ -26,11 +26,11 @@ pub struct Example {
 /// Why no example was read.
 #[derive(Clone, Copy, Debug, PartialEq, Eq)]
 pub enum NotRead {
-    /// Memory was wanted and not found.
+    /// An allocation failed.
     NoMemory,
-    /// A field is not in its form, or bytes are left behind the last.
+    /// A field is not in its form, or bytes are left after the last.
     BadRecord {
-        /// The place of the first such field or byte, in bytes from 0.
+        /// The offset of the first such field or byte, in bytes from 0.
         at: u32,
     },
 }
@@ -81,7 +81,7 @@ fn values_at(alloc: Global, cursor: &mut Cursor) -> Result<Items<u16>, NotRead>
     Ok(values)
 }
 
-/// The example that is spelled at the cursor's place. After an error the cursor stands where it stood.
+/// The example that is spelled at the cursor's offset. After an error the cursor stands where it stood.
 pub fn read_example(alloc: Global, cursor: &mut Cursor) -> Result<Example, NotRead>
     ensures { ReadsExactly points example cursor.old result cursor.new }
 {
@@ -99,7 +99,9 @@ pub fn read_whole_example(alloc: Global, bytes: &[u8]) -> Result<Example, NotRea
     let mut cursor = Cursor::new(bytes);
     let value = example_at(alloc, &mut cursor)?;
     if cursor.left() > 0 {
-        return Err(NotRead::BadRecord { at: cursor.place() });
+        return Err(NotRead::BadRecord {
+            at: cursor.offset(),
+        });
     }
     Ok(value)
 }

@@ -1,7 +1,7 @@
-//! Single fields of records: numbers within bounds, flags, and bytes behind their number.
+//! Single fields of records: numbers within bounds, flags, and bytes after their number.
 //!
-//! Each reader is a part of a larger one: `BadRecord` carries the place at which the field begins that lacks bytes or is
-//! not allowed, and the cursor may then stand anywhere.
+//! Each reader is a part of a larger one: `BadRecord` carries the offset at which the field begins that lacks bytes or
+//! is not allowed, and the cursor may then stand anywhere.
 
 ghost use Rattle.std.specs.Prelude.{◌≡◌, ◌<◌, ◌≤◌, ◌++◌, ◌^◌, length, IfOk};
 ghost use Rattle.std.specs.Int.{w8, w16, w32};
@@ -17,7 +17,7 @@ pub fn u8_between(cursor: &mut Cursor, least: u8, most: u8) -> Result<u8, BadRec
     ensures reads { Reads bad_at (between w8 least most) cursor.old result cursor.new }
     ensures bounds { IfOk result (λ n. (least ≤ n) × (n ≤ most)) }
 {
-    let at = cursor.place();
+    let at = cursor.offset();
     let number = cursor.take_u8()?;
     if number < least || number > most {
         return Err(BadRecord { at });
@@ -30,7 +30,7 @@ pub fn u16_between(cursor: &mut Cursor, least: u16, most: u16) -> Result<u16, Ba
     ensures reads { Reads bad_at (between w16 least most) cursor.old result cursor.new }
     ensures bounds { IfOk result (λ n. (least ≤ n) × (n ≤ most)) }
 {
-    let at = cursor.place();
+    let at = cursor.offset();
     let number = cursor.take_u16()?;
     if number < least || number > most {
         return Err(BadRecord { at });
@@ -43,7 +43,7 @@ pub fn u32_between(cursor: &mut Cursor, least: u32, most: u32) -> Result<u32, Ba
     ensures reads { Reads bad_at (between w32 least most) cursor.old result cursor.new }
     ensures bounds { IfOk result (λ n. (least ≤ n) × (n ≤ most)) }
 {
-    let at = cursor.place();
+    let at = cursor.offset();
     let number = cursor.take_u32()?;
     if number < least || number > most {
         return Err(BadRecord { at });
@@ -55,7 +55,7 @@ pub fn u32_between(cursor: &mut Cursor, least: u32, most: u32) -> Result<u32, Ba
 pub fn flag_at(cursor: &mut Cursor) -> Result<bool, BadRecord>
     ensures { Reads bad_at flag cursor.old result cursor.new }
 {
-    let at = cursor.place();
+    let at = cursor.offset();
     match cursor.take_u8()? {
         0 => Ok(false),
         1 => Ok(true),
@@ -63,8 +63,8 @@ pub fn flag_at(cursor: &mut Cursor) -> Result<bool, BadRecord>
     }
 }
 
-/// The bytes behind their number, which has one byte and is from `least` to `most`.
-pub fn bytes_behind_u8<'a>(
+/// The bytes after their number, which has one byte and is from `least` to `most`.
+pub fn bytes_after_u8<'a>(
     cursor: &mut Cursor<'a>,
     least: u8,
     most: u8,
@@ -75,8 +75,8 @@ pub fn bytes_behind_u8<'a>(
     Ok(cursor.take_slice(length as u32)?)
 }
 
-/// The bytes behind their number, which has two bytes and is from `least` to `most`.
-pub fn bytes_behind_u16<'a>(
+/// The bytes after their number, which has two bytes and is from `least` to `most`.
+pub fn bytes_after_u16<'a>(
     cursor: &mut Cursor<'a>,
     least: u16,
     most: u16,
@@ -87,8 +87,8 @@ pub fn bytes_behind_u16<'a>(
     Ok(cursor.take_slice(length as u32)?)
 }
 
-/// The bytes behind their number, which has four bytes and is from `least` to `most`.
-pub fn bytes_behind_u32<'a>(
+/// The bytes after their number, which has four bytes and is from `least` to `most`.
+pub fn bytes_after_u32<'a>(
     cursor: &mut Cursor<'a>,
     least: u32,
     most: u32,
@@ -107,7 +107,7 @@ pub fn put_flag(out: &mut Vec<u8>, value: bool) -> Result<(), NoMemory>
 }
 
 /// Appends the number of the bytes, in one byte, and the bytes.
-pub fn put_behind_u8(out: &mut Vec<u8>, bytes: &[u8]) -> Result<(), NoMemory>
+pub fn put_after_u8(out: &mut Vec<u8>, bytes: &[u8]) -> Result<(), NoMemory>
     requires { length bytes.now < 256 }
     ensures { Puts ((number w8).spelling (length bytes.now) ++ bytes.now) out.old result out.new }
 {
@@ -116,7 +116,7 @@ pub fn put_behind_u8(out: &mut Vec<u8>, bytes: &[u8]) -> Result<(), NoMemory>
 }
 
 /// Appends the number of the bytes, in two bytes, and the bytes.
-pub fn put_behind_u16(out: &mut Vec<u8>, bytes: &[u8]) -> Result<(), NoMemory>
+pub fn put_after_u16(out: &mut Vec<u8>, bytes: &[u8]) -> Result<(), NoMemory>
     requires { length bytes.now < 65536 }
     ensures { Puts ((number w16).spelling (length bytes.now) ++ bytes.now) out.old result out.new }
 {
@@ -125,7 +125,7 @@ pub fn put_behind_u16(out: &mut Vec<u8>, bytes: &[u8]) -> Result<(), NoMemory>
 }
 
 /// Appends the number of the bytes, in four bytes, and the bytes.
-pub fn put_behind_u32(out: &mut Vec<u8>, bytes: &[u8]) -> Result<(), NoMemory>
+pub fn put_after_u32(out: &mut Vec<u8>, bytes: &[u8]) -> Result<(), NoMemory>
     requires { length bytes.now < 2 ^ 32 }
     ensures { Puts ((number w32).spelling (length bytes.now) ++ bytes.now) out.old result out.new }
 {

@@ -16,7 +16,7 @@ use mb_model::{BadRecord, Chains, KeyKind, KeySeed, NoMemory, PublicKey, Tree, T
 fn tree_at(cursor: &mut Cursor) -> Result<Tree, BadRecord>
     ensures { Reads bad_at (table w32 tree_rows tree_type) cursor.old result cursor.new }
 {
-    let at = cursor.place();
+    let at = cursor.offset();
     match cursor.take_u32()? {
         5 => Ok(Tree::H5),
         6 => Ok(Tree::H10),
@@ -30,7 +30,7 @@ fn tree_at(cursor: &mut Cursor) -> Result<Tree, BadRecord>
 fn chains_at(cursor: &mut Cursor) -> Result<Chains, BadRecord>
     ensures { Reads bad_at (table w32 chains_rows chains_type) cursor.old result cursor.new }
 {
-    let at = cursor.place();
+    let at = cursor.offset();
     match cursor.take_u32()? {
         1 => Ok(Chains::W1),
         2 => Ok(Chains::W2),
@@ -72,7 +72,7 @@ pub fn key_seed_at(cursor: &mut Cursor) -> Result<KeySeed, BadRecord>
 pub fn trust_at(cursor: &mut Cursor) -> Result<Trust, BadRecord>
     ensures { Reads bad_at trust_format cursor.old result cursor.new }
 {
-    let at = cursor.place();
+    let at = cursor.offset();
     match cursor.take_u8()? {
         0 => Ok(Trust::Always),
         1 => Ok(Trust::Never),
@@ -86,7 +86,7 @@ pub fn trust_at(cursor: &mut Cursor) -> Result<Trust, BadRecord>
 pub fn key_kind_at(cursor: &mut Cursor) -> Result<KeyKind, BadRecord>
     ensures { Reads bad_at key_kind_format cursor.old result cursor.new }
 {
-    let at = cursor.place();
+    let at = cursor.offset();
     match cursor.take_u8()? {
         0 => Ok(KeyKind::Epoch),
         1 => Ok(KeyKind::Configuration),

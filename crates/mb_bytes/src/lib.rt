@@ -3,9 +3,9 @@
 //! Numbers are spelled high byte first. The contracts speak of the formats of `mb_format`: `specs/Reads.antt` says what a
 //! reader of a format gives, `specs/Puts.antt` what a writer appends. Readers and writers of whole records, in the crates
 //! above, have the same contracts and are composed of these by `?`. What several of those records have in common stands
-//! here too: numbers within bounds, flags, bytes behind their number, keys, trust and kinds of keys.
+//! here too: numbers within bounds, flags, bytes after their number, keys, trust and kinds of keys.
 //!
-//! It stands on `mb_format`, and on `mb_model` for want of memory, for the places of faults and for keys.
+//! It stands on `mb_format`, and on `mb_model` for allocations that fail, for the offsets of faults and for keys.
 #![tactic(auto)]
 
 mod cursor;
@@ -18,8 +18,8 @@ mod tests;
 
 pub use cursor::{Cursor, Short};
 pub use fields::{
-    bytes_behind_u8, bytes_behind_u16, bytes_behind_u32, flag_at, put_behind_u8, put_behind_u16,
-    put_behind_u32, put_flag, u8_between, u16_between, u32_between,
+    bytes_after_u8, bytes_after_u16, bytes_after_u32, flag_at, put_after_u8, put_after_u16,
+    put_after_u32, put_flag, u8_between, u16_between, u32_between,
 };
 pub use keys::{
     key_kind_at, key_seed_at, public_key_at, put_key_kind, put_key_seed, put_public_key, put_trust,

@@ -45,7 +45,7 @@ pub fn put_slice(out: &mut Vec<u8>, bytes: &[u8]) -> Result<(), NoMemory>
 pub fn put_at(out: &mut [u8], at: usize, piece: &[u8])
     requires { at + length piece.now ≤ length out.old }
     ensures written { take (at + length piece.now) out.new ≡ take at out.old ++ piece.now }
-    ensures behind { drop (at + length piece.now) out.new ≡ drop (at + length piece.now) out.old }
+    ensures beyond { drop (at + length piece.now) out.new ≡ drop (at + length piece.now) out.old }
 {
     out[at..at + piece.len()].copy_from_slice(piece);
 }

@@ -2,8 +2,8 @@
 
 use crate::example::{Example, NotRead, read_example, read_whole_example, write_example};
 use crate::{
-    Cursor, Short, bytes_behind_u8, bytes_behind_u16, bytes_behind_u32, flag_at, key_kind_at,
-    key_seed_at, public_key_at, put_at, put_behind_u8, put_behind_u16, put_behind_u32, put_flag,
+    Cursor, Short, bytes_after_u8, bytes_after_u16, bytes_after_u32, flag_at, key_kind_at,
+    key_seed_at, public_key_at, put_after_u8, put_after_u16, put_after_u32, put_at, put_flag,
     put_key_kind, put_key_seed, put_public_key, put_slice, put_trust, put_u8, put_u16, put_u32,
     trust_at, u8_between, u16_between, u32_between,
 };
@@ -22,7 +22,7 @@ fn fields_are_read(rt: HostRuntime) -> Result<(), Fail> {
     assert!(rt; cursor.take_u32() == Ok(0xDEAD_BEEF));
     assert!(rt; cursor.take_array() == Ok(*b"ab"));
     assert!(rt; cursor.take_u32() == Err(Short { at: 9 }));
-    assert!(rt; cursor.place() == 9 && cursor.left() == 3);
+    assert!(rt; cursor.offset() == 9 && cursor.left() == 3);
     match cursor.take_slice(3) {
         Ok(rest) => assert_eq!(rt; rest, [9, 8, 7].as_slice()),
         Err(_) => assert!(rt; false),
@@ -90,14 +90,14 @@ const SIZED: [u8; 14] = *b"\x02ab\0\x02cd\0\0\0\x01e\x01\0";
 #[test]
 fn sized_bytes_go_both_ways(rt: HostRuntime) -> Result<(), Fail> {
     let mut cursor = Cursor::new(SIZED.as_slice());
-    let one = bytes_behind_u8(&mut cursor, 0, 2)?;
-    let two = bytes_behind_u16(&mut cursor, 0, 2)?;
-    let four = bytes_behind_u32(&mut cursor, 0, 1)?;
+    let one = bytes_after_u8(&mut cursor, 0, 2)?;
+    let two = bytes_after_u16(&mut cursor, 0, 2)?;
+    let four = bytes_after_u32(&mut cursor, 0, 1)?;
     let mut out = Vec::new(rt.alloc());
     if one.len() < 3 && two.len() < 3 && four.len() < 2 {
-        put_behind_u8(&mut out, one)?;
-        put_behind_u16(&mut out, two)?;
-        put_behind_u32(&mut out, four)?;
+        put_after_u8(&mut out, one)?;
+        put_after_u16(&mut out, two)?;
+        put_after_u32(&mut out, four)?;
     }
     put_flag(&mut out, flag_at(&mut cursor)?)?;
     put_flag(&mut out, flag_at(&mut cursor)?)?;

@@ -4,9 +4,10 @@ use Rattle.std.specs.Int.{Width, w8, byte_len, from_be_bytes}
 use Rattle.std.specs.Option.{is_some}
 use Rattle.std.proofs.lemmas.Bool.{cases_lt, lt-ltb, le-ltb}
 use Rattle.std.proofs.lemmas.List.{take-take, length-append, length-take, drop-take}
-use Rattle.mb_format.specs.Format.{IsPlace, SpelledAt, Format, IsExact, IsShort, IsLocal, place_of}
-use Rattle.mb_format.specs.Combinators.{raw_at, raw, number_bytes, number_at, number, stood_for, decode_read, decoded, coded, limit, in_range, between, row_of, table, listed, test_of, raw_that, mark_of, mark, nothing, with_first, then_read, both, pair, spelling_of, AllowedOf, into_read, as_value, as_record, led, then_value, either, flag_rows, flag_byte, flag, present, optional, cons, uncons, items, times, sized, sized_that, counted}
-use Rattle.mb_format.proofs.Exact.{after_place}
+use Rattle.mb_format.specs.Format.{IsOffset, SpelledAt, Format, IsShort}
+use Rattle.mb_format.specs.Combinators.{raw, number_bytes, number, decoded, coded, limit, in_range, between, row_of, table, listed, test_of, raw_that, mark_of, mark, nothing, both, pair, spelling_of, AllowedOf, as_value, as_record, led, then_value, either, flag_rows, flag_byte, flag, present, optional, cons, uncons, items, times, sized, sized_that, counted}
+use Rattle.mb_format.specs.Reading.{IsExact, IsLocal, offset_of, raw_at, number_at, stood_for, decode_read, with_first, then_read, into_read}
+use Rattle.mb_format.proofs.Exact.{after_offset}
 use Rattle.mb_format.proofs.Fields.{IsWide, wide8, between_exact}
 use Rattle.mb_format.proofs.Compositions.{flag_exact}
 
@@ -22,7 +23,7 @@ pub number_short : {w : Width} → IsWide w → IsShort (number w) (byte_len w)
 unfolding number_bytes
 number_short wide = record { short = λ a h. omega (arith, wide.len a) }
 
-pub coded_short : {A : Type 0} {w : Width} (Allowed : A → Type 0) (decode : ℕ → Option A) (code : A → ℕ) → IsWide w → IsShort (coded w Allowed decode code) (byte_len w)
+pub coded_short : {A : Type 0} {w : Width} (Allowed : A → Type 0) (decode : ℕ → Option A) (code : A → ℕ) → IsWide w → IsShort (coded w code Allowed decode) (byte_len w)
 unfolding number_bytes
 coded_short Allowed decode code wide = record { short = λ a h. omega (arith, wide.len (code a)) }
 
@@ -114,7 +115,7 @@ local_more is le = record {
   near = λ bytes at p. (let at_most = is.near bytes at p in omega arith);
 }
 
--- n bytes at a place are the same in the first m bytes, where these reach as far
+-- n bytes at an offset are the same in the first m bytes, where these reach as far
 cut_piece : (bytes : List ℕ) (at n m : ℕ) → at + n ≤ m → take n (drop at (take m bytes)) ≡ take n (drop at bytes)
 cut_piece bytes at n m h =
     let far : m ≡ at + (m - at) = omega arith in
@@ -129,11 +130,11 @@ cut_test bytes at n m h =
       | inr le ↦ le-ltb _ _ (omega (arith, length-take m bytes)) ∙ sym (le-ltb _ _ le)
     ]
 
-raw_near : (b : Bool) (at n : ℕ) (xs : List ℕ) → place_of (cond b (Err at) (Ok (xs, at + n))) ≤ at + n
+raw_near : (b : Bool) (at n : ℕ) (xs : List ℕ) → offset_of (cond b (Err at) (Ok (xs, at + n))) ≤ at + n
 raw_near true at n xs = omega arith
 raw_near false at n xs = omega arith
 
-number_near : (b : Bool) (at n x : ℕ) → place_of (cond b (Err at) (Ok (x, at + n))) ≤ at + n
+number_near : (b : Bool) (at n x : ℕ) → offset_of (cond b (Err at) (Ok (x, at + n))) ≤ at + n
 number_near true at n x = omega arith
 number_near false at n x = omega arith
 
@@ -151,15 +152,15 @@ number_local w = record {
   near = λ bytes at p. number_near (ltb (length bytes) (at + byte_len w)) at (byte_len w) (from_be_bytes w (take (byte_len w) (drop at bytes)));
 }
 
-decode_near : {N A : Type 0} (decode : N → Option A) (at n : ℕ) (r : Result (N × ℕ) ℕ) → place_of r ≤ at + n → place_of (decode_read decode at r) ≤ at + n
+decode_near : {N A : Type 0} (decode : N → Option A) (at n : ℕ) (r : Result (N × ℕ) ℕ) → offset_of r ≤ at + n → offset_of (decode_read decode at r) ≤ at + n
 decode_near decode at n (Ok r) h = stood_near (decode r.0)
   where
-    stood_near : {A : Type 0} (o : Option A) → place_of (stood_for at r.1 o) ≤ at + n
+    stood_near : {A : Type 0} (o : Option A) → offset_of (stood_for at r.1 o) ≤ at + n
     stood_near (Some a) = h
     stood_near None = omega arith
 decode_near decode at n (Err p) h = h
 
-pub decoded_local : {N A : Type 0} {f : Format N} {n : ℕ} (Allowed : A → Type 0) (decode : N → Option A) (code : A → N) → IsLocal f n → IsLocal (decoded f Allowed decode code) n
+pub decoded_local : {N A : Type 0} {f : Format N} {n : ℕ} (Allowed : A → Type 0) (decode : N → Option A) (code : A → N) → IsLocal f n → IsLocal (decoded f code Allowed decode) n
 decoded_local {N} {A} {f} {n} Allowed decode code is = record {
   same = λ bytes at m p h. ap (decode_read decode at) (is.same bytes at m p h);
   near = λ bytes at p. decode_near decode at n (f.reads bytes at) (is.near bytes at p);
@@ -183,26 +184,26 @@ mark_local word = decoded_local {f = raw (length word)} (λ (u : Unit {0}). Unit
 pub nothing_local : {A : Type 0} {a : A} → IsLocal (nothing a) 0
 nothing_local = record { same = λ bytes at m p h. refl; near = λ bytes at p. omega arith }
 
-with_first_near : {A B : Type 0} (a : A) (n : ℕ) (t : Result (B × ℕ) ℕ) → place_of t ≤ n → place_of (with_first a t) ≤ n
+with_first_near : {A B : Type 0} (a : A) (n : ℕ) (t : Result (B × ℕ) ℕ) → offset_of t ≤ n → offset_of (with_first a t) ≤ n
 with_first_near a n (Ok t) h = h
 with_first_near a n (Err p) h = h
 
-both_same : {A B : Type 0} (f : Format A) (g : A → Format B) (m n : ℕ) → ((a : A) → f.Allowed a → IsLocal (g a) n) → (bytes : List ℕ) (at k : ℕ) → IsPlace bytes at → at + (m + n) ≤ k
-    → (r : Result (A × ℕ) ℕ) → ((a : A) (middle : ℕ) → r ≡ Ok (a, middle) → SpelledAt f.spelling f.Allowed bytes at a middle) → place_of r ≤ at + m
+both_same : {A B : Type 0} (f : Format A) (g : A → Format B) (m n : ℕ) → ((a : A) → f.Allowed a → IsLocal (g a) n) → (bytes : List ℕ) (at k : ℕ) → IsOffset bytes at → at + (m + n) ≤ k
+    → (r : Result (A × ℕ) ℕ) → ((a : A) (middle : ℕ) → r ≡ Ok (a, middle) → SpelledAt f.spelling f.Allowed bytes at a middle) → offset_of r ≤ at + m
     → then_read r (λ a middle. (g a).reads (take k bytes) middle) ≡ then_read r (λ a middle. (g a).reads bytes middle)
 both_same f g m n second bytes at k p h (Err q) spelled near = refl
 both_same f g m n second bytes at k p h (Ok r) spelled near =
     let s = spelled r.0 r.1 refl in
     let reach : r.1 + n ≤ k = omega arith in
-    ap (with_first r.0) ((second r.0 s.allowed).same bytes r.1 k (after_place f.spelling f.Allowed bytes at r.0 r.1 p s) reach)
+    ap (with_first r.0) ((second r.0 s.allowed).same bytes r.1 k (after_offset f.spelling f.Allowed bytes at r.0 r.1 p s) reach)
 
-both_near : {A B : Type 0} (f : Format A) (g : A → Format B) (m n : ℕ) → ((a : A) → f.Allowed a → IsLocal (g a) n) → (bytes : List ℕ) (at : ℕ) → IsPlace bytes at
-    → (r : Result (A × ℕ) ℕ) → ((a : A) (middle : ℕ) → r ≡ Ok (a, middle) → SpelledAt f.spelling f.Allowed bytes at a middle) → place_of r ≤ at + m
-    → place_of (then_read r (λ a middle. (g a).reads bytes middle)) ≤ at + (m + n)
+both_near : {A B : Type 0} (f : Format A) (g : A → Format B) (m n : ℕ) → ((a : A) → f.Allowed a → IsLocal (g a) n) → (bytes : List ℕ) (at : ℕ) → IsOffset bytes at
+    → (r : Result (A × ℕ) ℕ) → ((a : A) (middle : ℕ) → r ≡ Ok (a, middle) → SpelledAt f.spelling f.Allowed bytes at a middle) → offset_of r ≤ at + m
+    → offset_of (then_read r (λ a middle. (g a).reads bytes middle)) ≤ at + (m + n)
 both_near f g m n second bytes at p (Err q) spelled near = omega (arith, near)
 both_near f g m n second bytes at p (Ok r) spelled near =
     let s = spelled r.0 r.1 refl in
-    let end : place_of ((g r.0).reads bytes r.1) ≤ r.1 + n = (second r.0 s.allowed).near bytes r.1 (after_place f.spelling f.Allowed bytes at r.0 r.1 p s) in
+    let end : offset_of ((g r.0).reads bytes r.1) ≤ r.1 + n = (second r.0 s.allowed).near bytes r.1 (after_offset f.spelling f.Allowed bytes at r.0 r.1 p s) in
     let reach : r.1 ≤ at + m = near in
     with_first_near r.0 (at + (m + n)) ((g r.0).reads bytes r.1) (omega arith)
 
@@ -217,7 +218,7 @@ both_local {A} {B} {f} {g} {m} {n} exact first second = record {
 pub pair_local : {A B : Type 0} {f : Format A} {g : Format B} {m n : ℕ} → IsExact f → IsLocal f m → IsLocal g n → IsLocal (pair f g) (m + n)
 pair_local exact first second = both_local exact first (λ a h. second)
 
-into_near : {A B : Type 0} (into : A → B) (n : ℕ) (r : Result (A × ℕ) ℕ) → place_of r ≤ n → place_of (into_read into r) ≤ n
+into_near : {A B : Type 0} (into : A → B) (n : ℕ) (r : Result (A × ℕ) ℕ) → offset_of r ≤ n → offset_of (into_read into r) ≤ n
 into_near into n (Ok r) h = h
 into_near into n (Err p) h = h
 

@@ -4,14 +4,15 @@ use Rattle.std.specs.Int.{w8}
 use Rattle.std.specs.Option.{is_some}
 use Rattle.std.specs.List.{flat_map, AllByRecursion}
 use Rattle.std.proofs.lemmas.List.{drop_at, length-append, drop-drop}
-use Rattle.mb_format.specs.Format.{IsPlace, SpelledAt, Format, IsExact}
-use Rattle.mb_format.specs.Combinators.{FailsInBoth, in_first, in_second, with_first, then_read, both, pair, spelling_of, AllowedOf, into_read, as_value, as_record, led, then_value, either, flag_rows, flag_byte, flag, present, optional, cons, uncons, items, times, sized, sized_that, counted, nothing, row_of}
-use Rattle.mb_format.proofs.Exact.{ok_parts, after_place}
+use Rattle.mb_format.specs.Format.{IsOffset, SpelledAt, Format}
+use Rattle.mb_format.specs.Combinators.{FailsInBoth, in_first, in_second, both, pair, spelling_of, AllowedOf, as_value, as_record, led, then_value, either, flag_rows, flag_byte, flag, present, optional, cons, uncons, items, times, sized, sized_that, counted, nothing, row_of}
+use Rattle.mb_format.specs.Reading.{IsExact, with_first, then_read, into_read}
+use Rattle.mb_format.proofs.Exact.{ok_parts, after_offset}
 use Rattle.mb_format.proofs.Fields.{raw_exact, raw_that_exact, nothing_exact, table_exact, IsTable, wide8}
 
--- ---- one format behind another
+-- ---- one format after another
 
--- what is spelled one behind the other is spelled at one place
+-- what is spelled one after the other is spelled at one offset
 both_spelled : {A B : Type 0} (f : Format A) (g : A → Format B) (bytes : List ℕ) (at middle after : ℕ) (a : A) (b : B) → SpelledAt f.spelling f.Allowed bytes at a middle → SpelledAt (g a).spelling (g a).Allowed bytes middle b after
     → SpelledAt (both f g).spelling (both f g).Allowed bytes at (a, b) after
 both_spelled f g bytes at middle after a b s t = record {
@@ -33,14 +34,14 @@ first_spelled f g bytes at after p s =
       record { allowed = s.allowed.1; here = rest; ends = omega arith; within = s.within },
     )
 
-both_found : {A B : Type 0} (f : Format A) (g : A → Format B) → ((a : A) → f.Allowed a → IsExact (g a)) → (bytes : List ℕ) (at : ℕ) (p : A × B) (after : ℕ) → IsPlace bytes at
+both_found : {A B : Type 0} (f : Format A) (g : A → Format B) → ((a : A) → f.Allowed a → IsExact (g a)) → (bytes : List ℕ) (at : ℕ) (p : A × B) (after : ℕ) → IsOffset bytes at
     → (r : Result (A × ℕ) ℕ) → ((a : A) (m : ℕ) → r ≡ Ok (a, m) → SpelledAt f.spelling f.Allowed bytes at a m)
     → then_read r (λ a middle. (g a).reads bytes middle) ≡ Ok (p, after) → SpelledAt (both f g).spelling (both f g).Allowed bytes at p after
-both_found f g exact bytes at p after place (Err q) first e = absurd cc
-both_found {A} {B} f g exact bytes at p after place (Ok r) first e =
+both_found f g exact bytes at p after offset (Err q) first e = absurd cc
+both_found {A} {B} f g exact bytes at p after offset (Ok r) first e =
     let s = first r.0 r.1 refl in
-    let behind = exact r.0 s.allowed in
-    second ((g r.0).reads bytes r.1) (λ b m. behind.found bytes r.1 b m (after_place f.spelling f.Allowed bytes at r.0 r.1 place s)) s e
+    let following = exact r.0 s.allowed in
+    second ((g r.0).reads bytes r.1) (λ b m. following.found bytes r.1 b m (after_offset f.spelling f.Allowed bytes at r.0 r.1 offset s)) s e
   where
     second : (t : Result (B × ℕ) ℕ) → ((b : B) (m : ℕ) → t ≡ Ok (b, m) → SpelledAt (g r.0).spelling (g r.0).Allowed bytes r.1 b m) → SpelledAt f.spelling f.Allowed bytes at r.0 r.1
         → with_first r.0 t ≡ Ok (p, after) → SpelledAt (both f g).spelling (both f g).Allowed bytes at p after
@@ -49,15 +50,15 @@ both_found {A} {B} f g exact bytes at p after place (Ok r) first e =
         let same = ok_parts {A = A × B} (r.0, t.0) p t.1 after e in
         rw (← same.0, ← same.1) (both_spelled f g bytes at r.1 t.1 r.0 t.0 s (found t.0 t.1 refl))
 
-both_fails : {A B : Type 0} (f : Format A) (g : A → Format B) → ((a : A) → f.Allowed a → IsExact (g a)) → (bytes : List ℕ) (at q : ℕ) → IsPlace bytes at
+both_fails : {A B : Type 0} (f : Format A) (g : A → Format B) → ((a : A) → f.Allowed a → IsExact (g a)) → (bytes : List ℕ) (at q : ℕ) → IsOffset bytes at
     → (r : Result (A × ℕ) ℕ) → ((a : A) (m : ℕ) → r ≡ Ok (a, m) → SpelledAt f.spelling f.Allowed bytes at a m) → ((p : ℕ) → r ≡ Err p → f.FailsAt bytes at p)
     → then_read r (λ a middle. (g a).reads bytes middle) ≡ Err q → FailsInBoth f g bytes at q
-both_fails f g exact bytes at q place (Err p) first fails e =
+both_fails f g exact bytes at q offset (Err p) first fails e =
     let same : p ≡ q = cc in
     in_first (rw (← same) (fails p refl))
-both_fails {A} {B} f g exact bytes at q place (Ok r) first fails e =
+both_fails {A} {B} f g exact bytes at q offset (Ok r) first fails e =
     let s = first r.0 r.1 refl in
-    second ((g r.0).reads bytes r.1) ((exact r.0 s.allowed).fails bytes r.1 q (after_place f.spelling f.Allowed bytes at r.0 r.1 place s)) s e
+    second ((g r.0).reads bytes r.1) ((exact r.0 s.allowed).fails bytes r.1 q (after_offset f.spelling f.Allowed bytes at r.0 r.1 offset s)) s e
   where
     second : (t : Result (B × ℕ) ℕ) → (t ≡ Err q → (g r.0).FailsAt bytes r.1 q) → SpelledAt f.spelling f.Allowed bytes at r.0 r.1
         → with_first r.0 t ≡ Err q → FailsInBoth f g bytes at q
@@ -66,32 +67,32 @@ both_fails {A} {B} f g exact bytes at q place (Ok r) first fails e =
         in_second r.0 r.1 s (found (ap Err same))
     second (Ok t) found s e = absurd cc
 
-both_failed : {A B : Type 0} (f : Format A) (g : A → Format B) → IsExact f → ((a : A) → f.Allowed a → IsExact (g a)) → (bytes : List ℕ) (at q : ℕ) → IsPlace bytes at
+both_failed : {A B : Type 0} (f : Format A) (g : A → Format B) → IsExact f → ((a : A) → f.Allowed a → IsExact (g a)) → (bytes : List ℕ) (at q : ℕ) → IsOffset bytes at
     → FailsInBoth f g bytes at q → then_read (f.reads bytes at) (λ a middle. (g a).reads bytes middle) ≡ Err q
-both_failed f g exact behind bytes at q place (in_first h) = rw (exact.failed bytes at q place h) refl
-both_failed f g exact behind bytes at q place (in_second a middle s h) =
-    let e = exact.finds bytes at a middle place s in
-    let d = (behind a s.allowed).failed bytes middle q (after_place f.spelling f.Allowed bytes at a middle place s) h in
+both_failed f g exact following bytes at q offset (in_first h) = rw (exact.failed bytes at q offset h) refl
+both_failed f g exact following bytes at q offset (in_second a middle s h) =
+    let e = exact.finds bytes at a middle offset s in
+    let d = (following a s.allowed).failed bytes middle q (after_offset f.spelling f.Allowed bytes at a middle offset s) h in
     rw (e, d) refl
 
-both_finds : {A B : Type 0} (f : Format A) (g : A → Format B) → IsExact f → ((a : A) → f.Allowed a → IsExact (g a)) → (bytes : List ℕ) (at : ℕ) (p : A × B) (after : ℕ) → IsPlace bytes at
+both_finds : {A B : Type 0} (f : Format A) (g : A → Format B) → IsExact f → ((a : A) → f.Allowed a → IsExact (g a)) → (bytes : List ℕ) (at : ℕ) (p : A × B) (after : ℕ) → IsOffset bytes at
     → SpelledAt (both f g).spelling (both f g).Allowed bytes at p after → then_read (f.reads bytes at) (λ a middle. (g a).reads bytes middle) ≡ Ok (p, after)
-both_finds f g exact behind bytes at p after place s =
+both_finds f g exact following bytes at p after offset s =
     let parts = first_spelled f g bytes at after p s in
-    let e = exact.finds bytes at p.0 (at + length (f.spelling p.0)) place parts.0 in
-    let d = (behind p.0 s.allowed.0).finds bytes (at + length (f.spelling p.0)) p.1 after (after_place f.spelling f.Allowed bytes at p.0 (at + length (f.spelling p.0)) place parts.0) parts.1 in
+    let e = exact.finds bytes at p.0 (at + length (f.spelling p.0)) offset parts.0 in
+    let d = (following p.0 s.allowed.0).finds bytes (at + length (f.spelling p.0)) p.1 after (after_offset f.spelling f.Allowed bytes at p.0 (at + length (f.spelling p.0)) offset parts.0) parts.1 in
     rw (e, d) refl
 
 pub both_exact : {A B : Type 0} {f : Format A} {g : A → Format B} → IsExact f → ((a : A) → f.Allowed a → IsExact (g a)) → IsExact (both f g)
-both_exact {A} {B} {f} {g} exact behind = record {
-  found = λ bytes at p after place e. both_found f g behind bytes at p after place (f.reads bytes at) (λ a m. exact.found bytes at a m place) e;
-  finds = both_finds f g exact behind;
-  fails = λ bytes at q place e. both_fails f g behind bytes at q place (f.reads bytes at) (λ a m. exact.found bytes at a m place) (λ p. exact.fails bytes at p place) e;
-  failed = both_failed f g exact behind;
+both_exact {A} {B} {f} {g} exact following = record {
+  found = λ bytes at p after offset e. both_found f g following bytes at p after offset (f.reads bytes at) (λ a m. exact.found bytes at a m offset) e;
+  finds = both_finds f g exact following;
+  fails = λ bytes at q offset e. both_fails f g following bytes at q offset (f.reads bytes at) (λ a m. exact.found bytes at a m offset) (λ p. exact.fails bytes at p offset) e;
+  failed = both_failed f g exact following;
 }
 
 pub pair_exact : {A B : Type 0} {f : Format A} {g : Format B} → IsExact f → IsExact g → IsExact (pair f g)
-pair_exact exact behind = both_exact exact (λ a h. behind)
+pair_exact exact following = both_exact exact (λ a h. following)
 
 -- ---- values made of what was read
 
@@ -105,26 +106,26 @@ value_found f into out again bytes at b after (Ok r) spelled e =
     let same = ok_parts (into r.0) b r.1 after e in
     rw (← same.0, ← same.1) (record { allowed = rw o s.allowed; here = rw o s.here; ends = rw o s.ends; within = s.within })
 
-value_finds : {A B : Type 0} (f : Format A) (into : A → B) (out : B → Option A) → IsExact f → (bytes : List ℕ) (at : ℕ) (b : B) (after : ℕ) → IsPlace bytes at
+value_finds : {A B : Type 0} (f : Format A) (into : A → B) (out : B → Option A) → IsExact f → (bytes : List ℕ) (at : ℕ) (b : B) (after : ℕ) → IsOffset bytes at
     → (o : Option A) → ((a : A) → o ≡ Some a → into a ≡ b) → AllowedOf f o → drop at bytes ≡ spelling_of f o ++ drop after bytes → after ≡ at + length (spelling_of f o) → after ≤ length bytes
     → into_read into (f.reads bytes at) ≡ Ok (b, after)
-value_finds f into out exact bytes at b after place (Some a) only allowed here ends within =
-    let e = exact.finds bytes at a after place (record { allowed = allowed; here = here; ends = ends; within = within }) in
+value_finds f into out exact bytes at b after offset (Some a) only allowed here ends within =
+    let e = exact.finds bytes at a after offset (record { allowed = allowed; here = here; ends = ends; within = within }) in
     rw (e, only a refl) refl
-value_finds f into out exact bytes at b after place None only allowed here ends within = absurd allowed
+value_finds f into out exact bytes at b after offset None only allowed here ends within = absurd allowed
 
-into_failed : {A B : Type 0} (into : A → B) (place : ℕ) (r : Result (A × ℕ) ℕ) → into_read into r ≡ Err place → r ≡ Err place
-into_failed into place (Ok r) e = absurd cc
-into_failed {A} into place (Err p) e =
-    let same : p ≡ place = cc in
+into_failed : {A B : Type 0} (into : A → B) (offset : ℕ) (r : Result (A × ℕ) ℕ) → into_read into r ≡ Err offset → r ≡ Err offset
+into_failed into offset (Ok r) e = absurd cc
+into_failed {A} into offset (Err p) e =
+    let same : p ≡ offset = cc in
     ap Err same
 
 pub as_value_exact : {A B : Type 0} {f : Format A} {into : A → B} {out : B → Option A} → IsExact f → ((a : A) → f.Allowed a → out (into a) ≡ Some a) → ((b : B) (a : A) → out b ≡ Some a → into a ≡ b) → IsExact (as_value f into out)
 as_value_exact {A} {B} {f} {into} {out} exact again only = record {
-  found = λ bytes at b after place e. value_found f into out again bytes at b after (f.reads bytes at) (λ a m. exact.found bytes at a m place) e;
-  finds = λ bytes at b after place s. value_finds f into out exact bytes at b after place (out b) (only b) s.allowed s.here s.ends s.within;
-  fails = λ bytes at q place e. exact.fails bytes at q place (into_failed into q (f.reads bytes at) e);
-  failed = λ bytes at q place h. rw (exact.failed bytes at q place h) refl;
+  found = λ bytes at b after offset e. value_found f into out again bytes at b after (f.reads bytes at) (λ a m. exact.found bytes at a m offset) e;
+  finds = λ bytes at b after offset s. value_finds f into out exact bytes at b after offset (out b) (only b) s.allowed s.here s.ends s.within;
+  fails = λ bytes at q offset e. exact.fails bytes at q offset (into_failed into q (f.reads bytes at) e);
+  failed = λ bytes at q offset h. rw (exact.failed bytes at q offset h) refl;
 }
 
 record_only : {A B : Type 0} (into : A → B) (parts : B → A) → ((b : B) → into (parts b) ≡ b) → (b : B) (a : A) → ◌≡◌ {A = Option A} (Some (parts b)) (Some a) → into a ≡ b
@@ -137,12 +138,12 @@ as_record_exact {A} {B} {f} into parts exact again whole =
     as_value_exact {f = f} {into = into} {out = λ b. Some (parts b)} exact (λ a h. ap Some (again a h)) (record_only into parts whole)
 
 pub led_exact : {K B : Type 0} {f : Format K} {key : B → K} {g : K → Format B} → IsExact f → ((k : K) → f.Allowed k → IsExact (g k)) → ((k : K) (b : B) → f.Allowed k → (g k).Allowed b → key b ≡ k) → IsExact (led f key g)
-led_exact {K} {B} {f} {key} {g} exact behind keyed =
-    as_record_exact {f = both f g} (λ p. p.1) (λ b. (key b, b)) (both_exact exact behind) (λ p h. ap (λ (k : K). (k, p.1)) (keyed p.0 p.1 h.0 h.1)) (λ b. refl)
+led_exact {K} {B} {f} {key} {g} exact following keyed =
+    as_record_exact {f = both f g} (λ p. p.1) (λ b. (key b, b)) (both_exact exact following) (λ p h. ap (λ (k : K). (k, p.1)) (keyed p.0 p.1 h.0 h.1)) (λ b. refl)
 
 pub then_value_exact : {B : Type 0} {f : Format (Unit {0})} {g : Format B} → IsExact f → IsExact g → IsExact (then_value f g)
-then_value_exact {B} {f} {g} exact behind =
-    as_record_exact {f = pair f g} (λ p. p.1) (λ b. (tt, b)) (pair_exact exact behind) (λ p h. refl) (λ b. refl)
+then_value_exact {B} {f} {g} exact following =
+    as_record_exact {f = pair f g} (λ p. p.1) (λ b. (tt, b)) (pair_exact exact following) (λ p h. refl) (λ b. refl)
 
 -- ---- choices and options
 

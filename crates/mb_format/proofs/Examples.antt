@@ -3,8 +3,9 @@ use Rattle.std.proofs.Common.{◌≡◌, ℕ, zero, suc, true, ltb, List, [], �
 use Rattle.std.proofs.lemmas.Bool.{ltb-true}
 use Rattle.std.specs.Int.{w8, w16, w32}
 use Rattle.std.specs.List.{AllByRecursion}
-use Rattle.mb_format.specs.Format.{IsBytes, IsPlace, SpelledAt, IsExact, IsShort, IsLocal, FailsWhole}
-use Rattle.mb_format.specs.Combinators.{raw_at, number_at, items}
+use Rattle.mb_format.specs.Format.{IsBytes, IsOffset, SpelledAt, IsShort, FailsWhole}
+use Rattle.mb_format.specs.Combinators.{items}
+use Rattle.mb_format.specs.Reading.{IsExact, IsLocal, raw_at, number_at}
 use Rattle.mb_format.specs.Examples.{Choice, Word, Text, Tag, word_tag, text_tag, tag_rows, tag_byte, tag_of, word_in, text_in, body_of, choice, sample, sample_into, sample_parts, short_bytes, short_sample, mistagged_bytes}
 use Rattle.mb_format.proofs.Rules.{exactly}
 use Rattle.mb_format.proofs.Fields.{IsTable, wide8, wide16, wide32, number_exact}
@@ -72,16 +73,16 @@ are_bytes [] h i = omega arith
 are_bytes (b ∷ bytes) h zero = ltb-true _ _ h.0
 are_bytes (b ∷ bytes) h (suc i) = are_bytes bytes h.1 i
 
-start_of : (bytes : List ℕ) → AllByRecursion (λ b. ltb b 256 ≡ true) bytes → IsPlace bytes 0
+start_of : (bytes : List ℕ) → AllByRecursion (λ b. ltb b 256 ≡ true) bytes → IsOffset bytes 0
 start_of bytes h = record { are_bytes = are_bytes bytes h; within = omega arith }
 
 pub short_spelled : SpelledAt sample.spelling sample.Allowed short_bytes 0 short_sample 15
 unfolding sample choice items number_at raw_at
 short_spelled = sample_exact.found short_bytes 0 short_sample 15 (start_of short_bytes (search rules depth 20)) refl
 
-pub spelled_behind : SpelledAt sample.spelling sample.Allowed (9 ∷ 9 ∷ short_bytes) 2 short_sample 17
+pub spelled_after_two : SpelledAt sample.spelling sample.Allowed (9 ∷ 9 ∷ short_bytes) 2 short_sample 17
 unfolding sample choice items number_at raw_at
-spelled_behind = sample_exact.found (9 ∷ 9 ∷ short_bytes) 2 short_sample 17 (record { are_bytes = are_bytes (9 ∷ 9 ∷ short_bytes) (search rules depth 20); within = lit≤ tt }) refl
+spelled_after_two = sample_exact.found (9 ∷ 9 ∷ short_bytes) 2 short_sample 17 (record { are_bytes = are_bytes (9 ∷ 9 ∷ short_bytes) (search rules depth 20); within = lit≤ tt }) refl
 
 pub mistagged : sample.FailsAt mistagged_bytes 0 2
 unfolding sample choice items number_at raw_at

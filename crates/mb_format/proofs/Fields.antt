@@ -6,32 +6,33 @@ use Rattle.std.specs.Int.{Width, w8, w16, w32, w64, byte_len, from_be_bytes, to_
 use Rattle.std.proofs.lemmas.Bool.{eqb-true, eq-eqb, ltb-true, ltb-false, le-ltb}
 use Rattle.std.proofs.lemmas.List.{take_at, take-append-drop, length-take, length-drop, drop-drop}
 use Rattle.std.proofs.lemmas.Nat.{be_bytes_2, be_bytes_4, be_bytes_8, from_be_bytes-to_be_bytes_2, from_be_bytes-to_be_bytes_4, from_be_bytes-to_be_bytes_8}
-use Rattle.mb_format.specs.Format.{IsBytes, IsPlace, SpelledAt, Format, IsExact}
+use Rattle.mb_format.specs.Format.{IsBytes, IsOffset, SpelledAt, Format}
 use Rattle.mb_format.proofs.Exact.{IsBytes-drop, IsBytes-spelled, ok_parts}
-use Rattle.mb_format.specs.Combinators.{field, raw_at, raw, limit, number_bytes, number_at, number, stood_for, decode_read, decoded, coded, in_range, between, row_of, table, listed, raw_that, same_bytes, mark, nothing}
+use Rattle.mb_format.specs.Combinators.{field, raw, limit, number_bytes, number, decoded, coded, in_range, between, row_of, table, listed, raw_that, same_bytes, mark, nothing}
+use Rattle.mb_format.specs.Reading.{IsExact, raw_at, number_at, stood_for, decode_read}
 
 -- a single field is read exactly, and fails at its beginning
 pub record IsField {A : Type 0} (f : Format A) : Type 0 where
   pub exact : IsExact f
-  pub begins : (bytes : List ℕ) (at place : ℕ) → f.reads bytes at ≡ Err place → place ≡ at
+  pub begins : (bytes : List ℕ) (at offset : ℕ) → f.reads bytes at ≡ Err offset → offset ≡ at
 
-field_failed : {A : Type 0} (spelling : A → List ℕ) (Allowed : A → Type 0) (bytes : List ℕ) (at place : ℕ) → ((a : A) (after : ℕ) → SpelledAt spelling Allowed bytes at a after → ⊥) → place ≡ at
-    → (r : Result (A × ℕ) ℕ) → ((a : A) (after : ℕ) → r ≡ Ok (a, after) → SpelledAt spelling Allowed bytes at a after) → ((p : ℕ) → r ≡ Err p → p ≡ at) → r ≡ Err place
-field_failed spelling Allowed bytes at place none here (Ok r) found begins = absurd (none r.0 r.1 (found r.0 r.1 refl))
-field_failed spelling Allowed bytes at place none here (Err p) found begins = ap Err (begins p refl ∙ sym here)
+field_failed : {A : Type 0} (spelling : A → List ℕ) (Allowed : A → Type 0) (bytes : List ℕ) (at offset : ℕ) → ((a : A) (after : ℕ) → SpelledAt spelling Allowed bytes at a after → ⊥) → offset ≡ at
+    → (r : Result (A × ℕ) ℕ) → ((a : A) (after : ℕ) → r ≡ Ok (a, after) → SpelledAt spelling Allowed bytes at a after) → ((p : ℕ) → r ≡ Err p → p ≡ at) → r ≡ Err offset
+field_failed spelling Allowed bytes at offset none here (Ok r) found begins = absurd (none r.0 r.1 (found r.0 r.1 refl))
+field_failed spelling Allowed bytes at offset none here (Err p) found begins = ap Err (begins p refl ∙ sym here)
 
 -- what a single field owes
 pub is_field : {A : Type 0} (spelling : A → List ℕ) (Allowed : A → Type 0) (reads : List ℕ → ℕ → Result (A × ℕ) ℕ)
-    → ((bytes : List ℕ) (at : ℕ) (a : A) (after : ℕ) → IsPlace bytes at → reads bytes at ≡ Ok (a, after) → SpelledAt spelling Allowed bytes at a after)
-    → ((bytes : List ℕ) (at : ℕ) (a : A) (after : ℕ) → IsPlace bytes at → SpelledAt spelling Allowed bytes at a after → reads bytes at ≡ Ok (a, after))
-    → ((bytes : List ℕ) (at place : ℕ) → reads bytes at ≡ Err place → place ≡ at)
+    → ((bytes : List ℕ) (at : ℕ) (a : A) (after : ℕ) → IsOffset bytes at → reads bytes at ≡ Ok (a, after) → SpelledAt spelling Allowed bytes at a after)
+    → ((bytes : List ℕ) (at : ℕ) (a : A) (after : ℕ) → IsOffset bytes at → SpelledAt spelling Allowed bytes at a after → reads bytes at ≡ Ok (a, after))
+    → ((bytes : List ℕ) (at offset : ℕ) → reads bytes at ≡ Err offset → offset ≡ at)
     → IsField (field spelling Allowed reads)
 is_field spelling Allowed reads found finds begins = record {
   exact = record {
     found = found;
     finds = finds;
-    fails = λ bytes at place p e. record { here = begins bytes at place e; none = λ a after s. (let o = finds bytes at a after p s in cc) };
-    failed = λ bytes at place p h. field_failed spelling Allowed bytes at place h.none h.here (reads bytes at) (λ a after. found bytes at a after p) (begins bytes at);
+    fails = λ bytes at offset p e. record { here = begins bytes at offset e; none = λ a after s. (let o = finds bytes at a after p s in cc) };
+    failed = λ bytes at offset p h. field_failed spelling Allowed bytes at offset h.none h.here (reads bytes at) (λ a after. found bytes at a after p) (begins bytes at);
   };
   begins = begins;
 }
@@ -58,13 +59,13 @@ piece n bytes at within =
       within = within;
     }
 
-raw_found : (n : ℕ) (bytes : List ℕ) (at : ℕ) (a : List ℕ) (after : ℕ) → IsPlace bytes at → raw_at n bytes at ≡ Ok (a, after) → SpelledAt (λ (xs : List ℕ). xs) (λ xs. length xs ≡ n) bytes at a after
+raw_found : (n : ℕ) (bytes : List ℕ) (at : ℕ) (a : List ℕ) (after : ℕ) → IsOffset bytes at → raw_at n bytes at ≡ Ok (a, after) → SpelledAt (λ (xs : List ℕ). xs) (λ xs. length xs ≡ n) bytes at a after
 unfolding raw_at
 raw_found n bytes at a after p e =
     let g = guard_ok (ltb (length bytes) (at + n)) at (take n (drop at bytes), at + n) (a, after) e in
     subst (λ (r : List ℕ × ℕ). SpelledAt (λ (xs : List ℕ). xs) (λ xs. length xs ≡ n) bytes at r.0 r.1) g.1 (piece n bytes at (ltb-false _ _ g.0))
 
-raw_finds : (n : ℕ) (bytes : List ℕ) (at : ℕ) (a : List ℕ) (after : ℕ) → IsPlace bytes at → SpelledAt (λ (xs : List ℕ). xs) (λ xs. length xs ≡ n) bytes at a after → raw_at n bytes at ≡ Ok (a, after)
+raw_finds : (n : ℕ) (bytes : List ℕ) (at : ℕ) (a : List ℕ) (after : ℕ) → IsOffset bytes at → SpelledAt (λ (xs : List ℕ). xs) (λ xs. length xs ≡ n) bytes at a after → raw_at n bytes at ≡ Ok (a, after)
 unfolding raw_at
 raw_finds n bytes at a after p s =
     let long : ltb (length bytes) (at + n) ≡ false = le-ltb _ _ (omega arith) in
@@ -72,9 +73,9 @@ raw_finds n bytes at a after p s =
     let end : at + n ≡ after = omega arith in
     rw (long, front, end) refl
 
-raw_begins : (n : ℕ) (bytes : List ℕ) (at place : ℕ) → raw_at n bytes at ≡ Err place → place ≡ at
+raw_begins : (n : ℕ) (bytes : List ℕ) (at offset : ℕ) → raw_at n bytes at ≡ Err offset → offset ≡ at
 unfolding raw_at
-raw_begins n bytes at place e = guard_err (ltb (length bytes) (at + n)) at place (take n (drop at bytes), at + n) e
+raw_begins n bytes at offset e = guard_err (ltb (length bytes) (at + n)) at offset (take n (drop at bytes), at + n) e
 
 pub raw_field : (n : ℕ) → IsField (raw n)
 raw_field n = is_field (λ xs. xs) (λ xs. length xs ≡ n) (raw_at n) (raw_found n) (raw_finds n) (raw_begins n)
@@ -130,7 +131,7 @@ wide64 = record {
   below = λ bytes fits. omega (arith, fits 0, fits 1, fits 2, fits 3, fits 4, fits 5, fits 6, fits 7);
 }
 
-number_found : (w : Width) → IsWide w → (bytes : List ℕ) (at n after : ℕ) → IsPlace bytes at → number_at w bytes at ≡ Ok (n, after) → SpelledAt (number_bytes w) (λ n. n < limit w) bytes at n after
+number_found : (w : Width) → IsWide w → (bytes : List ℕ) (at n after : ℕ) → IsOffset bytes at → number_at w bytes at ≡ Ok (n, after) → SpelledAt (number_bytes w) (λ n. n < limit w) bytes at n after
 unfolding number_at number_bytes
 number_found w wide bytes at n after p e =
     let size = byte_len w in
@@ -147,7 +148,7 @@ number_found w wide bytes at n after p e =
     } in
     subst (λ (r : ℕ × ℕ). SpelledAt (number_bytes w) (λ n. n < limit w) bytes at r.0 r.1) g.1 whole
 
-number_finds : (w : Width) → IsWide w → (bytes : List ℕ) (at n after : ℕ) → IsPlace bytes at → SpelledAt (number_bytes w) (λ n. n < limit w) bytes at n after → number_at w bytes at ≡ Ok (n, after)
+number_finds : (w : Width) → IsWide w → (bytes : List ℕ) (at n after : ℕ) → IsOffset bytes at → SpelledAt (number_bytes w) (λ n. n < limit w) bytes at n after → number_at w bytes at ≡ Ok (n, after)
 unfolding number_at number_bytes
 number_finds w wide bytes at n after p s =
     let len = wide.len n in
@@ -156,9 +157,9 @@ number_finds w wide bytes at n after p s =
     let end : at + byte_len w ≡ after = omega arith in
     rw (long, front, wide.again n s.allowed, end) refl
 
-number_begins : (w : Width) (bytes : List ℕ) (at place : ℕ) → number_at w bytes at ≡ Err place → place ≡ at
+number_begins : (w : Width) (bytes : List ℕ) (at offset : ℕ) → number_at w bytes at ≡ Err offset → offset ≡ at
 unfolding number_at
-number_begins w bytes at place e = guard_err (ltb (length bytes) (at + byte_len w)) at place (from_be_bytes w (take (byte_len w) (drop at bytes)), at + byte_len w) e
+number_begins w bytes at offset e = guard_err (ltb (length bytes) (at + byte_len w)) at offset (from_be_bytes w (take (byte_len w) (drop at bytes)), at + byte_len w) e
 
 pub number_field : {w : Width} → IsWide w → IsField (number w)
 number_field {w} wide = is_field (number_bytes w) (λ n. n < limit w) (number_at w) (number_found w wide) (number_finds w wide) (number_begins w)
@@ -179,9 +180,9 @@ some_is (Some b) at m after a e =
     (ap Some same.0, same.1)
 some_is None at m after a e = absurd cc
 
-none_is : {A : Type 0} (o : Option A) (at m place : ℕ) → stood_for at m o ≡ Err place → place ≡ at
-none_is (Some b) at m place e = absurd cc
-none_is None at m place e = cc
+none_is : {A : Type 0} (o : Option A) (at m offset : ℕ) → stood_for at m o ≡ Err offset → offset ≡ at
+none_is (Some b) at m offset e = absurd cc
+none_is None at m offset e = cc
 
 decoded_from : {N A : Type 0} (f : Format N) (Allowed : A → Type 0) (decode : N → Option A) (code : A → N) → IsDecoded f Allowed decode code
     → (bytes : List ℕ) (at : ℕ) (a : A) (after : ℕ) (r : Result (N × ℕ) ℕ) → ((n : N) (m : ℕ) → r ≡ Ok (n, m) → SpelledAt f.spelling f.Allowed bytes at n m)
@@ -196,13 +197,13 @@ decoded_from f Allowed decode code is bytes at a after (Err p) spelled e = absur
 abbrev as_err : {V : Type 0} → ℕ → Result V ℕ
 as_err p = Err p
 
-decoded_begins : {N A : Type 0} (decode : N → Option A) (at place : ℕ) (r : Result (N × ℕ) ℕ) → ((p : ℕ) → r ≡ Err p → p ≡ at) → decode_read decode at r ≡ Err place → place ≡ at
-decoded_begins decode at place (Ok r) begins e = none_is (decode r.0) at r.1 place e
-decoded_begins {N} decode at place (Err p) begins e =
-    let same : p ≡ place = cc in
-    begins place (ap (λ (k : ℕ). as_err {V = N × ℕ} k) same)
+decoded_begins : {N A : Type 0} (decode : N → Option A) (at offset : ℕ) (r : Result (N × ℕ) ℕ) → ((p : ℕ) → r ≡ Err p → p ≡ at) → decode_read decode at r ≡ Err offset → offset ≡ at
+decoded_begins decode at offset (Ok r) begins e = none_is (decode r.0) at r.1 offset e
+decoded_begins {N} decode at offset (Err p) begins e =
+    let same : p ≡ offset = cc in
+    begins offset (ap (λ (k : ℕ). as_err {V = N × ℕ} k) same)
 
-pub decoded_field : {N A : Type 0} {f : Format N} {Allowed : A → Type 0} {decode : N → Option A} {code : A → N} → IsField f → IsDecoded f Allowed decode code → IsField (decoded f Allowed decode code)
+pub decoded_field : {N A : Type 0} {f : Format N} {Allowed : A → Type 0} {decode : N → Option A} {code : A → N} → IsField f → IsDecoded f Allowed decode code → IsField (decoded f code Allowed decode)
 decoded_field {f} {Allowed} {decode} {code} field is =
     is_field (λ x. f.spelling (code x)) Allowed (λ bytes at. decode_read decode at (f.reads bytes at))
     (λ bytes at a after p e. decoded_from f Allowed decode code is bytes at a after (f.reads bytes at) (λ n m. field.exact.found bytes at n m p) e)
@@ -210,12 +211,12 @@ decoded_field {f} {Allowed} {decode} {code} field is =
     let again = is.again a s.allowed in
     let under : SpelledAt f.spelling f.Allowed bytes at (code a) after = record { allowed = again.0; here = s.here; ends = s.ends; within = s.within } in
     rw (field.exact.finds bytes at (code a) after p under, again.1) refl))
-    (λ bytes at place e. decoded_begins decode at place (f.reads bytes at) (field.begins bytes at) e)
+    (λ bytes at offset e. decoded_begins decode at offset (f.reads bytes at) (field.begins bytes at) e)
 
-pub decoded_exact : {N A : Type 0} {f : Format N} {Allowed : A → Type 0} {decode : N → Option A} {code : A → N} → IsField f → IsDecoded f Allowed decode code → IsExact (decoded f Allowed decode code)
+pub decoded_exact : {N A : Type 0} {f : Format N} {Allowed : A → Type 0} {decode : N → Option A} {code : A → N} → IsField f → IsDecoded f Allowed decode code → IsExact (decoded f code Allowed decode)
 decoded_exact field is = (decoded_field field is).exact
 
-pub coded_exact : {A : Type 0} {w : Width} {Allowed : A → Type 0} {decode : ℕ → Option A} {code : A → ℕ} → IsWide w → IsDecoded (number w) Allowed decode code → IsExact (coded w Allowed decode code)
+pub coded_exact : {A : Type 0} {w : Width} {Allowed : A → Type 0} {decode : ℕ → Option A} {code : A → ℕ} → IsWide w → IsDecoded (number w) Allowed decode code → IsExact (coded w code Allowed decode)
 coded_exact wide is = decoded_exact (number_field wide) is
 
 -- ---- numbers in a range
@@ -350,6 +351,6 @@ nothing_exact {A} {a} = record {
   finds = λ bytes at b after p s. (
       let end : after ≡ at = omega arith in
       rw (s.allowed, end) refl);
-  fails = λ bytes at place p e. absurd cc;
-  failed = λ bytes at place p h. absurd h;
+  fails = λ bytes at offset p e. absurd cc;
+  failed = λ bytes at offset p h. absurd h;
 }

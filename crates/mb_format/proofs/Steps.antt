@@ -1,9 +1,10 @@
--- What a reader of bytes works out step by step: a number or raw bytes at a place, and one item of a list after the other.
+-- What a reader of bytes works out step by step: a number or raw bytes at an offset, and one item of a list after the other.
 use Rattle.std.proofs.Common.{◌≡◌, ℕ, suc, ◌+◌, ◌-◌, ◌<◌, ◌≤◌, List, [], ◌∷◌, ◌++◌, length, get_or, take, drop, Result, Ok, Err, refl, sym, ap, ◌∙◌, append_assoc, append-nil, add-one, drop-cons, arith}
 use Rattle.std.specs.Int.{Width, byte_len, from_be_bytes}
 use Rattle.std.proofs.lemmas.Bool.{lt-ltb, le-ltb}
 use Rattle.mb_format.specs.Format.{Format}
-use Rattle.mb_format.specs.Combinators.{raw_at, number_at, into_read, with_first, cons, items}
+use Rattle.mb_format.specs.Combinators.{cons, items}
+use Rattle.mb_format.specs.Reading.{raw_at, number_at, into_read, with_first}
 
 -- ---- fields
 
@@ -23,7 +24,7 @@ pub raw_at-long : (n : ℕ) (bytes : List ℕ) (at : ℕ) → at + n ≤ length 
 unfolding raw_at
 raw_at-long n bytes at h = rw (le-ltb _ _ h) refl
 
--- the first of some bytes at a place, and the others
+-- the first of some bytes at an offset, and the others
 pub first_of : (n : ℕ) (bytes : List ℕ) (at : ℕ) → at < length bytes → take (suc n) (drop at bytes) ≡ get_or bytes at 0 ∷ take n (drop (at + 1) bytes)
 first_of n bytes at h = rw (add-one, drop-cons bytes at 0 h) refl
 
@@ -46,17 +47,17 @@ four_bytes bytes at h =
 -- what was read with the items before it
 abbrev pub with_front : {A : Type 0} → List A → Result (List A × ℕ) ℕ → Result (List A × ℕ) ℕ
 with_front front (Ok r) = Ok (front ++ r.0, r.1)
-with_front front (Err place) = Err place
+with_front front (Err offset) = Err offset
 
 -- Before the first item. A loop keeps `with_front` of the items read so far and of what reading the others gives, which
 -- is what reading all of them gives.
 pub items_begin : {A : Type 0} (r : Result (List A × ℕ) ℕ) → with_front [] r ≡ r
 items_begin (Ok r) = refl
-items_begin (Err place) = refl
+items_begin (Err offset) = refl
 
 regroup : {A : Type 0} (front : List A) (a : A) (r : Result (List A × ℕ) ℕ) → with_front front (into_read cons (with_first a r)) ≡ with_front (front ++ a ∷ []) r
 regroup front a (Ok r) = ap (λ xs. Ok (xs, r.1)) (sym (append_assoc front (a ∷ []) r.0))
-regroup front a (Err place) = refl
+regroup front a (Err offset) = refl
 
 -- an item was read
 pub items_more : {A S : Type 0} (item : S → Format A) (next : S → A → S) (n i : ℕ) (state : S) (front : List A) (bytes : List ℕ) (at : ℕ) (a : A) (after : ℕ) (total : Result (List A × ℕ) ℕ) → i < n
@@ -70,12 +71,12 @@ items_more item next n i state front bytes at a after total lt e so_far =
     sym one ∙ so_far
 
 -- an item failed
-pub items_fail : {A S : Type 0} (item : S → Format A) (next : S → A → S) (n i : ℕ) (state : S) (front : List A) (bytes : List ℕ) (at place : ℕ) (total : Result (List A × ℕ) ℕ) → i < n
-    → (item state).reads bytes at ≡ Err place → with_front front ((items item next (n - i) state).reads bytes at) ≡ total → total ≡ Err place
+pub items_fail : {A S : Type 0} (item : S → Format A) (next : S → A → S) (n i : ℕ) (state : S) (front : List A) (bytes : List ℕ) (at offset : ℕ) (total : Result (List A × ℕ) ℕ) → i < n
+    → (item state).reads bytes at ≡ Err offset → with_front front ((items item next (n - i) state).reads bytes at) ≡ total → total ≡ Err offset
 unfolding items
-items_fail item next n i state front bytes at place total lt e so_far =
+items_fail item next n i state front bytes at offset total lt e so_far =
     let k : n - i ≡ suc (n - (i + 1)) = omega arith in
-    let one : with_front front ((items item next (n - i) state).reads bytes at) ≡ Err place = rw (k, e) refl in
+    let one : with_front front ((items item next (n - i) state).reads bytes at) ≡ Err offset = rw (k, e) refl in
     sym so_far ∙ one
 
 -- no item is left

@@ -2,10 +2,11 @@
 use Rattle.std.proofs.Common.{◌≡◌, ℕ, ◌+◌, ◌<◌, ◌≤◌, ◌⊎◌, inl, inr, Bool, true, false, cond, ltb, List, ◌++◌, length, take, Result, Ok, Err, refl, sym, ap, ◌∙◌, arith, append-nil}
 use Rattle.std.proofs.lemmas.Bool.{cases_lt, ltb-true, ltb-false, lt-ltb, le-ltb}
 use Rattle.std.proofs.lemmas.List.{length-take, drop_all}
-use Rattle.mb_format.specs.Format.{IsBytes, IsPlace, SpelledAt, Format, IsExact, IsLocal, place_of, Spells, FailsWhole, all_read, reads_whole, IsExactWhole, SpellsSomeWhole, FailsWholeSomewhere, IsClearWhole}
+use Rattle.mb_format.specs.Format.{IsBytes, IsOffset, SpelledAt, Format, Spells, FailsWhole, SpellsSomeWhole, FailsWholeSomewhere, IsClearWhole}
+use Rattle.mb_format.specs.Reading.{IsExact, IsLocal, offset_of, all_read, reads_whole, IsExactWhole}
 
--- the beginning is a place
-pub at_start : (bytes : List ℕ) → IsBytes bytes → IsPlace bytes 0
+-- the beginning is an offset
+pub at_start : (bytes : List ℕ) → IsBytes bytes → IsOffset bytes 0
 at_start bytes h = record { are_bytes = h; within = omega arith }
 
 -- what is spelled from the beginning to the end is the whole
@@ -33,41 +34,41 @@ whole_found {A} f bytes a (Ok r) spelled e = to_end (ltb r.1 (length bytes)) ref
         let same : r.0 ≡ a = cc in
         rw (← same) (whole_from f bytes r.0 r.1 (spelled r.0 r.1 refl) (ltb-false _ _ t))
 
-whole_fails : {A : Type 0} (f : Format A) (bytes : List ℕ) (place : ℕ) (r : Result (A × ℕ) ℕ) → ((b : A) (m : ℕ) → r ≡ Ok (b, m) → SpelledAt f.spelling f.Allowed bytes 0 b m)
-    → ((p : ℕ) → r ≡ Err p → f.FailsAt bytes 0 p) → all_read (length bytes) r ≡ Err place → FailsWhole f bytes place
-whole_fails {A} f bytes place (Err p) spelled fails e =
-    let same : p ≡ place = cc in
+whole_fails : {A : Type 0} (f : Format A) (bytes : List ℕ) (offset : ℕ) (r : Result (A × ℕ) ℕ) → ((b : A) (m : ℕ) → r ≡ Ok (b, m) → SpelledAt f.spelling f.Allowed bytes 0 b m)
+    → ((p : ℕ) → r ≡ Err p → f.FailsAt bytes 0 p) → all_read (length bytes) r ≡ Err offset → FailsWhole f bytes offset
+whole_fails {A} f bytes offset (Err p) spelled fails e =
+    let same : p ≡ offset = cc in
     inl (rw (← same) (fails p refl))
-whole_fails {A} f bytes place (Ok r) spelled fails e = left_over (ltb r.1 (length bytes)) refl e
+whole_fails {A} f bytes offset (Ok r) spelled fails e = left_over (ltb r.1 (length bytes)) refl e
   where
-    left_over : (left : Bool) → ltb r.1 (length bytes) ≡ left → ◌≡◌ {A = Result A ℕ} (cond left (Err r.1) (Ok r.0)) (Err place) → FailsWhole f bytes place
+    left_over : (left : Bool) → ltb r.1 (length bytes) ≡ left → ◌≡◌ {A = Result A ℕ} (cond left (Err r.1) (Ok r.0)) (Err offset) → FailsWhole f bytes offset
     left_over true t e =
-        let same : r.1 ≡ place = cc in
+        let same : r.1 ≡ offset = cc in
         inr (rw (← same) (record { value = r.0; spelled = spelled r.0 r.1 refl; left = ltb-true _ _ t }))
     left_over false t e = absurd cc
 
-whole_failed : {A : Type 0} (f : Format A) → IsExact f → (bytes : List ℕ) (place : ℕ) → IsBytes bytes → FailsWhole f bytes place → all_read (length bytes) (f.reads bytes 0) ≡ Err place
-whole_failed f exact bytes place h (inl fails) = rw (exact.failed bytes 0 place (at_start bytes h) fails) refl
-whole_failed f exact bytes place h (inr over) = rw (exact.finds bytes 0 over.value place (at_start bytes h) over.spelled, lt-ltb _ _ over.left) refl
+whole_failed : {A : Type 0} (f : Format A) → IsExact f → (bytes : List ℕ) (offset : ℕ) → IsBytes bytes → FailsWhole f bytes offset → all_read (length bytes) (f.reads bytes 0) ≡ Err offset
+whole_failed f exact bytes offset h (inl fails) = rw (exact.failed bytes 0 offset (at_start bytes h) fails) refl
+whole_failed f exact bytes offset h (inr over) = rw (exact.finds bytes 0 over.value offset (at_start bytes h) over.spelled, lt-ltb _ _ over.left) refl
 
 pub IsExactWhole-from_exact : {A : Type 0} {f : Format A} → IsExact f → IsExactWhole f
 IsExactWhole-from_exact {A} {f} exact = record {
   found = λ bytes a h e. whole_found f bytes a (f.reads bytes 0) (λ b m. exact.found bytes 0 b m (at_start bytes h)) e;
   finds = λ bytes a h s. rw (exact.finds bytes 0 a (length bytes) (at_start bytes h) (whole_spelled f bytes a s), le-ltb (length bytes) (length bytes) (omega arith)) refl;
-  fails = λ bytes place h e. whole_fails f bytes place (f.reads bytes 0) (λ b m. exact.found bytes 0 b m (at_start bytes h)) (λ p. exact.fails bytes 0 p (at_start bytes h)) e;
-  failed = λ bytes place h s. whole_failed f exact bytes place h s;
+  fails = λ bytes offset h e. whole_fails f bytes offset (f.reads bytes 0) (λ b m. exact.found bytes 0 b m (at_start bytes h)) (λ p. exact.fails bytes 0 p (at_start bytes h)) e;
+  failed = λ bytes offset h s. whole_failed f exact bytes offset h s;
 }
 
 outcome : {A : Type 0} (f : Format A) → IsExactWhole f → (bytes : List ℕ) → IsBytes bytes → (r : Result A ℕ) → reads_whole f bytes ≡ r → SpellsSomeWhole f bytes ⊎ FailsWholeSomewhere f bytes
 outcome f exact bytes h (Ok a) e = inl (record { value = a; spelled = exact.found bytes a h e })
-outcome f exact bytes h (Err place) e = inr (record { place = place; fails = exact.fails bytes place h e })
+outcome f exact bytes h (Err offset) e = inr (record { offset = offset; fails = exact.fails bytes offset h e })
 
 pub IsClearWhole-from_exact : {A : Type 0} {f : Format A} → IsExact f → IsClearWhole f
 IsClearWhole-from_exact {A} {f} exact =
     let whole : IsExactWhole f = IsExactWhole-from_exact exact in
     record {
       one_value = λ bytes a b h s t. (let e = whole.finds bytes a h s in let d = whole.finds bytes b h t in cc);
-      one_place = λ bytes p q h s t. (let e = whole.failed bytes p h s in let d = whole.failed bytes q h t in cc);
+      one_offset = λ bytes p q h s t. (let e = whole.failed bytes p h s in let d = whole.failed bytes q h t in cc);
       never_both = λ bytes a p h s t. (let e = whole.finds bytes a h s in let d = whole.failed bytes p h t in cc);
       always = λ bytes h. outcome f whole bytes h (reads_whole f bytes) refl;
     }
@@ -84,22 +85,22 @@ reads_whole-cut {A} {f} {n} is bytes m h lt =
           | inr above ↦ le-ltb _ _ (omega (arith, length-take m bytes)) ∙ sym (le-ltb _ _ above)
         ]
 
-    as_long : (r : Result (A × ℕ) ℕ) → place_of r ≤ 0 + n → all_read (length (take m bytes)) r ≡ all_read (length bytes) r
+    as_long : (r : Result (A × ℕ) ℕ) → offset_of r ≤ 0 + n → all_read (length (take m bytes)) r ≡ all_read (length bytes) r
     as_long (Ok r) le = rw (same_test r.1 le) refl
     as_long (Err p) le = refl
 
 -- nor do such bytes fail further on
-pub reads_whole-near : {A : Type 0} {f : Format A} {n : ℕ} → IsLocal f n → (bytes : List ℕ) (place : ℕ) → IsBytes bytes → reads_whole f bytes ≡ Err place → place ≤ n
-reads_whole-near {A} {f} {n} is bytes place h e = near (f.reads bytes 0) (is.near bytes 0 (at_start bytes h)) e
+pub reads_whole-near : {A : Type 0} {f : Format A} {n : ℕ} → IsLocal f n → (bytes : List ℕ) (offset : ℕ) → IsBytes bytes → reads_whole f bytes ≡ Err offset → offset ≤ n
+reads_whole-near {A} {f} {n} is bytes offset h e = near (f.reads bytes 0) (is.near bytes 0 (at_start bytes h)) e
   where
-    near : (r : Result (A × ℕ) ℕ) → place_of r ≤ 0 + n → all_read (length bytes) r ≡ Err place → place ≤ n
+    near : (r : Result (A × ℕ) ℕ) → offset_of r ≤ 0 + n → all_read (length bytes) r ≡ Err offset → offset ≤ n
     near (Err p) le e =
-        let same : p ≡ place = cc in
+        let same : p ≡ offset = cc in
         omega arith
     near (Ok r) le e = left_over (ltb r.1 (length bytes)) e
       where
-        left_over : (left : Bool) → ◌≡◌ {A = Result A ℕ} (cond left (Err r.1) (Ok r.0)) (Err place) → place ≤ n
+        left_over : (left : Bool) → ◌≡◌ {A = Result A ℕ} (cond left (Err r.1) (Ok r.0)) (Err offset) → offset ≤ n
         left_over true e =
-            let same : r.1 ≡ place = cc in
+            let same : r.1 ≡ offset = cc in
             omega (arith, le)
         left_over false e = absurd cc

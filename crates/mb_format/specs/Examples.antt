@@ -51,7 +51,10 @@ abbrev pub sample_parts : Sample → ℕ × (Choice × (List ℕ × List ℕ))
 sample_parts s = (s.size, (s.choice_in, (s.numbers, s.bytes)))
 
 unfoldable pub sample : Format Sample
-sample = as_record (pair (number w16) (pair choice (pair (counted (between w8 0 3) (number w16)) (sized (between w16 0 300))))) sample_into sample_parts
+sample = as_record
+    (pair (number w16) (pair choice (pair (counted (between w8 0 3) (number w16)) (sized (between w16 0 300)))))
+    sample_into
+    sample_parts
 
 -- a value and its bytes: size 7, a word, two numbers, three bytes
 abbrev pub short_sample : Sample

@@ -1,3 +1,4 @@
 pub mod Format
 pub mod Combinators
 pub mod Examples
+pub mod Reading

@@ -3,8 +3,8 @@ use Rattle.mb_format.proofs.Whole.{IsClearWhole-from_exact}
 use Rattle.mb_format.proofs.Examples as examples
 use Rattle.mb_format.proofs.the_sample_is_clear.Goals as goal
 
-pub returns-clause-at_each_place : goal.returns-clause-at_each_place
-returns-clause-at_each_place c = IsClear-from_exact examples.sample_exact
+pub returns-clause-at_each_offset : goal.returns-clause-at_each_offset
+returns-clause-at_each_offset c = IsClear-from_exact examples.sample_exact
 
 pub returns-clause-as_a_whole : goal.returns-clause-as_a_whole
 returns-clause-as_a_whole c = IsClearWhole-from_exact examples.sample_exact

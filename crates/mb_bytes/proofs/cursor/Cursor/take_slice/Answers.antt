@@ -8,7 +8,7 @@ returns-then-left-length-clause-reads c = raw_err c.args.length refl (omega arit
 
 pub returns-clause-reads : goal.returns-clause-reads
 returns-clause-reads c = raw_ok c.args.length _ refl refl (omega arith)
-    (let n : c.args.self.now.place + c.args.length - c.args.self.now.place ≡ c.args.length = omega arith in rw n refl)
+    (let n : c.args.self.now.offset + c.args.length - c.args.self.now.offset ≡ c.args.length = omega arith in rw n refl)
 
 pub returns-clause-exactly : goal.returns-clause-exactly
 returns-clause-exactly c = is_read (raw_exact c.args.length) (returns-clause-reads c)
