@@ -9,7 +9,7 @@ use Rattle.mb_model.specs.declared.first.FirstState.{FirstState}
 use Rattle.mb_model.specs.declared.first.Ownership.{Ownership}
 use Rattle.mb_model.specs.Key.{key_bytes}
 use Rattle.mb_model.specs.LayerFormat.{trust_byte}
-use Rattle.mb_model.specs.FirstPath.{IsFirstKey, IsFirstState, ownership_bytes, state_bytes, IsSectorOf, FirstOrder, body_bytes, order_bytes, Spells}
+use Rattle.mb_model.specs.FirstPath.{IsFirstKey, IsFirstState, ownership_bytes, state_bytes, IsSectorOf, FirstOrder, body_bytes, order_bytes, SpellsFirst}
 use Rattle.mb_model.proofs.KeyLemmas.{cons_same, same_parts, length-key_bytes, key_bytes-same}
 
 -- a trust's byte determines it
@@ -37,7 +37,7 @@ ownership_same : (a b : Ownership) → a.owner ≡ b.owner → a.trust ≡ b.tru
 ownership_same a b owner trust =
     ap (λ (x : PublicKey). ownership_of x a.trust) owner ∙ ap (λ (x : Trust). ownership_of b.owner x) trust
 
--- the bytes of an ownership and any bytes behind them, field by field
+-- the bytes of an ownership and any bytes after them, field by field
 pub owned_bytes-flat : (held : Ownership) (xs : List ℕ)
     → ownership_bytes (Some held) ++ xs ≡ 1 ∷ (key_bytes held.owner ++ trust_byte held.trust ∷ xs)
 unfolding ownership_bytes
@@ -70,7 +70,7 @@ state_same a b serial one two =
     ∙ ap (λ (x : PublicKey). state_of b.serial x a.two) one
     ∙ ap (λ (x : Option Ownership). state_of b.serial b.one x) two
 
--- the bytes of a state and any bytes behind them, field by field
+-- the bytes of a state and any bytes after them, field by field
 pub state_bytes-flat : (state : FirstState) (xs : List ℕ)
     → state_bytes state ++ xs ≡ 0 ∷ (state.serial ++ (key_bytes state.one ++ (ownership_bytes state.two ++ xs)))
 unfolding state_bytes
@@ -78,7 +78,7 @@ state_bytes-flat state xs =
     append_assoc (0 ∷ state.serial ++ key_bytes state.one) (ownership_bytes state.two) xs
     ∙ append_assoc (0 ∷ state.serial) (key_bytes state.one) (ownership_bytes state.two ++ xs)
 
--- the bytes of a state, with any bytes behind them, determine it
+-- the bytes of a state, with any bytes after them, determine it
 pub state_bytes-same : (a b : FirstState) (xs ys : List ℕ) → IsFirstState a → IsFirstState b
     → state_bytes a ++ xs ≡ state_bytes b ++ ys → a ≡ b
 state_bytes-same a b xs ys fa fb e =
@@ -112,7 +112,7 @@ order_bytes-flat order =
     ∙ append_assoc (1 ∷ 2 ∷ 0 ∷ key_bytes order.owner) (trust_byte order.trust ∷ []) (to_be_bytes w16 (length order.signature) ++ (order.signature ++ 0 ∷ []))
 
 -- bytes spell at most one order
-pub one_order : (text : List ℕ) (a b : FirstOrder) → Spells text a → Spells text b → a ≡ b
+pub one_order : (text : List ℕ) (a b : FirstOrder) → SpellsFirst text a → SpellsFirst text b → a ≡ b
 one_order text a b ha hb =
     let head = cons_same 0 0 _ _ (ap (drop 2) (sym (order_bytes-flat a) ∙ sym ha.bytes ∙ hb.bytes ∙ order_bytes-flat b)) in
     let owner = key_front a.owner b.owner _ _ ha.owner hb.owner head.1 in

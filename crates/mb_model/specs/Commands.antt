@@ -1,116 +1,219 @@
--- What a command comes to in the world outside. Which files can it have changed, and what did it print, when it ended so?
-use Rattle.std.specs.Prelude.{◌≡◌, ◌≢◌, ℕ, ◌≤◌, ◌⊎◌, List, [], ◌∷◌, ◌++◌, length, take, codes, Option, Some, if◌then◌else◌}
-use Rattle.mb_format.specs.Combinators.{same_bytes}
+-- What a command comes to, whichever it is. What has been read, written and printed when it ends, in which order, and
+-- with which status?
+use Rattle.std.specs.Prelude.{◌≡◌, ◌≢◌, ℕ, ◌≤◌, ◌⊎◌, Bool, true, false, List, [], ◌++◌, length, codes, Option, Some}
+use Rattle.std.specs.Fmt.{decimal}
+use Rattle.mb_model.specs.declared.event.Answered.{Answered}
+use Rattle.mb_model.specs.declared.role.Role.{Role}
+use Rattle.mb_model.specs.declared.role.Role.TheVariants as role
+use Rattle.mb_model.specs.declared.role.Place.{Place}
+use Rattle.mb_model.specs.declared.role.Place.TheVariants as fault
 use Rattle.mb_model.specs.Texts.{ended}
-use Rattle.mb_model.specs.Outside.{Outside, HasRisen, file_limit, Holds, HoldsTooMuch, Prints, PrintsPart, ReadFails}
+use Rattle.mb_model.specs.Outside.{Outside, HasRisen, file_limit, HoldsFile, HoldsTooMuch, read_once, FailsToRead}
+use Rattle.mb_model.specs.Outside.{Writes, FailsToWrite, Prints, FailsToPrint}
+use Rattle.mb_model.specs.Board.{Final}
 
--- An input: the word of its role, the name of its file, and at which place, as it is told, bytes are not in its form.
-pub record Input : Type 1 where
-  pub role : List ℕ
+-- ---- words
+
+-- the word for an input or an output
+abbrev pub role_word : Role → List ℕ
+role_word role.Image = codes "image"
+role_word role.Script = codes "script"
+role_word role.Noise = codes "noise"
+role_word role.Root = codes "root"
+role_word role.Chain = codes "chain"
+role_word role.Statement = codes "statement"
+role_word role.Owner = codes "owner"
+role_word role.Code = codes "code"
+role_word role.Key = codes "key"
+role_word role.Public = codes "public"
+role_word role.Draft = codes "draft"
+role_word role.Order = codes "order"
+role_word role.Out = codes "out"
+
+-- the words for the place where an input is at fault
+abbrev pub place_words : Place → List ℕ
+place_words fault.Length = codes "length"
+place_words (fault.At offset) = codes "at " ++ decimal offset
+place_words (fault.Line n) = codes "line " ++ decimal n
+place_words fault.Root = codes "root"
+place_words fault.Public = codes "public"
+place_words (fault.Region n) = codes "region " ++ decimal n
+place_words fault.State = codes "state"
+place_words fault.Form = codes "form"
+
+-- ---- what a command does
+
+-- An input: its role, the name of its file, for which value its bytes stand, and at which place they are at fault where
+-- they stand for none.
+pub record Input (A : Type 0) : Type 1 where
+  pub role : Role
   pub name : List ℕ
-  pub FaultyAt : List ℕ → List ℕ → Type 0
+  pub Is : List ℕ → A → Type 0
+  pub FaultyAt : List ℕ → Place → Type 0
 
--- an output: the word of its role, the name of its file, and its bytes
+-- an output: its role, the name of its file, and its bytes
 pub record Output : Type 0 where
-  pub role : List ℕ
+  pub role : Role
   pub name : List ℕ
   pub bytes : List ℕ
 
--- What a command does: it reads an input, and goes on by the bytes of it; it refuses with a line; or it writes outputs, in
--- this order, and then prints a text.
+-- What a command does, step by step.
 pub data Command : Type 1 where
-  read : Input → (List ℕ → Command) → Command
+  -- it reads an input, and goes on with the value for which that stands
+  read : {A : Type 0} → Input A → (A → Command) → Command
+  -- it goes on with some value of which this holds
+  find : {A : Type 0} → (A → Type 0) → (A → Command) → Command
+  -- where this holds it does the first, and else the second
+  either : Type 0 → Command → Command → Command
+  -- it serves the board's events, so that this holds of what was answered and of what the board shows then
+  serve : (List Answered → Final → Type 0) → (List Answered → Final → Command) → Command
+  -- it writes an output
+  write : Output → Command → Command
+  -- it prints a text and is done
+  print : List ℕ → Command
+  -- it refuses with a line, and changes nothing
   refuse : List ℕ → Command
-  write : List Output → List ℕ → Command
+  -- it lacks memory, which was wanted while it served events
+  lack : Command
 
--- ---- what is printed
+-- ---- how a command ends
 
--- A status other than 0 prints its line, or a part of it where a write fault rose.
-abbrev pub PrintsLine : Outside → Outside → List ℕ → Type 0
-PrintsLine before after line =
-    Prints before after (ended line) ⊎ (HasRisen before.write_faults after.write_faults × PrintsPart before after (ended line))
+-- What a command has done so far that its end depends on: which events were answered, and whether a file was written.
+pub record Past : Type 0 where
+  pub answered : List Answered
+  pub wrote : Bool
 
--- No file has changed.
-abbrev pub FilesStay : Outside → Outside → Type 0
-FilesStay before after = after.files ≡ before.files
+abbrev pub at_first : Past
+at_first = record { answered = []; wrote = false }
 
--- ---- an input
+-- A command from one of its steps to its end: what is outside before the step and after the end, the events that the
+-- board has answered and what it shows then, and the status.
+pub record Ended : Type 0 where
+  pub before : Outside
+  pub after : Outside
+  pub answered : List Answered
+  pub final : Final
+  pub status : ℕ
 
--- the bytes are in the input's form
-abbrev pub IsInForm : Input → List ℕ → Type 0
-IsInForm input bytes = (place : List ℕ) → input.FaultyAt bytes place → ⊥
+-- the same, seen from a later step
+abbrev pub onward : Outside → Ended → Ended
+onward mid e = record e { before = mid }
+
+-- the line is printed; where that fails, some of the first of its bytes are
+abbrev pub SaysLine : List ℕ → Outside → Outside → Type 0
+SaysLine line before after = Prints (ended line) before after ⊎ FailsToPrint (ended line) before after
+
+-- The command stops: it prints a line and does nothing else, and no event was answered beyond those of its past.
+pub record Stops (line : List ℕ) (status : ℕ) (past : Past) (e : Ended) : Type 0 where
+  pub says : SaysLine line e.before e.after
+  pub answered : e.answered ≡ past.answered
+  pub status_is : e.status ≡ status
+
+-- 6: an allocation failed. But for `lack`, this is so only while no file has been written.
+pub record WantsMemory (past : Past) (e : Ended) : Type 0 where
+  pub first : past.wrote ≡ false
+  pub stops : Stops (codes "no memory") 6 past e
+
+-- the line that tells what is wrong with an input
+abbrev pub input_line : Role → List ℕ → List ℕ
+input_line role what = codes "input " ++ role_word role ++ codes " " ++ what
+
+-- The file of this name was read: where the host tells its files it holds these bytes, and they are not too many.
+pub record HasRead (outside : Outside) (name bytes : List ℕ) : Type 0 where
+  pub held : HoldsFile outside name bytes
+  pub fits : length bytes ≤ file_limit
 
 -- the command ends at an input
-pub data InputEnds (input : Input) (before after : Outside) (status : ℕ) : Type 0 where
+pub data InputEnds {A : Type 0} (input : Input A) (past : Past) (e : Ended) : Type 0 where
   -- 3: it is too long
-  too_long : HoldsTooMuch before input.name →
-      PrintsLine before after (codes "input " ++ input.role ++ codes " too long") → status ≡ 3 → InputEnds input before after status
-  -- 3: it is not in its form
-  faulty : (bytes place : List ℕ) → Holds before input.name bytes → input.FaultyAt bytes place →
-      PrintsLine before after (codes "input " ++ input.role ++ codes " " ++ place) → status ≡ 3 → InputEnds input before after status
+  too_long : HoldsTooMuch e.before input.name
+      → Stops (input_line input.role (codes "too long")) 3 past (onward (read_once e.before) e) → InputEnds input past e
+  -- 3: it is at fault
+  faulty : (bytes : List ℕ) → HasRead e.before input.name bytes → (place : Place) → input.FaultyAt bytes place
+      → Stops (input_line input.role (place_words place)) 3 past (onward (read_once e.before) e)
+      → InputEnds input past e
   -- 4: it could not be read
-  not_read : ReadFails before after input.name →
-      PrintsLine before after (codes "read failed " ++ input.role) → status ≡ 4 → InputEnds input before after status
+  not_read : (mid : Outside) → FailsToRead input.name e.before mid
+      → Stops (codes "read failed " ++ role_word input.role) 4 past (onward mid e) → InputEnds input past e
+  -- 6: there was no memory for it
+  no_room : WantsMemory past (onward (read_once e.before) e) → InputEnds input past e
 
--- ---- the outputs
+-- 5: the output could not be written, and what its file holds is not known
+pub record WriteEnds (output : Output) (past : Past) (e : Ended) : Type 0 where
+  pub mid : Outside
+  pub fails : FailsToWrite output.name e.before mid
+  pub stops : Stops (codes "write failed " ++ role_word output.role) 5 past (onward mid e)
 
--- the files after some outputs were written in order: of two with one name the later counts
-unfoldable pub files_with : List Output → (List ℕ → Option (List ℕ)) → List ℕ → Option (List ℕ)
-files_with [] files name = files name
-files_with (output ∷ rest) files name =
-    files_with rest (λ other. if same_bytes other output.name then Some output.bytes else files other) name
-
--- where the host told its files, these outputs have been written, and all other files are as they were
-abbrev pub AreWritten : List Output → Outside → Outside → Type 0
-AreWritten outputs before after =
-    (files : List ℕ → Option (List ℕ)) → before.files ≡ Some files →
-    (now : List ℕ → Option (List ℕ)) × (after.files ≡ Some now) × ((name : List ℕ) → now name ≡ files_with outputs files name)
-
--- the same of each file but one, of which nothing is known
-abbrev pub AreWrittenBut : List ℕ → List Output → Outside → Outside → Type 0
-AreWrittenBut unknown outputs before after =
-    (files : List ℕ → Option (List ℕ)) → before.files ≡ Some files →
-    (now : List ℕ → Option (List ℕ)) × (after.files ≡ Some now) × ((name : List ℕ) → name ≢ unknown → now name ≡ files_with outputs files name)
-
--- the command ends with its outputs and its text
-pub data OutputEnds (outputs : List Output) (text : List ℕ) (before after : Outside) (status : ℕ) : Type 0 where
+-- the command ends with its text
+pub data PrintEnds (text : List ℕ) (past : Past) (e : Ended) : Type 0 where
   -- 0: done
-  done : AreWritten outputs before after → Prints before after text → status ≡ 0 → OutputEnds outputs text before after status
-  -- 5: an output could not be written. Those before it were, and those behind it are as they were.
-  not_written : (written : List Output) (failed : Output) (rest : List Output) → outputs ≡ written ++ failed ∷ rest →
-      HasRisen before.write_faults after.write_faults → AreWrittenBut failed.name written before after →
-      PrintsPart before after (ended (codes "write failed " ++ failed.role)) → status ≡ 5 → OutputEnds outputs text before after status
-  -- 5: the outputs were written, and the text could not be printed whole
-  not_printed : HasRisen before.write_faults after.write_faults → AreWritten outputs before after →
-      (n m : ℕ) → Prints before after (take n text ++ take m (ended (codes "write failed output"))) → status ≡ 5 → OutputEnds outputs text before after status
+  printed : Prints text e.before e.after → e.answered ≡ past.answered → e.status ≡ 0 → PrintEnds text past e
+  -- 5: the text could not be printed whole
+  not_printed : (mid : Outside) → FailsToPrint text e.before mid
+      → Stops (codes "write failed output") 5 past (onward mid e) → PrintEnds text past e
 
--- ---- the command
+-- How a command can end. Each step begins with what the step before has left outside. So each input is read once and
+-- each output written once, in this order, and what is printed is one text or one line.
+unfoldable pub CommandEnds : Command → Past → Ended → Type 0
+CommandEnds (read {A = A} input rest) past e =
+    InputEnds input past e
+    ⊎ ((bytes : List ℕ) × HasRead e.before input.name bytes
+    × ((value : A) × input.Is bytes value × CommandEnds (rest value) past (onward (read_once e.before) e)))
+CommandEnds (find {A = A} Is rest) past e =
+    ((value : A) × Is value × CommandEnds (rest value) past e) ⊎ WantsMemory past e
+CommandEnds (either If first second) past e =
+    (If × CommandEnds first past e) ⊎ ((If → ⊥) × CommandEnds second past e) ⊎ WantsMemory past e
+CommandEnds (serve IsServed rest) past e =
+    (IsServed e.answered e.final × CommandEnds (rest e.answered e.final) (record past { answered = e.answered }) e)
+    ⊎ WantsMemory past e
+CommandEnds (write output rest) past e =
+    WriteEnds output past e
+    ⊎ ((mid : Outside) × Writes output.name output.bytes e.before mid
+    × CommandEnds rest (record past { wrote = true }) (onward mid e))
+    ⊎ WantsMemory past e
+CommandEnds (print text) past e = PrintEnds text past e ⊎ WantsMemory past e
+CommandEnds (refuse line) past e = Stops line 7 past e ⊎ WantsMemory past e
+CommandEnds lack past e = Stops (codes "no memory") 6 past e
 
--- 6: memory was wanted, and no file had been written
-pub record WantsMemory (before after : Outside) (status : ℕ) : Type 0 where
-  pub files : FilesStay before after
-  pub line : PrintsLine before after (codes "no memory")
-  pub status_is : status ≡ 6
+-- ---- when a command is done
 
--- 7: the command is refused, and no file has been written
-pub record Refuses (line : List ℕ) (before after : Outside) (status : ℕ) : Type 0 where
-  pub files : FilesStay before after
-  pub printed : PrintsLine before after line
-  pub status_is : status ≡ 7
+-- no read and no write or print has failed
+pub record IsFaultless (before after : Outside) : Type 0 where
+  pub read : HasRisen before.read_faults after.read_faults → ⊥
+  pub write : HasRisen before.write_faults after.write_faults → ⊥
 
--- What holds when a command ends with a status. Each input was read and is in its form before the next is looked at.
-unfoldable pub CommandEnds : Command → Outside → Outside → ℕ → Type 0
-CommandEnds (read input rest) before after status =
-    (FilesStay before after × InputEnds input before after status)
-    ⊎ ((bytes : List ℕ) × Holds before input.name bytes × IsInForm input bytes × CommandEnds (rest bytes) before after status)
-    ⊎ WantsMemory before after status
-CommandEnds (refuse line) before after status = Refuses line before after status ⊎ WantsMemory before after status
-CommandEnds (write outputs text) before after status =
-    OutputEnds outputs text before after status ⊎ WantsMemory before after status
-
--- The host tells its files, and each input that the command comes to is there, short enough, and in its form.
+-- Among these files is each input to which the command can come, short enough and not at fault.
 unfoldable pub HasInputsFor : Command → (List ℕ → Option (List ℕ)) → Type 0
-HasInputsFor (read input rest) files =
-    (bytes : List ℕ) × (files input.name ≡ Some bytes) × (length bytes ≤ file_limit) × IsInForm input bytes × HasInputsFor (rest bytes) files
+HasInputsFor (read {A = A} input rest) files =
+    (bytes : List ℕ) × (files input.name ≡ Some bytes) × (length bytes ≤ file_limit)
+    × ((place : Place) → input.FaultyAt bytes place → ⊥)
+    × ((value : A) → input.Is bytes value → HasInputsFor (rest value) files)
+HasInputsFor (find {A = A} Is rest) files = (value : A) → Is value → HasInputsFor (rest value) files
+HasInputsFor (either If first second) files =
+    (If → HasInputsFor first files) × ((If → ⊥) → HasInputsFor second files)
+HasInputsFor (serve IsServed rest) files =
+    (answered : List Answered) (final : Final) → IsServed answered final → HasInputsFor (rest answered final) files
+-- a file that was written may hold anything
+HasInputsFor (write output rest) files =
+    (now : List ℕ → Option (List ℕ)) → ((other : List ℕ) → other ≢ output.name → now other ≡ files other)
+    → HasInputsFor rest now
+HasInputsFor (print text) files = Unit {0}
 HasInputsFor (refuse line) files = Unit {0}
-HasInputsFor (write outputs text) files = Unit {0}
+HasInputsFor lack files = Unit {0}
+
+-- with these files the command can come to a refusal
+unfoldable pub ComesToRefusal : Command → (List ℕ → Option (List ℕ)) → Type 0
+ComesToRefusal (read {A = A} input rest) files =
+    (bytes : List ℕ) × (files input.name ≡ Some bytes)
+    × ((value : A) × input.Is bytes value × ComesToRefusal (rest value) files)
+ComesToRefusal (find {A = A} Is rest) files = (value : A) × Is value × ComesToRefusal (rest value) files
+ComesToRefusal (either If first second) files =
+    (If × ComesToRefusal first files) ⊎ ((If → ⊥) × ComesToRefusal second files)
+ComesToRefusal (serve IsServed rest) files =
+    (answered : List Answered) × (final : Final) × IsServed answered final × ComesToRefusal (rest answered final) files
+ComesToRefusal (write output rest) files =
+    (now : List ℕ → Option (List ℕ)) × ((other : List ℕ) → other ≢ output.name → now other ≡ files other)
+    × ComesToRefusal rest now
+ComesToRefusal (print text) files = ⊥
+ComesToRefusal (refuse line) files = Unit {0}
+ComesToRefusal lack files = ⊥

@@ -1,5 +1,6 @@
 -- The machine of the first path: one owner over layer 1, who may establish an owner of layer 2.
-use Rattle.std.specs.Prelude.{◌≡◌, ℕ, ◌-◌, ◌≤◌, ◌⊎◌, List, [], ◌∷◌, ◌++◌, length, take, replicate, Option, None, Some, IfSome, IsSome}
+use Rattle.std.specs.Prelude.{◌≡◌, ℕ, ◌-◌, ◌≤◌, ◌⊎◌, List, [], ◌∷◌, ◌++◌, length, take, replicate, Option, None, Some}
+use Rattle.std.specs.Prelude.{IfSome, IsSome}
 use Rattle.std.specs.Int.{w16, to_be_bytes}
 use Rattle.mb_model.specs.declared.key.PublicKey.{PublicKey}
 use Rattle.mb_model.specs.declared.key.Tree.TheVariants.{H5}
@@ -45,14 +46,14 @@ erased n = replicate n 0xFF
 unfoldable pub first_sector : List ℕ → List ℕ
 first_sector bytes = take 4096 bytes
 
--- a sector holds a state: its bytes, and behind them erased flash
+-- a sector holds a state: its bytes, and after them erased flash
 pub record IsSectorOf (sector : List ℕ) (state : FirstState) : Type 0 where
   pub allowed : IsFirstState state
   pub bytes : sector ≡ state_bytes state ++ erased (4096 - length (state_bytes state))
 
 -- the flash stands for the state that its sector 0 holds
-abbrev pub StandsFor : List ℕ → FirstState → Type 0
-StandsFor flash state = IsSectorOf (first_sector flash) state
+abbrev pub HoldsFirstState : List ℕ → FirstState → Type 0
+HoldsFirstState flash state = IsSectorOf (first_sector flash) state
 
 -- what an order of the first path says: establish this owner of layer 2 with this trust, signed so
 pub record FirstOrder : Type 0 where
@@ -64,37 +65,42 @@ pub record FirstOrder : Type 0 where
 unfoldable pub body_bytes : FirstOrder → List ℕ
 body_bytes order = 1 ∷ 2 ∷ 0 ∷ key_bytes order.owner ++ trust_byte order.trust ∷ []
 
--- an order as bytes: its body, its signature behind the length of it, and that it has no countersignatures
+-- an order as bytes: its body, its signature after the length of it, and that it has no countersignatures
 unfoldable pub order_bytes : FirstOrder → List ℕ
 order_bytes order =
     body_bytes order ++ to_be_bytes w16 (length order.signature) ++ order.signature ++ 0 ∷ []
 
 -- the bytes spell an order
-pub record Spells (text : List ℕ) (order : FirstOrder) : Type 0 where
+pub record SpellsFirst (text : List ℕ) (order : FirstOrder) : Type 0 where
   pub owner : IsFirstKey order.owner
   pub signature : length order.signature ≤ 9324
   pub bytes : text ≡ order_bytes order
 
 -- the owner of layer 1 signed the order
-abbrev pub IsSigned : FirstState → FirstOrder → Type 0
-IsSigned state order = Verifies state.one (1 ∷ body_bytes order) order.signature
+abbrev pub IsFirstSigned : FirstState → FirstOrder → Type 0
+IsFirstSigned state order = Verifies state.one (1 ∷ body_bytes order) order.signature
 
 -- From old, the bytes of an order are answered by this reply and lead to new. The first that applies is the answer.
 pub data Answers (old : FirstState) (text : List ℕ) (answer : Reply) (new : FirstState) : Type 0 where
   -- refused 10: they spell no order
-  no_order : ((order : FirstOrder) → Spells text order → ⊥) → answer ≡ reply.Refused 10 → new ≡ old → Answers old text answer new
+  no_order : ((order : FirstOrder) → SpellsFirst text order → ⊥) → answer ≡ reply.Refused 10 → new ≡ old
+      → Answers old text answer new
   -- refused 12: layer 2 has an owner
-  owned : (order : FirstOrder) → Spells text order → IsSome old.two → answer ≡ reply.Refused 12 → new ≡ old → Answers old text answer new
+  owned : (order : FirstOrder) → SpellsFirst text order → IsSome old.two → answer ≡ reply.Refused 12 → new ≡ old
+      → Answers old text answer new
   -- refused 13: the owner of layer 1 did not sign the order
-  unsigned : (order : FirstOrder) → Spells text order → old.two ≡ None → (IsSigned old order → ⊥) → answer ≡ reply.Refused 13 → new ≡ old → Answers old text answer new
+  unsigned : (order : FirstOrder) → SpellsFirst text order → old.two ≡ None → (IsFirstSigned old order → ⊥)
+      → answer ≡ reply.Refused 13 → new ≡ old → Answers old text answer new
   -- done: layer 2 has the order's owner and trust
-  established : (order : FirstOrder) → Spells text order → old.two ≡ None → IsSigned old order → answer ≡ reply.Done 1 2 → new ≡ record old { two = Some (record { owner = order.owner; trust = order.trust }) } → Answers old text answer new
+  established : (order : FirstOrder) → SpellsFirst text order → old.two ≡ None → IsFirstSigned old order
+      → answer ≡ reply.Done 1 2 → new ≡ record old { two = Some (record { owner = order.owner; trust = order.trust }) }
+      → Answers old text answer new
 
 -- One step: from old, the event may get this reply and lead to new.
 abbrev pub FirstStep : FirstState → Event → Reply → FirstState → Type 0
 FirstStep old event.Boot answer new = (answer ≡ reply.Booted) × (new ≡ old)
 FirstStep old event.Off answer new = (answer ≡ reply.Off) × (new ≡ old)
--- want of memory may come in place of the answer, and changes nothing
+-- a failed allocation may come in place of the answer, and changes nothing
 FirstStep old (event.Command text draw) answer new =
     Answers old text answer new ⊎ ((answer ≡ reply.NoMemory) × (new ≡ old))
 -- the first path has no other events
@@ -117,14 +123,15 @@ FirstRun old (answered ∷ rest) new =
 pub record StepsBetween (before : List ℕ) (event : Event) (answer : Reply) (after : List ℕ) : Type 0 where
   pub old : FirstState
   pub new : FirstState
-  pub was : StandsFor before old
-  pub is : StandsFor after new
+  pub was : HoldsFirstState before old
+  pub is : HoldsFirstState after new
   pub step : FirstStep old event answer new
 
 -- whatever state the first flash stands for, a step joins it to a state of the second
 abbrev pub Steps : List ℕ → Event → Reply → List ℕ → Type 0
 Steps before event answer after =
-    (old : FirstState) → StandsFor before old → (new : FirstState) × StandsFor after new × FirstStep old event answer new
+    (old : FirstState) → HoldsFirstState before old
+    → (new : FirstState) × HoldsFirstState after new × FirstStep old event answer new
 
 -- an event of the first path
 abbrev pub IsFirstEvent : Event → Type 0

@@ -45,14 +45,14 @@ refusal number =
     else codes "signature"
 
 -- the line of a reply; the first path gives no others
-abbrev pub reply_line : Reply → List ℕ
-reply_line reply.Booted = codes "booted"
-reply_line reply.Off = codes "off"
-reply_line (reply.Done number length) = codes "done " ++ decimal number ++ codes " " ++ decimal length
-reply_line (reply.Refused number) = codes "refused " ++ decimal number ++ codes " " ++ refusal number
-reply_line reply.NoMemory = codes "no memory"
-reply_line _ = []
+abbrev pub first_reply_line : Reply → List ℕ
+first_reply_line reply.Booted = codes "booted"
+first_reply_line reply.Off = codes "off"
+first_reply_line (reply.Done number length) = codes "done " ++ decimal number ++ codes " " ++ decimal length
+first_reply_line (reply.Refused number) = codes "refused " ++ decimal number ++ codes " " ++ refusal number
+first_reply_line reply.NoMemory = codes "no memory"
+first_reply_line _ = []
 
 -- what is printed of answered events: the line of each reply
 abbrev pub printed_lines : List Answered → List ℕ
-printed_lines answered = flat_map (λ a. ended (reply_line a.reply)) answered
+printed_lines answered = flat_map (λ a. ended (first_reply_line a.reply)) answered

@@ -1,67 +1,106 @@
--- The world outside: what a host tells of its files and of what it printed, and how calls may change it.
-use Rattle.std.specs.Prelude.{◌≡◌, ◌≢◌, ℕ, ◌-◌, ◌^◌, ◌<◌, ◌≤◌, ◌⊎◌, List, ◌++◌, length, take, Option, None, Some}
+-- The world outside: what a host tells of its files and of what it printed, and how each of its calls changes that.
+use Rattle.std.specs.Prelude.{◌≡◌, ◌≢◌, ℕ, ◌+◌, ◌-◌, ◌^◌, ◌<◌, ◌≤◌, ◌⊎◌, nat_lt, List, ◌++◌, length, take, Option, None}
+use Rattle.std.specs.Prelude.{Some, if◌then◌else◌}
 
--- A host may tell its files by name, and the bytes that were printed. Its three counts never fall.
+-- A host may tell its files by name, and the bytes that were printed. It counts its faults: reads that failed, reads of
+-- names that are not there, and writes and prints that failed. And it counts its calls of each kind, failed or not.
 pub record Outside : Type 0 where
   pub files : Option (List ℕ → Option (List ℕ))
   pub printed : Option (List ℕ)
   pub read_faults : ℕ
   pub absences : ℕ
   pub write_faults : ℕ
+  pub reads : ℕ
+  pub writes : ℕ
+  pub prints : ℕ
 
--- a count has risen; one that stands at the last value of a u64 counts as risen
+-- the last value of a count, which is a u64
+abbrev pub count_limit : ℕ
+count_limit = 2 ^ 64 - 1
+
+-- a count raised by one; it stays at its last value
+unfoldable pub raised : ℕ → ℕ
+raised count = if nat_lt count count_limit then count + 1 else count
+
+-- a count has risen; one that stands at its last value counts as risen
 abbrev pub HasRisen : ℕ → ℕ → Type 0
-HasRisen before after = (before < after) ⊎ (2 ^ 64 - 1 ≤ after)
+HasRisen before after = (before < after) ⊎ (count_limit ≤ after)
 
--- no file is longer
+-- ---- files and printing
+
+-- no input is longer than this
 abbrev pub file_limit : ℕ
 file_limit = 4194304
 
 -- where the host tells its files, the file of this name holds these bytes
-abbrev pub Holds : Outside → List ℕ → List ℕ → Type 0
-Holds outside name bytes = (files : List ℕ → Option (List ℕ)) → outside.files ≡ Some files → files name ≡ Some bytes
+abbrev pub HoldsFile : Outside → List ℕ → List ℕ → Type 0
+HoldsFile outside name bytes =
+    (files : List ℕ → Option (List ℕ)) → outside.files ≡ Some files → files name ≡ Some bytes
 
 -- where the host tells its files, none has this name
-abbrev pub Lacks : Outside → List ℕ → Type 0
-Lacks outside name = (files : List ℕ → Option (List ℕ)) → outside.files ≡ Some files → files name ≡ None
+abbrev pub HasNoFile : Outside → List ℕ → Type 0
+HasNoFile outside name = (files : List ℕ → Option (List ℕ)) → outside.files ≡ Some files → files name ≡ None
 
--- where the host tells its files, the file of this name is longer than any file may be
+-- where the host tells its files, the file of this name is longer than an input may be
 abbrev pub HoldsTooMuch : Outside → List ℕ → Type 0
 HoldsTooMuch outside name =
-    (files : List ℕ → Option (List ℕ)) → outside.files ≡ Some files → (bytes : List ℕ) × (files name ≡ Some bytes) × (file_limit < length bytes)
+    (files : List ℕ → Option (List ℕ)) → outside.files ≡ Some files
+    → (bytes : List ℕ) × (files name ≡ Some bytes) × (file_limit < length bytes)
 
 -- where the host told its files, it tells them still, and all but the file of this name are as they were
 abbrev pub OtherFilesStay : Outside → Outside → List ℕ → Type 0
 OtherFilesStay before after name =
-    (files : List ℕ → Option (List ℕ)) → before.files ≡ Some files →
-    (now : List ℕ → Option (List ℕ)) × (after.files ≡ Some now) × ((other : List ℕ) → other ≢ name → now other ≡ files other)
+    (files : List ℕ → Option (List ℕ)) → before.files ≡ Some files
+    → (now : List ℕ → Option (List ℕ)) × (after.files ≡ Some now)
+    × ((other : List ℕ) → other ≢ name → now other ≡ files other)
 
 -- where the host told what was printed, it tells it still, and these bytes have been added
-abbrev pub Prints : Outside → Outside → List ℕ → Type 0
-Prints before after bytes = (shown : List ℕ) → before.printed ≡ Some shown → after.printed ≡ Some (shown ++ bytes)
+abbrev pub Adds : Outside → Outside → List ℕ → Type 0
+Adds before after bytes = (shown : List ℕ) → before.printed ≡ Some shown → after.printed ≡ Some (shown ++ bytes)
 
--- some of the first of these bytes have been added
-abbrev pub PrintsPart : Outside → Outside → List ℕ → Type 0
-PrintsPart before after bytes = (n : ℕ) × Prints before after (take n bytes)
+-- ---- a read
 
--- a read changes its two counts at most
-pub record AfterRead (before after : Outside) : Type 0 where
-  pub stays : after ≡ record before { read_faults = after.read_faults; absences = after.absences }
-  pub read_faults : before.read_faults ≤ after.read_faults
-  pub absences : before.absences ≤ after.absences
+-- what is outside after a read that did not fail: the call is counted, and nothing else has changed
+abbrev pub read_once : Outside → Outside
+read_once before = record before { reads = raised before.reads }
 
--- a write changes the file of its name and its count at most
-pub record AfterWrite (before after : Outside) (name : List ℕ) : Type 0 where
-  pub stays : after ≡ record before { files = after.files; write_faults = after.write_faults }
+-- A read of this name failed. Either it counts as a fault, or the host has no such file, which it counts by itself.
+pub data FailsToRead (name : List ℕ) (before after : Outside) : Type 0 where
+  by_fault : after ≡ record (read_once before) { read_faults = raised before.read_faults }
+      → FailsToRead name before after
+  by_absence : HasNoFile before name → after ≡ record (read_once before) { absences = raised before.absences }
+      → FailsToRead name before after
+
+-- ---- a write
+
+-- these bytes were made the whole file of this name
+pub record Writes (name bytes : List ℕ) (before after : Outside) : Type 0 where
+  pub stays : after ≡ record before { files = after.files; writes = raised before.writes }
   pub others : OtherFilesStay before after name
-  pub write_faults : before.write_faults ≤ after.write_faults
+  pub holds : HoldsFile after name bytes
 
--- a print changes what was printed and its count at most
-pub record AfterPrint (before after : Outside) : Type 0 where
-  pub stays : after ≡ record before { printed = after.printed; write_faults = after.write_faults }
-  pub write_faults : before.write_faults ≤ after.write_faults
+-- the file of this name could not be written, and what it holds now is not known
+pub record FailsToWrite (name : List ℕ) (before after : Outside) : Type 0 where
+  pub stays : after ≡ record before {
+    files = after.files;
+    writes = raised before.writes;
+    write_faults = raised before.write_faults;
+  }
+  pub others : OtherFilesStay before after name
 
--- a failed read has a cause: a fault, or a name that is not there
-abbrev pub ReadFails : Outside → Outside → List ℕ → Type 0
-ReadFails before after name =
-    HasRisen before.read_faults after.read_faults ⊎ (HasRisen before.absences after.absences × Lacks before name)
+-- ---- a print
+
+-- these bytes were printed
+pub record Prints (bytes : List ℕ) (before after : Outside) : Type 0 where
+  pub stays : after ≡ record before { printed = after.printed; prints = raised before.prints }
+  pub adds : Adds before after bytes
+
+-- the bytes could not all be printed: some of the first of them were
+pub record FailsToPrint (bytes : List ℕ) (before after : Outside) : Type 0 where
+  pub stays : after ≡ record before {
+    printed = after.printed;
+    prints = raised before.prints;
+    write_faults = raised before.write_faults;
+  }
+  pub part : ℕ
+  pub adds : Adds before after (take part bytes)

@@ -1,18 +1,50 @@
 -- What the program does, by its words: which command they are, and how it ends.
-use Rattle.std.specs.Prelude.{◌≡◌, ℕ, List, [], codes}
-use Rattle.mb_model.specs.declared.event.Answered.{Answered}
-use Rattle.mb_model.specs.Outside.{Outside}
-use Rattle.mb_model.specs.Board.{Memory}
-use Rattle.mb_model.specs.Commands.{PrintsLine, FilesStay, CommandEnds}
-use Rattle.mb_model.specs.FirstCommand.{Names, IsRun, RunEnds}
-use Rattle.mb_model.specs.Keygen.{KeygenNames, IsKeygen, keygen}
+use Rattle.std.specs.Prelude.{◌≡◌, ◌≢◌, ℕ, List, [], ◌∷◌, codes, IsTrue}
+use Rattle.std.specs.Fmt.{decimal}
+use Rattle.mb_model.specs.Layers.{is_upper}
+use Rattle.mb_model.specs.Commands.{Command, Ended, Stops, CommandEnds, at_first}
+use Rattle.mb_model.specs.FirstCommand.{RunNames, run}
+use Rattle.mb_model.specs.Keygen.{KeygenNames, keygen}
+use Rattle.mb_model.specs.Sign.{SignNames, CountersignNames, sign, countersign}
 
--- What holds when the program ends with a status: its words, the world before and after, and what the board shows.
-pub data Ends (words : List (List ℕ)) (before after : Outside) (answered : List Answered) (final : Memory) (status : ℕ) : Type 0 where
-  -- 2: the words are no command
-  no_command : ((names : Names) → IsRun words names → ⊥) → ((names : KeygenNames) → IsKeygen words names → ⊥) →
-      FilesStay before after → PrintsLine before after (codes "words") → answered ≡ [] → status ≡ 2 → Ends words before after answered final status
-  -- `run`
-  ran : (names : Names) → IsRun words names → RunEnds names before after answered final status → Ends words before after answered final status
-  -- `keygen`, which serves no event
-  made_key : (names : KeygenNames) → IsKeygen words names → CommandEnds (keygen names) before after status → answered ≡ [] → Ends words before after answered final status
+-- a command and what its words name
+pub data Request : Type 0 where
+  runs : RunNames → Request
+  makes_key : KeygenNames → Request
+  signs : SignNames → Request
+  countersigns : CountersignNames → Request
+
+-- the words of a request, without the program's name
+abbrev pub words_of : Request → List (List ℕ)
+words_of (runs names) = codes "run" ∷ names.image ∷ names.script ∷ names.noise ∷ []
+words_of (makes_key names) = codes "keygen" ∷ names.noise ∷ names.key ∷ names.public ∷ []
+words_of (signs names) = codes "sign" ∷ names.key ∷ names.draft ∷ names.out ∷ []
+words_of (countersigns names) =
+    codes "countersign" ∷ names.key ∷ decimal names.layer ∷ names.order ∷ names.out ∷ []
+
+-- no name is empty, and the layer that countersigns is 2 or 3
+abbrev pub IsAllowed : Request → Type 0
+IsAllowed (runs names) = (names.image ≢ []) × (names.script ≢ []) × (names.noise ≢ [])
+IsAllowed (makes_key names) = (names.noise ≢ []) × (names.key ≢ []) × (names.public ≢ [])
+IsAllowed (signs names) = (names.key ≢ []) × (names.draft ≢ []) × (names.out ≢ [])
+IsAllowed (countersigns names) =
+    (names.key ≢ []) × (names.order ≢ []) × (names.out ≢ []) × IsTrue (is_upper names.layer)
+
+-- the words are those of an allowed request
+pub record IsRequest (words : List (List ℕ)) (request : Request) : Type 0 where
+  pub spelled : words ≡ words_of request
+  pub allowed : IsAllowed request
+
+-- what is done at a request
+abbrev pub command_of : Request → Command
+command_of (runs names) = run names
+command_of (makes_key names) = keygen names
+command_of (signs names) = sign names
+command_of (countersigns names) = countersign names
+
+-- How the program ends.
+pub data Ends (words : List (List ℕ)) (e : Ended) : Type 0 where
+  -- 2: the words are no request
+  no_command : ((request : Request) → IsRequest words request → ⊥) → Stops (codes "words") 2 at_first e → Ends words e
+  -- they are one, and its command has ended so
+  did : (request : Request) → IsRequest words request → CommandEnds (command_of request) at_first e → Ends words e

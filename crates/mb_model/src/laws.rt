@@ -2,7 +2,7 @@
 
 ghost use Rattle.std.specs.Prelude.{◌≡◌, ℕ, List};
 ghost use Rattle.mb_model.specs.declared.first.FirstState.{FirstState};
-ghost use Rattle.mb_model.specs.FirstPath.{FirstOrder, IsSectorOf, Spells};
+ghost use Rattle.mb_model.specs.FirstPath.{FirstOrder, IsSectorOf, SpellsFirst};
 
 /// A sector holds at most one state.
 pub fn one_state()
@@ -11,5 +11,5 @@ pub fn one_state()
 
 /// Bytes spell at most one order.
 pub fn one_order()
-    ensures { (text : List ℕ) (a b : FirstOrder) → Spells text a → Spells text b → a ≡ b }
+    ensures { (text : List ℕ) (a b : FirstOrder) → SpellsFirst text a → SpellsFirst text b → a ≡ b }
 {}

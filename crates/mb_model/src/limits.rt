@@ -9,6 +9,8 @@ pub const BBRAM_LENGTH: usize = 28_672;
 /// An image file: the flash, and then the battery-backed memory.
 pub const IMAGE_LENGTH: usize = 1_077_248;
 
+const _: () = prove!(FLASH_LENGTH + BBRAM_LENGTH == IMAGE_LENGTH);
+
 /// A sector of the flash, which is erased as one.
 pub const SECTOR_LENGTH: usize = 4_096;
 

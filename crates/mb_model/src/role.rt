@@ -1,4 +1,4 @@
-//! The inputs and outputs of commands.
+//! The inputs and outputs of commands, and where an input is at fault.
 
 /// An input or an output of a command, by the word that names it.
 #[derive(Clone, Copy, Debug, PartialEq, Eq)]
@@ -6,6 +6,35 @@ pub enum Role {
     Image,
     Script,
     Noise,
+    Root,
+    Chain,
+    Statement,
+    Owner,
+    Code,
     Key,
     Public,
+    Draft,
+    Order,
+    Out,
+}
+
+/// Where an input is not in its form.
+#[derive(Clone, Copy, Debug, PartialEq, Eq)]
+pub enum Place {
+    /// It is too short, or has another length than it has to have.
+    Length,
+    /// The field that begins at this offset, from 0, or the first byte after the last field.
+    At(u32),
+    /// The line with this number, from 1.
+    Line(u32),
+    /// The root record of an image, or what tells whether the device lives.
+    Root,
+    /// The public record of an image.
+    Public,
+    /// The record of region 2 or 3 of an image.
+    Region(u8),
+    /// The state for which an image stands.
+    State,
+    /// Anywhere in an input of the first path.
+    Form,
 }

@@ -1,0 +1,69 @@
+-- The inputs of commands: for which value the bytes of each stand, and at which place they are at fault. Is each input
+-- read in one way only?
+use Rattle.std.specs.Prelude.{◌≡◌, ℕ, ◌<◌, ◌≤◌, List, length, take}
+use Rattle.mb_format.specs.Format.{Format, IsBytes, Spells, FailsWhole}
+use Rattle.mb_model.specs.declared.role.Role.{Role}
+use Rattle.mb_model.specs.declared.role.Role.TheVariants as role
+use Rattle.mb_model.specs.declared.role.Place.{Place}
+use Rattle.mb_model.specs.declared.role.Place.TheVariants as fault
+use Rattle.mb_model.specs.declared.order.Order.{Order}
+use Rattle.mb_model.specs.declared.tools.Keyfile.{Keyfile}
+use Rattle.mb_model.specs.KeyFormat.{keyfile_format}
+use Rattle.mb_model.specs.Lines.{Reads, TextFailsAtLine}
+use Rattle.mb_model.specs.Drafts.{IsDraft}
+use Rattle.mb_model.specs.OrderLines.{IsOrderLine}
+use Rattle.mb_model.specs.Commands.{Input}
+
+-- A value and a fault exclude each other, so that an input that is at fault ends its command.
+abbrev pub IsClearInput : {A : Type 0} → Input A → Type 0
+IsClearInput {A} input =
+    (bytes : List ℕ) (value : A) (place : Place) → IsBytes bytes
+    → input.Is bytes value → input.FaultyAt bytes place → ⊥
+
+-- ---- kinds of inputs
+
+-- A file that spells a value. It is at fault at the offset of the first field that is not allowed, or after the last
+-- field.
+abbrev pub binary_input : {A : Type 0} → Role → Format A → List ℕ → Input A
+binary_input role format name = record {
+  role = role;
+  name = name;
+  Is = Spells format;
+  FaultyAt = λ bytes place. (offset : ℕ) × (place ≡ fault.At offset) × FailsWhole format bytes offset;
+}
+
+-- a text in the lines of a grammar: it is at fault at the first line that is wrong
+abbrev pub text_input : {A : Type 0} → Role → (List (List ℕ) → A → Type 0) → List ℕ → Input A
+text_input role Grammar name = record {
+  role = role;
+  name = name;
+  Is = Reads Grammar;
+  FaultyAt = λ bytes place. (n : ℕ) × (place ≡ fault.Line n) × TextFailsAtLine Grammar bytes n;
+}
+
+-- any bytes, of which the first n count and have to be there
+abbrev pub leading_input : Role → ℕ → List ℕ → Input (List ℕ)
+leading_input role n name = record {
+  role = role;
+  name = name;
+  Is = λ bytes leading. (n ≤ length bytes) × (leading ≡ take n bytes);
+  FaultyAt = λ bytes place. (length bytes < n) × (place ≡ fault.Length);
+}
+
+-- ---- the inputs
+
+-- the noise of which an officer's key is made
+abbrev pub key_noise_input : List ℕ → Input (List ℕ)
+key_noise_input name = leading_input role.Noise 32 name
+
+-- the file of an officer's key
+abbrev pub key_input : List ℕ → Input Keyfile
+key_input name = binary_input role.Key keyfile_format name
+
+-- the draft of an order
+abbrev pub draft_input : List ℕ → Input Order
+draft_input name = text_input role.Draft IsDraft name
+
+-- an order that was signed, as a line
+abbrev pub order_input : List ℕ → Input Order
+order_input name = text_input role.Order IsOrderLine name

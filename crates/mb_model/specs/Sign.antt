@@ -1,0 +1,60 @@
+-- What the commands `sign` and `countersign` do. Is one index used for one signature, and is the draft what was signed?
+use Rattle.std.specs.Prelude.{◌≡◌, ℕ, List, ◌++◌, codes}
+use Rattle.std.specs.Fmt.{decimal}
+use Rattle.mb_model.specs.declared.role.Role.TheVariants as role
+use Rattle.mb_model.specs.declared.order.Order.{Order}
+use Rattle.mb_model.specs.declared.tools.Keyfile.{Keyfile}
+use Rattle.mb_model.specs.KeyFormat.{keyfile_format}
+use Rattle.mb_model.specs.Texts.{ended}
+use Rattle.mb_model.specs.OrderLines.{order_line}
+use Rattle.mb_model.specs.SignedOrders.{used_once, signed_order, countersigned_order, IsCountersignable}
+use Rattle.mb_model.specs.Commands.{Command, read, either, write, print, refuse}
+use Rattle.mb_model.specs.Inputs.{key_input, draft_input, order_input}
+
+-- the names of the files of `sign`
+pub record SignNames : Type 0 where
+  pub key : List ℕ
+  pub draft : List ℕ
+  pub out : List ℕ
+
+-- the names of the files of `countersign`, and the layer whose owner countersigns
+pub record CountersignNames : Type 0 where
+  pub key : List ℕ
+  pub layer : ℕ
+  pub order : List ℕ
+  pub out : List ℕ
+
+-- the line that tells an index
+abbrev pub index_text : ℕ → List ℕ
+index_text index = ended (codes "index " ++ decimal index)
+
+-- the key is written with one index more used, then the order that was signed with it, and the index is told
+unfoldable pub use_index : List ℕ → List ℕ → Keyfile → Order → Command
+use_index key_name out_name key order =
+    write (record { role = role.Key; name = key_name; bytes = keyfile_format.spelling (used_once key) })
+    (write (record { role = role.Out; name = out_name; bytes = ended (order_line order) })
+    (print (index_text key.next)))
+
+-- the key signs, unless its 32 indices are used
+unfoldable pub sign_by : List ℕ → List ℕ → Keyfile → Order → Command
+sign_by key_name out_name key order =
+    either (key.next ≡ 32) (refuse (codes "spent")) (use_index key_name out_name key order)
+
+abbrev pub sign_draft : SignNames → Keyfile → Command
+sign_draft names key = read (draft_input names.draft) (λ order.
+    sign_by names.key names.out key (signed_order key order))
+
+unfoldable pub sign : SignNames → Command
+sign names = read (key_input names.key) (sign_draft names)
+
+-- the key countersigns as the owner of a layer, unless the order cannot take that
+abbrev pub countersign_by : CountersignNames → Keyfile → Order → Command
+countersign_by names key order =
+    either (IsCountersignable order names.layer → ⊥) (refuse (codes "not countersignable"))
+    (sign_by names.key names.out key (countersigned_order key names.layer order))
+
+abbrev pub countersign_order : CountersignNames → Keyfile → Command
+countersign_order names key = read (order_input names.order) (countersign_by names key)
+
+unfoldable pub countersign : CountersignNames → Command
+countersign names = read (key_input names.key) (countersign_order names)
