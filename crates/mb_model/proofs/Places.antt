@@ -2,11 +2,11 @@
 use Rattle.std.proofs.Common.{◌≡◌, ℕ, ◌+◌, ◌-◌, ◌≤◌, List, ◌++◌, length, take, drop, refl, ap, sym, ◌∙◌, arith, append_assoc, length-append, length-drop}
 use Rattle.std.proofs.lemmas.List.{length-take-le, take-append-le, take-take, take_at, drop_at, drop-drop, drop-take, length-replicate}
 use Rattle.std.proofs.Math.Seq.{drop-append-add}
-use Rattle.mb_model.specs.Board.{part, put}
+use Rattle.mb_model.specs.Pieces.{part}
+use Rattle.mb_model.specs.Board.{put}
 use Rattle.mb_model.specs.FirstPath.{erased}
 
 pub length-part : (at n : ℕ) (bytes : List ℕ) → at + n ≤ length bytes → length (part at n bytes) ≡ n
-unfolding part
 length-part at n bytes within = length-take-le n (drop at bytes) (omega (arith, length-drop at bytes))
 
 -- how many bytes stand before the end of those that were put
@@ -26,7 +26,7 @@ take-put_below n at bytes memory below within =
     take-append-le n (take at memory ++ bytes) (drop (at + length bytes) memory) (omega (arith, length-front at bytes memory within))
     ∙ (take-append-le n (take at memory) bytes (omega (arith, length-take-le at memory within)) ∙ take-take n at memory below)
 
--- the bytes behind those that were put stay
+-- the bytes after those that were put stay
 pub drop-put_above : (n at : ℕ) (bytes memory : List ℕ) → at + length bytes ≤ n → at ≤ length memory → drop n (put at bytes memory) ≡ drop n memory
 unfolding put
 drop-put_above n at bytes memory above within =
@@ -44,19 +44,17 @@ unfolding put
 take-put_start bytes memory = take_at bytes (drop (0 + length bytes) memory) (length bytes) refl
 
 pub part-put : (at n : ℕ) (bytes memory : List ℕ) → n ≡ length bytes → at ≤ length memory → part at n (put at bytes memory) ≡ bytes
-unfolding part put
+unfolding put
 part-put at n bytes memory same within =
     let rest : List ℕ = drop (at + length bytes) memory in
     rw append_assoc (rw (drop_at (take at memory) (bytes ++ rest) at (length-take-le at memory within)) (take_at bytes rest n (sym same)))
 
 pub part-put_below : (from n at : ℕ) (bytes memory : List ℕ) → from + n ≤ at → at ≤ length memory → part from n (put at bytes memory) ≡ part from n memory
-unfolding part
 part-put_below from n at bytes memory below within =
     sym (drop-take from n (put at bytes memory))
     ∙ (ap (drop from) (take-put_below (from + n) at bytes memory below within) ∙ drop-take from n memory)
 
 pub part-put_above : (from n at : ℕ) (bytes memory : List ℕ) → at + length bytes ≤ from → at ≤ length memory → part from n (put at bytes memory) ≡ part from n memory
-unfolding part
 part-put_above from n at bytes memory above within =
     ap (take n) (drop-put_above from at bytes memory above within)
 

@@ -1,64 +1,62 @@
--- For which state a device's memory stands, or what is wrong with it. What is a memory worth, as it lies, whatever work was broken off?
-use Rattle.std.specs.Prelude.{◌≡◌, ◌≢◌, ℕ, false, ◌⊎◌, List, [], ◌∷◌, ◌++◌, length, filter, Option, None, Some, if◌then◌else◌}
+-- For which state a device's memory stands. What is a memory worth, as it lies, whatever work was broken off?
+use Rattle.std.specs.Prelude.{◌≡◌, ℕ, false, List, [], ◌∷◌, ◌++◌, filter, Option, None, Some, if◌then◌else◌}
 use Rattle.std.specs.List.{list_any}
-use Rattle.mb_format.specs.Format.{Spells}
 use Rattle.mb_model.specs.declared.entry.Entry.{Entry}
 use Rattle.mb_model.specs.declared.entry.SignedEntry.{SignedEntry}
 use Rattle.mb_model.specs.declared.region.Region.{Region}
 use Rattle.mb_model.specs.declared.region.RegionKey.{RegionKey}
 use Rattle.mb_model.specs.declared.region.Secret.{Secret}
+use Rattle.mb_model.specs.declared.state.Codes.{Codes}
 use Rattle.mb_model.specs.declared.state.State.{State}
 use Rattle.mb_model.specs.declared.stored.Fate.{Fate}
 use Rattle.mb_model.specs.declared.stored.Fate.TheVariants.{Keep, Empty, DropConfiguration, AddKey}
 use Rattle.mb_model.specs.declared.stored.Pending.{Pending}
-use Rattle.mb_model.specs.declared.stored.Public.{Public}
 use Rattle.mb_model.specs.declared.stored.Root.{Root}
 use Rattle.mb_model.specs.Log.{entries_of, layers_of}
-use Rattle.mb_model.specs.Regions.{empty_region, is_epoch}
+use Rattle.mb_model.specs.Regions.{is_epoch}
 use Rattle.mb_model.specs.LayerEvents.{has_number}
 use Rattle.mb_model.specs.RootFormat.{root_format}
-use Rattle.mb_model.specs.RegionFormat.{region_format}
-use Rattle.mb_model.specs.PublicFormat.{public_format}
-use Rattle.mb_model.specs.Memory.{IsImage, IsBlank, Parts, parts_of, Holds, HoldsRecord, BeginsWithRecord}
-use Rattle.mb_model.specs.StoredLog.{IsSplitBy, HasIndex, completed}
+use Rattle.mb_model.specs.RegionFormat.{SpellsRegion}
+use Rattle.mb_model.specs.Memory.{AreSized, IsImage, IsBlank, life_byte, spare, current, HoldsInArea, HoldsRecord}
+use Rattle.mb_model.specs.StoredLog.{HasIndex, completed}
+use Rattle.mb_model.specs.Flash.{HoldsPublic}
 use Rattle.mb_model.specs.Valid.{Valid}
 use Rattle.mb_model.specs.Machine.{World, off}
 
--- ---- what the parts of a memory decode to
+-- ---- what a memory holds
 
--- bytes stand for a region: for the empty one where there are none, and else for the one that they spell
-abbrev pub SpellsRegion : List ℕ → Region → Type 0
-SpellsRegion bytes region = ((bytes ≡ []) × (region ≡ empty_region)) ⊎ Spells region_format bytes region
+-- A memory is alive by its life byte, the bytes between its selectors and its areas are zero, and this area holds this
+-- root.
+pub record HasRoot (life : ℕ) (between area : List ℕ) (root : Root) : Type 0 where
+  pub alive : life ≡ 0xA5
+  pub blank : IsBlank between
+  pub holds : HoldsRecord root_format area root
 
--- the area holds the bytes of a region
+-- so it is in this memory
+abbrev pub RootIn : List ℕ → Root → Type 0
+RootIn bbram root = HasRoot (life_byte bbram) (spare bbram) (current bbram 1) root
+
+-- an area holds the bytes of a region
 pub record HoldsRegion (area : List ℕ) (region : Region) : Type 0 where
   pub bytes : List ℕ
-  pub holds : Holds area bytes
+  pub holds : HoldsInArea area bytes
   pub spelled : SpellsRegion bytes region
 
--- the memory is alive, and its root is this
-pub record HasRoot (parts : Parts) (root : Root) : Type 0 where
-  pub alive : parts.life ≡ 0xA5
-  pub blank : IsBlank parts.between_areas
-  pub holds : HoldsRecord root_format parts.root_area root
-
--- the public record in the flash area that the root names, with its signed and its unsigned entries
-pub record HasPublic (parts : Parts) (root : Root) (stored : Public) (signed : List SignedEntry) (unsigned : List Entry) : Type 0 where
-  pub begins : BeginsWithRecord public_format (parts.public_areas root.area) stored
-  pub entries : IsSplitBy root.pending stored.entries signed unsigned
-
--- all that is stored in a memory of a live device
-pub record Stored (parts : Parts) : Type 0 where
+-- all that is stored in the memory of a live device
+pub record Contents : Type 0 where
   pub root : Root
-  pub public : Public
+  pub codes : Codes
   pub signed : List SignedEntry
   pub unsigned : List Entry
   pub two : Region
   pub three : Region
-  pub has_root : HasRoot parts root
-  pub has_public : HasPublic parts root public signed unsigned
-  pub has_two : HoldsRegion parts.two_area two
-  pub has_three : HoldsRegion parts.three_area three
+
+-- the memory holds these contents
+pub record HoldsContents (flash bbram : List ℕ) (contents : Contents) : Type 0 where
+  pub root : RootIn bbram contents.root
+  pub public : HoldsPublic flash contents.root contents.codes contents.signed contents.unsigned
+  pub two : HoldsRegion (current bbram 2) contents.two
+  pub three : HoldsRegion (current bbram 3) contents.three
 
 -- ---- the state, with pending work completed
 
@@ -86,26 +84,33 @@ abbrev pub fate_of_three : Option Pending → Fate
 fate_of_three None = Keep
 fate_of_three (Some pending) = pending.three
 
--- the state for which it stands
-unfoldable pub state_of : {parts : Parts} → Stored parts → State
-state_of stored =
-    let root = stored.root in
-    let whole = completed root stored.signed stored.unsigned in
+-- the state that contents mean
+unfoldable pub meant : Contents → State
+meant contents =
+    let root = contents.root in
+    let whole = completed root contents.signed contents.unsigned in
     record {
       serial = root.serial;
       layers = layers_of (entries_of whole);
-      codes = stored.public.codes;
+      codes = contents.codes;
       log = whole;
       device = root.device;
       uses = root.uses;
-      two = fated (fate_of_two root.pending) stored.two;
-      three = fated (fate_of_three root.pending) stored.three;
+      two = fated (fate_of_two root.pending) contents.two;
+      three = fated (fate_of_three root.pending) contents.three;
     }
 
--- The memory stands for this state: none where it is all zero, as a tamper event leaves it, whatever the flash holds.
-pub data StandsFor (flash bbram : List ℕ) (state : Option State) : Type 0 where
-  is_dead : IsBlank bbram → state ≡ None → StandsFor flash bbram state
-  is_live : (stored : Stored (parts_of flash bbram)) → HasIndex stored.root stored.root.pending → state ≡ Some (state_of stored) → StandsFor flash bbram state
+-- These bytes stand for this state: for none where the battery-backed memory is all zero, as a tamper event leaves it,
+-- whatever the flash holds.
+pub data HasMeaning (flash bbram : List ℕ) (state : Option State) : Type 0 where
+  is_dead : IsBlank bbram → state ≡ None → HasMeaning flash bbram state
+  is_live : (contents : Contents) → HoldsContents flash bbram contents → HasIndex contents.root contents.root.pending →
+      state ≡ Some (meant contents) → HasMeaning flash bbram state
+
+-- The memory stands for this state.
+pub record StandsFor (flash bbram : List ℕ) (state : Option State) : Type 0 where
+  pub sized : AreSized flash bbram
+  pub meaning : HasMeaning flash bbram state
 
 -- ---- whole images
 
@@ -122,39 +127,3 @@ pub record IsOpening (image : List ℕ) (world : World) : Type 0 where
   pub well_formed : IsWellFormed image world.state
   pub phase : world.phase ≡ off
   pub unarmed : world.armed ≡ false
-
--- what is wrong with an image
-pub data Fault : Type 0 where
-  bad_length bad_root bad_public bad_region_two bad_region_three bad_state : Fault
-
-abbrev pub NoPublic : Parts → Root → Type 0
-NoPublic parts root =
-    (stored : Public) (signed : List SignedEntry) (unsigned : List Entry) → HasPublic parts root stored signed unsigned → ⊥
-
--- the public record is there, which says that all before it is
-abbrev pub SomePublic : Parts → Root → Type 0
-SomePublic parts root =
-    (stored : Public) × (signed : List SignedEntry) × (unsigned : List Entry) × HasPublic parts root stored signed unsigned
-
--- The memory has this fault, and none that is named before it.
-abbrev pub IsFaulty : List ℕ → List ℕ → Fault → Type 0
-IsFaulty flash bbram bad_length = ⊥
-IsFaulty flash bbram bad_root =
-    (IsBlank bbram → ⊥) × ((root : Root) → HasRoot (parts_of flash bbram) root → ⊥)
-IsFaulty flash bbram bad_public =
-    (root : Root) × HasRoot (parts_of flash bbram) root × NoPublic (parts_of flash bbram) root
-IsFaulty flash bbram bad_region_two =
-    (root : Root) × HasRoot (parts_of flash bbram) root × SomePublic (parts_of flash bbram) root
-    × ((region : Region) → HoldsRegion (parts_of flash bbram).two_area region → ⊥)
-IsFaulty flash bbram bad_region_three =
-    (root : Root) × HasRoot (parts_of flash bbram) root × SomePublic (parts_of flash bbram) root
-    × ((region : Region) × HoldsRegion (parts_of flash bbram).two_area region)
-    × ((region : Region) → HoldsRegion (parts_of flash bbram).three_area region → ⊥)
-IsFaulty flash bbram bad_state =
-    (stored : Stored (parts_of flash bbram))
-    × (HasIndex stored.root stored.root.pending × Valid (Some (state_of stored)) → ⊥)
-
--- the image has this fault, and none that is named before it
-abbrev pub HasFault : List ℕ → Fault → Type 0
-HasFault image bad_length = length image ≢ 1077248
-HasFault image fault = (flash : List ℕ) × (bbram : List ℕ) × IsImage image flash bbram × IsFaulty flash bbram fault

@@ -1,87 +1,76 @@
 -- Where things stand in a device's memory. Which bytes count, and which may be any?
-use Rattle.std.specs.Prelude.{◌≡◌, ℕ, ◌-◌, ◌*◌, ◌%◌, ◌≤◌, ◌==◌, List, ◌++◌, length, take, drop, slice_index, All, if◌then◌else◌}
-use Rattle.std.specs.Int.{w16, w32, to_be_bytes}
+use Rattle.std.specs.Prelude.{◌≡◌, ℕ, ◌%◌, ◌≤◌, ◌==◌, List, ◌++◌, length, slice_index, All, if◌then◌else◌}
+use Rattle.std.specs.Int.{w16, to_be_bytes}
 use Rattle.mb_format.specs.Format.{Format, Spells}
+use Rattle.mb_model.specs.Pieces.{part}
 
--- An image: the flash, of two areas of 524,288 bytes, and then the battery-backed memory, of 28,672.
+-- the two memories of a device, flash and battery-backed memory, have these lengths
+pub record AreSized (flash_bytes bbram_bytes : List ℕ) : Type 0 where
+  pub flash : length flash_bytes ≡ 1048576
+  pub bbram : length bbram_bytes ≡ 28672
+
+-- An image: the flash, and then the battery-backed memory.
 abbrev pub IsImage : List ℕ → List ℕ → List ℕ → Type 0
-IsImage image flash bbram =
-    (image ≡ flash ++ bbram) × (length flash ≡ 1048576) × (length bbram ≡ 28672)
-
--- n bytes of a memory, from a place on
-unfoldable pub stretch : List ℕ → ℕ → ℕ → List ℕ
-stretch memory at n = take n (drop at memory)
+IsImage image flash bbram = (image ≡ flash ++ bbram) × AreSized flash bbram
 
 -- all bytes are zero
 abbrev pub IsBlank : List ℕ → Type 0
 IsBlank bytes = All (λ byte. byte ≡ 0) bytes
 
--- The battery-backed memory: byte 0 tells whether the device lives. Then there are three places, the root's (1) and those
--- of regions 2 and 3, and each has a selector, the byte of its number, and two areas of 4,096 bytes.
+-- ---- the table of the battery-backed memory
+
+-- a slot, in which a record stands: the offset of its selector, a byte, and those of its first and its second area
+pub record Slot : Type 0 where
+  pub selector : ℕ
+  pub first : ℕ
+  pub second : ℕ
+
+-- slot 1 is the root's, and slots 2 and 3 are those of regions 2 and 3
+abbrev pub slots : ℕ → Slot
+slots slot =
+    if slot == 1 then record { selector = 1; first = 4096; second = 8192 }
+    else if slot == 2 then record { selector = 2; first = 12288; second = 16384 }
+    else record { selector = 3; first = 20480; second = 24576 }
+
+-- how many bytes an area has
+abbrev pub area_length : ℕ
+area_length = 4096
+
+-- the byte at offset 0 tells whether the device lives
 abbrev pub life_byte : List ℕ → ℕ
 life_byte bbram = slice_index bbram 0
 
+-- the bytes between the selectors and the first area
+unfoldable pub spare : List ℕ → List ℕ
+spare bbram = part 4 4092 bbram
+
+-- ---- the areas of a slot
+
+abbrev pub selector_of : List ℕ → ℕ → ℕ
+selector_of bbram slot = slice_index bbram (slots slot).selector
+
 unfoldable pub first_area : List ℕ → ℕ → List ℕ
-first_area bbram place = stretch bbram (8192 * place - 4096) 4096
+first_area bbram slot = part (slots slot).first area_length bbram
 
 unfoldable pub second_area : List ℕ → ℕ → List ℕ
-second_area bbram place = stretch bbram (8192 * place) 4096
+second_area bbram slot = part (slots slot).second area_length bbram
 
 -- the area in force, by the parity of the selector, and the other one
 unfoldable pub current : List ℕ → ℕ → List ℕ
-current bbram place = if slice_index bbram place % 2 == 0 then first_area bbram place else second_area bbram place
+current bbram slot = if selector_of bbram slot % 2 == 0 then first_area bbram slot else second_area bbram slot
 
 unfoldable pub other : List ℕ → ℕ → List ℕ
-other bbram place = if slice_index bbram place % 2 == 0 then second_area bbram place else first_area bbram place
+other bbram slot = if selector_of bbram slot % 2 == 0 then second_area bbram slot else first_area bbram slot
 
--- the bytes between the selectors and the first area
-unfoldable pub spare : List ℕ → List ℕ
-spare bbram = stretch bbram 4 4092
-
--- area 0 or 1 of the flash
-unfoldable pub flash_area : List ℕ → ℕ → List ℕ
-flash_area flash n = stretch flash (524288 * n) 524288
-
--- The parts of a memory that count.
-pub record Parts : Type 0 where
-  pub life : ℕ
-  pub between_areas : List ℕ
-  pub root_area : List ℕ
-  pub two_area : List ℕ
-  pub three_area : List ℕ
-  pub public_areas : ℕ → List ℕ
-
-unfoldable pub parts_of : List ℕ → List ℕ → Parts
-parts_of flash bbram = record {
-  life = life_byte bbram;
-  between_areas = spare bbram;
-  root_area = current bbram 1;
-  two_area = current bbram 2;
-  three_area = current bbram 3;
-  public_areas = flash_area flash;
-}
-
--- an area of the battery-backed memory holds these bytes: their length, the bytes, and zeros
-pub record Holds (area bytes : List ℕ) : Type 0 where
+-- an area holds these bytes: their length, the bytes, and zeros
+pub record HoldsInArea (area bytes : List ℕ) : Type 0 where
   pub rest : List ℕ
   pub short : length bytes ≤ 4094
   pub whole : area ≡ to_be_bytes w16 (length bytes) ++ bytes ++ rest
   pub blank : IsBlank rest
 
--- an area of the flash begins with these bytes, behind their length; what follows them is any
-pub record Begins (area bytes : List ℕ) : Type 0 where
-  pub rest : List ℕ
-  pub short : length bytes ≤ 470000
-  pub whole : area ≡ to_be_bytes w32 (length bytes) ++ bytes ++ rest
-
--- the area holds a record of this value
+-- an area holds a record of this value
 pub record HoldsRecord {A : Type 0} (format : Format A) (area : List ℕ) (value : A) : Type 0 where
   pub bytes : List ℕ
-  pub holds : Holds area bytes
-  pub spelled : Spells format bytes value
-
--- the area of the flash begins with a record of this value
-pub record BeginsWithRecord {A : Type 0} (format : Format A) (area : List ℕ) (value : A) : Type 0 where
-  pub bytes : List ℕ
-  pub begins : Begins area bytes
+  pub holds : HoldsInArea area bytes
   pub spelled : Spells format bytes value

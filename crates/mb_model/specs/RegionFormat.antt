@@ -1,12 +1,14 @@
--- How the record of a region is spelled: its secrets and its keys. What can a layer keep?
-use Rattle.std.specs.Prelude.{ℕ, Bool, ◌&&◌, nat_le, List, [], ◌∷◌}
+-- How a region is spelled: its secrets and its keys. What can a layer keep?
+use Rattle.std.specs.Prelude.{◌≡◌, ℕ, Bool, ◌&&◌, ◌⊎◌, nat_le, List, [], ◌∷◌}
 use Rattle.std.specs.Int.{w8, w32}
 use Rattle.std.specs.List.{list_all}
-use Rattle.mb_format.specs.Format.{Format}
-use Rattle.mb_format.specs.Combinators.{number, between, mark, both, pair, as_record, then_value, sized, sized_that, counted}
+use Rattle.mb_format.specs.Format.{Format, Spells}
+use Rattle.mb_format.specs.Combinators.{number, between, mark, both, pair, as_record, then_value}
+use Rattle.mb_format.specs.Combinators.{sized, sized_that, counted}
 use Rattle.mb_model.specs.declared.region.Secret.{Secret}
 use Rattle.mb_model.specs.declared.region.RegionKey.{RegionKey}
 use Rattle.mb_model.specs.declared.region.Region.{Region}
+use Rattle.mb_model.specs.Regions.{empty_region}
 use Rattle.mb_model.specs.RootFormat.{region_key_format}
 
 -- the bytes of a name are those that print and are no space
@@ -16,10 +18,10 @@ is_name_byte byte = nat_le 0x21 byte && nat_le byte 0x7E
 abbrev pub is_name : List ℕ → Bool
 is_name bytes = list_all is_name_byte bytes
 
--- a secret: its name and its value behind their lengths, and the configuration number at which it was put
+-- a secret: its name and its value, each after its length, and the configuration number at which it was put
 unfoldable pub secret_format : Format Secret
 secret_format = as_record (pair (sized_that is_name (between w8 1 32)) (pair (sized (between w8 0 128)) (number w32)))
-    (λ p. record { name = p.0; value = p.1.0; born = p.1.1 })
+    (λ (name, (value, born)). record { name = name; value = value; born = born })
     (λ secret. (secret.name, (secret.value, secret.born)))
 
 -- a region without secrets has a key: an empty region has no record
@@ -37,5 +39,9 @@ keys_format least = counted (between w8 least 8) region_key_format
 unfoldable pub region_format : Format Region
 region_format = then_value (mark (1 ∷ []))
     (as_record (both secrets_format (λ secrets. keys_format (least_keys secrets)))
-    (λ p. record { secrets = p.0; keys = p.1 })
+    (λ (secrets, keys). record { secrets = secrets; keys = keys })
     (λ region. (region.secrets, region.keys)))
+
+-- bytes stand for a region: for the empty one where there are none, and else for the one that they spell
+abbrev pub SpellsRegion : List ℕ → Region → Type 0
+SpellsRegion bytes region = ((bytes ≡ []) × (region ≡ empty_region)) ⊎ Spells region_format bytes region

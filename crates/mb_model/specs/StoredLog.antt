@@ -1,20 +1,13 @@
--- What the public record's entries stand for while the last of them are not signed yet. Is what was committed fixed, although its signatures are still to be made?
+-- For which log the stored entries stand while the last of them are not signed yet. Is what was committed fixed,
+-- although its signatures are still to be made?
 use Rattle.std.specs.Prelude.{◌≡◌, ◌≢◌, ℕ, ◌-◌, List, [], ◌∷◌, ◌++◌, length, map, Option, None, Some}
 use Rattle.mb_model.specs.declared.key.KeySeed.{KeySeed}
 use Rattle.mb_model.specs.declared.entry.Entry.{Entry}
 use Rattle.mb_model.specs.declared.entry.SignedEntry.{SignedEntry}
-use Rattle.mb_model.specs.declared.entry.PublicEntry.{PublicEntry}
 use Rattle.mb_model.specs.declared.stored.Root.{Root}
 use Rattle.mb_model.specs.declared.stored.Pending.{Pending}
 use Rattle.mb_model.specs.declared.stored.Outgoing.{Outgoing}
 use Rattle.mb_model.specs.OrderStep.{signed_by}
-
--- an entry with its signature, and one that is not signed yet, as they are stored
-abbrev pub with_signature : SignedEntry → PublicEntry
-with_signature signed = record { entry = signed.entry; signature = Some signed.signature }
-
-abbrev pub without_signature : Entry → PublicEntry
-without_signature entry = record { entry = entry; signature = None }
 
 -- how many entries are not signed yet
 abbrev pub unsigned_by : Option Pending → ℕ
@@ -26,9 +19,8 @@ abbrev pub CanSign : Option Pending → Type 0
 CanSign None = Unit {0}
 CanSign (Some pending) = pending.outgoing ≡ None → pending.unsigned ≡ 1
 
--- The entries are signed up to the last ones, and these are as many as the root says.
-pub record IsSplitBy (pending : Option Pending) (entries : List PublicEntry) (signed : List SignedEntry) (unsigned : List Entry) : Type 0 where
-  pub split : entries ≡ map with_signature signed ++ map without_signature unsigned
+-- the unsigned entries are as many as the root says
+pub record AreCounted (pending : Option Pending) (unsigned : List Entry) : Type 0 where
   pub counted : length unsigned ≡ unsigned_by pending
   pub can_sign : CanSign pending
 
@@ -38,7 +30,7 @@ HasIndex root None = Unit {0}
 HasIndex root (Some pending) = pending.outgoing ≡ None → root.uses ≢ 0
 
 -- The unsigned entries with the signatures that they will have. The device key signs with the index that it used last;
--- where a key gives way, this key signs the first with the index that it used last, and the next one what is behind it.
+-- where a key gives way, this key signs the first with the index that it used last, and the next key signs the rest.
 abbrev pub signed_for : KeySeed → ℕ → Option Outgoing → List Entry → List SignedEntry
 signed_for device uses None unsigned = map (signed_by device (uses - 1)) unsigned
 signed_for device uses (Some outgoing) [] = []

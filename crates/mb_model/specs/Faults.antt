@@ -1,0 +1,47 @@
+-- What is wrong with an image for which no state stands. Is it told of each image, and the first thing first?
+use Rattle.std.specs.Prelude.{◌≢◌, ℕ, List, length, Some}
+use Rattle.mb_model.specs.declared.entry.Entry.{Entry}
+use Rattle.mb_model.specs.declared.entry.SignedEntry.{SignedEntry}
+use Rattle.mb_model.specs.declared.region.Region.{Region}
+use Rattle.mb_model.specs.declared.state.Codes.{Codes}
+use Rattle.mb_model.specs.declared.stored.Root.{Root}
+use Rattle.mb_model.specs.Memory.{IsImage, IsBlank, current}
+use Rattle.mb_model.specs.StoredLog.{HasIndex}
+use Rattle.mb_model.specs.Flash.{HoldsPublic}
+use Rattle.mb_model.specs.Valid.{Valid}
+use Rattle.mb_model.specs.Meaning.{RootIn, HoldsRegion, Contents, HoldsContents, meant}
+
+pub data Fault : Type 0 where
+  bad_length bad_root bad_public bad_region_two bad_region_three bad_state : Fault
+
+-- the flash holds some codes and entries, as the root says
+abbrev pub SomePublic : List ℕ → Root → Type 0
+SomePublic flash root =
+    (codes : Codes) × (signed : List SignedEntry) × (unsigned : List Entry)
+    × HoldsPublic flash root codes signed unsigned
+
+-- the area holds some region
+abbrev pub SomeRegion : List ℕ → Type 0
+SomeRegion area = (region : Region) × HoldsRegion area region
+
+-- contents that a device can have: the device key has an index for what it has to sign, and the state is valid
+abbrev pub AreSound : Contents → Type 0
+AreSound contents = HasIndex contents.root contents.root.pending × Valid (Some (meant contents))
+
+-- The memory has this fault, and none that is named before it.
+abbrev pub IsFaulty : List ℕ → List ℕ → Fault → Type 0
+IsFaulty flash bbram bad_length = ⊥
+IsFaulty flash bbram bad_root = (IsBlank bbram → ⊥) × ((root : Root) → RootIn bbram root → ⊥)
+IsFaulty flash bbram bad_public = (root : Root) × RootIn bbram root × (SomePublic flash root → ⊥)
+IsFaulty flash bbram bad_region_two =
+    (root : Root) × RootIn bbram root × SomePublic flash root × (SomeRegion (current bbram 2) → ⊥)
+IsFaulty flash bbram bad_region_three =
+    (root : Root) × RootIn bbram root × SomePublic flash root
+    × SomeRegion (current bbram 2) × (SomeRegion (current bbram 3) → ⊥)
+IsFaulty flash bbram bad_state =
+    (contents : Contents) × HoldsContents flash bbram contents × (AreSound contents → ⊥)
+
+-- the image has this fault, and none that is named before it
+abbrev pub HasFault : List ℕ → Fault → Type 0
+HasFault image bad_length = length image ≢ 1077248
+HasFault image fault = (flash : List ℕ) × (bbram : List ℕ) × IsImage image flash bbram × IsFaulty flash bbram fault
