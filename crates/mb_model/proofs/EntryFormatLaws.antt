@@ -1,7 +1,7 @@
 -- Entries, statements and chains are read exactly.
 use Rattle.std.proofs.Common.{◌≡◌, ℕ, Bool, true, false, List, Option, Some, refl, arith, rules}
 use Rattle.std.specs.Int.{w8}
-use Rattle.mb_format.specs.Format.{IsExact}
+use Rattle.mb_format.specs.Reading.{IsExact}
 use Rattle.mb_format.specs.Combinators.{row_of}
 use Rattle.mb_format.proofs.Rules.{exactly}
 use Rattle.mb_format.proofs.Fields.{IsTable}

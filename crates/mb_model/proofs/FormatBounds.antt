@@ -11,11 +11,14 @@ use Rattle.mb_model.specs.Key.{tree_type, chains_type}
 use Rattle.mb_model.specs.KeyFormat.{tree_rows, chains_rows, public_key_format, key_seed_format, keyfile_word, keyfile_format}
 use Rattle.mb_model.specs.LayerFormat.{trust_byte, trust_rows, trust_format, code_name_format, Has, has_nothing, has_owner, has_code, has_reliable_code, has_byte, has_rows, has_of, trust_by, owner_by, code_by, reliable_by, layer_by, layer_format, layers_format}
 use Rattle.mb_model.specs.EntryFormat.{change_byte, change_rows, key_kind_byte, key_kind_rows, key_kind_format, pair_byte, pair_rows, pair_format, EntryTag, birth_tag, change_tag, new_key_tag, succession_tag, entry_byte, entry_rows, entry_tag, birth_in, birth_format, change_in, change_format, new_key_in, new_key_format, succession_in, succession_format, entry_by, entry_format, signed_entry_format}
-use Rattle.mb_model.specs.OrderFormat.{TargetTag, serial_tag, length_tag, owner_tag, code_tag, target_byte, target_rows, target_tag, serial_in, length_in, owner_in, code_in, target_by, target_format, OrderKind, establish_kind, surrender_kind, load_kind, emergency_kind, new_key_kind, order_byte, order_rows, order_kind, establish_in, load_in, emergency_in, made_in, load_format, act_by, Body, least_layer, body_by, body_format, sized_signature_format, Climb, countersignature_format, climbed, most_countersigned, countersignatures_format, order_format}
+use Rattle.mb_model.specs.declared.order.OrderKind.{OrderKind}
+use Rattle.mb_model.specs.declared.order.OrderKind.TheVariants as kind
+use Rattle.mb_model.specs.Rules.{kind_of, least_layer}
+use Rattle.mb_model.specs.OrderFormat.{TargetTag, serial_tag, length_tag, owner_tag, code_tag, target_byte, target_rows, target_tag, demanded_serial, demanded_length, demanded_owner, demanded_code, target_by, target_format, order_byte, order_rows, establish_in, load_in, emergency_in, made_in, payload_format, act_by, Body, body_by, body_format, sized_signature_format, Climb, countersignature_format, climbed, most_countersigned, countersignatures_format, order_format}
 use Rattle.mb_model.specs.ChainFormat.{statement_format, chain_word, chain_format}
 use Rattle.mb_model.specs.RootFormat.{region_key_format, outgoing_format, FateTag, keep_tag, empty_tag, drop_tag, add_tag, fate_byte, fate_rows, fate_tag, added_in, fate_by, fate_format, pending_format, root_format}
 use Rattle.mb_model.specs.RegionFormat.{is_name, secret_format, secrets_format, least_keys, keys_format, region_format}
-use Rattle.mb_model.specs.PublicFormat.{code_format, codes_format, public_entry_format, public_format}
+use Rattle.mb_model.specs.Flash.{code_format, codes_format, public_entry_format, public_format}
 
 -- ---- keys and layers
 
@@ -131,33 +134,33 @@ chain_short = bounds.then_value_short (bounds.mark_short chain_word)
 -- ---- orders
 
 target_by-short : (tag : TargetTag) → IsShort (target_by tag) 33
-target_by-short serial_tag = bounds.short_more (bounds.as_value_short Serial serial_in bounds.raw_short) (lit≤ tt)
-target_by-short length_tag = bounds.short_more (bounds.as_value_short Length length_in (bounds.number_short wide32)) (lit≤ tt)
-target_by-short owner_tag = bounds.as_value_short _ owner_in (bounds.pair_short (bounds.between_short 1 3 wide8) bounds.raw_short)
-target_by-short code_tag = bounds.as_value_short _ code_in (bounds.pair_short (bounds.between_short 1 3 wide8) bounds.raw_short)
+target_by-short serial_tag = bounds.short_more (bounds.as_value_short Serial demanded_serial bounds.raw_short) (lit≤ tt)
+target_by-short length_tag = bounds.short_more (bounds.as_value_short Length demanded_length (bounds.number_short wide32)) (lit≤ tt)
+target_by-short owner_tag = bounds.as_value_short _ demanded_owner (bounds.pair_short (bounds.between_short 1 3 wide8) bounds.raw_short)
+target_by-short code_tag = bounds.as_value_short _ demanded_code (bounds.pair_short (bounds.between_short 1 3 wide8) bounds.raw_short)
 
 target_short : IsShort target_format 34
 unfolding target_format
 target_short = bounds.led_short target_tag (bounds.table_short target_rows target_byte wide8) (λ tag h. target_by-short tag)
 
-load_short : IsShort load_format 32777
-unfolding load_format
-load_short = bounds.pair_short (bounds.number_short wide32) (bounds.pair_short trust_short (bounds.sized_short 0 32768 wide32))
+payload_short : IsShort payload_format 32777
+unfolding payload_format
+payload_short = bounds.as_record_short _ _ (bounds.pair_short (bounds.number_short wide32) (bounds.pair_short trust_short (bounds.sized_short 0 32768 wide32)))
 
-act_by-short : (kind : OrderKind) → IsShort (act_by kind) 32777
-act_by-short establish_kind = bounds.short_more (bounds.as_value_short _ establish_in (bounds.pair_short public_key_short trust_short)) (lit≤ tt)
-act_by-short surrender_kind = bounds.short_more bounds.nothing_short (lit≤ tt)
-act_by-short load_kind = bounds.as_value_short _ load_in load_short
-act_by-short emergency_kind = bounds.as_value_short _ emergency_in load_short
-act_by-short new_key_kind = bounds.short_more (bounds.as_value_short MakeKey made_in key_kind_short) (lit≤ tt)
+act_by-short : (order : OrderKind) → IsShort (act_by order) 32777
+act_by-short kind.Establish = bounds.short_more (bounds.as_value_short _ establish_in (bounds.pair_short public_key_short trust_short)) (lit≤ tt)
+act_by-short kind.Surrender = bounds.short_more bounds.nothing_short (lit≤ tt)
+act_by-short kind.Load = bounds.as_value_short _ load_in payload_short
+act_by-short kind.Emergency = bounds.as_value_short _ emergency_in payload_short
+act_by-short kind.NewKey = bounds.short_more (bounds.as_value_short MakeKey made_in key_kind_short) (lit≤ tt)
 
-body_by-short : (kind : OrderKind) → IsShort (body_by kind) 33051
-body_by-short kind = bounds.as_record_short _ _
-    (bounds.pair_short (bounds.between_short (least_layer kind) 3 wide8) (bounds.pair_short (bounds.counted_short 0 8 wide8 target_short) (act_by-short kind)))
+body_by-short : (order : OrderKind) → IsShort (body_by order) 33051
+body_by-short order = bounds.as_record_short _ _
+    (bounds.pair_short (bounds.between_short (least_layer order) 3 wide8) (bounds.pair_short (bounds.counted_short 0 8 wide8 target_short) (act_by-short order)))
 
 pub body_short : IsShort body_format 33052
 unfolding body_format
-body_short = bounds.led_short _ (bounds.table_short order_rows order_byte wide8) (λ kind h. body_by-short kind)
+body_short = bounds.led_short _ (bounds.table_short order_rows order_byte wide8) (λ order h. body_by-short order)
 
 sized_signature_short : IsShort sized_signature_format 9326
 unfolding sized_signature_format
@@ -167,21 +170,21 @@ countersignature_short : (climb : Climb) → IsShort (countersignature_format cl
 countersignature_short climb = bounds.as_record_short _ _ (bounds.pair_short (bounds.between_short (climb.below + 1) (4 - climb.left) wide8) sized_signature_short)
 
 -- at most two owners may countersign, since a body's layer is 1 at least
-pub most_two : (body : Body) → body_format.Allowed body → most_countersigned (order_kind body.act) body.layer ≤ 2
+pub most_two : (body : Body) → body_format.Allowed body → most_countersigned (kind_of body.act) body.layer ≤ 2
 unfolding body_format
-most_two body h = of_kind (order_kind body.act) body.layer h.1.0.0
+most_two body h = of_kind (kind_of body.act) body.layer h.1.0.0
   where
-    of_kind : (kind : OrderKind) (n : ℕ) → least_layer kind ≤ n → most_countersigned kind n ≤ 2
-    of_kind establish_kind n le = lit≤ tt
-    of_kind surrender_kind n le = lit≤ tt
-    of_kind load_kind n le = omega arith
-    of_kind emergency_kind n le = omega arith
-    of_kind new_key_kind n le = lit≤ tt
+    of_kind : (order : OrderKind) (n : ℕ) → least_layer order ≤ n → most_countersigned order n ≤ 2
+    of_kind kind.Establish n le = lit≤ tt
+    of_kind kind.Surrender n le = lit≤ tt
+    of_kind kind.Load n le = omega arith
+    of_kind kind.Emergency n le = omega arith
+    of_kind kind.NewKey n le = lit≤ tt
 
 countersignatures_short : (body : Body) → body_format.Allowed body → IsShort (countersignatures_format body) 18655
 unfolding countersignatures_format
 countersignatures_short body h =
-    bounds.led_short {n = 18654} length (bounds.between_short 0 (most_countersigned (order_kind body.act) body.layer) wide8)
+    bounds.led_short {n = 18654} length (bounds.between_short 0 (most_countersigned (kind_of body.act) body.layer) wide8)
     (λ n g. (let two = most_two body h in bounds.short_more (bounds.items_short climbed n (record { below = body.layer; left = n }) countersignature_short) (omega (arith, g.1, two))))
 
 pub order_short : IsShort order_format 61033

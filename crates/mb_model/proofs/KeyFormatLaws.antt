@@ -1,7 +1,7 @@
 -- Keys and layers are read exactly.
 use Rattle.std.proofs.Common.{◌≡◌, [], ◌∷◌, refl, arith, rules}
 use Rattle.std.specs.Int.{w8, w32}
-use Rattle.mb_format.specs.Format.{IsExact}
+use Rattle.mb_format.specs.Reading.{IsExact}
 use Rattle.mb_format.specs.Combinators.{number_bytes}
 use Rattle.mb_format.proofs.Rules.{exactly}
 use Rattle.mb_format.proofs.Fields.{IsTable, IsList, wide8, listed_exact, nothing_exact}

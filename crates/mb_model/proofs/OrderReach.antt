@@ -1,7 +1,7 @@
 -- How far an order is read: no further than the longest order is long.
 use Rattle.std.proofs.Common.{◌+◌, ◌-◌, length, arith, lit<, lit≤}
 use Rattle.std.specs.Int.{w8, w32}
-use Rattle.mb_format.specs.Format.{IsExact, IsLocal}
+use Rattle.mb_format.specs.Reading.{IsExact, IsLocal}
 use Rattle.mb_format.specs.Combinators.{between}
 use Rattle.mb_format.proofs.Fields.{wide8, wide16, wide32, raw_exact, number_exact, between_exact, table_exact}
 use Rattle.mb_format.proofs.Compositions.{counted_exact}
@@ -12,7 +12,10 @@ use Rattle.mb_model.specs.Key.{tree_type, chains_type}
 use Rattle.mb_model.specs.KeyFormat.{tree_rows, chains_rows, public_key_format}
 use Rattle.mb_model.specs.LayerFormat.{trust_byte, trust_rows, trust_format}
 use Rattle.mb_model.specs.EntryFormat.{key_kind_byte, key_kind_rows, key_kind_format}
-use Rattle.mb_model.specs.OrderFormat.{TargetTag, serial_tag, length_tag, owner_tag, code_tag, target_byte, target_rows, target_tag, serial_in, length_in, owner_in, code_in, target_by, target_format, OrderKind, establish_kind, surrender_kind, load_kind, emergency_kind, new_key_kind, order_byte, order_rows, order_kind, establish_in, load_in, emergency_in, made_in, load_format, act_by, Body, least_layer, body_by, body_format, sized_signature_format, Climb, countersignature_format, climbed, most_countersigned, countersignatures_format, order_format}
+use Rattle.mb_model.specs.declared.order.OrderKind.{OrderKind}
+use Rattle.mb_model.specs.declared.order.OrderKind.TheVariants as kind
+use Rattle.mb_model.specs.Rules.{kind_of, least_layer}
+use Rattle.mb_model.specs.OrderFormat.{TargetTag, serial_tag, length_tag, owner_tag, code_tag, target_byte, target_rows, target_tag, demanded_serial, demanded_length, demanded_owner, demanded_code, target_by, target_format, order_byte, order_rows, establish_in, load_in, emergency_in, made_in, payload_format, act_by, Body, body_by, body_format, sized_signature_format, Climb, countersignature_format, climbed, most_countersigned, countersignatures_format, order_format}
 use Rattle.mb_model.proofs.KeyFormatLaws.{tree_table, chains_table, public_key_exact, trust_exact}
 use Rattle.mb_model.proofs.OrderFormatLaws.{target_table, target_exact, order_table, body_exact, below_four, most_small, sized_signature_exact, countersignature_exact}
 use Rattle.mb_model.proofs.FormatBounds.{most_two}
@@ -37,34 +40,34 @@ unfolding key_kind_format
 key_kind_local = bounds.table_local w8 key_kind_rows key_kind_byte
 
 target_by-local : (tag : TargetTag) → IsLocal (target_by tag) 33
-target_by-local serial_tag = bounds.local_more (bounds.as_value_local Serial serial_in bounds.raw_local) (lit≤ tt)
-target_by-local length_tag = bounds.local_more (bounds.as_value_local Length length_in (bounds.number_local w32)) (lit≤ tt)
-target_by-local owner_tag = bounds.as_value_local _ owner_in (bounds.pair_local one_to_three (bounds.between_local w8 1 3) bounds.raw_local)
-target_by-local code_tag = bounds.as_value_local _ code_in (bounds.pair_local one_to_three (bounds.between_local w8 1 3) bounds.raw_local)
+target_by-local serial_tag = bounds.local_more (bounds.as_value_local Serial demanded_serial bounds.raw_local) (lit≤ tt)
+target_by-local length_tag = bounds.local_more (bounds.as_value_local Length demanded_length (bounds.number_local w32)) (lit≤ tt)
+target_by-local owner_tag = bounds.as_value_local _ demanded_owner (bounds.pair_local one_to_three (bounds.between_local w8 1 3) bounds.raw_local)
+target_by-local code_tag = bounds.as_value_local _ demanded_code (bounds.pair_local one_to_three (bounds.between_local w8 1 3) bounds.raw_local)
 
 target_local : IsLocal target_format 34
 unfolding target_format
 target_local = bounds.led_local target_tag (table_exact wide8 target_table) (bounds.table_local w8 target_rows target_byte) (λ tag h. target_by-local tag)
 
-load_local : IsLocal load_format 32777
-unfolding load_format
-load_local = bounds.pair_local (number_exact wide32) (bounds.number_local w32) (bounds.pair_local trust_exact trust_local (bounds.sized_local 0 32768 wide32 (lit< tt)))
+payload_local : IsLocal payload_format 32777
+unfolding payload_format
+payload_local = bounds.as_record_local _ _ (bounds.pair_local (number_exact wide32) (bounds.number_local w32) (bounds.pair_local trust_exact trust_local (bounds.sized_local 0 32768 wide32 (lit< tt))))
 
-act_by-local : (kind : OrderKind) → IsLocal (act_by kind) 32777
-act_by-local establish_kind = bounds.local_more (bounds.as_value_local _ establish_in (bounds.pair_local public_key_exact key_local trust_local)) (lit≤ tt)
-act_by-local surrender_kind = bounds.local_more bounds.nothing_local (lit≤ tt)
-act_by-local load_kind = bounds.as_value_local _ load_in load_local
-act_by-local emergency_kind = bounds.as_value_local _ emergency_in load_local
-act_by-local new_key_kind = bounds.local_more (bounds.as_value_local NewKey made_in key_kind_local) (lit≤ tt)
+act_by-local : (order : OrderKind) → IsLocal (act_by order) 32777
+act_by-local kind.Establish = bounds.local_more (bounds.as_value_local _ establish_in (bounds.pair_local public_key_exact key_local trust_local)) (lit≤ tt)
+act_by-local kind.Surrender = bounds.local_more bounds.nothing_local (lit≤ tt)
+act_by-local kind.Load = bounds.as_value_local _ load_in payload_local
+act_by-local kind.Emergency = bounds.as_value_local _ emergency_in payload_local
+act_by-local kind.NewKey = bounds.local_more (bounds.as_value_local NewKey made_in key_kind_local) (lit≤ tt)
 
-body_by-local : (kind : OrderKind) → IsLocal (body_by kind) 33051
-body_by-local kind = bounds.as_record_local _ _
-    (bounds.pair_local (between_exact wide8 (lit< tt)) (bounds.between_local w8 (least_layer kind) 3)
-    (bounds.pair_local (counted_exact (between_exact wide8 (lit< tt)) target_exact) (bounds.counted_local 0 8 wide8 (lit< tt) target_exact target_local) (act_by-local kind)))
+body_by-local : (order : OrderKind) → IsLocal (body_by order) 33051
+body_by-local order = bounds.as_record_local _ _
+    (bounds.pair_local (between_exact wide8 (lit< tt)) (bounds.between_local w8 (least_layer order) 3)
+    (bounds.pair_local (counted_exact (between_exact wide8 (lit< tt)) target_exact) (bounds.counted_local 0 8 wide8 (lit< tt) target_exact target_local) (act_by-local order)))
 
 body_local : IsLocal body_format 33052
 unfolding body_format
-body_local = bounds.led_local _ (table_exact wide8 order_table) (bounds.table_local w8 order_rows order_byte) (λ kind h. body_by-local kind)
+body_local = bounds.led_local _ (table_exact wide8 order_table) (bounds.table_local w8 order_rows order_byte) (λ order h. body_by-local order)
 
 signature_local : IsLocal sized_signature_format 9326
 unfolding sized_signature_format
@@ -77,7 +80,7 @@ countersignature_local climb = bounds.as_record_local _ _
 countersignatures_local : (body : Body) → body_format.Allowed body → IsLocal (countersignatures_format body) 18655
 unfolding countersignatures_format
 countersignatures_local body h =
-    bounds.led_local {n = 18654} length (between_exact wide8 (most_small (order_kind body.act) body.layer)) (bounds.between_local w8 0 (most_countersigned (order_kind body.act) body.layer))
+    bounds.led_local {n = 18654} length (between_exact wide8 (most_small (kind_of body.act) body.layer)) (bounds.between_local w8 0 (most_countersigned (kind_of body.act) body.layer))
     (λ n g. (let two = most_two body h in bounds.local_more (bounds.items_local climbed n (record { below = body.layer; left = n }) countersignature_exact countersignature_local) (omega (arith, g.1, two))))
 
 pub order_local : IsLocal order_format 61033

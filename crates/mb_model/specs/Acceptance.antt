@@ -1,5 +1,6 @@
 -- When a chain of certificates is accepted, and what it then says of a key. Which code can have made a statement?
-use Rattle.std.specs.Prelude.{◌≡◌, ◌≢◌, ℕ, ◌==◌, Bool, true, false, List, [], ◌∷◌, ◌++◌, length, Any, Contains, Option, None, Some, IsSomeAnd, if◌then◌else◌}
+use Rattle.std.specs.Prelude.{◌≡◌, ◌≢◌, ℕ, ◌==◌, Bool, true, false, List, [], ◌∷◌, ◌++◌, length, Any, Contains, Option}
+use Rattle.std.specs.Prelude.{None, Some, IsSomeAnd, if◌then◌else◌}
 use Rattle.std.specs.List.{list_any}
 use Rattle.mb_format.specs.Format.{Spells, FailsWhole}
 use Rattle.mb_model.specs.declared.key.PublicKey.{PublicKey}
@@ -18,7 +19,7 @@ use Rattle.mb_model.specs.SignedTexts.{entry_text, statement_text, IsSignedBy}
 
 -- why a chain is not accepted
 pub data ChainRefusal : Type 0 where
-  -- the bytes are no chain: they fail at this place
+  -- the bytes are no chain: they fail at this offset
   bad_form : ℕ → ChainRefusal
   -- this entry, from 0, was not signed by the key in charge
   bad_signature : ℕ → ChainRefusal
@@ -37,7 +38,7 @@ pub data ChainRefusal : Type 0 where
 
 -- the number by which it is told
 abbrev pub refusal_code : ChainRefusal → ℕ
-refusal_code (bad_form place) = 20
+refusal_code (bad_form offset) = 20
 refusal_code (bad_signature i) = 21
 refusal_code (bad_order i) = 22
 refusal_code (breaks_rules i) = 23
@@ -48,36 +49,41 @@ refusal_code key_ended = 27
 
 -- ---- the entries, each by those before it
 
--- the key in charge of the next entry: at the birth the factory's root key, and then the device key named last
+-- the key in charge of the next entry: at the birth the maker's key, and then the device key named last
 abbrev pub in_charge : PublicKey → List Entry → Option PublicKey
-in_charge root [] = Some root
-in_charge root (birth ∷ rest) = device_of (birth ∷ rest)
+in_charge maker [] = Some maker
+in_charge maker (birth ∷ rest) = device_of (birth ∷ rest)
 
 abbrev pub IsCertified : PublicKey → List Entry → SignedEntry → Type 0
-IsCertified root before signed = IsSignedBy (in_charge root before) (entry_text signed.entry) signed.signature
+IsCertified maker before signed = IsSignedBy (in_charge maker before) (entry_text signed.entry) signed.signature
 
--- an entry behind others stands in its place; that of the first, and its index, is free
+-- an entry after others stands in its place; that of the first, and its index, is free
 abbrev pub IsInPlace : List Entry → SignedEntry → Type 0
 IsInPlace before signed = before ≢ [] → Ordered before signed.entry (leaf_number signed.signature)
 
 -- the entry follows from those before it
-pub record IsGood (root : PublicKey) (before : List Entry) (signed : SignedEntry) : Type 0 where
-  pub certified : IsCertified root before signed
+pub record IsGood (maker : PublicKey) (before : List Entry) (signed : SignedEntry) : Type 0 where
+  pub certified : IsCertified maker before signed
   pub in_place : IsInPlace before signed
   pub ruled : Ruled before signed.entry
 
 -- each entry of a list does
 abbrev pub AreGood : PublicKey → List SignedEntry → Type 0
-AreGood root log =
+AreGood maker log =
     (before : List SignedEntry) (signed : SignedEntry) (rest : List SignedEntry) → log ≡ before ++ signed ∷ rest
-    → IsGood root (entries_of before) signed
+    → IsGood maker (entries_of before) signed
 
 -- entry i of a list, where all before it are good
-pub record IsNext (root : PublicKey) (log : List SignedEntry) (i : ℕ) (before : List SignedEntry) (signed : SignedEntry) : Type 0 where
+pub record IsNext
+    (maker : PublicKey)
+    (log : List SignedEntry)
+    (i : ℕ)
+    (before : List SignedEntry)
+    (signed : SignedEntry) : Type 0 where
   pub rest : List SignedEntry
   pub split : log ≡ before ++ signed ∷ rest
-  pub place : i ≡ length before
-  pub good : AreGood root before
+  pub index : i ≡ length before
+  pub good : AreGood maker before
 
 -- ---- the key and the statement
 
@@ -98,14 +104,15 @@ key_in n (Succession position key) = None
 unfoldable pub key_of : List Entry → ℕ → Option KeyEntry
 key_of log n = last_of (key_in n) log
 
--- the region's key with this number is alive by the log
+-- the region's key with this number is alive by the log: it is one of the keys that are
 unfoldable pub is_alive : List Entry → ℕ → ℕ → Bool
 is_alive log n L = list_any (λ made. made.number == n) (alive_keys log L)
 
 -- the key signed the statement, as the chain's device
 abbrev pub IsStated : List Entry → ℕ → PublicKey → Statement → Type 0
 IsStated log n key statement =
-    IsSomeAnd (serial_of log) (λ serial. Verifies key (statement_text serial n statement.number statement.message) statement.signature)
+    IsSomeAnd (serial_of log)
+    (λ serial. Verifies key (statement_text serial n statement.number statement.message) statement.signature)
 
 -- what holds of a statement, and of none
 abbrev pub IfStatement : Option Statement → (Statement → Type 0) → Type 0
@@ -134,59 +141,68 @@ report_of chain n made = record {
   message = message_of chain.statement;
 }
 
--- The bytes are accepted under a root key, for the key with number n, and say this of it.
-pub record Accepts (root : PublicKey) (bytes : List ℕ) (n : ℕ) (report : Report) : Type 0 where
+-- The bytes are accepted under the maker's key, for the key with number n, and say this of it.
+pub record Accepts (maker : PublicKey) (bytes : List ℕ) (n : ℕ) (report : Report) : Type 0 where
   pub chain : Chain
   pub spelled : Spells chain_format bytes chain
-  pub good : AreGood root chain.entries
+  pub good : AreGood maker chain.entries
   pub made : KeyEntry
   pub named : key_of (entries_of chain.entries) n ≡ Some made
   pub current : IfStatement chain.statement (IsCurrent (entries_of chain.entries) n made)
   pub report_is : report ≡ report_of chain n made
 
 -- A chain whose entries are good, the entry of the key with number n, and the statement.
-pub record IsGoodFor (root : PublicKey) (bytes : List ℕ) (n : ℕ) (log : List Entry) (made : KeyEntry) (statement : Statement) : Type 0 where
+pub record IsGoodFor
+    (maker : PublicKey)
+    (bytes : List ℕ)
+    (n : ℕ)
+    (log : List Entry)
+    (made : KeyEntry)
+    (statement : Statement) : Type 0 where
   pub chain : Chain
   pub spelled : Spells chain_format bytes chain
-  pub good : AreGood root chain.entries
+  pub good : AreGood maker chain.entries
   pub log_is : log ≡ entries_of chain.entries
   pub named : key_of log n ≡ Some made
   pub stated : chain.statement ≡ Some statement
 
 -- The bytes are refused for this, and for nothing that is tried before it.
 abbrev pub IsRefused : PublicKey → List ℕ → ℕ → ChainRefusal → Type 0
-IsRefused root bytes n (bad_form place) = FailsWhole chain_format bytes place
-IsRefused root bytes n (bad_signature i) =
+IsRefused maker bytes n (bad_form offset) = FailsWhole chain_format bytes offset
+IsRefused maker bytes n (bad_signature i) =
     (chain : Chain) × Spells chain_format bytes chain × (before : List SignedEntry) × (signed : SignedEntry)
-    × IsNext root chain.entries i before signed × (IsCertified root (entries_of before) signed → ⊥)
-IsRefused root bytes n (bad_order i) =
+    × IsNext maker chain.entries i before signed × (IsCertified maker (entries_of before) signed → ⊥)
+IsRefused maker bytes n (bad_order i) =
     (chain : Chain) × Spells chain_format bytes chain × (before : List SignedEntry) × (signed : SignedEntry)
-    × IsNext root chain.entries i before signed × IsCertified root (entries_of before) signed
+    × IsNext maker chain.entries i before signed × IsCertified maker (entries_of before) signed
     × (IsInPlace (entries_of before) signed → ⊥)
-IsRefused root bytes n (breaks_rules i) =
+IsRefused maker bytes n (breaks_rules i) =
     (chain : Chain) × Spells chain_format bytes chain × (before : List SignedEntry) × (signed : SignedEntry)
-    × IsNext root chain.entries i before signed × IsCertified root (entries_of before) signed
+    × IsNext maker chain.entries i before signed × IsCertified maker (entries_of before) signed
     × IsInPlace (entries_of before) signed × (Ruled (entries_of before) signed.entry → ⊥)
-IsRefused root bytes n key_unknown =
-    (chain : Chain) × Spells chain_format bytes chain × AreGood root chain.entries
+IsRefused maker bytes n key_unknown =
+    (chain : Chain) × Spells chain_format bytes chain × AreGood maker chain.entries
     × (key_of (entries_of chain.entries) n ≡ None)
-IsRefused root bytes n bad_statement =
-    (log : List Entry) × (made : KeyEntry) × (statement : Statement) × IsGoodFor root bytes n log made statement
+IsRefused maker bytes n bad_statement =
+    (log : List Entry) × (made : KeyEntry) × (statement : Statement) × IsGoodFor maker bytes n log made statement
     × (IsStated log n made.key statement → ⊥)
-IsRefused root bytes n (wrong_number named last) =
-    (log : List Entry) × (made : KeyEntry) × (statement : Statement) × IsGoodFor root bytes n log made statement
+IsRefused maker bytes n (wrong_number named last) =
+    (log : List Entry) × (made : KeyEntry) × (statement : Statement) × IsGoodFor maker bytes n log made statement
     × IsStated log n made.key statement × (named ≡ statement.number) × (last ≡ number_of log) × (named ≢ last)
-IsRefused root bytes n key_ended =
-    (log : List Entry) × (made : KeyEntry) × (statement : Statement) × IsGoodFor root bytes n log made statement
+IsRefused maker bytes n key_ended =
+    (log : List Entry) × (made : KeyEntry) × (statement : Statement) × IsGoodFor maker bytes n log made statement
     × IsStated log n made.key statement × (statement.number ≡ number_of log) × (is_alive log n made.layer ≡ false)
 
 -- ---- chains without forged entries
 
--- A chain has no forged entry of the device with the log E: a birth that verifies under the root is that of E, and each
--- later entry that verifies under a device key that E names is an entry of E. Signatures are left out of account.
-pub record Honest (entries : List SignedEntry) (root : PublicKey) (E : List Entry) : Type 0 where
-  pub first : (signed : SignedEntry) (rest : List SignedEntry) → entries ≡ signed ∷ rest
-      → Verifies root (entry_text signed.entry) signed.signature → (later : List Entry) × (E ≡ signed.entry ∷ later)
-  pub later : (before : List SignedEntry) (signed : SignedEntry) (rest : List SignedEntry) → entries ≡ before ++ signed ∷ rest
+-- A chain has no forged entry of the device with the log E: a birth that verifies under the maker's key is that of E,
+-- and each later entry that verifies under a device key that E names is an entry of E. Signatures are left out of
+-- account.
+pub record Honest (entries : List SignedEntry) (maker : PublicKey) (E : List Entry) : Type 0 where
+  pub first : (signed : SignedEntry) (rest : List SignedEntry)
+      → entries ≡ signed ∷ rest
+      → Verifies maker (entry_text signed.entry) signed.signature → (later : List Entry) × (E ≡ signed.entry ∷ later)
+  pub later : (before : List SignedEntry) (signed : SignedEntry) (rest : List SignedEntry)
+      → entries ≡ before ++ signed ∷ rest
       → before ≢ [] → (key : PublicKey) → Any (λ entry. device_in entry ≡ Some key) E
       → Verifies key (entry_text signed.entry) signed.signature → Contains E signed.entry

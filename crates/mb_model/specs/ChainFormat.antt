@@ -7,10 +7,10 @@ use Rattle.mb_model.specs.declared.entry.Statement.{Statement}
 use Rattle.mb_model.specs.declared.entry.Chain.{Chain}
 use Rattle.mb_model.specs.EntryFormat.{signature_format, signed_entry_format}
 
--- a statement: the configuration number, the message behind its length, the signature
+-- a statement: the configuration number, the message after its length, the signature
 unfoldable pub statement_format : Format Statement
 statement_format = as_record (pair (number w32) (pair (sized (between w8 0 128)) signature_format))
-    (λ p. record { number = p.0; message = p.1.0; signature = p.1.1 })
+    (λ (number, (message, signature)). record { number = number; message = message; signature = signature })
     (λ statement. (statement.number, (statement.message, statement.signature)))
 
 -- the word by which a chain is known: MBC1
@@ -19,6 +19,7 @@ chain_word = 0x4D ∷ 0x42 ∷ 0x43 ∷ 0x31 ∷ []
 
 -- a chain: its word, 1 to 128 entries with their signatures, and maybe a statement
 unfoldable pub chain_format : Format Chain
-chain_format = then_value (mark chain_word) (as_record (pair (counted (between w16 1 128) signed_entry_format) (optional statement_format))
-    (λ p. record { entries = p.0; statement = p.1 })
+chain_format = then_value (mark chain_word) (as_record
+    (pair (counted (between w16 1 128) signed_entry_format) (optional statement_format))
+    (λ (entries, statement). record { entries = entries; statement = statement })
     (λ chain. (chain.entries, chain.statement)))

@@ -1,5 +1,5 @@
 -- The draft of an order: what an officer writes before signing. Is what is signed what was written?
-use Rattle.std.specs.Prelude.{◌≡◌, ℕ, ◌≤◌, Bool, List, [], ◌∷◌, ◌++◌, length, codes, IsTrue}
+use Rattle.std.specs.Prelude.{◌≡◌, ℕ, ◌≤◌, List, [], ◌∷◌, ◌++◌, length, codes, IsTrue}
 use Rattle.std.specs.List.{AllZip}
 use Rattle.std.specs.Fmt.{decimal}
 use Rattle.mb_model.specs.declared.key.PublicKey.{PublicKey}
@@ -7,13 +7,15 @@ use Rattle.mb_model.specs.declared.key.Trust.{Trust}
 use Rattle.mb_model.specs.declared.key.Trust.TheVariants.{Always, Never, Countersigned}
 use Rattle.mb_model.specs.declared.order.KeyKind.{KeyKind}
 use Rattle.mb_model.specs.declared.order.KeyKind.TheVariants as kinds
+use Rattle.mb_model.specs.declared.order.Payload.{Payload}
 use Rattle.mb_model.specs.declared.order.Act.{Act}
 use Rattle.mb_model.specs.declared.order.Act.TheVariants as act
 use Rattle.mb_model.specs.declared.order.Target.{Target}
 use Rattle.mb_model.specs.declared.order.Target.TheVariants as target
 use Rattle.mb_model.specs.declared.order.Order.{Order}
 use Rattle.mb_model.specs.Key.{key_bytes, IsSized}
-use Rattle.mb_model.specs.Layers.{is_layer_number, is_upper}
+use Rattle.mb_model.specs.Layers.{is_layer_number}
+use Rattle.mb_model.specs.Rules.{kind_of, MayBeFor}
 use Rattle.mb_model.specs.Lines.{spaced, number_limit}
 use Rattle.mb_model.specs.Script.{EndsInHex}
 
@@ -28,21 +30,13 @@ abbrev pub kind_word : KeyKind → List ℕ
 kind_word kinds.Epoch = codes "epoch"
 kind_word kinds.Configuration = codes "configuration"
 
--- the words of the first line, behind which nothing stands: what is ordered of which layer
+-- the words of the first line, after which nothing stands: what is ordered of which layer
 abbrev pub order_words : Act → ℕ → List (List ℕ)
 order_words (act.Establish owner trust) layer = codes "order" ∷ codes "establish" ∷ decimal layer ∷ []
 order_words act.Surrender layer = codes "order" ∷ codes "surrender" ∷ decimal layer ∷ []
-order_words (act.Load version trust code) layer = codes "order" ∷ codes "load" ∷ decimal layer ∷ []
-order_words (act.Emergency version trust code) layer = codes "order" ∷ codes "emergency" ∷ decimal layer ∷ []
+order_words (act.Load payload) layer = codes "order" ∷ codes "load" ∷ decimal layer ∷ []
+order_words (act.Emergency payload) layer = codes "order" ∷ codes "emergency" ∷ decimal layer ∷ []
 order_words (act.NewKey kind) layer = codes "order" ∷ codes "newkey" ∷ decimal layer ∷ kind_word kind ∷ []
-
--- the layers for which an order may be drafted: the ordinary load for each, every other for 2 and 3
-abbrev pub may_name : Act → ℕ → Bool
-may_name (act.Establish owner trust) layer = is_upper layer
-may_name act.Surrender layer = is_upper layer
-may_name (act.Load version trust code) layer = is_layer_number layer
-may_name (act.Emergency version trust code) layer = is_upper layer
-may_name (act.NewKey kind) layer = is_upper layer
 
 -- the line of a target
 abbrev pub SaysTarget : List ℕ → Target → Type 0
@@ -51,21 +45,27 @@ SaysTarget line (target.Serial serial) =
 SaysTarget line (target.Length n) =
     (n ≤ number_limit) × (line ≡ spaced (codes "target" ∷ codes "length" ∷ decimal n ∷ []))
 SaysTarget line (target.Owner layer hash) =
-    IsTrue (is_layer_number layer) × (length hash ≡ 32) × EndsInHex line (codes "target" ∷ codes "owner" ∷ decimal layer ∷ []) hash
+    IsTrue (is_layer_number layer) × (length hash ≡ 32)
+    × EndsInHex line (codes "target" ∷ codes "owner" ∷ decimal layer ∷ []) hash
 SaysTarget line (target.Code layer hash) =
-    IsTrue (is_layer_number layer) × (length hash ≡ 32) × EndsInHex line (codes "target" ∷ codes "code" ∷ decimal layer ∷ []) hash
+    IsTrue (is_layer_number layer) × (length hash ≡ 32)
+    × EndsInHex line (codes "target" ∷ codes "code" ∷ decimal layer ∷ []) hash
 
 -- the line of a trust
 abbrev pub trust_line : Trust → List ℕ
 trust_line trust = spaced (codes "trust" ∷ trust_word trust ∷ [])
 
+-- the line of a version
+abbrev pub version_line : ℕ → List ℕ
+version_line version = spaced (codes "version" ∷ decimal version ∷ [])
+
 -- the lines of a load: its version, the trust that it gives the layer, and its code
-pub record AreLoadLines (lines : List (List ℕ)) (version : ℕ) (trust : Trust) (code : List ℕ) : Type 0 where
+pub record AreLoadLines (lines : List (List ℕ)) (payload : Payload) : Type 0 where
   pub code_line : List ℕ
-  pub coded : EndsInHex code_line (codes "code" ∷ []) code
-  pub code_fits : length code ≤ 32768
-  pub version_fits : version ≤ number_limit
-  pub spelled : lines ≡ spaced (codes "version" ∷ decimal version ∷ []) ∷ trust_line trust ∷ code_line ∷ []
+  pub coded : EndsInHex code_line (codes "code" ∷ []) payload.code
+  pub code_fits : length payload.code ≤ 32768
+  pub version_fits : payload.version ≤ number_limit
+  pub spelled : lines ≡ version_line payload.version ∷ trust_line payload.trust ∷ code_line ∷ []
 
 -- the lines of an establish: the new owner's public key, and the trust that it gives the layer
 pub record AreOwnerLines (lines : List (List ℕ)) (owner : PublicKey) (trust : Trust) : Type 0 where
@@ -74,12 +74,12 @@ pub record AreOwnerLines (lines : List (List ℕ)) (owner : PublicKey) (trust : 
   pub sized : IsSized owner
   pub spelled : lines ≡ owner_line ∷ trust_line trust ∷ []
 
--- the lines behind the targets, by what is ordered
+-- the lines after the targets, by what is ordered
 abbrev pub SayAct : List (List ℕ) → Act → Type 0
 SayAct lines (act.Establish owner trust) = AreOwnerLines lines owner trust
 SayAct lines act.Surrender = lines ≡ []
-SayAct lines (act.Load version trust code) = AreLoadLines lines version trust code
-SayAct lines (act.Emergency version trust code) = AreLoadLines lines version trust code
+SayAct lines (act.Load payload) = AreLoadLines lines payload
+SayAct lines (act.Emergency payload) = AreLoadLines lines payload
 SayAct lines (act.NewKey kind) = lines ≡ []
 
 -- The lines are the draft of an order, which nobody has signed yet: what is ordered of which layer, the targets, and
@@ -88,7 +88,7 @@ pub record IsDraft (lines : List (List ℕ)) (order : Order) : Type 0 where
   pub target_lines : List (List ℕ)
   pub act_lines : List (List ℕ)
   pub spelled : lines ≡ spaced (order_words order.act order.layer) ∷ target_lines ++ act_lines
-  pub named : IsTrue (may_name order.act order.layer)
+  pub named : MayBeFor (kind_of order.act) order.layer
   pub targeted : AllZip SaysTarget target_lines order.targets
   pub few : length order.targets ≤ 8
   pub says_act : SayAct act_lines order.act

@@ -2,7 +2,8 @@
 use Rattle.std.specs.Prelude.{ℕ, ◌+◌, ◌*◌, true, false, List, [], ◌∷◌, Option, Some, None}
 use Rattle.std.specs.Int.{w8, w32}
 use Rattle.mb_format.specs.Format.{Format}
-use Rattle.mb_format.specs.Combinators.{raw, number, between, table, flag_byte, optional, pair, as_value, as_record, led}
+use Rattle.mb_format.specs.Combinators.{raw, number, between, table, flag_byte, optional}
+use Rattle.mb_format.specs.Combinators.{pair, as_value, as_record, led}
 use Rattle.mb_model.specs.declared.key.PublicKey.{PublicKey}
 use Rattle.mb_model.specs.declared.layer.Layers.{Layers}
 use Rattle.mb_model.specs.declared.layer.Pair.{Pair}
@@ -71,47 +72,67 @@ entry_tag (Change position number kind layer cosigned layers kept next) = change
 entry_tag (NewKey position number key_number layer kind key) = new_key_tag
 entry_tag (Succession position key) = succession_tag
 
--- a birth: the serial, the first device key, the layers
+-- a birth
 abbrev pub birth_in : Entry → Option (List ℕ × (PublicKey × Layers))
 birth_in (Birth serial key layers) = Some (serial, (key, layers))
 birth_in _ = None
 
+-- its serial, the first device key, and the layers
 unfoldable pub birth_format : Format Entry
-birth_format = as_value (pair (raw 16) (pair public_key_format layers_format)) (λ p. Birth p.0 p.1.0 p.1.1) birth_in
+birth_format = as_value (pair (raw 16) (pair public_key_format layers_format))
+    (λ (serial, (key, layers)). Birth serial key layers)
+    birth_in
 
--- a change: its position and number, its kind and layer, who countersigned, which regions are kept, the layers
--- afterwards, and the next device key behind a byte that says whether there is one
+-- a change
 abbrev pub change_in : Entry → Option (ℕ × (ℕ × (ChangeKind × (ℕ × (Pair × (Pair × (Layers × Option PublicKey)))))))
 change_in (Change position number kind layer cosigned layers kept next) =
     Some (position, (number, (kind, (layer, (cosigned, (kept, (layers, next)))))))
 change_in _ = None
 
+-- its position and number, its kind and layer, who countersigned, which regions are kept, the layers afterwards, and
+-- the next device key after a byte that says whether there is one
 unfoldable pub change_format : Format Entry
 change_format = as_value
-    (pair (number w32) (pair (number w32) (pair (table w8 change_rows change_byte) (pair (between w8 1 3)
-    (pair pair_format (pair pair_format (pair layers_format (optional public_key_format))))))))
-    (λ p. Change p.0 p.1.0 p.1.1.0 p.1.1.1.0 p.1.1.1.1.0 p.1.1.1.1.1.1.0 p.1.1.1.1.1.0 p.1.1.1.1.1.1.1)
+    (pair (number w32)  -- position
+    (pair (number w32)  -- number
+    (pair (table w8 change_rows change_byte)  -- kind
+    (pair (between w8 1 3)  -- layer
+    (pair pair_format  -- cosigned
+    (pair pair_format  -- kept
+    (pair layers_format  -- layers
+    (optional public_key_format))))))))  -- next
+    (λ (position, (number, (kind, (layer, (cosigned, (kept, (layers, next))))))).
+    Change position number kind layer cosigned layers kept next)
     change_in
 
--- a new key: its entry's position and number, the key's number, its layer and kind, the key
+-- a new key
 abbrev pub new_key_in : Entry → Option (ℕ × (ℕ × (ℕ × (ℕ × (KeyKind × PublicKey)))))
 new_key_in (NewKey position number key_number layer kind key) =
     Some (position, (number, (key_number, (layer, (kind, key)))))
 new_key_in _ = None
 
+-- its entry's position and number, the key's number, its layer and kind, the key
 unfoldable pub new_key_format : Format Entry
 new_key_format = as_value
-    (pair (number w32) (pair (number w32) (pair (number w32) (pair (between w8 2 3) (pair key_kind_format public_key_format)))))
-    (λ p. NewKey p.0 p.1.0 p.1.1.0 p.1.1.1.0 p.1.1.1.1.0 p.1.1.1.1.1)
+    (pair (number w32)  -- position
+    (pair (number w32)  -- number
+    (pair (number w32)  -- key_number
+    (pair (between w8 2 3)  -- layer
+    (pair key_kind_format  -- kind
+    public_key_format)))))  -- key
+    (λ (position, (number, (key_number, (layer, (kind, key))))). NewKey position number key_number layer kind key)
     new_key_in
 
--- a succession: its position and the next device key
+-- a succession
 abbrev pub succession_in : Entry → Option (ℕ × PublicKey)
 succession_in (Succession position key) = Some (position, key)
 succession_in _ = None
 
+-- its position and the next device key
 unfoldable pub succession_format : Format Entry
-succession_format = as_value (pair (number w32) public_key_format) (λ p. Succession p.0 p.1) succession_in
+succession_format = as_value (pair (number w32) public_key_format)
+    (λ (position, key). Succession position key)
+    succession_in
 
 abbrev pub entry_by : EntryTag → Format Entry
 entry_by birth_tag = birth_format
@@ -129,5 +150,5 @@ signature_format = raw 2348
 -- an entry and its signature
 unfoldable pub signed_entry_format : Format SignedEntry
 signed_entry_format = as_record (pair entry_format signature_format)
-    (λ p. record { entry = p.0; signature = p.1 })
+    (λ (entry, signature). record { entry = entry; signature = signature })
     (λ signed. (signed.entry, signed.signature))

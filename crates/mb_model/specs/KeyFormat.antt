@@ -1,4 +1,5 @@
--- How keys are spelled: a public key (RFC 8554, section 5.3), a key's seed, and the file of an officer's key. Which key do these bytes hold?
+-- How keys are spelled: a public key (RFC 8554, section 5.3), a key's seed, and the file of an officer's key. Which key
+-- do these bytes hold?
 use Rattle.std.specs.Prelude.{ℕ, List, [], ◌∷◌}
 use Rattle.std.specs.Int.{w32}
 use Rattle.mb_format.specs.Format.{Format}
@@ -19,17 +20,22 @@ tree_rows = (5, H5) ∷ (6, H10) ∷ (7, H15) ∷ (8, H20) ∷ (9, H25) ∷ []
 abbrev pub chains_rows : List (ℕ × Chains)
 chains_rows = (1, W1) ∷ (2, W2) ∷ (3, W4) ∷ (4, W8) ∷ []
 
--- a public key: its LMS type, its LM-OTS type, its identifier, and the root of its tree
+-- a public key: its LMS type, its LM-OTS type, its identifier, and the top node of its tree
 unfoldable pub public_key_format : Format PublicKey
 public_key_format = as_record
     (pair (table w32 tree_rows tree_type) (pair (table w32 chains_rows chains_type) (pair (raw 16) (raw 32))))
-    (λ p. record { tree = p.0; chains = p.1.0; identifier = p.1.1.0; root = p.1.1.1 })
+    (λ (tree, (chains, (identifier, root))). record {
+      tree = tree;
+      chains = chains;
+      identifier = identifier;
+      root = root;
+    })
     (λ key. (key.tree, (key.chains, (key.identifier, key.root))))
 
 -- the seed of a key: its identifier and its secret
 unfoldable pub key_seed_format : Format KeySeed
 key_seed_format = as_record (pair (raw 16) (raw 32))
-    (λ p. record { identifier = p.0; seed = p.1 })
+    (λ (identifier, seed). record { identifier = identifier; seed = seed })
     (λ key. (key.identifier, key.seed))
 
 -- the word by which a key file is known: MBK1
@@ -39,5 +45,5 @@ keyfile_word = 0x4D ∷ 0x42 ∷ 0x4B ∷ 0x31 ∷ []
 -- a key file: its word, the key's seed, and the next index of the 32
 unfoldable pub keyfile_format : Format Keyfile
 keyfile_format = then_value (mark keyfile_word) (as_record (pair key_seed_format (between w32 0 32))
-    (λ p. record { seed = p.0; next = p.1 })
+    (λ (seed, next). record { seed = seed; next = next })
     (λ file. (file.seed, file.next)))

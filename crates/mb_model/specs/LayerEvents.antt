@@ -1,5 +1,6 @@
 -- What layers do with their regions: secrets and statements. Who can read a secret, and what does a key sign?
-use Rattle.std.specs.Prelude.{ℕ, ◌+◌, ◌==◌, nat_lt, nat_le, Bool, not, ◌&&◌, ◌||◌, List, [], ◌∷◌, ◌++◌, length, map, filter, find, Option, None, Some, if◌then◌else◌}
+use Rattle.std.specs.Prelude.{ℕ, ◌+◌, ◌==◌, nat_lt, nat_le, Bool, not, ◌&&◌, ◌||◌, List, [], ◌∷◌, ◌++◌, length, map}
+use Rattle.std.specs.Prelude.{filter, find, Option, None, Some, if◌then◌else◌}
 use Rattle.std.specs.List.{list_any}
 use Rattle.mb_format.specs.Combinators.{same_bytes}
 use Rattle.mb_model.specs.declared.entry.Statement.{Statement}
@@ -21,14 +22,14 @@ abbrev pub Outcome : Type 0
 Outcome = Reply × State
 
 -- the secret has this name
-abbrev pub is_named : List ℕ → Secret → Bool
-is_named name secret = same_bytes secret.name name
+abbrev pub has_name : List ℕ → Secret → Bool
+has_name name secret = same_bytes secret.name name
 
--- the secrets with this one in place of the one that has its name, or behind the others where none has
+-- the secrets with this one in place of the one that has its name, or after the others where none has
 unfoldable pub with_secret : Secret → List Secret → List Secret
 with_secret new secrets =
-    if list_any (is_named new.name) secrets
-    then map (λ old. if is_named new.name old then new else old) secrets
+    if list_any (has_name new.name) secrets
+    then map (λ old. if has_name new.name old then new else old) secrets
     else secrets ++ new ∷ []
 
 -- a secret is kept with the present configuration number; 16 is as many as there may be
@@ -36,7 +37,7 @@ unfoldable pub put_event : ℕ → List ℕ → List ℕ → State → Outcome
 put_event L name value state =
     let region = region_of state L in
     let new : Secret = record { name = name; value = value; born = number_of (entries_of state.log) } in
-    if not (list_any (is_named name) region.secrets) && nat_le 16 (length region.secrets)
+    if not (list_any (has_name name) region.secrets) && nat_le 16 (length region.secrets)
     then (refused region_full, state)
     else (reply.Kept, with_region state L (record region { secrets = with_secret new region.secrets }))
 
@@ -46,14 +47,15 @@ value_reply (Some secret) = reply.Value secret.value
 
 -- a secret is told
 unfoldable pub get_event : ℕ → List ℕ → State → Outcome
-get_event L name state = (value_reply (find (is_named name) (region_of state L).secrets), state)
+get_event L name state = (value_reply (find (has_name name) (region_of state L).secrets), state)
 
 -- a secret is forgotten
 unfoldable pub drop_event : ℕ → List ℕ → State → Outcome
 drop_event L name state =
     let region = region_of state L in
-    if list_any (is_named name) region.secrets
-    then (reply.Dropped, with_region state L (record region { secrets = filter (λ secret. not (is_named name secret)) region.secrets }))
+    let others = filter (λ secret. not (has_name name secret)) region.secrets in
+    if list_any (has_name name) region.secrets
+    then (reply.Dropped, with_region state L (record region { secrets = others }))
     else (reply.Absent, state)
 
 -- the key has this number

@@ -1,4 +1,5 @@
--- How a layer is spelled: what it has, what it trusts, its owner and the name of its code. Which layer do these bytes hold?
+-- How a layer is spelled: what it has, what it trusts, its owner and the name of its code. Which layer do these bytes
+-- hold?
 use Rattle.std.specs.Prelude.{ℕ, Bool, true, false, List, [], ◌∷◌, Option, Some, None}
 use Rattle.std.specs.Int.{w8, w32}
 use Rattle.mb_format.specs.Format.{Format}
@@ -26,7 +27,7 @@ trust_format = table w8 trust_rows trust_byte
 -- the name of code: its hash and its version
 unfoldable pub code_name_format : Format CodeName
 code_name_format = as_record (pair (raw 32) (number w32))
-    (λ p. record { hash = p.0; version = p.1 })
+    (λ (hash, version). record { hash = hash; version = version })
     (λ name. (name.hash, name.version))
 
 -- What a layer has, as a byte: bit 0 for an owner, bit 1 for code, bit 2 for code to be relied on. Each needs those
@@ -77,10 +78,10 @@ reliable_by has_owner = nothing false
 reliable_by has_code = nothing false
 reliable_by has_reliable_code = nothing true
 
--- behind that byte: its trust, its owner and its code name where it has them; that code is reliable takes no byte more
+-- after that byte: its trust, its owner and its code name where it has them; that code is reliable takes no byte more
 abbrev pub layer_by : Has → Format Layer
 layer_by has = as_record (pair (trust_by has) (pair (owner_by has) (pair (code_by has) (reliable_by has))))
-    (λ p. record { owner = p.1.0; code = p.1.1.0; reliable = p.1.1.1; trust = p.0 })
+    (λ (trust, (owner, (code, reliable))). record { owner = owner; code = code; reliable = reliable; trust = trust })
     (λ layer. (layer.trust, (layer.owner, (layer.code, layer.reliable))))
 
 unfoldable pub layer_format : Format Layer
@@ -89,5 +90,5 @@ layer_format = led (table w8 has_rows has_byte) has_of layer_by
 -- three layers, from the first on
 unfoldable pub layers_format : Format Layers
 layers_format = as_record (pair layer_format (pair layer_format layer_format))
-    (λ p. record { one = p.0; two = p.1.0; three = p.1.1 })
+    (λ (one, (two, three)). record { one = one; two = two; three = three })
     (λ layers. (layers.one, (layers.two, layers.three)))

@@ -2,6 +2,7 @@ pub mod Key
 pub mod Winternitz
 pub mod Merkle
 pub mod Signing
+pub mod Pieces
 pub mod Texts
 pub mod FirstPath
 pub mod FirstTexts
@@ -9,7 +10,9 @@ pub mod Outside
 pub mod Board
 pub mod Commands
 pub mod FirstCommand
+pub mod Inputs
 pub mod Keygen
+pub mod Sign
 pub mod Top
 pub mod Layers
 pub mod Rules
@@ -24,16 +27,18 @@ pub mod OrderFormat
 pub mod ChainFormat
 pub mod RootFormat
 pub mod RegionFormat
-pub mod PublicFormat
 pub mod Refusals
 pub mod SignedTexts
 pub mod OrderStep
 pub mod LayerEvents
 pub mod Machine
+pub mod Fates
 pub mod Valid
 pub mod Memory
 pub mod StoredLog
+pub mod Flash
 pub mod Meaning
+pub mod Faults
 pub mod Clean
 pub mod Factory
 pub mod Lines
@@ -44,3 +49,4 @@ pub mod OrderLines
 pub mod Listing
 pub mod Acceptance
 pub mod Workload
+pub mod SignedOrders

@@ -1,4 +1,5 @@
--- How a text stands in lines and words, and which of its lines is the first that is wrong. Is a text read in one way only?
+-- How a text stands in lines and words, and which of its lines is the first that is wrong. Is a text read in one way
+-- only?
 use Rattle.std.specs.Prelude.{◌≡◌, ◌≢◌, ℕ, ◌+◌, ◌≤◌, ◌⊎◌, List, [], ◌∷◌, ◌++◌, length, codes, All, flat_map}
 use Rattle.std.specs.List.{join_with_byte}
 use Rattle.std.specs.Fmt.{decimal}
@@ -18,7 +19,7 @@ pub record LacksLastLf (lines : List (List ℕ)) (text : List ℕ) : Type 0 wher
   pub whole : text ≡ flat_map ended before ++ last
 
 -- A text stands in these lines: each ends with an LF, which the last may lack where it is not empty. So the empty text
--- has no line, an LF alone is one empty line, and what stands behind the last LF is no line where it is nothing.
+-- has no line, an LF alone is one empty line, and what stands after the last LF is no line where it is nothing.
 pub record HasLines (text : List ℕ) (lines : List (List ℕ)) : Type 0 where
   pub plain : All IsLine lines
   pub whole : (text ≡ flat_map ended lines) ⊎ LacksLastLf lines text
@@ -27,7 +28,7 @@ pub record HasLines (text : List ℕ) (lines : List (List ℕ)) : Type 0 where
 abbrev pub text_of : List (List ℕ) → List ℕ
 text_of lines = flat_map ended lines
 
--- words with one space between each two, and none before or behind
+-- words with one space between each two, and none before or after
 abbrev pub spaced : List (List ℕ) → List ℕ
 spaced words = join_with_byte 32 words
 
@@ -45,18 +46,39 @@ hex_word [] = codes "-"
 hex_word (byte ∷ bytes) = encode_lower (byte ∷ bytes)
 
 -- The grammar of a text says for which value lines stand. Some text of the grammar begins with these lines.
-pub record Begins {A : Type 0} (Grammar : List (List ℕ) → A → Type 0) (lines : List (List ℕ)) : Type 0 where
+pub record IsBeginning {A : Type 0} (Grammar : List (List ℕ) → A → Type 0) (lines : List (List ℕ)) : Type 0 where
   pub more : List (List ℕ)
   pub value : A
   pub stands : Grammar (lines ++ more) value
 
+-- Line n, from 1, is wrong: a text of the grammar begins with the lines before it, and none begins with these and it.
+pub record HasBadLine
+    {A : Type 0}
+    (Grammar : List (List ℕ) → A → Type 0)
+    (lines : List (List ℕ))
+    (n : ℕ) : Type 0 where
+  pub before : List (List ℕ)
+  pub line : List ℕ
+  pub later : List (List ℕ)
+  pub split : lines ≡ before ++ line ∷ later
+  pub good : IsBeginning Grammar before
+  pub bad : IsBeginning Grammar (before ++ line ∷ []) → ⊥
+  pub number : n ≡ length before + 1
+
+-- The text ends too early, before line n: a longer one begins with all its lines, and they are none by themselves.
+pub record EndsEarly
+    {A : Type 0}
+    (Grammar : List (List ℕ) → A → Type 0)
+    (lines : List (List ℕ))
+    (n : ℕ) : Type 0 where
+  pub good : IsBeginning Grammar lines
+  pub unfinished : (value : A) → Grammar lines value → ⊥
+  pub number : n ≡ length lines + 1
+
 -- The line with the number n, from 1, is the first that is wrong in these lines.
 pub data FailsAtLine {A : Type 0} (Grammar : List (List ℕ) → A → Type 0) (lines : List (List ℕ)) (n : ℕ) : Type 0 where
-  -- a text of the grammar begins with the lines before it, and none begins with these and it
-  bad : (before : List (List ℕ)) (line : List ℕ) (later : List (List ℕ)) → lines ≡ before ++ line ∷ later →
-      Begins Grammar before → (Begins Grammar (before ++ line ∷ []) → ⊥) → n ≡ length before + 1 → FailsAtLine Grammar lines n
-  -- the text ends too early: a longer one begins with all its lines, and they are none by themselves
-  short : Begins Grammar lines → ((value : A) → Grammar lines value → ⊥) → n ≡ length lines + 1 → FailsAtLine Grammar lines n
+  bad_line : HasBadLine Grammar lines n → FailsAtLine Grammar lines n
+  ends_early : EndsEarly Grammar lines n → FailsAtLine Grammar lines n
 
 -- a text stands in lines that stand for this value
 pub record Reads {A : Type 0} (Grammar : List (List ℕ) → A → Type 0) (text : List ℕ) (value : A) : Type 0 where
@@ -65,7 +87,11 @@ pub record Reads {A : Type 0} (Grammar : List (List ℕ) → A → Type 0) (text
   pub stands : Grammar lines value
 
 -- a text stands in lines of which this one is the first that is wrong
-pub record TextFailsAtLine {A : Type 0} (Grammar : List (List ℕ) → A → Type 0) (text : List ℕ) (n : ℕ) : Type 0 where
+pub record TextFailsAtLine
+    {A : Type 0}
+    (Grammar : List (List ℕ) → A → Type 0)
+    (text : List ℕ)
+    (n : ℕ) : Type 0 where
   pub lines : List (List ℕ)
   pub has : HasLines text lines
   pub fails : FailsAtLine Grammar lines n

@@ -1,5 +1,7 @@
--- What the verifier prints of a chain, and what is printed of a generated workload. Does the listing say all that was found?
-use Rattle.std.specs.Prelude.{ℕ, Bool, true, false, List, [], ◌∷◌, ◌++◌, length, take, codes, count_by, flat_map, Option, None, Some}
+-- What the verifier prints of a chain, and what is printed of a generated workload. Does the listing say all that was
+-- found?
+use Rattle.std.specs.Prelude.{ℕ, Bool, true, false, List, [], ◌∷◌, ◌++◌, length, take, codes, count_by, flat_map}
+use Rattle.std.specs.Prelude.{Option, None, Some}
 use Rattle.std.specs.Fmt.{decimal}
 use Rattle.sha2.specs.Sha256.{sha256}
 use Rattle.mb_model.specs.declared.key.PublicKey.{PublicKey}
@@ -60,7 +62,8 @@ statement_lines (Some message) = spaced (codes "statement" ∷ hex_word message 
 -- the lines of the report on the key with this number
 unfoldable pub listing : ℕ → Report → List (List ℕ)
 listing key report =
-    spaced (codes "key" ∷ decimal key ∷ kind_word report.kind ∷ codes "layer" ∷ decimal report.layer ∷ life_word report.alive ∷ [])
+    spaced (codes "key" ∷ decimal key ∷ kind_word report.kind
+    ∷ codes "layer" ∷ decimal report.layer ∷ life_word report.alive ∷ [])
     ∷ flat_map configuration_lines report.lives ++ statement_lines report.message
 
 -- ---- the summary of a generated workload

@@ -1,5 +1,6 @@
 -- When the key of a region ends, and in which configurations it lived. Which code can have signed with it?
-use Rattle.std.specs.Prelude.{◌≡◌, ℕ, ◌==◌, nat_lt, nat_le, Bool, false, not, ◌&&◌, List, [], ◌∷◌, ◌++◌, map, flat_map, All, if◌then◌else◌}
+use Rattle.std.specs.Prelude.{◌≡◌, ℕ, ◌==◌, nat_lt, nat_le, Bool, false, not, ◌&&◌, List, [], ◌∷◌, ◌++◌, map, flat_map}
+use Rattle.std.specs.Prelude.{All, if◌then◌else◌}
 use Rattle.std.specs.List.{list_all}
 use Rattle.mb_model.specs.declared.key.PublicKey.{PublicKey}
 use Rattle.mb_model.specs.declared.layer.Layers.{Layers}
@@ -20,7 +21,10 @@ ends key_kind L (Birth serial key layers) = false
 ends key_kind L (NewKey position number key_number layer kind key) = false
 ends key_kind L (Succession position key) = false
 
--- The key with this number is born in the log, in the region of layer L, and no later entry ends it.
+-- The key with this number is born in the log, in the region of layer L, and no later entry ends it. This is what it
+-- means that a key is alive. The laws of mb_laws say that the list `alive_keys` below has exactly these keys
+-- (`alive_keys_are_alive`), that `is_alive` of a chain is true of them alone (`the_flag_is_life`), and that such a key
+-- lives in the last configuration of `lives_of` (`alive_keys_live_now`).
 pub record Alive (log : List Entry) (key_number L : ℕ) (kind : KeyKind) (key : PublicKey) : Type 0 where
   pub before : List Entry
   pub position : ℕ
@@ -41,21 +45,21 @@ layers_upto L layers = record {
 abbrev pub configuration : ℕ → ℕ → Layers → Configuration
 configuration L number layers = record { number = number; upto = L; layers = layers_upto L layers }
 
--- an entry of a list, with those before it and those behind it
+-- an entry of a list, with those before it and those after it
 pub record Split : Type 0 where
   pub before : List Entry
   pub entry : Entry
   pub later : List Entry
 
 -- the same with one more entry at the front
-abbrev pub behind : Entry → Split → Split
-behind entry split = record split { before = entry ∷ split.before }
+abbrev pub with_front : Entry → Split → Split
+with_front entry split = record split { before = entry ∷ split.before }
 
--- each entry of a list in order, with those before it and those behind it
+-- each entry of a list in order, with those before it and those after it
 unfoldable pub splits : List Entry → List Split
 splits [] = []
 splits (entry ∷ rest) =
-    record { before = []; entry = entry; later = rest } ∷ map (behind entry) (splits rest)
+    record { before = []; entry = entry; later = rest } ∷ map (with_front entry) (splits rest)
 
 -- the configuration that an entry opens for a key of layer L: a change at the layer or beneath it opens one
 abbrev pub opened_by : ℕ → Entry → List Configuration
@@ -103,6 +107,6 @@ lasting L (NewKey position number key_number layer kind key) later =
     else []
 lasting L (Succession position key) later = []
 
--- the keys of layer L that are alive by a log, in the order of their birth
+-- the keys of layer L that are alive by a log, in the order of their birth: exactly those that are Alive
 unfoldable pub alive_keys : List Entry → ℕ → List MadeKey
 alive_keys log L = flat_map (λ split. lasting L split.entry split.later) (splits log)

@@ -1,5 +1,8 @@
--- The log of a device: what its entries say together, and which entry may follow. Can a log tell of a change that the rules forbid?
-use Rattle.std.specs.Prelude.{◌≡◌, ◌≢◌, ℕ, ◌+◌, ◌==◌, Bool, true, false, ◌&&◌, List, [], ◌∷◌, ◌++◌, length, map, reverse, take_while, count_by, sum_by, Option, None, Some, is_some, is_none, IsSome, IsTrue, unwrap_or}
+-- The log of a device: what its entries say together, and which entry may follow. Can a log tell of a change that the
+-- rules forbid?
+use Rattle.std.specs.Prelude.{◌≡◌, ◌≢◌, ℕ, ◌+◌, Bool, true, false, List, [], ◌∷◌, ◌++◌, length, map, reverse}
+use Rattle.std.specs.Prelude.{take_while, count_by, sum_by}
+use Rattle.std.specs.Prelude.{Option, None, Some, is_some, is_none, IsSome, IsTrue, unwrap_or}
 use Rattle.std.specs.Option.{option_or}
 use Rattle.mb_model.specs.declared.key.PublicKey.{PublicKey}
 use Rattle.mb_model.specs.declared.layer.Layers.{Layers}
@@ -9,7 +12,7 @@ use Rattle.mb_model.specs.declared.entry.Entry.{Entry}
 use Rattle.mb_model.specs.declared.entry.Entry.TheVariants.{Birth, Change, NewKey, Succession}
 use Rattle.mb_model.specs.declared.entry.SignedEntry.{SignedEntry}
 use Rattle.mb_model.specs.Layers.{unowned, unowned_layers, layer_of}
-use Rattle.mb_model.specs.Rules.{Condition, CanPlace, after, may_cosign, kept_regions, is_own_load}
+use Rattle.mb_model.specs.Rules.{Condition, CanPlace, after, may_cosign, kept_regions, renews}
 
 -- the entries of a log without their signatures
 abbrev pub entries_of : List SignedEntry → List Entry
@@ -75,7 +78,7 @@ StandsAt n (Change position number kind layer cosigned layers kept next) = posit
 StandsAt n (NewKey position number key_number layer kind key) = position ≡ n
 StandsAt n (Succession position key) = position ≡ n
 
--- the entry has its place behind the others, and its signature the next index of the device key named last
+-- the entry stands after the others, and its signature has the next index of the device key named last
 pub record Ordered (before : List Entry) (entry : Entry) (index : ℕ) : Type 0 where
   pub position : StandsAt (length before) entry
   pub next : index ≡ used before
@@ -87,9 +90,17 @@ pub record AreFirst (layers : Layers) : Type 0 where
   pub two : layers.two ≡ unowned
   pub three : layers.three ≡ unowned
 
--- A change of layer k says what the entries before it make true. Which owner, code name and trust it puts there, its own
--- layer k says.
-pub record RuledChange (before : List Entry) (number : ℕ) (kind : ChangeKind) (k : ℕ) (cosigned : Pair) (layers : Layers) (kept : Pair) (next : Option PublicKey) : Type 0 where
+-- A change of layer k says what the entries before it make true. Which owner, code name and trust it puts there, its
+-- own layer k says.
+pub record RuledChange
+    (before : List Entry)
+    (number : ℕ)
+    (kind : ChangeKind)
+    (k : ℕ)
+    (cosigned : Pair)
+    (layers : Layers)
+    (kept : Pair)
+    (next : Option PublicKey) : Type 0 where
   pub counted : number ≡ number_of before + 1
   pub allowed : Condition (layers_of before) (Some kind) k
   pub placed : CanPlace kind (layer_of (layers_of before) k) (layer_of layers k)
@@ -98,7 +109,7 @@ pub record RuledChange (before : List Entry) (number : ℕ) (kind : ChangeKind) 
   pub cosigned_three : IsTrue cosigned.three → IsTrue (may_cosign (layers_of before) kind k 3)
   pub regions : kept ≡ kept_regions (layers_of before) kind k cosigned
   -- exactly the ordinary load of layer 1 makes the next device key
-  pub renewed : is_some next ≡ (is_own_load kind && k == 1)
+  pub renewed : is_some next ≡ renews (Some kind) k
   -- the last index of a device key signs no other change
   pub last_index : used before ≡ 31 → IsSome next
 
@@ -110,7 +121,7 @@ pub record RuledNewKey (before : List Entry) (number key_number k : ℕ) : Type 
   -- the last index of a device key signs no new key
   pub last_index : used before ≢ 31
 
--- By the rules the entry may stand behind the others: a birth at first and nowhere else, and a succession where the
+-- By the rules the entry may stand after the others: a birth at first and nowhere else, and a succession where the
 -- last index of a device key is left.
 abbrev pub Ruled : List Entry → Entry → Type 0
 Ruled before (Birth serial key layers) = (before ≡ []) × AreFirst layers
@@ -120,9 +131,10 @@ Ruled before (NewKey position number key_number layer kind key) =
     (before ≢ []) × RuledNewKey before number key_number layer
 Ruled before (Succession position key) = (before ≢ []) × (used before ≡ 31)
 
--- each entry of a log may stand behind those before it
+-- each entry of a log may stand after those before it
 abbrev pub RuledLog : List Entry → Type 0
-RuledLog log = (before : List Entry) (entry : Entry) (rest : List Entry) → log ≡ before ++ entry ∷ rest → Ruled before entry
+RuledLog log =
+    (before : List Entry) (entry : Entry) (rest : List Entry) → log ≡ before ++ entry ∷ rest → Ruled before entry
 
 -- the serial that a birth names
 abbrev pub serial_in : Entry → Option (List ℕ)

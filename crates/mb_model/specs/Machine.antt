@@ -1,5 +1,7 @@
--- The machine of owners and layers: what each event comes to in each phase, and what a power loss leaves. What can a device answer, and what can it then be?
-use Rattle.std.specs.Prelude.{◌≡◌, ℕ, ◌+◌, ◌<◌, nat_lt, Bool, true, false, ◌⊎◌, List, [], ◌∷◌, length, Option, None, Some, Result, Ok, Err, IsTrue, if◌then◌else◌}
+-- The machine of owners and layers: what each event comes to in each phase, and what a power loss leaves. What can a
+-- device answer, and what can it then be?
+use Rattle.std.specs.Prelude.{◌≡◌, ℕ, ◌+◌, ◌<◌, nat_lt, Bool, true, false, ◌⊎◌, List, [], ◌∷◌, length, Option, None}
+use Rattle.std.specs.Prelude.{Some, Result, Ok, Err, IsTrue, if◌then◌else◌}
 use Rattle.mb_model.specs.declared.event.Event.{Event}
 use Rattle.mb_model.specs.declared.event.Event.TheVariants as event
 use Rattle.mb_model.specs.declared.event.Answered.{Answered}
@@ -48,7 +50,11 @@ awake_in world = awake world.phase world.state
 -- what is told of how the device stands
 unfoldable pub status_of : State → Reply
 status_of state =
-    reply.Status state.serial (number_of (entries_of state.log)) (length state.log) (standing state.layers 1) (standing state.layers 2) (standing state.layers 3)
+    let number = number_of (entries_of state.log) in
+    let one = standing state.layers 1 in
+    let two = standing state.layers 2 in
+    let three = standing state.layers 3 in
+    reply.Status state.serial number (length state.log) one two three
 
 abbrev pub status_event : World → Result (ℕ × State) Refusal → Told
 status_event world (Err refusal) = (refused refusal, world)
@@ -59,7 +65,8 @@ abbrev pub go_event : World → Result (ℕ × State) Refusal → Told
 go_event world (Err refusal) = (refused refusal, world)
 go_event world (Ok on) =
     if nat_lt 2 on.0 then (refused wrong_phase, world)
-    else if is_runnable on.1.layers (on.0 + 1) then (reply.At (on.0 + 1), record world { phase = ratchet (on.0 + 1) })
+    else if is_runnable on.1.layers (on.0 + 1)
+    then (reply.At (on.0 + 1), record world { phase = ratchet (on.0 + 1) })
     else (refused wrong_layer, world)
 
 -- what a layer does with a region
@@ -73,7 +80,8 @@ region_event world L does (Ok on) =
 abbrev pub CommandStep : World → List ℕ → List ℕ → Result (ℕ × State) Refusal → Reply → World → Type 0
 CommandStep world text draw (Err refusal) answer next = (answer ≡ refused refusal) × (next ≡ world)
 CommandStep world text draw (Ok on) answer next =
-    ((on.0 ≡ 1) × ((state : State) × OrderStep on.1 text draw answer state × (next ≡ record world { state = Some state })))
+    ((on.0 ≡ 1)
+    × ((state : State) × OrderStep on.1 text draw answer state × (next ≡ record world { state = Some state })))
     ⊎ ((1 < on.0) × (answer ≡ refused wrong_phase) × (next ≡ world))
 
 -- An event has this reply and leads to this world, where memory is found and power holds.
@@ -126,14 +134,32 @@ may_be_cut (reply.Refused refusal) = false
 may_be_cut reply.Stopped = false
 may_be_cut reply.NoMemory = false
 
+-- an allocation failed: nothing has changed
+pub record LacksMemory (world : World) (event : Event) (answer : Reply) (next : World) : Type 0 where
+  pub answered : answer ≡ reply.NoMemory
+  pub wanted : IsTrue (may_want_memory event)
+  pub stays : next ≡ world
+
+-- Power failed where a loss was armed: the event counts wholly or not at all.
+pub record LosesPower (world : World) (event : Event) (answer : Reply) (next : World) : Type 0 where
+  -- what the machine answers, and where it leads, where power holds
+  pub told : Reply
+  pub whole : World
+  pub machine : Machine world event told whole
+  pub armed : IsTrue world.armed
+  pub writes : IsTrue (may_be_cut told)
+  -- the state that is left
+  pub state : Option State
+  pub counts : (state ≡ world.state) ⊎ (state ≡ whole.state)
+  pub answered : answer ≡ reply.Stopped
+  pub follows : next ≡ record { state = state; phase = off; armed = false }
+
 -- One step: from a world, an event has this reply and leads to next. There is no other way.
 pub data Step (world : World) (event : Event) (answer : Reply) (next : World) : Type 0 where
   -- the machine's own answer
   answered : Machine world event answer next → Step world event answer next
-  -- memory was wanted and not found: nothing has changed
-  no_memory : answer ≡ reply.NoMemory → IsTrue (may_want_memory event) → next ≡ world → Step world event answer next
-  -- Power failed where a loss was armed: the event counts wholly or not at all.
-  stopped : (told : Reply) (whole : World) (state : Option State) → answer ≡ reply.Stopped → IsTrue world.armed → Machine world event told whole → IsTrue (may_be_cut told) → (state ≡ world.state) ⊎ (state ≡ whole.state) → next ≡ record { state = state; phase = off; armed = false } → Step world event answer next
+  lacks_memory : LacksMemory world event answer next → Step world event answer next
+  loses_power : LosesPower world event answer next → Step world event answer next
 
 -- the answered events are steps, one after another, from a world to next
 abbrev pub Run : World → List Answered → World → Type 0

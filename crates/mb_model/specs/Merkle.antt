@@ -1,8 +1,10 @@
 -- Trees of one-time keys, and when a signature verifies (RFC 8554, section 5).
-use Rattle.std.specs.Prelude.{◌≡◌, ℕ, zero, suc, ◌+◌, ◌*◌, ◌/◌, ◌%◌, ◌^◌, ◌<◌, ◌==◌, List, [], ◌∷◌, ◌++◌, length, take, drop, if◌then◌else◌}
+use Rattle.std.specs.Prelude.{◌≡◌, ℕ, zero, suc, ◌+◌, ◌*◌, ◌/◌, ◌%◌, ◌^◌, ◌<◌, ◌==◌, List, [], ◌∷◌, ◌++◌}
+use Rattle.std.specs.Prelude.{length, take, drop, if◌then◌else◌}
 use Rattle.std.specs.Int.{w32, to_be_bytes, from_be_bytes}
 use Rattle.sha2.specs.Sha256.{sha256}
 use Rattle.mb_model.specs.declared.key.PublicKey.{PublicKey}
+use Rattle.mb_model.specs.Pieces.{part}
 use Rattle.mb_model.specs.Key.{tree_type, chains_type, height, chain_count}
 use Rattle.mb_model.specs.Winternitz.{message_hash, digits_of, one_time_key}
 
@@ -32,24 +34,21 @@ climb id r node path zero = node
 climb id r node path (suc n) = climb id (r / 2) (parent_node id r node (take 32 path)) (drop 32 path) n
 
 -- The fields of a signature (5.4): the leaf's number q, the LM-OTS type, C, the chain values, the LMS type, the path.
-abbrev pub part : List ℕ → ℕ → ℕ → List ℕ
-part bytes at n = take n (drop at bytes)
-
 abbrev pub leaf_number : List ℕ → ℕ
-leaf_number sig = from_be_bytes w32 (part sig 0 4)
+leaf_number sig = from_be_bytes w32 (part 0 4 sig)
 
 abbrev pub chains_type_in : List ℕ → ℕ
-chains_type_in sig = from_be_bytes w32 (part sig 4 4)
+chains_type_in sig = from_be_bytes w32 (part 4 4 sig)
 
 abbrev pub randomizer : List ℕ → List ℕ
-randomizer sig = part sig 8 32
+randomizer sig = part 8 32 sig
 
 -- the next three stand where they do for p chains
 abbrev pub chain_values : ℕ → List ℕ → List ℕ
-chain_values p sig = part sig 40 (32 * p)
+chain_values p sig = part 40 (32 * p) sig
 
 abbrev pub tree_type_in : ℕ → List ℕ → ℕ
-tree_type_in p sig = from_be_bytes w32 (part sig (40 + 32 * p) 4)
+tree_type_in p sig = from_be_bytes w32 (part (40 + 32 * p) 4 sig)
 
 abbrev pub path_in : ℕ → List ℕ → List ℕ
 path_in p sig = drop (44 + 32 * p) sig
@@ -62,7 +61,7 @@ pub record HasForm (key : PublicKey) (sig : List ℕ) : Type 0 where
   pub tree : tree_type_in (chain_count key.chains) sig ≡ tree_type key.tree
   pub leaf : leaf_number sig < 2 ^ height key.tree
 
--- the root to which a signature leads from the hash of a text (5.4.2)
+-- the top node, T[1], to which a signature leads from the hash of a text (5.4.2)
 unfoldable pub root_from : PublicKey → List ℕ → List ℕ → List ℕ
 root_from key hash sig =
     let p = chain_count key.chains in

@@ -10,7 +10,7 @@ use Rattle.mb_model.specs.OrderFormat.{order_format}
 use Rattle.mb_model.specs.ChainFormat.{statement_format}
 
 -- The lines are one, that of a command whose bytes spell the order. Of a text that is none, line 1 is wrong, or line 2
--- where line 1 is that of an order and another stands behind it, be it empty.
+-- where line 1 is that of an order and another stands after it, be it empty.
 pub record IsOrderLine (lines : List (List ℕ)) (order : Order) : Type 0 where
   pub line : List ℕ
   pub bytes : List ℕ

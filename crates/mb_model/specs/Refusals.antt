@@ -20,7 +20,7 @@ pub data Refusal : Type 0 where
   key_spent : Refusal
   -- the bytes are no order
   bad_text : Refusal
-  -- the order's target in this place, from 0, does not hold
+  -- this target of the order, from 0, does not hold
   wrong_target : ℕ → Refusal
   -- the layers do not stand so that the order may be given
   wrong_state : Refusal
@@ -43,7 +43,7 @@ refusal_number region_full = 5
 refusal_number no_such_key = 6
 refusal_number key_spent = 7
 refusal_number bad_text = 10
-refusal_number (wrong_target place) = 11
+refusal_number (wrong_target i) = 11
 refusal_number wrong_state = 12
 refusal_number wrong_signature = 13
 refusal_number (wrong_countersignature m) = 14

@@ -1,5 +1,7 @@
--- What is left of a region after a change, and what may be in it. Has a secret been kept over a change that its layer never agreed to?
-use Rattle.std.specs.Prelude.{◌≡◌, ℕ, ◌<◌, ◌≤◌, nat_lt, Bool, true, false, List, [], ◌∷◌, ◌++◌, All, filter, Option, None, Some, if◌then◌else◌}
+-- What is left of a region after a change, and what may be in it. Has a secret been kept over a change that its layer
+-- never agreed to?
+use Rattle.std.specs.Prelude.{◌≡◌, ℕ, ◌<◌, ◌≤◌, nat_lt, Bool, true, false, List, [], ◌∷◌, ◌++◌, All, filter, Option}
+use Rattle.std.specs.Prelude.{None, Some, if◌then◌else◌}
 use Rattle.mb_model.specs.declared.key.PublicKey.{PublicKey}
 use Rattle.mb_model.specs.declared.layer.Layers.{Layers}
 use Rattle.mb_model.specs.declared.layer.Pair.{Pair}
@@ -34,7 +36,7 @@ region_after layers kind k cosigned L region =
     else if admits layers kind k cosigned L then without_configuration_keys region
     else empty_region
 
--- the region with a new key behind its others
+-- the region with a new key after its others
 abbrev pub with_key : RegionKey → Region → Region
 with_key key region = record region { keys = region.keys ++ key ∷ [] }
 
@@ -42,7 +44,8 @@ with_key key region = record region { keys = region.keys ++ key ∷ [] }
 -- over the log, at the layers as they stood before each such change.
 abbrev pub AdmittedSince : List Entry → ℕ → ℕ → Type 0
 AdmittedSince log c L =
-    (before later : List Entry) (position number : ℕ) (kind : ChangeKind) (k : ℕ) (cosigned : Pair) (layers : Layers) (kept : Pair) (next : Option PublicKey)
+    (before later : List Entry) (position number : ℕ) (kind : ChangeKind) (k : ℕ)
+    → (cosigned : Pair) (layers : Layers) (kept : Pair) (next : Option PublicKey)
     → log ≡ before ++ Change position number kind k cosigned layers kept next ∷ later
     → c < number → k ≤ L → Admits (layers_of before) kind k cosigned L
 

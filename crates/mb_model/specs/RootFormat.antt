@@ -1,8 +1,10 @@
--- How the root record is spelled, in which a device keeps its own key and the work that is still to be done. What does it know when power comes back?
+-- How the root record is spelled, in which a device keeps its own key and the work that is still to be done. What does
+-- it know when power comes back?
 use Rattle.std.specs.Prelude.{ℕ, List, [], ◌∷◌, Option, Some, None}
 use Rattle.std.specs.Int.{w8, w32}
 use Rattle.mb_format.specs.Format.{Format}
-use Rattle.mb_format.specs.Combinators.{raw, number, between, table, mark, nothing, optional, pair, as_value, as_record, led, then_value}
+use Rattle.mb_format.specs.Combinators.{raw, number, between, table, mark, nothing, optional}
+use Rattle.mb_format.specs.Combinators.{pair, as_value, as_record, led, then_value}
 use Rattle.mb_model.specs.declared.region.RegionKey.{RegionKey}
 use Rattle.mb_model.specs.declared.stored.Outgoing.{Outgoing}
 use Rattle.mb_model.specs.declared.stored.Fate.{Fate}
@@ -15,7 +17,7 @@ use Rattle.mb_model.specs.EntryFormat.{key_kind_format}
 -- a key of a region: its number, its kind, its seed, and how many of its 32 indices are used
 unfoldable pub region_key_format : Format RegionKey
 region_key_format = as_record (pair (number w32) (pair key_kind_format (pair key_seed_format (between w8 0 32))))
-    (λ p. record { number = p.0; kind = p.1.0; seed = p.1.1.0; uses = p.1.1.1 })
+    (λ (number, (kind, (seed, uses))). record { number = number; kind = kind; seed = seed; uses = uses })
     (λ key. (key.number, (key.kind, (key.seed, key.uses))))
 
 -- ---- pending work
@@ -23,7 +25,7 @@ region_key_format = as_record (pair (number w32) (pair key_kind_format (pair key
 -- the device key that gives way: its seed and its uses
 unfoldable pub outgoing_format : Format Outgoing
 outgoing_format = as_record (pair key_seed_format (between w8 1 32))
-    (λ p. record { seed = p.0; uses = p.1 })
+    (λ (seed, uses). record { seed = seed; uses = uses })
     (λ outgoing. (outgoing.seed, outgoing.uses))
 
 pub data FateTag : Type 0 where
@@ -48,7 +50,7 @@ abbrev pub added_in : Fate → Option RegionKey
 added_in (AddKey key) = Some key
 added_in _ = None
 
--- the key that is added stands behind its tag
+-- the key that is added stands after its tag
 abbrev pub fate_by : FateTag → Format Fate
 fate_by keep_tag = nothing Keep
 fate_by empty_tag = nothing Empty
@@ -61,7 +63,12 @@ fate_format = led (table w8 fate_rows fate_byte) fate_tag fate_by
 -- pending work: how many entries are unsigned, the outgoing key where there is one, what becomes of regions 2 and 3
 unfoldable pub pending_format : Format Pending
 pending_format = as_record (pair (between w8 1 2) (pair (optional outgoing_format) (pair fate_format fate_format)))
-    (λ p. record { unsigned = p.0; outgoing = p.1.0; two = p.1.1.0; three = p.1.1.1 })
+    (λ (unsigned, (outgoing, (two, three))). record {
+      unsigned = unsigned;
+      outgoing = outgoing;
+      two = two;
+      three = three;
+    })
     (λ pending. (pending.unsigned, (pending.outgoing, (pending.two, pending.three))))
 
 -- ---- the record
@@ -69,7 +76,17 @@ pending_format = as_record (pair (between w8 1 2) (pair (optional outgoing_forma
 -- The root record: its version, the flash area in force, the serial, the device key and its uses, and the pending work
 -- where there is some.
 unfoldable pub root_format : Format Root
-root_format = then_value (mark (1 ∷ []))
-    (as_record (pair (between w8 0 1) (pair (raw 16) (pair key_seed_format (pair (between w8 0 32) (optional pending_format)))))
-    (λ p. record { area = p.0; serial = p.1.0; device = p.1.1.0; uses = p.1.1.1.0; pending = p.1.1.1.1 })
+root_format = then_value (mark (1 ∷ [])) (as_record
+    (pair (between w8 0 1)  -- area
+    (pair (raw 16)  -- serial
+    (pair key_seed_format  -- device
+    (pair (between w8 0 32)  -- uses
+    (optional pending_format)))))  -- pending
+    (λ (area, (serial, (device, (uses, pending)))). record {
+      area = area;
+      serial = serial;
+      device = device;
+      uses = uses;
+      pending = pending;
+    })
     (λ root. (root.area, (root.serial, (root.device, (root.uses, root.pending))))))

@@ -1,5 +1,7 @@
--- Whose order a layer obeys, when, and what is left afterwards. Who can change a layer, and who can keep it from losing its secrets?
-use Rattle.std.specs.Prelude.{◌≡◌, ℕ, ◌-◌, ◌==◌, nat_lt, Bool, true, false, not, ◌&&◌, ◌||◌, List, ◌∷◌, ◌++◌, length, All, Option, None, Some, IsSome, IsSomeAnd, IsTrue, if◌then◌else◌}
+-- Whose order a layer obeys, when, and what is left afterwards. Who can change a layer, and who can keep it from losing
+-- its secrets?
+use Rattle.std.specs.Prelude.{◌≡◌, ℕ, ◌-◌, ◌≤◌, ◌==◌, nat_lt, Bool, true, false, not, ◌&&◌, ◌||◌, if◌then◌else◌}
+use Rattle.std.specs.Prelude.{List, ◌∷◌, ◌++◌, length, All, Option, None, Some, IsSome, IsSomeAnd, IsTrue}
 use Rattle.sha2.specs.Sha256.{sha256}
 use Rattle.mb_model.specs.declared.key.PublicKey.{PublicKey}
 use Rattle.mb_model.specs.declared.key.Trust.{Trust}
@@ -9,6 +11,9 @@ use Rattle.mb_model.specs.declared.layer.Layers.{Layers}
 use Rattle.mb_model.specs.declared.layer.Pair.{Pair}
 use Rattle.mb_model.specs.declared.order.ChangeKind.{ChangeKind}
 use Rattle.mb_model.specs.declared.order.ChangeKind.TheVariants.{Establish, Surrender, Load, Emergency}
+use Rattle.mb_model.specs.declared.order.OrderKind.{OrderKind}
+use Rattle.mb_model.specs.declared.order.OrderKind.TheVariants as kind
+use Rattle.mb_model.specs.declared.order.Payload.{Payload}
 use Rattle.mb_model.specs.declared.order.Act.{Act}
 use Rattle.mb_model.specs.declared.order.Act.TheVariants as act
 use Rattle.mb_model.specs.declared.order.Target.{Target}
@@ -16,13 +21,57 @@ use Rattle.mb_model.specs.declared.order.Target.TheVariants as target
 use Rattle.mb_model.specs.Key.{key_bytes}
 use Rattle.mb_model.specs.Layers.{unowned, layer_of, is_owned, is_layer_number, is_upper, is_in, is_runnable}
 
--- the change that an order makes: none where it makes a new key
-abbrev pub kind_of : Act → Option ChangeKind
-kind_of (act.Establish owner trust) = Some Establish
-kind_of act.Surrender = Some Surrender
-kind_of (act.Load version trust code) = Some Load
-kind_of (act.Emergency version trust code) = Some Emergency
-kind_of (act.NewKey kind) = None
+-- ---- kinds of orders
+
+-- the kind of an order, by what it does
+abbrev pub kind_of : Act → OrderKind
+kind_of (act.Establish owner trust) = kind.Establish
+kind_of act.Surrender = kind.Surrender
+kind_of (act.Load payload) = kind.Load
+kind_of (act.Emergency payload) = kind.Emergency
+kind_of (act.NewKey key_kind) = kind.NewKey
+
+-- the change that an order of this kind makes: none where it makes a new key
+abbrev pub change_of : OrderKind → Option ChangeKind
+change_of kind.Establish = Some Establish
+change_of kind.Surrender = Some Surrender
+change_of kind.Load = Some Load
+change_of kind.Emergency = Some Emergency
+change_of kind.NewKey = None
+
+-- the lowest layer that an order of this kind may be for: layer 1 takes its own loads alone
+abbrev pub least_layer : OrderKind → ℕ
+least_layer kind.Establish = 2
+least_layer kind.Surrender = 2
+least_layer kind.Load = 1
+least_layer kind.Emergency = 2
+least_layer kind.NewKey = 2
+
+-- an order of this kind may be for this layer
+abbrev pub MayBeFor : OrderKind → ℕ → Type 0
+MayBeFor order layer = (least_layer order ≤ layer) × (layer ≤ 3)
+
+-- the order, where it makes a change, puts code in place
+abbrev pub is_load : Option ChangeKind → Bool
+is_load (Some Establish) = false
+is_load (Some Surrender) = false
+is_load (Some Load) = true
+is_load (Some Emergency) = true
+is_load None = false
+
+-- the layer's own owner puts code in place
+abbrev pub is_own_load : Option ChangeKind → Bool
+is_own_load (Some Establish) = false
+is_own_load (Some Surrender) = false
+is_own_load (Some Load) = true
+is_own_load (Some Emergency) = false
+is_own_load None = false
+
+-- the order makes the next device key: it is an ordinary load of layer 1
+abbrev pub renews : Option ChangeKind → ℕ → Bool
+renews change k = is_own_load change && k == 1
+
+-- ---- who may give an order, and when: by the change that it makes, or None for an order that makes a new key
 
 -- Who has to sign an order for layer k: the owner of this layer. An owner is established, and code is loaded in an
 -- emergency, from beneath; all else is up to the layer's own owner.
@@ -58,28 +107,16 @@ TargetHolds serial layers length (target.Owner n hash) =
 TargetHolds serial layers length (target.Code n hash) =
     IsSomeAnd (layer_of layers n).code (λ code. hash ≡ code.hash)
 
--- the item in this place of a list, from 0, is the first of which P does not hold
-pub record IsFirstFailing {A : Type 0} (P : A → Type 0) (items : List A) (place : ℕ) (item : A) : Type 0 where
+-- item i of a list, from 0, is the first of which P does not hold
+pub record IsFirstFailing {A : Type 0} (P : A → Type 0) (items : List A) (i : ℕ) (item : A) : Type 0 where
   pub before : List A
   pub rest : List A
   pub split : items ≡ before ++ item ∷ rest
-  pub place_is : place ≡ length before
+  pub index : i ≡ length before
   pub hold : All P before
   pub fails : P item → ⊥
 
--- the change puts code in place
-abbrev pub is_load : ChangeKind → Bool
-is_load Establish = false
-is_load Surrender = false
-is_load Load = true
-is_load Emergency = true
-
--- the layer's own owner puts code in place
-abbrev pub is_own_load : ChangeKind → Bool
-is_own_load Establish = false
-is_own_load Surrender = false
-is_own_load Load = true
-is_own_load Emergency = false
+-- ---- what is left after a change
 
 -- a layer with this trust goes along with a load beneath it, which its owner has or has not countersigned
 abbrev pub trusts : Trust → Bool → Bool
@@ -91,8 +128,8 @@ trusts Countersigned cosigned = cosigned
 -- that it trusts. The layers are those before the change.
 abbrev pub admits : Layers → ChangeKind → ℕ → Pair → ℕ → Bool
 admits layers kind k cosigned m =
-    if m == k then is_own_load kind
-    else is_load kind && trusts (layer_of layers m).trust (is_in m cosigned)
+    if m == k then is_own_load (Some kind)
+    else is_load (Some kind) && trusts (layer_of layers m).trust (is_in m cosigned)
 
 abbrev pub Admits : Layers → ChangeKind → ℕ → Pair → ℕ → Type 0
 Admits layers kind k cosigned m = IsTrue (admits layers kind k cosigned m)
@@ -111,17 +148,24 @@ kept_regions layers kind k cosigned =
 
 -- layer m may countersign a change of layer k: the change is a load, and m has an owner and stands above it
 abbrev pub may_cosign : Layers → ChangeKind → ℕ → ℕ → Bool
-may_cosign layers kind k m = is_load kind && nat_lt k m && is_owned layers m
+may_cosign layers kind k m = is_load (Some kind) && nat_lt k m && is_owned layers m
+
+-- a layer with the code and the trust of a load; its owner stays
+abbrev pub loaded_layer : Layer → Payload → Layer
+loaded_layer old payload = record {
+  owner = old.owner;
+  code = Some (record { hash = sha256 payload.code; version = payload.version });
+  reliable = true;
+  trust = payload.trust;
+}
 
 -- what an order puts in place of its layer
 abbrev pub placed : Layer → Act → Layer
 placed old (act.Establish owner trust) = record { owner = Some owner; code = None; reliable = false; trust = trust }
 placed old act.Surrender = unowned
-placed old (act.Load version trust code) =
-    record { owner = old.owner; code = Some (record { hash = sha256 code; version = version }); reliable = true; trust = trust }
-placed old (act.Emergency version trust code) =
-    record { owner = old.owner; code = Some (record { hash = sha256 code; version = version }); reliable = true; trust = trust }
-placed old (act.NewKey kind) = old
+placed old (act.Load payload) = loaded_layer old payload
+placed old (act.Emergency payload) = loaded_layer old payload
+placed old (act.NewKey key_kind) = old
 
 -- what a change of a kind can put in place of its layer: some order of the kind does, with code of this name
 abbrev pub CanPlace : ChangeKind → Layer → Layer → Type 0

@@ -1,5 +1,7 @@
--- Which events a script stands for, and which draw each command gets. Does a script say all that happens, and nothing else?
-use Rattle.std.specs.Prelude.{◌≡◌, ℕ, ◌*◌, ◌-◌, ◌<◌, ◌≤◌, ◌==◌, ◌⊎◌, Bool, true, false, not, List, [], ◌∷◌, ◌++◌, length, map, replicate, codes, All, filter, count_by, IsTrue}
+-- Which events a script stands for, and which draw each command gets. Does a script say all that happens, and nothing
+-- else?
+use Rattle.std.specs.Prelude.{◌≡◌, ℕ, ◌*◌, ◌-◌, ◌<◌, ◌≤◌, ◌==◌, ◌⊎◌, Bool, true, false, not, List, [], ◌∷◌, ◌++◌}
+use Rattle.std.specs.Prelude.{length, map, replicate, codes, All, filter, count_by, IsTrue}
 use Rattle.std.specs.List.{AllZip}
 use Rattle.std.specs.Fmt.{decimal}
 use Rattle.mb_model.specs.declared.event.Event.{Event}
@@ -8,7 +10,7 @@ use Rattle.mb_model.specs.declared.event.Tear.{Tear}
 use Rattle.mb_model.specs.Texts.{IsHex}
 use Rattle.mb_model.specs.Lines.{spaced, number_limit}
 use Rattle.mb_model.specs.Layers.{is_upper}
-use Rattle.mb_model.specs.Board.{part}
+use Rattle.mb_model.specs.Pieces.{part}
 
 -- ---- what the words of an event may be
 
@@ -19,11 +21,11 @@ pub record IsName (name : List ℕ) : Type 0 where
   pub printed : All (λ byte. (0x21 ≤ byte) × (byte ≤ 0x7E)) name
 
 -- the value of a secret, or a message to be signed
-abbrev pub IsShort : List ℕ → Type 0
-IsShort bytes = length bytes ≤ 128
+abbrev pub FitsMessage : List ℕ → Type 0
+FitsMessage bytes = length bytes ≤ 128
 
 -- The tear that keeps so many bytes and fills with these, at most 16. They stand first in its field of 16 bytes, and
--- zeros behind them.
+-- zeros after them.
 abbrev pub tear_of : ℕ → List ℕ → Tear
 tear_of keep fill = record { keep = keep; fill = fill ++ replicate (16 - length fill) 0; fill_length = length fill }
 
@@ -49,10 +51,10 @@ IsScriptEvent event.Status = Unit {0}
 IsScriptEvent event.Go = Unit {0}
 IsScriptEvent (event.Cut count tear) = (fill : List ℕ) × IsCut count tear fill
 IsScriptEvent (event.Command text draw) = length draw ≡ 32
-IsScriptEvent (event.Put region name value) = IsTrue (is_upper region) × IsName name × IsShort value
+IsScriptEvent (event.Put region name value) = IsTrue (is_upper region) × IsName name × FitsMessage value
 IsScriptEvent (event.Get region name) = IsTrue (is_upper region) × IsName name
 IsScriptEvent (event.Drop region name) = IsTrue (is_upper region) × IsName name
-IsScriptEvent (event.Sign region key message) = IsTrue (is_upper region) × (key ≤ number_limit) × IsShort message
+IsScriptEvent (event.Sign region key message) = IsTrue (is_upper region) × (key ≤ number_limit) × FitsMessage message
 
 -- ---- lines
 
@@ -84,14 +86,14 @@ SaysEvent line event.Go = line ≡ codes "go"
 SaysEvent line (event.Cut count tear) = IsCutLine line count tear
 SaysEvent line (event.Command text draw) = EndsInHex line (codes "command" ∷ []) text × (draw ≡ replicate 32 0)
 SaysEvent line (event.Put region name value) =
-    IsTrue (is_upper region) × IsName name × IsShort value
+    IsTrue (is_upper region) × IsName name × FitsMessage value
     × EndsInHex line (codes "put" ∷ decimal region ∷ name ∷ []) value
 SaysEvent line (event.Get region name) =
     IsTrue (is_upper region) × IsName name × (line ≡ spaced (codes "get" ∷ decimal region ∷ name ∷ []))
 SaysEvent line (event.Drop region name) =
     IsTrue (is_upper region) × IsName name × (line ≡ spaced (codes "drop" ∷ decimal region ∷ name ∷ []))
 SaysEvent line (event.Sign region key message) =
-    IsTrue (is_upper region) × (key ≤ number_limit) × IsShort message
+    IsTrue (is_upper region) × (key ≤ number_limit) × FitsMessage message
     × EndsInHex line (codes "sign" ∷ decimal region ∷ decimal key ∷ []) message
 
 -- empty lines, and lines that begin with a number sign, say nothing

@@ -14,7 +14,7 @@ order_text body = 0x01 ∷ body
 unfoldable pub countersigned_text : ℕ → List ℕ → List ℕ
 countersigned_text m body = 0x02 ∷ m ∷ body
 
--- what a device key, or the factory's root key, signs of a log entry
+-- what a device key, or the maker's key, signs of a log entry
 unfoldable pub entry_text : Entry → List ℕ
 entry_text entry = 0x03 ∷ entry_format.spelling entry
 

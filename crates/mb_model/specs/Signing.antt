@@ -1,6 +1,7 @@
 -- Signing by a key of types 5 and 3, all of whose values are made of its seed (RFC 8554, sections 4, 5 and appendix A).
 -- Which bytes are the one signature of a text at an index?
-use Rattle.std.specs.Prelude.{ℕ, zero, suc, ◌+◌, ◌-◌, ◌*◌, ◌/◌, ◌%◌, ◌^◌, ◌==◌, nat_lt, List, [], ◌∷◌, ◌++◌, if◌then◌else◌}
+use Rattle.std.specs.Prelude.{ℕ, zero, suc, ◌+◌, ◌-◌, ◌*◌, ◌/◌, ◌%◌, ◌^◌, ◌==◌, nat_lt, List, [], ◌∷◌, ◌++◌}
+use Rattle.std.specs.Prelude.{if◌then◌else◌}
 use Rattle.std.specs.Int.{w16, w32, to_be_bytes}
 use Rattle.sha2.specs.Sha256.{sha256}
 use Rattle.mb_model.specs.declared.key.KeySeed.{KeySeed}
@@ -29,7 +30,8 @@ unfoldable pub one_time_public : KeySeed → ℕ → List ℕ
 one_time_public key q =
     sha256 (key.identifier ++ to_be_bytes w32 q ++ one_time_key_mark ++ public_ends key q (chain_count W4))
 
--- node r, which stands n levels above the leaves: the leaf of its one-time key, or the hash of the two nodes under it (5.3)
+-- node r, which stands n levels above the leaves: the leaf of its one-time key, or the hash of the two nodes under it
+-- (5.3)
 unfoldable pub node_above : KeySeed → ℕ → ℕ → List ℕ
 node_above key zero r = leaf_node key.identifier r (one_time_public key (r - 32))
 node_above key (suc n) r =
@@ -45,7 +47,7 @@ levels_above r =
     else if nat_lt r 32 then 1
     else 0
 
--- T[r]: node r of the tree, from the root 1 to the last leaf 63 (5.3)
+-- T[r]: node r of the tree, from the top node 1 to the last leaf 63 (5.3)
 unfoldable pub node_of : KeySeed → ℕ → List ℕ
 node_of key r = node_above key (levels_above r) r
 
@@ -53,7 +55,8 @@ node_of key r = node_above key (levels_above r) r
 unfoldable pub public_of : KeySeed → PublicKey
 public_of key = record { tree = H5; chains = W4; identifier = key.identifier; root = node_of key 1 }
 
--- y[0] to y[n - 1]: the values of the first n chains of leaf q, each taken through as many steps as its digit says (4.5)
+-- y[0] to y[n - 1]: the values of the first n chains of leaf q, each taken through as many steps as its digit says
+-- (4.5)
 unfoldable pub signed_values : KeySeed → ℕ → List ℕ → ℕ → List ℕ
 signed_values key q digits zero = []
 signed_values key q digits (suc n) =
@@ -72,7 +75,8 @@ unfoldable pub path_from : KeySeed → ℕ → ℕ → List ℕ
 path_from key r zero = []
 path_from key r (suc n) = path_from key r n ++ node_of key (sibling (r / 2 ^ n))
 
--- the signature of a text at index q: the index, the LM-OTS type, C, the chain values, the LMS type and the path (5.4.1)
+-- the signature of a text at index q: the index, the LM-OTS type, C, the chain values, the LMS type and the path
+-- (5.4.1)
 unfoldable pub signature_of : KeySeed → ℕ → List ℕ → List ℕ
 signature_of key q text =
     to_be_bytes w32 q ++ to_be_bytes w32 (chains_type W4) ++ randomizer_of key q

@@ -1,5 +1,6 @@
 -- One-time signatures: from a text and a signature to the one-time key that they belong to (RFC 8554, section 4).
-use Rattle.std.specs.Prelude.{ℕ, zero, suc, ◌+◌, ◌-◌, ◌*◌, ◌/◌, ◌%◌, ◌^◌, List, [], ◌∷◌, ◌++◌, take, drop, bit_and, slice_index}
+use Rattle.std.specs.Prelude.{ℕ, zero, suc, ◌+◌, ◌-◌, ◌*◌, ◌/◌, ◌%◌, ◌^◌, List, [], ◌∷◌, ◌++◌, take, drop, bit_and}
+use Rattle.std.specs.Prelude.{slice_index}
 use Rattle.std.specs.Int.{w16, w32, to_be_bytes}
 use Rattle.sha2.specs.Sha256.{sha256}
 use Rattle.mb_model.specs.declared.key.Chains.{Chains}
@@ -60,4 +61,5 @@ chain_ends id q w digits values (suc n) =
 -- K: the one-time key to which digits and chain values belong (4.6)
 unfoldable pub one_time_key : Chains → List ℕ → ℕ → List ℕ → List ℕ → List ℕ
 one_time_key chains id q digits values =
-    sha256 (id ++ to_be_bytes w32 q ++ one_time_key_mark ++ chain_ends id q (digit_bits chains) digits values (chain_count chains))
+    sha256 (id ++ to_be_bytes w32 q ++ one_time_key_mark
+    ++ chain_ends id q (digit_bits chains) digits values (chain_count chains))

@@ -1,5 +1,6 @@
 -- The generated workload: an image, a script and its noise, all made of one number. Is any of it chosen by hand?
-use Rattle.std.specs.Prelude.{◌≡◌, ℕ, ◌+◌, ◌*◌, ◌/◌, ◌%◌, ◌==◌, List, [], ◌∷◌, ◌++◌, length, map, take, drop, replicate, codes, count_by, flat_map, zip, if◌then◌else◌}
+use Rattle.std.specs.Prelude.{◌≡◌, ℕ, ◌+◌, ◌*◌, ◌/◌, ◌%◌, ◌==◌, if◌then◌else◌}
+use Rattle.std.specs.Prelude.{List, [], ◌∷◌, ◌++◌, length, map, take, drop, replicate, codes, count_by, flat_map, zip}
 use Rattle.std.specs.List.{AllZip, concat}
 use Rattle.std.specs.Int.{w32, to_be_bytes}
 use Rattle.rand_core.specs.Steps.{first_words}
@@ -7,6 +8,8 @@ use Rattle.rand_chacha.specs.ChaCha.{next_word, of_seed}
 use Rattle.mb_model.specs.declared.key.KeySeed.{KeySeed}
 use Rattle.mb_model.specs.declared.key.Trust.TheVariants.{Countersigned}
 use Rattle.mb_model.specs.declared.order.KeyKind.TheVariants as kinds
+use Rattle.mb_model.specs.declared.order.Payload.{Payload}
+use Rattle.mb_model.specs.declared.order.Countersignature.{Countersignature}
 use Rattle.mb_model.specs.declared.order.Act.{Act}
 use Rattle.mb_model.specs.declared.order.Act.TheVariants as act
 use Rattle.mb_model.specs.declared.order.Target.TheVariants as target
@@ -18,18 +21,18 @@ use Rattle.mb_model.specs.Factory.{IsFactoryImage}
 use Rattle.mb_model.specs.SignedTexts.{order_text, countersigned_text}
 use Rattle.mb_model.specs.OrderFormat.{order_body}
 use Rattle.mb_model.specs.OrderLines.{order_line}
-use Rattle.mb_model.specs.Rules.{kind_of, signing_layer}
+use Rattle.mb_model.specs.Rules.{kind_of, change_of, signing_layer}
 use Rattle.mb_model.specs.Lines.{text_of, spaced, hex_word}
 use Rattle.mb_model.specs.Script.{with_before}
 
 -- ---- what is drawn
 
--- the first n words of the generator ChaCha of 20 rounds, whose key is the number in four bytes, the greatest place
--- first, and 28 zeros
+-- the first n words of the generator ChaCha of 20 rounds, whose key is the number in four bytes, the highest first,
+-- and 28 zeros
 unfoldable pub generated : ℕ → ℕ → List ℕ
 generated number n = first_words (next_word 10) n (of_seed (to_be_bytes w32 number ++ replicate 28 0))
 
--- these words are drawn for n bytes: each gives four, the greatest place first, and what the last has over is dropped
+-- these words are drawn for n bytes: each gives four, the highest first, and what the last has over is dropped
 pub record DrawnBytes (n : ℕ) (words bytes : List ℕ) : Type 0 where
   pub count : length words ≡ (n + 3) / 4
   pub given : bytes ≡ take n (flat_map (to_be_bytes w32) words)
@@ -92,8 +95,8 @@ pub record DrawnInOrder (words : List ℕ) (rounds : ℕ) (draws : Draws) : Type
   pub for_code_three : List ℕ
   pub for_rounds : List (List ℕ)
   pub for_noise : List ℕ
-  pub in_order : words ≡ for_root ++ for_one ++ for_two ++ for_three ++ for_factory ++ for_code_one ++ for_code_two ++ for_code_three
-      ++ concat for_rounds ++ for_noise
+  pub in_order : words ≡ for_root ++ for_one ++ for_two ++ for_three ++ for_factory
+      ++ for_code_one ++ for_code_two ++ for_code_three ++ concat for_rounds ++ for_noise
   pub root : DrawnBytes 32 for_root draws.root
   pub officer_one : DrawnBytes 32 for_one draws.officer_one
   pub officer_two : DrawnBytes 32 for_two draws.officer_two
@@ -122,22 +125,26 @@ pub record Plan : Type 0 where
 abbrev pub plan : ℕ → Act → List ℕ → Plan
 plan layer what countersigners = record { layer = layer; act = what; countersigners = countersigners }
 
+-- what a load carries that lets the layer trust what is countersigned
+abbrev pub plan_payload : ℕ → List ℕ → Payload
+plan_payload version code = record { version = version; trust = Countersigned; code = code }
+
 -- the orders before the rounds: layers 2 and 3 get their owners and their first code, and layer 3 a key
 abbrev pub first_plans : Draws → List Plan
 first_plans draws =
     plan 2 (act.Establish (public_of (key_of_officer draws 2)) Countersigned) []
     ∷ plan 3 (act.Establish (public_of (key_of_officer draws 3)) Countersigned) []
-    ∷ plan 2 (act.Emergency 1 Countersigned draws.code_two) []
-    ∷ plan 3 (act.Emergency 1 Countersigned draws.code_three) []
+    ∷ plan 2 (act.Emergency (plan_payload 1 draws.code_two)) []
+    ∷ plan 3 (act.Emergency (plan_payload 1 draws.code_three)) []
     ∷ plan 3 (act.NewKey kinds.Epoch) []
     ∷ []
 
 -- the order of round i, from 1: layers 3, 2 and 1 are loaded in turn, and all above countersign
 abbrev pub round_plan : ℕ → List ℕ → Plan
 round_plan i code =
-    if i % 3 == 1 then plan 3 (act.Load (1 + i) Countersigned code) []
-    else if i % 3 == 2 then plan 2 (act.Load (1 + i) Countersigned code) (3 ∷ [])
-    else plan 1 (act.Load (1 + i) Countersigned code) (2 ∷ 3 ∷ [])
+    if i % 3 == 1 then plan 3 (act.Load (plan_payload (1 + i) code)) []
+    else if i % 3 == 2 then plan 2 (act.Load (plan_payload (1 + i) code)) (3 ∷ [])
+    else plan 1 (act.Load (plan_payload (1 + i) code)) (2 ∷ 3 ∷ [])
 
 -- all orders in turn
 abbrev pub plans : Draws → List Plan
@@ -145,20 +152,21 @@ plans draws = first_plans draws ++ map (λ at. round_plan (length at.0 + 1) at.1
 
 -- the officer who signs an order: the owner of the layer that is in charge of it
 abbrev pub signer : Plan → ℕ
-signer order = signing_layer (kind_of order.act) order.layer
+signer order = signing_layer (change_of (kind_of order.act)) order.layer
 
 -- how many signatures an officer gives for these orders
 abbrev pub signatures_by : ℕ → List Plan → ℕ
-signatures_by officer orders = count_by (λ n. n == officer) (flat_map (λ order. signer order ∷ order.countersigners) orders)
+signatures_by officer orders =
+    count_by (λ n. n == officer) (flat_map (λ order. signer order ∷ order.countersigners) orders)
 
--- The signature of an officer on an order that stands behind these. No officer signs one order twice, so the next index
+-- The signature of an officer on an order that stands after these. No officer signs one order twice, so the next index
 -- of the key is the number of signatures that the officer gave for the orders before.
 abbrev pub signature_by : Draws → List Plan → ℕ → List ℕ → List ℕ
 signature_by draws before officer text = signature_of (key_of_officer draws officer) (signatures_by officer before) text
 
 -- the order without signatures; its one target is the length of the log, to which each order adds an entry
-abbrev pub unsigned : List Plan → Plan → Order
-unsigned before order = record {
+abbrev pub unsigned_order : List Plan → Plan → Order
+unsigned_order before order = record {
   layer = order.layer;
   targets = target.Length (length before + 1) ∷ [];
   act = order.act;
@@ -166,13 +174,18 @@ unsigned before order = record {
   countersignatures = [];
 }
 
+-- the countersignature of officer m on an order with this body
+abbrev pub countersignature_by : Draws → List Plan → List ℕ → ℕ → Countersignature
+countersignature_by draws before body m =
+    record { layer = m; signature = signature_by draws before m (countersigned_text m body) }
+
 -- the order with its signatures
 abbrev pub signed : Draws → List Plan → Plan → Order
 signed draws before order =
-    let body = order_body (unsigned before order) in
-    record (unsigned before order) {
+    let body = order_body (unsigned_order before order) in
+    record (unsigned_order before order) {
       signature = signature_by draws before (signer order) (order_text body);
-      countersignatures = map (λ m. record { layer = m; signature = signature_by draws before m (countersigned_text m body) }) order.countersigners;
+      countersignatures = map (countersignature_by draws before body) order.countersigners;
     }
 
 unfoldable pub signed_orders : Draws → List Order
@@ -180,14 +193,14 @@ signed_orders draws = map (λ at. signed draws at.0 at.1) (with_before (plans dr
 
 -- ---- the script
 
--- s and two digits: the name of the secret that is put behind n others
+-- s and two digits: the name of the secret that is put after n others
 abbrev pub secret_name : ℕ → List ℕ
 secret_name n = codes "s" ++ (48 + n % 16 / 10) ∷ (48 + n % 16 % 10) ∷ []
 
 abbrev pub put_line : ℕ → List ℕ → List ℕ
 put_line n value = spaced (codes "put" ∷ codes "3" ∷ secret_name n ∷ hex_word value ∷ [])
 
--- the lines of a round behind n others
+-- the lines of a round after n others
 abbrev pub round_lines : ℕ → Order → RoundDraws → List (List ℕ)
 round_lines n order round =
     codes "off" ∷ codes "boot" ∷ order_line order ∷ codes "go" ∷ codes "go"
@@ -195,10 +208,11 @@ round_lines n order round =
     ++ spaced (codes "sign" ∷ codes "3" ∷ codes "1" ∷ hex_word round.message ∷ []) ∷ []
 
 -- the lines of the script: the first five orders, the rounds, and power off
-unfoldable pub script_lines : Draws → List (List ℕ)
-script_lines draws =
+unfoldable pub workload_lines : Draws → List (List ℕ)
+workload_lines draws =
     codes "boot" ∷ map order_line (take 5 (signed_orders draws))
-    ++ flat_map (λ at. round_lines (length at.0) at.1.0 at.1.1) (with_before (zip (drop 5 (signed_orders draws)) draws.rounds))
+    ++ flat_map (λ at. round_lines (length at.0) at.1.0 at.1.1)
+    (with_before (zip (drop 5 (signed_orders draws)) draws.rounds))
     ++ codes "off" ∷ []
 
 -- ---- the whole
@@ -210,6 +224,7 @@ pub record IsWorkload (number rounds : ℕ) (workload : Workload) : Type 0 where
   pub draws : Draws
   pub first : words ≡ generated number (length words)
   pub drawn : DrawnInOrder words rounds draws
-  pub image : IsFactoryImage (officer_key draws.root) 0 (public_of (key_of_officer draws 1)) draws.code_one draws.factory workload.image
-  pub script : workload.script ≡ text_of (script_lines draws)
+  pub image : IsFactoryImage (officer_key draws.root) 0
+      (public_of (key_of_officer draws 1)) draws.code_one draws.factory workload.image
+  pub script : workload.script ≡ text_of (workload_lines draws)
   pub noise : workload.noise ≡ draws.noise

@@ -1,7 +1,8 @@
 //! Laws of the formats: each is clear, and how long its spellings are.
 
 ghost use Rattle.std.specs.Prelude.{◌≡◌};
-ghost use Rattle.mb_format.specs.Format.{IsClear, IsClearWhole, IsShort, IsLocal};
+ghost use Rattle.mb_format.specs.Format.{IsClear, IsClearWhole, IsShort};
+ghost use Rattle.mb_format.specs.Reading.{IsLocal};
 ghost use Rattle.mb_model.specs.declared.key.PublicKey.{PublicKey};
 ghost use Rattle.mb_model.specs.Key.{key_bytes};
 ghost use Rattle.mb_model.specs.KeyFormat.{public_key_format, key_seed_format, keyfile_format};
@@ -11,7 +12,7 @@ ghost use Rattle.mb_model.specs.OrderFormat.{target_format, body_format, order_f
 ghost use Rattle.mb_model.specs.ChainFormat.{statement_format, chain_format};
 ghost use Rattle.mb_model.specs.RootFormat.{region_key_format, root_format};
 ghost use Rattle.mb_model.specs.RegionFormat.{secret_format, region_format};
-ghost use Rattle.mb_model.specs.PublicFormat.{public_entry_format, public_format};
+ghost use Rattle.mb_model.specs.Flash.{public_entry_format, public_format};
 
 /// At each place of any bytes one value of the format is spelled, or one place fails.
 pub fn formats_are_clear()
@@ -36,7 +37,7 @@ pub fn formats_are_clear()
     ensures public_record { IsClear public_format }
 {}
 
-/// Any bytes as a whole spell one value of the format, or fail at one place: one behind the last field, where bytes are
+/// Any bytes as a whole spell one value of the format, or fail at one place: one after the last field, where bytes are
 /// left there.
 pub fn whole_formats_are_clear()
     ensures public_key { IsClearWhole public_key_format }

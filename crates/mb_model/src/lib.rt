@@ -46,11 +46,12 @@ pub use limits::{
 };
 pub use memory::NoMemory;
 pub use order::{
-    Act, ChangeKind, Countersignature, Countersignatures, KeyKind, Order, Target, Targets,
+    Act, ChangeKind, Countersignature, Countersignatures, KeyKind, Order, OrderKind, Payload,
+    Target, Targets,
 };
 pub use region::{Region, RegionKey, RegionKeys, Secret, Secrets};
 pub use reply::{Reply, Standing};
-pub use role::Role;
+pub use role::{Place, Role};
 pub use state::{Bodies, Codes, Configuration, Fact, Follow, Lives, State, View};
 pub use stored::{Fate, Outgoing, Pending, Public, Root};
 pub use tools::{BadRecord, Keyfile, Workload};

@@ -1,8 +1,8 @@
-//! Want of memory.
+//! Allocations that fail.
 
 use std::alloc::{AllocError, AllocFailed};
 
-/// Memory was wanted and not found. What stands then is as it was before the call.
+/// An allocation failed. What stands then is as it was before the call.
 #[derive(Clone, Copy, Debug, PartialEq, Eq)]
 pub struct NoMemory;
 

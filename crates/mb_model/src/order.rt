@@ -29,32 +29,40 @@ pub enum Target {
 /// The targets of an order, at most 8.
 pub type Targets = Items<Target>;
 
-/// What an order does to its layer. Code has at most 32,768 bytes.
+/// The kinds of orders: what an order does, without what it carries.
+#[derive(Clone, Copy, Debug, PartialEq, Eq)]
+pub enum OrderKind {
+    Establish,
+    Surrender,
+    Load,
+    Emergency,
+    NewKey,
+}
+
+/// What a load of either kind carries.
+#[derive(Drop)]
+pub struct Payload {
+    /// The version of the code.
+    pub version: u32,
+    /// What the layer trusts from then on.
+    pub trust: Trust,
+    /// At most 32,768 bytes.
+    pub code: Bytes,
+}
+
+/// What an order does to its layer.
 #[derive(Drop)]
 pub enum Act {
     /// Gives the layer an owner.
-    Establish {
-        owner: PublicKey,
-        trust: Trust,
-    },
+    Establish { owner: PublicKey, trust: Trust },
     /// Takes the layer's owner away.
     Surrender,
     /// The ordinary load, by the layer's own owner.
-    Load {
-        version: u32,
-        trust: Trust,
-        code: Bytes,
-    },
+    Load(Payload),
     /// The emergency load, by the owner of the layer beneath.
-    Emergency {
-        version: u32,
-        trust: Trust,
-        code: Bytes,
-    },
+    Emergency(Payload),
     /// Makes a key in the layer's region.
-    NewKey {
-        kind: KeyKind,
-    },
+    NewKey { kind: KeyKind },
 }
 
 /// The signature of an owner of a higher layer on a load.
@@ -81,7 +89,7 @@ pub struct Order {
     pub countersignatures: Countersignatures,
 }
 
-/// The orders that change a layer.
+/// The kinds of orders that change a layer.
 #[derive(Clone, Copy, Debug, PartialEq, Eq)]
 pub enum ChangeKind {
     Establish,

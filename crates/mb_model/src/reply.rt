@@ -60,6 +60,6 @@ pub enum Reply {
     Refused(u8),
     /// Power failed during the event.
     Stopped,
-    /// Memory was wanted and not found; nothing has changed.
+    /// An allocation failed; nothing has changed.
     NoMemory,
 }

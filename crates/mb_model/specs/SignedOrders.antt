@@ -1,0 +1,44 @@
+-- What signing and countersigning leave of a key and of an order. Is one index used for one signature, and nothing else
+-- changed?
+use Rattle.std.specs.Prelude.{◌≢◌, ℕ, ◌+◌, ◌<◌, List, ◌∷◌, ◌++◌, filter, nat_lt, IsTrue, All}
+use Rattle.mb_model.specs.declared.order.Countersignature.{Countersignature}
+use Rattle.mb_model.specs.declared.order.Order.{Order}
+use Rattle.mb_model.specs.declared.tools.Keyfile.{Keyfile}
+use Rattle.mb_model.specs.Rules.{is_load}
+use Rattle.mb_model.specs.OrderFormat.{order_body}
+use Rattle.mb_model.specs.OrderStep.{change_by}
+use Rattle.mb_model.specs.SignedTexts.{order_text, countersigned_text}
+use Rattle.mb_model.specs.Signing.{signature_of}
+
+-- the key with one index more used
+abbrev pub used_once : Keyfile → Keyfile
+used_once k = record { seed = k.seed; next = k.next + 1 }
+
+-- the order with the signature of its text by the key, at the key's next index
+abbrev pub signed_order : Keyfile → Order → Order
+signed_order k order = record order { signature = signature_of k.seed k.next (order_text (order_body order)) }
+
+-- ---- countersignatures
+
+-- the countersignatures with one more, in ascending order of layers: those of lower layers stand before it
+abbrev pub with_countersignature : Countersignature → List Countersignature → List Countersignature
+with_countersignature c list =
+    filter (λ other. nat_lt other.layer c.layer) list ++ c ∷ filter (λ other. nat_lt c.layer other.layer) list
+
+-- what the owner of layer m signs of the order, by the key, at the key's next index
+abbrev pub countersignature_of : Keyfile → ℕ → Order → Countersignature
+countersignature_of k m order =
+    record { layer = m; signature = signature_of k.seed k.next (countersigned_text m (order_body order)) }
+
+-- the order with that countersignature
+abbrev pub countersigned_order : Keyfile → ℕ → Order → Order
+countersigned_order k m order = record order {
+  countersignatures = with_countersignature (countersignature_of k m order) order.countersignatures;
+}
+
+-- The owner of this layer may countersign the order: it is a load of a lower layer, and that owner's countersignature
+-- is not there.
+pub record IsCountersignable (order : Order) (layer : ℕ) : Type 0 where
+  pub load : IsTrue (is_load (change_by order))
+  pub above : order.layer < layer
+  pub new : All (λ other. other.layer ≢ layer) order.countersignatures
