@@ -16,7 +16,7 @@ use Rattle.mb_model.specs.declared.entry.Entry.{Entry}
 use Rattle.mb_model.specs.declared.entry.Entry.TheVariants.{Birth, Change, NewKey, Succession}
 use Rattle.mb_model.specs.declared.state.Configuration.{Configuration}
 use Rattle.mb_model.specs.Log.{keys_in, layers_of, made, Ruled, RuledLog}
-use Rattle.mb_model.specs.Lives.{ends, Alive, configuration, Split, behind, splits, opened_by, outlived, lives_from, lives_of, MadeKey, lasting, alive_keys}
+use Rattle.mb_model.specs.Lives.{ends, Alive, configuration, Split, with_front, splits, opened_by, outlived, lives_from, lives_of, MadeKey, lasting, alive_keys}
 use Rattle.mb_laws.specs.AliveLaws.{goes_on, made_by, makes, IsUnmade}
 use Rattle.mb_laws.proofs.LogLemmas.{made-push, by_entries, RuledLog-front}
 
@@ -29,7 +29,7 @@ alive_keys-nil L = refl
 pub alive_keys-cons : (entry : Entry) (rest : List Entry) (L : ℕ) → alive_keys (entry ∷ rest) L ≡ lasting L entry rest ++ alive_keys rest L
 unfolding alive_keys splits
 alive_keys-cons entry rest L =
-    ap (λ more. lasting L entry rest ++ more) (flat_map-map (λ (s : Split). lasting L s.entry s.later) (behind entry) (splits rest))
+    ap (λ more. lasting L entry rest ++ more) (flat_map-map (λ (s : Split). lasting L s.entry s.later) (with_front entry) (splits rest))
 
 by_flags : (here alive on : Bool) (p : MadeKey → Bool) (key : MadeKey) → p key ≡ on
     → (if here && (alive && (on && true)) then key ∷ [] else []) ≡ filter p (if here && alive then key ∷ [] else [])
@@ -56,7 +56,7 @@ lasting-nil L (NewKey position number key_number layer kind key) =
     elim (layer == L) as (λ b. (if b && true then mine ∷ [] else []) ≡ (if b then mine ∷ [] else [])) [ false ↦ refl | true ↦ refl ]
 lasting-nil L (Succession position key) = refl
 
--- one more entry leaves the keys that it does not end, and behind them stands the one that it makes
+-- one more entry leaves the keys that it does not end, and after them stands the one that it makes
 pub alive_keys-push : (log : List Entry) (entry : Entry) (L : ℕ) → alive_keys (log ++ entry ∷ []) L ≡ filter (goes_on L entry) (alive_keys log L) ++ made_by L entry
 alive_keys-push [] entry L =
     alive_keys-cons entry [] L
@@ -259,7 +259,7 @@ high_is_unmade log n ruled high = by_entries (λ es. made es ≤ n → IsUnmade 
         let sum = made-push before entry in
         All-push (λ e. makes n e ≡ false) before entry (unmade (omega (arith, sum, high))) (other before entry next (omega (arith, sum, high)))
 
--- entries behind one that makes a key make others
+-- entries after one that makes a key make others
 pub later_is_unmade : (front rest : List Entry) (n : ℕ) → n < made front → RuledLog (front ++ rest) → IsUnmade rest n
 later_is_unmade front [] n less ruled = All-nil (λ e. makes n e ≡ false)
 later_is_unmade front (entry ∷ rest) n less ruled =
@@ -286,22 +286,22 @@ none_listed : (n : ℕ) (lists : Listing) (log : List Entry) → IsOfKey n lists
 unfolding splits
 none_listed n lists [] of_key unmade = refl
 none_listed n lists (entry ∷ rest) of_key unmade =
-    ap (λ mine. mine ++ flat_map lists (map (behind entry) (splits rest))) (of_key (record { before = []; entry = entry; later = rest }) (All-head (λ e. makes n e ≡ false) entry rest unmade))
-    ∙ flat_map-map lists (behind entry) (splits rest)
-    ∙ none_listed n (λ s. lists (behind entry s)) rest (λ s other. of_key (behind entry s) other) (All-tail (λ e. makes n e ≡ false) entry rest unmade)
+    ap (λ mine. mine ++ flat_map lists (map (with_front entry) (splits rest))) (of_key (record { before = []; entry = entry; later = rest }) (All-head (λ e. makes n e ≡ false) entry rest unmade))
+    ∙ flat_map-map lists (with_front entry) (splits rest)
+    ∙ none_listed n (λ s. lists (with_front entry s)) rest (λ s other. of_key (with_front entry s) other) (All-tail (λ e. makes n e ≡ false) entry rest unmade)
 
 pub one_listed : (n : ℕ) (lists : Listing) (before : List Entry) (entry : Entry) (later : List Entry) → IsOfKey n lists → IsUnmade before n → IsUnmade later n
     → flat_map lists (splits (before ++ entry ∷ later)) ≡ lists (record { before = before; entry = entry; later = later })
 unfolding splits
 one_listed n lists [] entry later of_key unmade unmade_later =
     let own : Split = record { before = []; entry = entry; later = later } in
-    ap (λ more. lists own ++ more) (flat_map-map lists (behind entry) (splits later) ∙ none_listed n (λ s. lists (behind entry s)) later (λ s other. of_key (behind entry s) other) unmade_later)
+    ap (λ more. lists own ++ more) (flat_map-map lists (with_front entry) (splits later) ∙ none_listed n (λ s. lists (with_front entry s)) later (λ s other. of_key (with_front entry s) other) unmade_later)
     ∙ append-nil (lists own)
 one_listed n lists (first ∷ before) entry later of_key unmade unmade_later =
     let rest : List Entry = before ++ entry ∷ later in
-    ap (λ mine. mine ++ flat_map lists (map (behind first) (splits rest))) (of_key (record { before = []; entry = first; later = rest }) (All-head (λ e. makes n e ≡ false) first before unmade))
-    ∙ flat_map-map lists (behind first) (splits rest)
-    ∙ one_listed n (λ s. lists (behind first s)) before entry later (λ s other. of_key (behind first s) other) (All-tail (λ e. makes n e ≡ false) first before unmade) unmade_later
+    ap (λ mine. mine ++ flat_map lists (map (with_front first) (splits rest))) (of_key (record { before = []; entry = first; later = rest }) (All-head (λ e. makes n e ≡ false) first before unmade))
+    ∙ flat_map-map lists (with_front first) (splits rest)
+    ∙ one_listed n (λ s. lists (with_front first s)) before entry later (λ s other. of_key (with_front first s) other) (All-tail (λ e. makes n e ≡ false) first before unmade) unmade_later
 
 pub lives_from-other : (n : ℕ) (before : List Entry) (entry : Entry) (later : List Entry) → makes n entry ≡ false → lives_from n before entry later ≡ []
 lives_from-other n before (Birth serial key layers) later other = refl
@@ -347,13 +347,13 @@ splits-push [] entry = refl
 splits-push (first ∷ rest) entry =
     let own : Split = record { before = []; entry = first; later = rest ++ entry ∷ [] } in
     let last : Split = record { before = rest; entry = entry; later = [] } in
-    ap (λ more. own ∷ map (behind first) more) (splits-push rest entry)
-    ∙ ap (λ more. own ∷ more) (map-append (behind first) (map (with_last entry) (splits rest)) (last ∷ []))
-    ∙ ap (λ more. own ∷ more ++ behind first last ∷ []) (swapped (splits rest))
+    ap (λ more. own ∷ map (with_front first) more) (splits-push rest entry)
+    ∙ ap (λ more. own ∷ more) (map-append (with_front first) (map (with_last entry) (splits rest)) (last ∷ []))
+    ∙ ap (λ more. own ∷ more ++ with_front first last ∷ []) (swapped (splits rest))
   where
-    swapped : (xs : List Split) → map (behind first) (map (with_last entry) xs) ≡ map (with_last entry) (map (behind first) xs)
+    swapped : (xs : List Split) → map (with_front first) (map (with_last entry) xs) ≡ map (with_last entry) (map (with_front first) xs)
     swapped [] = refl
-    swapped (x ∷ xs) = ap (λ more. behind first (with_last entry x) ∷ more) (swapped xs)
+    swapped (x ∷ xs) = ap (λ more. with_front first (with_last entry x) ∷ more) (swapped xs)
 
 -- what later entries open, with one more
 pub outlived-push : (kind : KeyKind) (L : ℕ) (later : List Entry) (entry : Entry)

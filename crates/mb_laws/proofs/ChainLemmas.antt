@@ -75,7 +75,7 @@ one_bad_entry : (root : PublicKey) (log : List SignedEntry) → IsOne (BadEntry 
 one_bad_entry root log a b x y =
     elim (two_splits x.1 y.1 x.2 y.2 x.3.rest y.3.rest (sym x.3.split ∙ y.3.split)) [
       | inl same ↦ one_entry_fault root y.0 (entries_of y.1) y.2 a b
-          (same_fault root x.0 y.0 x.1 y.1 x.2 y.2 a (x.3.place ∙ ap length same.0 ∙ sym y.3.place) same.0 same.1 x.4) y.4
+          (same_fault root x.0 y.0 x.1 y.1 x.2 y.2 a (x.3.index ∙ ap length same.0 ∙ sym y.3.index) same.0 same.1 x.4) y.4
       | inr (inl first) ↦ absurd (not_before root log a b x y first.0 first.1)
       | inr (inr second) ↦ absurd (not_before root log b a y x second.0 second.1)
     ]
@@ -186,7 +186,7 @@ chain_clear : IsClearWhole chain_format
 chain_clear = IsClearWhole-from_exact chain_exact
 
 one_shown : (root : PublicKey) (bytes : List ℕ) (n : ℕ) (a b : ChainRefusal) → IsBytes bytes → Shown root bytes n a → Shown root bytes n b → a ≡ b
-one_shown root bytes n a b are (inl x) (inl y) = x.1 ∙ ap bad_form (chain_clear.one_place bytes x.0 y.0 are x.2 y.2) ∙ sym y.1
+one_shown root bytes n a b are (inl x) (inl y) = x.1 ∙ ap bad_form (chain_clear.one_offset bytes x.0 y.0 are x.2 y.2) ∙ sym y.1
 one_shown root bytes n a b are (inl x) (inr y) = absurd (chain_clear.never_both bytes y.0 x.0 are y.1 x.2)
 one_shown root bytes n a b are (inr x) (inl y) = absurd (chain_clear.never_both bytes x.0 y.0 are x.1 y.2)
 one_shown root bytes n a b are (inr x) (inr y) =
@@ -233,7 +233,7 @@ bad_entry_or_good : (root : PublicKey) (log before rest : List SignedEntry) → 
     → (AreGood root log → ⊥) → ⊥
 bad_entry_or_good root log before [] split good none fails = fails (subst (AreGood root) (sym (split ∙ append-nil before)) good)
 bad_entry_or_good root log before (signed ∷ rest) split good none fails =
-    none before signed (record { rest = rest; split = split; place = refl; good = good })
+    none before signed (record { rest = rest; split = split; index = refl; good = good })
     (λ next. bad_entry_or_good root log (before ++ signed ∷ []) rest (split ∙ sym (append_snoc before signed rest)) (AreGood-push root before signed good next) none fails)
 
 -- nothing is refused
@@ -306,7 +306,7 @@ never_neither root bytes n are fails none =
     elim (chain_clear.always bytes are) [
       | inl some ↦ no_bad_entry root bytes n none some.value some.spelled
           (λ good. no_bad_chain root bytes n some.value (key_of (entries_of some.value.entries) n) some.value.statement some.spelled good refl refl none fails)
-      | inr failing ↦ none (bad_form failing.place) failing.fails
+      | inr failing ↦ none (bad_form failing.offset) failing.fails
     ]
 
 -- ---- the rules
@@ -322,9 +322,9 @@ good_is_ruled root log good =
     let ruled = (good found.front found.x found.back found.split).ruled in
     subst (λ (b : List Entry). Ruled b entry) found.before_is (subst (λ (e : Entry). Ruled (entries_of found.front) e) found.y_is ruled)
 
-in_charge_behind : (root : PublicKey) (before : List Entry) → before ≢ [] → in_charge root before ≡ device_of before
-in_charge_behind root [] some = absurd (some refl)
-in_charge_behind root (first ∷ rest) some = refl
+in_charge_after : (root : PublicKey) (before : List Entry) → before ≢ [] → in_charge root before ≡ device_of before
+in_charge_after root [] some = absurd (some refl)
+in_charge_after root (first ∷ rest) some = refl
 
 pub good_follows : (root : PublicKey) (log : List SignedEntry) → AreGood root log → EachFollows log
 good_follows root log good =
@@ -333,7 +333,7 @@ good_follows root log good =
     record {
       ruled = it.ruled;
       in_order = it.in_place;
-      verifies = λ some. subst (λ (key : Option PublicKey). IsSignedBy key (entry_text signed.entry) signed.signature) (in_charge_behind root (entries_of before) some) it.certified;
+      verifies = λ some. subst (λ (key : Option PublicKey). IsSignedBy key (entry_text signed.entry) signed.signature) (in_charge_after root (entries_of before) some) it.certified;
     }
 
 pub accepted_is_ruled : (root : PublicKey) (bytes : List ℕ) (n : ℕ) (report : Report) (accepts : Accepts root bytes n report) → RuledLog (entries_of accepts.chain.entries)
@@ -372,7 +372,7 @@ unfolding last_of
 named_somewhere named [] x is = absurd (none_is_some None x refl is)
 named_somewhere named (first ∷ rest) x is =
     elim (named_last named first rest x (last_of named rest) refl is) [
-      | inl behind ↦ any_cons (λ entry. named entry ≡ Some x) first rest (named_somewhere named rest x behind)
+      | inl remaining ↦ any_cons (λ entry. named entry ≡ Some x) first rest (named_somewhere named rest x remaining)
       | inr here ↦ (0, first, omega arith, refl, here)
     ]
 
@@ -404,7 +404,7 @@ same_place (Change position number kind layer cosigned layers kept next) b c som
 same_place (NewKey position number key_number layer kind key) b c some of_b at_b of_c at_c = sym at_b ∙ at_c of_c.0
 same_place (Succession position key) b c some of_b at_b of_c at_c = sym at_b ∙ at_c of_c.0
 
--- an entry of a log that may stand behind its first entries, and says so, does
+-- an entry of a log that may stand after its first entries, and says so, does
 next_in_log : (past E later : List Entry) (entry : Entry) → E ≡ past ++ later → past ≢ [] → Ruled past entry → StandsAt (length past) entry
     → IsPlaced E → Contains E entry → (more : List Entry) × (E ≡ past ++ entry ∷ more)
 next_in_log past E later entry front some ruled at placed holds =

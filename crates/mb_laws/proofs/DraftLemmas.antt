@@ -10,6 +10,9 @@ use Rattle.mb_model.specs.declared.key.Trust.TheVariants.{Always, Never, Counter
 use Rattle.mb_model.specs.declared.key.PublicKey.{PublicKey}
 use Rattle.mb_model.specs.declared.order.KeyKind.{KeyKind}
 use Rattle.mb_model.specs.declared.order.KeyKind.TheVariants as kinds
+use Rattle.mb_model.specs.declared.order.OrderKind.{OrderKind}
+use Rattle.mb_model.specs.declared.order.Payload.{Payload}
+use Rattle.mb_model.specs.Rules.{kind_of, MayBeFor}
 use Rattle.mb_model.specs.declared.order.Act.{Act}
 use Rattle.mb_model.specs.declared.order.Act.TheVariants as act
 use Rattle.mb_model.specs.declared.order.Target.{Target}
@@ -18,7 +21,7 @@ use Rattle.mb_model.specs.declared.order.Order.{Order}
 use Rattle.mb_model.specs.Key.{key_bytes}
 use Rattle.mb_model.specs.Layers.{is_layer_number}
 use Rattle.mb_model.specs.Lines.{spaced}
-use Rattle.mb_model.specs.Drafts.{trust_line, kind_word, order_words, may_name, SaysTarget, AreLoadLines, AreOwnerLines, SayAct, IsDraft}
+use Rattle.mb_model.specs.Drafts.{trust_line, kind_word, version_line, order_words, SaysTarget, AreLoadLines, AreOwnerLines, SayAct, IsDraft}
 use Rattle.mb_model.proofs.KeyLemmas.{key_bytes-same}
 use Rattle.mb_laws.proofs.LineLemmas.{cons_same}
 use Rattle.mb_laws.proofs.WordLemmas.{number_front, limited_fits, IsHex-same}
@@ -73,7 +76,7 @@ SaysTarget-same line (target.Code k a) (target.Code l b) hs ht =
     cc
 SaysTarget-same line s t hs ht = two_targets line s t (λ e. omega (arith, e)) hs ht
 
--- ---- the lines behind the targets
+-- ---- the lines after the targets
 
 -- the first two letters of the first line
 abbrev pub front_letters : List (List ℕ) → ℕ
@@ -92,16 +95,15 @@ target_begins line (target.Code layer hash) says = ap (letters_at 0) says.2.2
 owner_begins : (lines : List (List ℕ)) (owner : PublicKey) (trust : Trust) → AreOwnerLines lines owner trust → front_letters lines ≡ letters_at 0 (codes "owner")
 owner_begins lines owner trust says = ap front_letters says.spelled ∙ ap (letters_at 0) says.owned.2
 
-load_begins : (lines : List (List ℕ)) (version : ℕ) (trust : Trust) (code : List ℕ) → AreLoadLines lines version trust code
-    → front_letters lines ≡ letters_at 0 (codes "version")
-load_begins lines version trust code says = ap front_letters says.spelled
+load_begins : (lines : List (List ℕ)) (payload : Payload) → AreLoadLines lines payload → front_letters lines ≡ letters_at 0 (codes "version")
+load_begins lines payload says = ap front_letters says.spelled
 
--- no line of a target stands behind the targets
+-- no line of a target stands after the targets
 pub act_begins : (lines : List (List ℕ)) (a : Act) → SayAct lines a → front_letters lines ≡ target_front → ⊥
 act_begins lines (act.Establish owner trust) says front = omega (arith, owner_begins lines owner trust says, front)
 act_begins lines act.Surrender says front = omega (arith, ap front_letters says, front)
-act_begins lines (act.Load version trust code) says front = omega (arith, load_begins lines version trust code says, front)
-act_begins lines (act.Emergency version trust code) says front = omega (arith, load_begins lines version trust code says, front)
+act_begins lines (act.Load payload) says front = omega (arith, load_begins lines payload says, front)
+act_begins lines (act.Emergency payload) says front = omega (arith, load_begins lines payload says, front)
 act_begins lines (act.NewKey kind) says front = omega (arith, ap front_letters says, front)
 
 -- the targets end at one line
@@ -141,19 +143,18 @@ owner_same lines a b s t ha hb =
     let trust = trust_same s t second.0 in
     cc
 
-load_same : (lines : List (List ℕ)) (m n : ℕ) (s t : Trust) (c d : List ℕ) → AreLoadLines lines m s c → AreLoadLines lines n t d
-    → (m ≡ n) × (s ≡ t) × (c ≡ d)
-load_same lines m n s t c d ha hb =
-    let first = cons_same (spaced (codes "version" ∷ decimal m ∷ [])) (spaced (codes "version" ∷ decimal n ∷ []))
-    (trust_line s ∷ ha.code_line ∷ []) (trust_line t ∷ hb.code_line ∷ []) (sym ha.spelled ∙ hb.spelled) in
-    let second = cons_same (trust_line s) (trust_line t) (ha.code_line ∷ []) (hb.code_line ∷ []) first.1 in
+load_same : (lines : List (List ℕ)) (a b : Payload) → AreLoadLines lines a → AreLoadLines lines b → a ≡ b
+load_same lines a b ha hb =
+    let first = cons_same (version_line a.version) (version_line b.version)
+    (trust_line a.trust ∷ ha.code_line ∷ []) (trust_line b.trust ∷ hb.code_line ∷ []) (sym ha.spelled ∙ hb.spelled) in
+    let second = cons_same (trust_line a.trust) (trust_line b.trust) (ha.code_line ∷ []) (hb.code_line ∷ []) first.1 in
     let third = cons_same ha.code_line hb.code_line [] [] second.1 in
-    let number = append_cancel_left (codes "version ") (decimal m) (decimal n) first.0 in
-    let word = append_cancel_left (codes "code ") ha.coded.0 hb.coded.0 (sym ha.coded.2 ∙ third.0 ∙ hb.coded.2) in (
-      decimal_injective m n (limited_fits m ha.version_fits) (limited_fits n hb.version_fits) number,
-      trust_same s t second.0,
-      IsHex-same ha.coded.0 hb.coded.0 c d word ha.coded.1 hb.coded.1,
-    )
+    let number = append_cancel_left (codes "version ") (decimal a.version) (decimal b.version) first.0 in
+    let word = append_cancel_left (codes "code ") ha.coded.0 hb.coded.0 (sym ha.coded.2 ∙ third.0 ∙ hb.coded.2) in
+    let version = decimal_injective a.version b.version (limited_fits a.version ha.version_fits) (limited_fits b.version hb.version_fits) number in
+    let trust = trust_same a.trust b.trust second.0 in
+    let code = IsHex-same ha.coded.0 hb.coded.0 a.code b.code word ha.coded.1 hb.coded.1 in
+    λ i. record { version = version i; trust = trust i; code = code i }
 
 -- the first line of an order, and two letters that tell what is ordered
 abbrev pub head : Act → ℕ → List ℕ
@@ -162,15 +163,15 @@ head a layer = spaced (order_words a layer)
 abbrev pub act_letters : Act → ℕ
 act_letters (act.Establish owner trust) = letters_at 6 (codes "order establish")
 act_letters act.Surrender = letters_at 6 (codes "order surrender")
-act_letters (act.Load version trust code) = letters_at 6 (codes "order load")
-act_letters (act.Emergency version trust code) = letters_at 6 (codes "order emergency")
+act_letters (act.Load payload) = letters_at 6 (codes "order load")
+act_letters (act.Emergency payload) = letters_at 6 (codes "order emergency")
 act_letters (act.NewKey kind) = letters_at 6 (codes "order newkey")
 
 pub head_letters : (a : Act) (k : ℕ) → letters_at 6 (head a k) ≡ act_letters a
 head_letters (act.Establish owner trust) k = refl
 head_letters act.Surrender k = refl
-head_letters (act.Load version trust code) k = refl
-head_letters (act.Emergency version trust code) k = refl
+head_letters (act.Load payload) k = refl
+head_letters (act.Emergency payload) k = refl
 head_letters (act.NewKey kind) k = refl
 
 kind_same : (a b : KeyKind) → kind_word a ≡ kind_word b → a ≡ b
@@ -178,12 +179,8 @@ kind_same kinds.Epoch kinds.Epoch e = refl
 kind_same kinds.Configuration kinds.Configuration e = refl
 kind_same a b e = absurd (omega (arith, ap (λ (x : List ℕ). get_or x 0 0) e))
 
-may_fits : (a : Act) (k : ℕ) → IsTrue (may_name a k) → k < 2 ^ 64
-may_fits (act.Establish owner trust) k may = grind (arith, may)
-may_fits act.Surrender k may = grind (arith, may)
-may_fits (act.Load version trust code) k may = grind (arith, may)
-may_fits (act.Emergency version trust code) k may = grind (arith, may)
-may_fits (act.NewKey kind) k may = grind (arith, may)
+may_fits : (kind : OrderKind) (k : ℕ) → MayBeFor kind k → k < 2 ^ 64
+may_fits kind k may = omega (arith, may.1)
 
 two_acts : (a b : Act) (k l : ℕ) → (act_letters a ≡ act_letters b → ⊥) → head a k ≡ head b l → (a ≡ b) × (k ≡ l)
 two_acts a b k l apart e = absurd (apart (sym (head_letters a k) ∙ ap (letters_at 6) e ∙ head_letters b l))
@@ -194,18 +191,12 @@ act_same lines (act.Establish a s) (act.Establish b t) k l fk fl e ha hb =
     (owner_same lines a b s t ha hb, decimal_injective k l fk fl (append_cancel_left (codes "order establish ") (decimal k) (decimal l) e))
 act_same lines act.Surrender act.Surrender k l fk fl e ha hb =
     (refl, decimal_injective k l fk fl (append_cancel_left (codes "order surrender ") (decimal k) (decimal l) e))
-act_same lines (act.Load m s c) (act.Load n t d) k l fk fl e ha hb =
-    let parts = load_same lines m n s t c d ha hb in
-    let version = parts.0 in
-    let trust = parts.1 in
-    let code = parts.2 in
-    (cc, decimal_injective k l fk fl (append_cancel_left (codes "order load ") (decimal k) (decimal l) e))
-act_same lines (act.Emergency m s c) (act.Emergency n t d) k l fk fl e ha hb =
-    let parts = load_same lines m n s t c d ha hb in
-    let version = parts.0 in
-    let trust = parts.1 in
-    let code = parts.2 in
-    (cc, decimal_injective k l fk fl (append_cancel_left (codes "order emergency ") (decimal k) (decimal l) e))
+act_same lines (act.Load a) (act.Load b) k l fk fl e ha hb =
+    (ap act.Load (load_same lines a b ha hb), decimal_injective k l fk fl (append_cancel_left (codes "order load ") (decimal k) (decimal l) e))
+act_same lines (act.Emergency a) (act.Emergency b) k l fk fl e ha hb = (
+  ap act.Emergency (load_same lines a b ha hb),
+  decimal_injective k l fk fl (append_cancel_left (codes "order emergency ") (decimal k) (decimal l) e),
+)
 act_same lines (act.NewKey i) (act.NewKey j) k l fk fl e ha hb =
     let whole = append_cancel_left (codes "order newkey ") (decimal k ++ 32 ∷ kind_word i) (decimal l ++ 32 ∷ kind_word j) e in
     let parts = number_front k l (kind_word i) (kind_word j) fk fl whole in
@@ -219,7 +210,7 @@ IsDraft-same lines a b ha hb =
     let split = targets_same ha.target_lines hb.target_lines a.targets b.targets ha.act_lines hb.act_lines ha.targeted hb.targeted
     (act_begins ha.act_lines a.act ha.says_act) (act_begins hb.act_lines b.act hb.says_act) first.1 in
     let said = subst (λ (x : List (List ℕ)). SayAct x a.act) split.1 ha.says_act in
-    let acts = act_same hb.act_lines a.act b.act a.layer b.layer (may_fits a.act a.layer ha.named) (may_fits b.act b.layer hb.named) first.0 said hb.says_act in
+    let acts = act_same hb.act_lines a.act b.act a.layer b.layer (may_fits (kind_of a.act) a.layer ha.named) (may_fits (kind_of b.act) b.layer hb.named) first.0 said hb.says_act in
     let targets = split.0 in
     let what = acts.0 in
     let layer = acts.1 in

@@ -4,7 +4,7 @@ use Rattle.std.specs.Prelude.{All, cond}
 use Rattle.std.proofs.lemmas.List.{append-nil, map_push, map-append, length-map, length-take, length-drop}
 use Rattle.std.proofs.lemmas.List.Elements.{All-nil, All-cons, All-head, All-tail, All-same}
 use Rattle.std.proofs.lemmas.List.Sums.{sum_by-append}
-use Rattle.mb_model.specs.Board.{part}
+use Rattle.mb_model.specs.Pieces.{part}
 use Rattle.mb_model.specs.declared.event.Event.{Event}
 use Rattle.mb_model.specs.declared.event.Event.TheVariants as event
 use Rattle.mb_model.specs.Script.{IsScriptEvent, with_before, is_command, commands_in, drawn_event, drawn_events, Drawn}
@@ -14,23 +14,23 @@ map_map f g [] = refl
 map_map f g (x ∷ xs) = λ i. f (g x) ∷ map_map f g xs i
 
 -- the same with one item more at the front
-abbrev behind : {A : Type 0} → A → List A × A → List A × A
-behind x at = (x ∷ at.0, at.1)
+abbrev remaining : {A : Type 0} → A → List A × A → List A × A
+remaining x at = (x ∷ at.0, at.1)
 
 -- one item more
 pub with_before-push : {A : Type 0} (xs : List A) (x : A) → with_before (xs ++ x ∷ []) ≡ with_before xs ++ (xs, x) ∷ []
 unfolding with_before
 with_before-push [] x = refl
 with_before-push {A} (y ∷ xs) x =
-    ap (λ (ats : List (List A × A)). ([], y) ∷ map (behind y) ats) (with_before-push xs x)
-    ∙ ap (λ (ats : List (List A × A)). ([], y) ∷ ats) (map-append (behind y) (with_before xs) ((xs, x) ∷ []))
+    ap (λ (ats : List (List A × A)). ([], y) ∷ map (remaining y) ats) (with_before-push xs x)
+    ∙ ap (λ (ats : List (List A × A)). ([], y) ∷ ats) (map-append (remaining y) (with_before xs) ((xs, x) ∷ []))
 
 -- as many items
 pub length-with_before : {A : Type 0} (xs : List A) → length (with_before xs) ≡ length xs
 unfolding with_before
 length-with_before [] = refl
 length-with_before {A} (x ∷ xs) =
-    ap (λ (n : ℕ). suc n) (length-map (with_before xs) (behind x) ∙ length-with_before xs)
+    ap (λ (n : ℕ). suc n) (length-map (with_before xs) (remaining x) ∙ length-with_before xs)
 
 pub drawn-push : (noise : List ℕ) (events : List Event) (e : Event) → drawn_events noise (events ++ e ∷ []) ≡ drawn_events noise events ++ drawn_event noise events e ∷ []
 unfolding drawn_events
@@ -42,22 +42,22 @@ pub drawn-length : (noise : List ℕ) (events : List Event) → length (drawn_ev
 unfolding drawn_events
 drawn-length noise events = length-map (with_before events) (λ (at : List Event × Event). drawn_event noise at.0 at.1) ∙ length-with_before events
 
--- the events with their draws, behind some others
-abbrev drawn_behind : List ℕ → List Event → List Event → List Event
-drawn_behind noise before [] = []
-drawn_behind noise before (e ∷ events) = drawn_event noise before e ∷ drawn_behind noise (before ++ e ∷ []) events
+-- the events with their draws, after some others
+abbrev drawn_after : List ℕ → List Event → List Event → List Event
+drawn_after noise before [] = []
+drawn_after noise before (e ∷ events) = drawn_event noise before e ∷ drawn_after noise (before ++ e ∷ []) events
 
-drawn-behind : (noise : List ℕ) (before events : List Event)
-    → map (λ at. drawn_event noise (before ++ at.0) at.1) (with_before events) ≡ drawn_behind noise before events
+drawn-after : (noise : List ℕ) (before events : List Event)
+    → map (λ at. drawn_event noise (before ++ at.0) at.1) (with_before events) ≡ drawn_after noise before events
 unfolding with_before
-drawn-behind noise before [] = refl
-drawn-behind noise before (e ∷ events) =
+drawn-after noise before [] = refl
+drawn-after noise before (e ∷ events) =
     let each = λ (at : List Event × Event). drawn_event noise (before ++ at.0) at.1 in
     let first = ap (λ (b : List Event). drawn_event noise b e) (append-nil before) in
     let moved : (at : List Event × Event) → before ++ (e ∷ at.0) ≡ (before ++ e ∷ []) ++ at.0 = λ at. sym (append_assoc before (e ∷ []) at.0) in
-    let others = map_map each (behind e) (with_before events)
+    let others = map_map each (remaining e) (with_before events)
     ∙ (λ i. map (λ (at : List Event × Event). drawn_event noise (moved at i) at.1) (with_before events))
-    ∙ drawn-behind noise (before ++ e ∷ []) events in
+    ∙ drawn-after noise (before ++ e ∷ []) events in
     λ i. first i ∷ others i
 
 -- ---- what a line can give, with a draw
@@ -68,7 +68,6 @@ count_append a b = sum_by-append (λ e. cond (is_command e) 1 0) a b
 
 -- 32 bytes of a noise that has them
 part-length : (noise : List ℕ) (n : ℕ) → n + 32 ≤ length noise → length (part n 32 noise) ≡ 32
-unfolding part
 part-length noise n room = omega (arith, length-take 32 (drop n noise), length-drop n noise)
 
 -- what is needed for the first of some events
@@ -95,15 +94,15 @@ drawn_one noise before (event.Drop region name) events enough is = is
 drawn_one noise before (event.Sign region key message) events enough is = is
 
 drawn_all : (noise : List ℕ) (before events : List Event) → 32 * commands_in (before ++ events) ≤ length noise
-    → All IsScriptEvent events → All IsScriptEvent (drawn_behind noise before events)
+    → All IsScriptEvent events → All IsScriptEvent (drawn_after noise before events)
 drawn_all noise before [] enough all = All-nil IsScriptEvent
 drawn_all noise before (e ∷ events) enough all =
     let split = append_assoc before (e ∷ []) events in
-    All-cons IsScriptEvent (drawn_event noise before e) (drawn_behind noise (before ++ e ∷ []) events)
+    All-cons IsScriptEvent (drawn_event noise before e) (drawn_after noise (before ++ e ∷ []) events)
     (drawn_one noise before e events enough (All-head IsScriptEvent e events all))
     (drawn_all noise (before ++ e ∷ []) events (subst (λ (x : List Event). 32 * commands_in x ≤ length noise) (sym split) enough) (All-tail IsScriptEvent e events all))
 
 pub drawn-script : (events : List Event) (noise : List ℕ) (drawn : List Event) → All IsScriptEvent events → Drawn events noise drawn → All IsScriptEvent drawn
 unfolding drawn_events
 drawn-script events noise drawn all is =
-    All-same IsScriptEvent drawn (drawn_behind noise [] events) (is.given ∙ drawn-behind noise [] events) (drawn_all noise [] events is.enough all)
+    All-same IsScriptEvent drawn (drawn_after noise [] events) (is.given ∙ drawn-after noise [] events) (drawn_all noise [] events is.enough all)

@@ -8,10 +8,10 @@ use Rattle.std.proofs.lemmas.List.Elements.{filter-append}
 use Rattle.mb_model.specs.declared.event.Event.{Event}
 use Rattle.mb_model.specs.declared.event.Event.TheVariants as event
 use Rattle.mb_model.specs.declared.event.Tear.{Tear}
-use Rattle.mb_model.specs.Lines.{spaced, FailsAtLine, bad}
+use Rattle.mb_model.specs.Lines.{spaced, FailsAtLine}
 use Rattle.mb_model.specs.Layers.{is_upper}
 use Rattle.mb_model.specs.Script.{tear_of, IsName, IsCutLine, EndsInHex, SaysEvent, is_skipped, IsScript}
-use Rattle.mb_laws.proofs.LineLemmas.{cons_same, first_same, Begins-all}
+use Rattle.mb_laws.proofs.LineLemmas.{cons_same, first_same, IsBeginning-all, bad_after}
 use Rattle.mb_laws.proofs.WordLemmas.{number_front, upper_fits, limited_fits, name_spaceless, IsHex-same}
 
 -- ---- the first two letters of a line tell the kind of its event
@@ -49,7 +49,7 @@ says_letters line (event.Sign region key message) says = ap letters says.3.2
 
 -- ---- cuts
 
--- what stands behind the count of a cut
+-- what stands after the count of a cut
 data CutTail (tail word : List ℕ) (keep : ℕ) : Type 0 where
   kept : tail ≡ codes "keep " ++ decimal keep ++ 32 ∷ (codes "fill " ++ word) → CutTail tail word keep
   none : keep ≡ 0 → tail ≡ codes "fill " ++ word → CutTail tail word keep
@@ -72,8 +72,8 @@ cut_tail line count tear says =
 
 tail_same : (tail a b : List ℕ) (j k : ℕ) → j < 2 ^ 64 → k < 2 ^ 64 → CutTail tail a j → CutTail tail b k → (j ≡ k) × (a ≡ b)
 tail_same tail a b j k fj fk (kept ea) (kept eb) =
-    let behind = append_cancel_left (codes "keep ") _ _ (sym ea ∙ eb) in
-    let parts = number_front j k (codes "fill " ++ a) (codes "fill " ++ b) fj fk behind in
+    let remaining = append_cancel_left (codes "keep ") _ _ (sym ea ∙ eb) in
+    let parts = number_front j k (codes "fill " ++ a) (codes "fill " ++ b) fj fk remaining in
     (parts.0, append_cancel_left (codes "fill ") a b parts.1)
 tail_same tail a b j k fj fk (kept ea) (none zb eb) = absurd (omega (arith, (cons_same 107 102 _ _ (sym ea ∙ eb)).0))
 tail_same tail a b j k fj fk (none za ea) (kept eb) = absurd (omega (arith, (cons_same 102 107 _ _ (sym ea ∙ eb)).0))
@@ -102,7 +102,7 @@ command_same line a b d f ha hb draws =
     let text = IsHex-same ha.0 hb.0 a b words ha.1 hb.1 in
     cc
 
--- a region, and the name or the number behind it, before a hexadecimal word
+-- a region, and the name or the number after it, before a hexadecimal word
 put_same : (line n m a b : List ℕ) (k l : ℕ) → IsTrue (is_upper k) → IsTrue (is_upper l) → IsName n → IsName m
     → EndsInHex line (codes "put" ∷ decimal k ∷ n ∷ []) a → EndsInHex line (codes "put" ∷ decimal l ∷ m ∷ []) b
     → event.Put k n a ≡ event.Put l m b
@@ -199,8 +199,8 @@ too_many lines more line said =
 pub too_many_events : (lines later : List (List ℕ)) (line : List ℕ) (events : List Event) → IsScript lines events → length events ≡ 65536
     → is_skipped line ≡ false → FailsAtLine IsScript (lines ++ line ∷ later) (length lines + 1)
 too_many_events lines later line events is full said =
-    bad lines line later refl (Begins-all IsScript lines events is)
+    bad_after IsScript lines line later (IsBeginning-all IsScript lines events is)
     (λ begins.
     let all = says_count (filter counts ((lines ++ line ∷ []) ++ begins.more)) begins.value begins.stands.said in
     let these = says_count (filter counts lines) events is.said in
-    omega (arith, all, these, full, too_many lines begins.more line said, begins.stands.most)) refl
+    omega (arith, all, these, full, too_many lines begins.more line said, begins.stands.most))

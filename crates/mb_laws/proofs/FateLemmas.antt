@@ -21,7 +21,7 @@ use Rattle.mb_model.specs.Regions.{empty_region, is_epoch, without_configuration
 use Rattle.mb_model.specs.LayerEvents.{has_number, with_use}
 use Rattle.mb_model.specs.Meaning.{fated}
 use Rattle.mb_model.specs.Valid.{as_made}
-use Rattle.mb_laws.specs.RegionLaws.{change_fate}
+use Rattle.mb_model.specs.Fates.{change_fate}
 use Rattle.mb_laws.proofs.AliveLemmas.{alive_increase, alive_below}
 
 -- ---- numbers
@@ -30,10 +30,10 @@ All-unmap : {X Y : Type 0} (P : Y → Type 0) (f : X → Y) (xs : List X) → Al
 All-unmap P f [] all = All-nil (λ x. P (f x))
 All-unmap P f (x ∷ xs) all = All-cons (λ y. P (f y)) x xs (All-head P (f x) (map f xs) all) (All-unmap P f xs (All-tail P (f x) (map f xs) all))
 
-pairs_head : {X : Type 0} (R : X → X → Type 0) (x : X) (xs : List X) → AllPairs R (x ∷ xs) → All (R x) xs
+pub pairs_head : {X : Type 0} (R : X → X → Type 0) (x : X) (xs : List X) → AllPairs R (x ∷ xs) → All (R x) xs
 pairs_head R x xs pairs = λ k d within. pairs zero (suc k) d (omega arith) (omega arith)
 
-pairs_tail : {X : Type 0} (R : X → X → Type 0) (x : X) (xs : List X) → AllPairs R (x ∷ xs) → AllPairs R xs
+pub pairs_tail : {X : Type 0} (R : X → X → Type 0) (x : X) (xs : List X) → AllPairs R (x ∷ xs) → AllPairs R xs
 pairs_tail R x xs pairs = λ i j d less within. pairs (suc i) (suc j) d (omega arith) (omega arith)
 
 AllPairs-unmap : {X Y : Type 0} (R : Y → Y → Type 0) (f : X → Y) (xs : List X) → AllPairs R (map f xs) → AllPairs (λ a b. R (f a) (f b)) xs
@@ -43,7 +43,7 @@ AllPairs-unmap R f (x ∷ xs) pairs =
     (All-unmap (R (f x)) f xs (pairs_head R (f x) (map f xs) pairs))
     (AllPairs-unmap R f xs (pairs_tail R (f x) (map f xs) pairs))
 
--- each before an element of such a list goes before it, and it goes before each behind it
+-- each before an element of such a list goes before it, and it goes before each after it
 pairs_before : {X : Type 0} (R : X → X → Type 0) (front : List X) (x : X) (rest : List X) → AllPairs R (front ++ x ∷ rest) → All (λ a. R a x) front
 pairs_before R [] x rest pairs = All-nil (λ a. R a x)
 pairs_before R (first ∷ front) x rest pairs =
@@ -51,9 +51,9 @@ pairs_before R (first ∷ front) x rest pairs =
     (All-contains (R first) (front ++ x ∷ rest) x (pairs_head R first (front ++ x ∷ rest) pairs) (Contains-append_right front (x ∷ rest) x (0, omega arith, refl)))
     (pairs_before R front x rest (pairs_tail R first (front ++ x ∷ rest) pairs))
 
-pairs_behind : {X : Type 0} (R : X → X → Type 0) (front : List X) (x : X) (rest : List X) → AllPairs R (front ++ x ∷ rest) → All (R x) rest
-pairs_behind R [] x rest pairs = pairs_head R x rest pairs
-pairs_behind R (first ∷ front) x rest pairs = pairs_behind R front x rest (pairs_tail R first (front ++ x ∷ rest) pairs)
+pairs_after : {X : Type 0} (R : X → X → Type 0) (front : List X) (x : X) (rest : List X) → AllPairs R (front ++ x ∷ rest) → All (R x) rest
+pairs_after R [] x rest pairs = pairs_head R x rest pairs
+pairs_after R (first ∷ front) x rest pairs = pairs_after R front x rest (pairs_tail R first (front ++ x ∷ rest) pairs)
 
 -- the keys of a region stand in the order of their numbers
 pub keys_increase : (log : List Entry) (L : ℕ) (keys : List RegionKey) → RuledLog log → map as_made keys ≡ alive_keys log L → AllPairs (λ a b. a.number < b.number) keys
@@ -79,10 +79,10 @@ others_before front key rest up =
     All-weaker (λ (other : RegionKey). other.number < key.number) (λ other. has_number key.number other ≡ false) (λ other less. ne_eqb other.number key.number (λ same. omega (arith, less, same))) front
     (pairs_before (λ (a b : RegionKey). a.number < b.number) front key rest up)
 
-others_behind : (front : List RegionKey) (key : RegionKey) (rest : List RegionKey) → AllPairs (λ a b. a.number < b.number) (front ++ key ∷ rest) → All (λ other. has_number key.number other ≡ false) rest
-others_behind front key rest up =
+others_after : (front : List RegionKey) (key : RegionKey) (rest : List RegionKey) → AllPairs (λ a b. a.number < b.number) (front ++ key ∷ rest) → All (λ other. has_number key.number other ≡ false) rest
+others_after front key rest up =
     All-weaker (λ (other : RegionKey). key.number < other.number) (λ other. has_number key.number other ≡ false) (λ other less. ne_eqb other.number key.number (λ same. omega (arith, less, same))) rest
-    (pairs_behind (λ (a b : RegionKey). a.number < b.number) front key rest up)
+    (pairs_after (λ (a b : RegionKey). a.number < b.number) front key rest up)
 
 -- where numbers increase, a key is found by its number
 pub found_by_number : (front : List RegionKey) (key : RegionKey) (rest : List RegionKey) → AllPairs (λ a b. a.number < b.number) (front ++ key ∷ rest)
@@ -106,7 +106,7 @@ used_by_number front key rest up =
     map-append step front (key ∷ rest)
     ∙ ap (λ more. more ++ map step (key ∷ rest)) (not_used key.number front (others_before front key rest up))
     ∙ ap (λ b. front ++ (if b then used else key) ∷ map step rest) (eq-eqb key.number key.number refl)
-    ∙ ap (λ more. front ++ used ∷ more) (not_used key.number rest (others_behind front key rest up))
+    ∙ ap (λ more. front ++ used ∷ more) (not_used key.number rest (others_after front key rest up))
 
 -- ---- fates
 

@@ -18,10 +18,11 @@ use Rattle.mb_model.specs.Log.{entries_of, made, RuledLog}
 use Rattle.mb_model.specs.Lives.{Alive, MadeKey}
 use Rattle.mb_model.specs.Regions.{with_key}
 use Rattle.mb_model.specs.Signing.{public_of}
-use Rattle.mb_model.specs.OrderStep.{next_key, cosigned_by, changed, keyed}
+use Rattle.mb_model.specs.OrderStep.{next_key, key_made, cosigned_by, changed, keyed}
 use Rattle.mb_model.specs.Meaning.{fated}
 use Rattle.mb_model.specs.Valid.{as_made, IsValidRegion}
-use Rattle.mb_laws.specs.RegionLaws.{HasValidRegions, change_fate, key_fate, AreFated}
+use Rattle.mb_model.specs.Fates.{change_fate, key_fate}
+use Rattle.mb_laws.specs.RegionLaws.{HasValidRegions, AreFated}
 use Rattle.mb_laws.proofs.RegionLemmas.{at_upper}
 use Rattle.mb_laws.proofs.AliveLemmas.{alive_is_listed, listed_is_alive}
 use Rattle.mb_laws.proofs.FateLemmas.{high_is_not_there, kept_as_before, change_is_fate, new_key_is_fate}
@@ -43,7 +44,7 @@ added log layers L region key ruled valid is =
 
 -- an order that makes a key
 pub keyed_is_fated : (state : State) (L : ℕ) (kind : KeyKind) (draw : List ℕ) (key : RegionKey) → IsTrue (is_upper L) → RuledLog (entries_of state.log) → HasValidRegions state
-    → key ≡ record { number = made (entries_of state.log); kind = kind; seed = next_key state draw; uses = 0 }
+    → key ≡ key_made state kind draw
     → AreFated state (keyed state L kind draw) (key_fate L key 2) (key_fate L key 3)
 unfolding keyed
 keyed_is_fated state L kind draw key upper ruled valid is =

@@ -1,14 +1,15 @@
 -- The examples of formats, computed.
 use Rattle.std.proofs.Common.{◌≡◌, ℕ, List, [], ◌∷◌, ◌++◌, Err, refl, rules, true, ltb}
 use Rattle.std.specs.List.{AllByRecursion}
-use Rattle.mb_format.specs.Format.{Format, IsExact, FailsWhole, reads_whole}
-use Rattle.mb_format.specs.Combinators.{raw_at, number_at, number_bytes, items}
+use Rattle.mb_format.specs.Format.{Format, FailsWhole}
+use Rattle.mb_format.specs.Combinators.{number_bytes, items}
+use Rattle.mb_format.specs.Reading.{IsExact, reads_whole, raw_at, number_at}
 use Rattle.mb_format.proofs.Examples.{are_bytes}
 use Rattle.mb_format.proofs.Whole.{IsExactWhole-from_exact}
 use Rattle.mb_model.specs.KeyFormat.{public_key_format}
 use Rattle.mb_model.specs.LayerFormat.{trust_format}
 use Rattle.mb_model.specs.EntryFormat.{key_kind_format}
-use Rattle.mb_model.specs.OrderFormat.{target_format, load_format, body_format, sized_signature_format, countersignatures_format, order_format}
+use Rattle.mb_model.specs.OrderFormat.{target_format, payload_format, body_format, sized_signature_format, countersignatures_format, order_format}
 use Rattle.mb_model.specs.ChainFormat.{chain_format}
 use Rattle.mb_model.specs.RegionFormat.{secrets_format, keys_format, region_format}
 use Rattle.mb_model.proofs.OrderFormatLaws.{order_exact}
@@ -17,7 +18,7 @@ use Rattle.mb_model.proofs.RecordFormatLaws.{region_exact}
 use Rattle.mb_laws.specs.FormatExamples.{surrender_bytes, countersigned_first_by, SpellingExamples, FailingExamples}
 
 pub spellings : SpellingExamples
-unfolding public_key_format trust_format key_kind_format target_format load_format body_format number_bytes items
+unfolding public_key_format trust_format key_kind_format target_format payload_format body_format number_bytes items
 spellings = record { public_key = λ identifier root. refl; surrender = refl; new_key = refl; load = refl }
 
 -- bytes fail where reading them fails
@@ -25,7 +26,7 @@ fails_at : {A : Type 0} {f : Format A} → IsExact f → (bytes : List ℕ) (pla
 fails_at exact bytes place small e = (IsExactWhole-from_exact exact).fails bytes place (are_bytes bytes small) e
 
 pub failings : FailingExamples
-unfolding trust_format target_format load_format body_format sized_signature_format countersignatures_format order_format chain_format secrets_format keys_format region_format number_at raw_at items
+unfolding trust_format target_format payload_format body_format sized_signature_format countersignatures_format order_format chain_format secrets_format keys_format region_format number_at raw_at items
 failings = record {
   countersigned_surrender = fails_at order_exact (surrender_bytes ++ 0 ∷ 0 ∷ 1 ∷ []) 10 (search rules depth 20) refl;
   left_over = fails_at order_exact (surrender_bytes ++ 0 ∷ 0 ∷ 0 ∷ 9 ∷ []) 11 (search rules depth 20) refl;

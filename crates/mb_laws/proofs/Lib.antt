@@ -14,6 +14,7 @@ pub mod DigitProofs
 pub mod ValidLogs
 pub mod ValidOrders
 pub mod ValidSteps
+pub mod OwnEntries
 pub mod ExampleProofs
 pub mod LifeProof
 pub mod FormatExampleProofs
@@ -32,6 +33,7 @@ pub mod WorkloadLemmas
 pub mod MeaningLemmas
 pub mod Splits
 pub mod FaultLemmas
+pub mod FactoryLemmas
 pub mod ChainLemmas
 pub mod OrderLemmas
 pub mod RefusalLemmas

@@ -1,11 +1,11 @@
 -- Lemmas on lines and words: a text has one list of lines, and one first line that is wrong.
-use Rattle.std.proofs.Common.{◌≡◌, ◌≢◌, ℕ, ◌<◌, inl, inr, List, [], ◌∷◌, ◌++◌, length, refl, sym, ap, subst, ◌∙◌, arith, append_assoc, length-append, Bool, true, false}
+use Rattle.std.proofs.Common.{◌+◌, ◌≡◌, ◌≢◌, ℕ, ◌<◌, inl, inr, List, [], ◌∷◌, ◌++◌, length, refl, sym, ap, subst, ◌∙◌, arith, append_assoc, length-append, Bool, true, false}
 use Rattle.std.specs.Prelude.{◌==◌, All, flat_map}
 use Rattle.std.proofs.lemmas.Bool.{eqb-true, eqb-false, cases_order}
 use Rattle.std.proofs.lemmas.List.{append-nil}
 use Rattle.std.proofs.lemmas.List.Elements.{All-nil, All-cons, All-head, All-tail}
 use Rattle.mb_model.specs.Texts.{ended}
-use Rattle.mb_model.specs.Lines.{IsLine, HasLines, Begins, FailsAtLine, bad, short}
+use Rattle.mb_model.specs.Lines.{IsLine, HasLines, IsBeginning, FailsAtLine, bad_line, ends_early}
 
 -- a list's first item and its rest are equal where the lists are
 pub cons_same : {X : Type 0} (x y : X) (xs ys : List X) → x ∷ xs ≡ y ∷ ys → (x ≡ y) × (xs ≡ ys)
@@ -55,7 +55,7 @@ HasLines-none text has =
           absurd (omega (arith, len))
     ]
 
--- how a text with a first line goes on: behind the LF of the line, or not at all
+-- how a text with a first line goes on: after the LF of the line, or not at all
 pub data Goes (text line : List ℕ) (lines : List (List ℕ)) : Type 0 where
   on : (rest : List ℕ) → text ≡ line ++ 10 ∷ rest → HasLines rest lines → Goes text line lines
   over : text ≡ line → line ≢ [] → lines ≡ [] → Goes text line lines
@@ -67,10 +67,10 @@ goes_lacking text line lines [] last plain split filled whole =
     over (whole ∙ sym parts.0) (λ none. filled (sym parts.0 ∙ none)) parts.1
 goes_lacking text line lines (first ∷ before) last plain split filled whole =
     let parts = cons_same line first lines (before ++ last ∷ []) split in
-    let behind = flat_map ended before ++ last in
-    on behind
-    (whole ∙ append_assoc (ended first) (flat_map ended before) last ∙ append_assoc first (10 ∷ []) behind
-    ∙ ap (λ (x : List ℕ). x ++ 10 ∷ behind) (sym parts.0))
+    let remaining = flat_map ended before ++ last in
+    on remaining
+    (whole ∙ append_assoc (ended first) (flat_map ended before) last ∙ append_assoc first (10 ∷ []) remaining
+    ∙ ap (λ (x : List ℕ). x ++ 10 ∷ remaining) (sym parts.0))
     (record {
       plain = All-tail IsLine line lines plain;
       whole = inr (record { before = before; last = last; split = parts.1; filled = filled; whole = refl });
@@ -117,20 +117,20 @@ goes_some : (line : List ℕ) (lines : List (List ℕ)) → Goes [] line lines �
 goes_some line lines (on rest e has) = omega (arith, ap length e ∙ length-append line (10 ∷ rest))
 goes_some line lines (over e filled none) = filled (sym e)
 
--- two first lines of a text are one, and so are the lines behind them
+-- two first lines of a text are one, and so are the lines after them
 same_on : (text line other : List ℕ) (lines others : List (List ℕ)) → IsLine line → IsLine other
     → ((rest : List ℕ) → HasLines rest lines → HasLines rest others → lines ≡ others)
     → Goes text line lines → Goes text other others → (line ∷ lines) ≡ (other ∷ others)
-same_on text line other lines others pa pb behind (on rest e has) (on back f more) =
+same_on text line other lines others pa pb remaining (on rest e has) (on back f more) =
     let parts = first_same 10 line other rest back pa pb (sym e ∙ f) in
-    let same = behind back (subst (λ (x : List ℕ). HasLines x lines) parts.1 has) more in
+    let same = remaining back (subst (λ (x : List ℕ). HasLines x lines) parts.1 has) more in
     let head = parts.0 in
     cc
-same_on text line other lines others pa pb behind (on rest e has) (over f filled none) =
+same_on text line other lines others pa pb remaining (on rest e has) (over f filled none) =
     absurd (first_none 10 other line rest pb (sym f ∙ e))
-same_on text line other lines others pa pb behind (over e filled none) (on back f more) =
+same_on text line other lines others pa pb remaining (over e filled none) (on back f more) =
     absurd (first_none 10 line other back pa (sym e ∙ f))
-same_on text line other lines others pa pb behind (over e filled none) (over f full all) =
+same_on text line other lines others pa pb remaining (over e filled none) (over f full all) =
     let head = sym e ∙ f in
     cc
 
@@ -179,16 +179,16 @@ HasLines-always (byte ∷ bytes) =
 -- ---- the first line that is wrong
 
 -- where a text of the grammar begins with lines, one begins with the first of them
-pub Begins-front : {A : Type 0} (Grammar : List (List ℕ) → A → Type 0) (front back : List (List ℕ)) → Begins Grammar (front ++ back) → Begins Grammar front
-Begins-front {A} Grammar front back begins = record {
+pub IsBeginning-front : {A : Type 0} (Grammar : List (List ℕ) → A → Type 0) (front back : List (List ℕ)) → IsBeginning Grammar (front ++ back) → IsBeginning Grammar front
+IsBeginning-front {A} Grammar front back begins = record {
   more = back ++ begins.more;
   value = begins.value;
   stands = subst (λ (x : List (List ℕ)). Grammar x begins.value) (append_assoc front back begins.more) begins.stands;
 }
 
 -- lines that stand for a value begin a text
-pub Begins-all : {A : Type 0} (Grammar : List (List ℕ) → A → Type 0) (lines : List (List ℕ)) (value : A) → Grammar lines value → Begins Grammar lines
-Begins-all {A} Grammar lines value stands = record {
+pub IsBeginning-all : {A : Type 0} (Grammar : List (List ℕ) → A → Type 0) (lines : List (List ℕ)) (value : A) → Grammar lines value → IsBeginning Grammar lines
+IsBeginning-all {A} Grammar lines value stands = record {
   more = [];
   value = value;
   stands = subst (λ (x : List (List ℕ)). Grammar x value) (sym (append-nil lines)) stands;
@@ -196,10 +196,10 @@ Begins-all {A} Grammar lines value stands = record {
 
 -- a line is bad, and no text begins with it; then none begins with all lines
 bad_begins : {A : Type 0} (Grammar : List (List ℕ) → A → Type 0) (lines before : List (List ℕ)) (line : List ℕ) (later : List (List ℕ))
-    → lines ≡ before ++ line ∷ later → (Begins Grammar (before ++ line ∷ []) → ⊥) → Begins Grammar lines → ⊥
+    → lines ≡ before ++ line ∷ later → (IsBeginning Grammar (before ++ line ∷ []) → ⊥) → IsBeginning Grammar lines → ⊥
 bad_begins {A} Grammar lines before line later split none begins =
     let whole = split ∙ sym (append_assoc before (line ∷ []) later) in
-    none (Begins-front Grammar (before ++ line ∷ []) later (subst (λ (x : List (List ℕ)). Begins Grammar x) whole begins))
+    none (IsBeginning-front Grammar (before ++ line ∷ []) later (subst (λ (x : List (List ℕ)). IsBeginning Grammar x) whole begins))
 
 -- of two splits of one list, the shorter front and its line begin the longer front
 front_in : (a b : List (List ℕ)) (x y : List ℕ) (xs ys : List (List ℕ)) → a ++ x ∷ xs ≡ b ++ y ∷ ys → length a < length b
@@ -215,29 +215,43 @@ front_in (a ∷ as_) (b ∷ bs) x y xs ys e less =
     (rest.0, cc)
 
 not_shorter : {A : Type 0} (Grammar : List (List ℕ) → A → Type 0) (lines a b : List (List ℕ)) (x y : List ℕ) (xs ys : List (List ℕ))
-    → lines ≡ a ++ x ∷ xs → (Begins Grammar (a ++ x ∷ []) → ⊥) → lines ≡ b ++ y ∷ ys → Begins Grammar b → length a < length b → ⊥
+    → lines ≡ a ++ x ∷ xs → (IsBeginning Grammar (a ++ x ∷ []) → ⊥) → lines ≡ b ++ y ∷ ys → IsBeginning Grammar b → length a < length b → ⊥
 not_shorter {A} Grammar lines a b x y xs ys split none other begins less =
     let front = front_in a b x y xs ys (sym split ∙ other) less in
-    none (Begins-front Grammar (a ++ x ∷ []) front.0 (subst (λ (z : List (List ℕ)). Begins Grammar z) front.1 begins))
+    none (IsBeginning-front Grammar (a ++ x ∷ []) front.0 (subst (λ (z : List (List ℕ)). IsBeginning Grammar z) front.1 begins))
 
 -- one line is the first that is wrong
 pub FailsAtLine-same : {A : Type 0} (Grammar : List (List ℕ) → A → Type 0) (lines : List (List ℕ)) (m n : ℕ)
     → FailsAtLine Grammar lines m → FailsAtLine Grammar lines n → m ≡ n
-FailsAtLine-same {A} Grammar lines m n (bad a x xs ea ba na ma) (bad b y ys eb bb nb mb) =
-    elim (cases_order (length a) (length b)) [
-      | inr (inl less) ↦ absurd (not_shorter Grammar lines a b x y xs ys ea na eb bb less)
-      | inl is ↦ omega (arith, is, ma, mb)
-      | inr (inr less) ↦ absurd (not_shorter Grammar lines b a y x ys xs eb nb ea ba less)
+FailsAtLine-same {A} Grammar lines m n (bad_line p) (bad_line q) =
+    elim (cases_order (length p.before) (length q.before)) [
+      | inr (inl less) ↦ absurd (not_shorter Grammar lines p.before q.before p.line q.line p.later q.later p.split p.bad q.split q.good less)
+      | inl is ↦ omega (arith, is, p.number, q.number)
+      | inr (inr less) ↦ absurd (not_shorter Grammar lines q.before p.before q.line p.line q.later p.later q.split q.bad p.split p.good less)
     ]
-FailsAtLine-same {A} Grammar lines m n (bad a x xs ea ba na ma) (short begins none mb) =
-    absurd (bad_begins Grammar lines a x xs ea na begins)
-FailsAtLine-same {A} Grammar lines m n (short begins none ma) (bad b y ys eb bb nb mb) =
-    absurd (bad_begins Grammar lines b y ys eb nb begins)
-FailsAtLine-same {A} Grammar lines m n (short begins none ma) (short also none_too mb) = ma ∙ sym mb
+FailsAtLine-same {A} Grammar lines m n (bad_line p) (ends_early q) =
+    absurd (bad_begins Grammar lines p.before p.line p.later p.split p.bad q.good)
+FailsAtLine-same {A} Grammar lines m n (ends_early p) (bad_line q) =
+    absurd (bad_begins Grammar lines q.before q.line q.later q.split q.bad p.good)
+FailsAtLine-same {A} Grammar lines m n (ends_early p) (ends_early q) = p.number ∙ sym q.number
 
 -- no line of lines that stand for a value is wrong
 pub FailsAtLine-none : {A : Type 0} (Grammar : List (List ℕ) → A → Type 0) (lines : List (List ℕ)) (value : A) (n : ℕ)
     → Grammar lines value → FailsAtLine Grammar lines n → ⊥
-FailsAtLine-none {A} Grammar lines value n stands (bad a x xs ea ba na ma) =
-    bad_begins Grammar lines a x xs ea na (Begins-all Grammar lines value stands)
-FailsAtLine-none {A} Grammar lines value n stands (short begins none m) = none value stands
+FailsAtLine-none {A} Grammar lines value n stands (bad_line p) =
+    bad_begins Grammar lines p.before p.line p.later p.split p.bad (IsBeginning-all Grammar lines value stands)
+FailsAtLine-none {A} Grammar lines value n stands (ends_early p) = p.unfinished value stands
+
+-- a line is wrong after those with which a text of the grammar begins
+pub bad_after : {A : Type 0} (Grammar : List (List ℕ) → A → Type 0) (before : List (List ℕ)) (line : List ℕ) (later : List (List ℕ))
+    → IsBeginning Grammar before → (IsBeginning Grammar (before ++ line ∷ []) → ⊥)
+    → FailsAtLine Grammar (before ++ line ∷ later) (length before + 1)
+bad_after {A} Grammar before line later good bad = bad_line (record {
+  before = before;
+  line = line;
+  later = later;
+  split = refl;
+  good = good;
+  bad = bad;
+  number = refl;
+})

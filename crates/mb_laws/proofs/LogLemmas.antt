@@ -83,7 +83,7 @@ last_of-more named log (entry ∷ rest) none =
     ∙ last_of-push named log entry
     ∙ ap (λ o. option_or o (last_of named log)) (All-head (λ e. named e ≡ None) entry rest none)
 
--- what is named last is named by an entry behind which none names such a thing
+-- what is named last is named by an entry after which none names such a thing
 pub last_of-split : {X : Type 0} (named : Entry → Option X) (before : List Entry) (entry : Entry) (rest : List Entry) (x : X)
     → named entry ≡ Some x → NoneNames named rest → last_of named (before ++ entry ∷ rest) ≡ Some x
 last_of-split named before entry rest x is none =

@@ -13,11 +13,11 @@ use Rattle.mb_model.specs.Rules.{IsFirstFailing}
 use Rattle.mb_model.specs.Log.{entries_of, number_of}
 use Rattle.mb_model.specs.OrderFormat.{order_format}
 use Rattle.mb_model.specs.Refusals.{Refusal, powered_off, wrong_phase, zeroised, wrong_layer, region_full, no_such_key, key_spent, bad_text, wrong_target, wrong_state, wrong_signature, wrong_countersignature, log_full, keys_full, refused}
-use Rattle.mb_model.specs.OrderStep.{TargetHoldsIn, TargetsHold, MayBeGiven, IsSigned, IsCountersigned, LogHasRoom, RegionHasRoom, Passes, Fails, obeyed, OrderStep, unread, failed, done}
+use Rattle.mb_model.specs.OrderStep.{TargetHoldsIn, TargetsHold, MayBeGiven, IsSigned, IsCountersigned, LogHasRoom, RegionHasRoom, Passes, Fails, obeyed, OrderStep, spells_none, fails_check, is_obeyed}
 use Rattle.mb_model.proofs.OrderFormatLaws.{order_exact}
 use Rattle.mb_laws.proofs.Splits.{not_all, first_fails_or_all, one_first, IsOne, one_more, Lacks, one_lacks, lacks_none}
 
--- ---- the checks, one behind another
+-- ---- the checks, one after another
 
 abbrev KeysFault : State → Order → Refusal → Type 0
 KeysFault state order = Lacks keys_full (RegionHasRoom state order.layer order.act) (λ refusal. ⊥)
@@ -161,38 +161,44 @@ order_clear = IsClearWhole-from_exact order_exact
 
 -- bytes that are given as an order have one answer, and lead to one state
 pub one_order_step : (state : State) (text draw : List ℕ) (a b : Reply) (m n : State) → IsBytes text → OrderStep state text draw a m → OrderStep state text draw b n → (a ≡ b) × (m ≡ n)
-one_order_step state text draw a b m n are (unread none x y) (unread none' x' y') = (x ∙ sym x', y ∙ sym y')
-one_order_step state text draw a b m n are (unread none x y) (failed order spelled refusal fails x' y') = absurd (none order spelled)
-one_order_step state text draw a b m n are (unread none x y) (done order spelled passes x' y') = absurd (none order spelled)
-one_order_step state text draw a b m n are (failed order spelled refusal fails x y) (unread none x' y') = absurd (none order spelled)
-one_order_step state text draw a b m n are (failed order spelled refusal fails x y) (failed order' spelled' refusal' fails' x' y') =
-    let same : order ≡ order' = order_clear.one_value text order order' are spelled spelled' in
-    let refusals : refusal ≡ refusal' = one_failure state order' refusal refusal' (subst (λ (o : Order). Fails state o refusal) same fails) fails' in
-    (x ∙ ap refused refusals ∙ sym x', y ∙ sym y')
-one_order_step state text draw a b m n are (failed order spelled refusal fails x y) (done order' spelled' passes' x' y') =
-    let same : order ≡ order' = order_clear.one_value text order order' are spelled spelled' in
-    absurd (passes_fail_nothing state order' refusal passes' (subst (λ (o : Order). Fails state o refusal) same fails))
-one_order_step state text draw a b m n are (done order spelled passes x y) (unread none x' y') = absurd (none order spelled)
-one_order_step state text draw a b m n are (done order spelled passes x y) (failed order' spelled' refusal' fails' x' y') =
-    let same : order' ≡ order = order_clear.one_value text order' order are spelled' spelled in
-    absurd (passes_fail_nothing state order refusal' passes (subst (λ (o : Order). Fails state o refusal') same fails'))
-one_order_step state text draw a b m n are (done order spelled passes x y) (done order' spelled' passes' x' y') =
-    let same : order ≡ order' = order_clear.one_value text order order' are spelled spelled' in
-    let states : m ≡ n = x ∙ ap (λ (o : Order). obeyed state o draw) same ∙ sym x' in
-    (y ∙ ap (λ (s : State). reply.Done (number_of (entries_of s.log)) (length s.log)) states ∙ sym y', states)
+one_order_step state text draw a b m n are (spells_none p) (spells_none q) = (p.answered ∙ sym q.answered, p.stays ∙ sym q.stays)
+one_order_step state text draw a b m n are (spells_none p) (fails_check q) = absurd (p.none q.order q.spelled)
+one_order_step state text draw a b m n are (spells_none p) (is_obeyed q) = absurd (p.none q.order q.spelled)
+one_order_step state text draw a b m n are (fails_check p) (spells_none q) = absurd (q.none p.order p.spelled)
+one_order_step state text draw a b m n are (fails_check p) (fails_check q) =
+    let same : p.order ≡ q.order = order_clear.one_value text p.order q.order are p.spelled q.spelled in
+    let refusals : p.refusal ≡ q.refusal = one_failure state q.order p.refusal q.refusal (subst (λ (o : Order). Fails state o p.refusal) same p.fails) q.fails in
+    (p.answered ∙ ap refused refusals ∙ sym q.answered, p.stays ∙ sym q.stays)
+one_order_step state text draw a b m n are (fails_check p) (is_obeyed q) =
+    let same : p.order ≡ q.order = order_clear.one_value text p.order q.order are p.spelled q.spelled in
+    absurd (passes_fail_nothing state q.order p.refusal q.passes (subst (λ (o : Order). Fails state o p.refusal) same p.fails))
+one_order_step state text draw a b m n are (is_obeyed p) (spells_none q) = absurd (q.none p.order p.spelled)
+one_order_step state text draw a b m n are (is_obeyed p) (fails_check q) =
+    let same : q.order ≡ p.order = order_clear.one_value text q.order p.order are q.spelled p.spelled in
+    absurd (passes_fail_nothing state p.order q.refusal p.passes (subst (λ (o : Order). Fails state o q.refusal) same q.fails))
+one_order_step state text draw a b m n are (is_obeyed p) (is_obeyed q) =
+    let same : p.order ≡ q.order = order_clear.one_value text p.order q.order are p.spelled q.spelled in
+    let states : m ≡ n = p.follows ∙ ap (λ (o : Order). obeyed state o draw) same ∙ sym q.follows in
+    (p.answered ∙ ap (λ (s : State). reply.Done (number_of (entries_of s.log)) (length s.log)) states ∙ sym q.answered, states)
 
 -- a refused order leaves the state
 pub refused_order_leaves : (state : State) (text draw : List ℕ) (refusal : ℕ) (next : State) → OrderStep state text draw (reply.Refused refusal) next → next ≡ state
-refused_order_leaves state text draw n next (unread none x y) = y
-refused_order_leaves state text draw n next (failed order spelled refusal fails x y) = y
-refused_order_leaves state text draw n next (done order spelled passes x y) = absurd (grind (arith, y))
+refused_order_leaves state text draw n next (spells_none p) = p.stays
+refused_order_leaves state text draw n next (fails_check p) = p.stays
+refused_order_leaves state text draw n next (is_obeyed p) = absurd (grind (arith, p.answered))
 
 -- no bytes are without an answer
 pub some_order_step : (state : State) (text draw : List ℕ) → IsBytes text → ((answer : Reply) (next : State) → OrderStep state text draw answer next → ⊥) → ⊥
 some_order_step state text draw are none =
     elim (order_clear.always text are) [
       | inl some ↦ passes_or_fails state some.value
-          (λ passes. none (reply.Done (number_of (entries_of (obeyed state some.value draw).log)) (length (obeyed state some.value draw).log)) (obeyed state some.value draw) (done some.value some.spelled passes refl refl))
-          (λ refusal fails. none (refused refusal) state (failed some.value some.spelled refusal fails refl refl))
-      | inr failing ↦ none (refused bad_text) state (unread (λ order spelled. order_clear.never_both text order failing.place are spelled failing.fails) refl refl)
+          (λ passes. none (reply.Done (number_of (entries_of (obeyed state some.value draw).log)) (length (obeyed state some.value draw).log)) (obeyed state some.value draw)
+          (is_obeyed (record { order = some.value; spelled = some.spelled; passes = passes; follows = refl; answered = refl })))
+          (λ refusal fails. none (refused refusal) state
+          (fails_check (record { order = some.value; spelled = some.spelled; refusal = refusal; fails = fails; answered = refl; stays = refl })))
+      | inr failing ↦ none (refused bad_text) state (spells_none (record {
+        none = λ order spelled. order_clear.never_both text order failing.offset are spelled failing.fails;
+        answered = refl;
+        stays = refl;
+      }))
     ]

@@ -1,25 +1,26 @@
--- A line with the bytes of an order, or of a statement, stands for one; and which line is wrong where another stands behind it.
+-- A line with the bytes of an order, or of a statement, stands for one; and which line is wrong where another stands after it.
 use Rattle.std.proofs.Common.{◌≡◌, ℕ, inl, inr, List, [], ◌∷◌, ◌++◌, length, get_or, refl, sym, ap, subst, ◌∙◌, arith, length-append, rules}
 use Rattle.std.specs.Prelude.{codes}
 use Rattle.std.proofs.lemmas.List.{append_cancel_left, nil_from_length}
 use Rattle.hex.specs.Hex.{decode_pairs, encode_with}
 use Rattle.hex.proofs.HexLemmas.{decode_of-ok}
-use Rattle.mb_format.specs.Format.{IsBytes, Spells, IsClearWhole, IsExactWhole, FailsWhole}
-use Rattle.mb_format.specs.Combinators.{number_at, number_bytes, raw_at, items}
+use Rattle.mb_format.specs.Format.{IsBytes, Spells, IsClearWhole, FailsWhole}
+use Rattle.mb_format.specs.Combinators.{number_bytes, items}
+use Rattle.mb_format.specs.Reading.{IsExactWhole, number_at, raw_at}
 use Rattle.mb_format.proofs.Examples.{are_bytes}
 use Rattle.mb_format.proofs.Whole.{IsClearWhole-from_exact, IsExactWhole-from_exact}
 use Rattle.mb_model.specs.declared.order.Order.{Order}
 use Rattle.mb_model.specs.declared.entry.Statement.{Statement}
 use Rattle.mb_model.specs.Texts.{IsHex}
-use Rattle.mb_model.specs.Lines.{FailsAtLine, bad, short}
+use Rattle.mb_model.specs.Lines.{FailsAtLine, ends_early}
 use Rattle.mb_model.specs.OrderLines.{IsOrderLine, IsStatementLine, order_line}
 use Rattle.mb_model.specs.LayerFormat.{trust_format}
-use Rattle.mb_model.specs.OrderFormat.{target_format, load_format, body_format, sized_signature_format, countersignatures_format, order_format}
+use Rattle.mb_model.specs.OrderFormat.{target_format, payload_format, body_format, sized_signature_format, countersignatures_format, order_format}
 use Rattle.mb_laws.specs.TextExamples.{surrender, surrender_line, OrderLineExamples}
 use Rattle.mb_model.specs.ChainFormat.{statement_format}
 use Rattle.mb_model.proofs.OrderFormatLaws.{order_exact}
 use Rattle.mb_model.proofs.EntryFormatLaws.{statement_exact}
-use Rattle.mb_laws.proofs.LineLemmas.{cons_same, cons_none, Begins-all}
+use Rattle.mb_laws.proofs.LineLemmas.{cons_same, cons_none, IsBeginning-all, bad_after}
 use Rattle.mb_laws.proofs.WordLemmas.{IsHex-same}
 
 -- a hexadecimal word is bytes
@@ -50,15 +51,15 @@ IsStatementLine-same lines a b ha hb =
 abbrev HasOneLine : {A : Type 0} → (List (List ℕ) → A → Type 0) → Type 0
 HasOneLine {A} Grammar = (lines : List (List ℕ)) (value : A) → Grammar lines value → length lines ≡ 1
 
--- a line behind the first is wrong
+-- a line after the first is wrong
 second : {A : Type 0} (Grammar : List (List ℕ) → A → Type 0) → HasOneLine Grammar → (line other : List ℕ) (later : List (List ℕ)) (value : A)
     → Grammar (line ∷ []) value → FailsAtLine Grammar (line ∷ other ∷ later) 2
 second {A} Grammar one line other later value stands =
-    bad (line ∷ []) other later refl (Begins-all Grammar (line ∷ []) value stands)
+    bad_after Grammar (line ∷ []) other later (IsBeginning-all Grammar (line ∷ []) value stands)
     (λ begins.
     let count = one ((line ∷ other ∷ []) ++ begins.more) begins.value begins.stands in
     let more = length-append (line ∷ other ∷ []) begins.more in
-    omega (arith, count, more)) refl
+    omega (arith, count, more))
 
 pub order_one : HasOneLine IsOrderLine
 order_one lines value is = ap length is.one
@@ -73,7 +74,7 @@ pub statement_second : (line other : List ℕ) (later : List (List ℕ)) (statem
     → FailsAtLine IsStatementLine (line ∷ other ∷ later) 2
 statement_second = second IsStatementLine statement_one
 
--- nothing stands behind the first line
+-- nothing stands after the first line
 alone : {A : Type 0} (Grammar : List (List ℕ) → A → Type 0) → HasOneLine Grammar → (line : List ℕ) (more : List (List ℕ)) (value : A)
     → Grammar (line ∷ more) value → Grammar (line ∷ []) value
 alone {A} Grammar one line more value stands =
@@ -85,14 +86,18 @@ alone {A} Grammar one line more value stands =
 first : {A : Type 0} (Grammar : List (List ℕ) → A → Type 0) → HasOneLine Grammar → (line : List ℕ) (later good : List (List ℕ)) (value : A)
     → Grammar good value → ((other : A) → Grammar (line ∷ []) other → ⊥) → FailsAtLine Grammar (line ∷ later) 1
 first {A} Grammar one line later good value stands none =
-    bad [] line later refl (record { more = good; value = value; stands = stands })
-    (λ begins. none begins.value (alone Grammar one line begins.more begins.value begins.stands)) refl
+    bad_after Grammar [] line later (record { more = good; value = value; stands = stands })
+    (λ begins. none begins.value (alone Grammar one line begins.more begins.value begins.stands))
 
 -- and so it is where there is no line at all
 empty : {A : Type 0} (Grammar : List (List ℕ) → A → Type 0) → HasOneLine Grammar → (good : List (List ℕ)) (value : A) → Grammar good value
     → FailsAtLine Grammar [] 1
 empty {A} Grammar one good value stands =
-    short (record { more = good; value = value; stands = stands }) (λ other is. omega (arith, one [] other is)) refl
+    ends_early (record {
+      good = record { more = good; value = value; stands = stands };
+      unfinished = λ other is. omega (arith, one [] other is);
+      number = refl;
+    })
 
 -- ---- a line that is that of an order
 
@@ -101,7 +106,7 @@ abbrev surrender_order : List ℕ
 surrender_order = 2 ∷ 2 ∷ 1 ∷ 2 ∷ 0 ∷ 0 ∷ 0 ∷ 7 ∷ 0 ∷ 0 ∷ 0 ∷ []
 
 surrender_spelled : Spells order_format surrender_order surrender
-unfolding trust_format target_format load_format body_format sized_signature_format countersignatures_format order_format number_at raw_at items
+unfolding trust_format target_format payload_format body_format sized_signature_format countersignatures_format order_format number_at raw_at items
 surrender_spelled =
     let whole : IsExactWhole order_format = IsExactWhole-from_exact order_exact in
     whole.found surrender_order surrender (are_bytes surrender_order (search rules depth 20)) refl
@@ -120,12 +125,12 @@ surrender_is = record {
 }
 
 written : order_line surrender ≡ surrender_line
-unfolding trust_format target_format load_format body_format sized_signature_format countersignatures_format order_format number_bytes items encode_with
+unfolding trust_format target_format payload_format body_format sized_signature_format countersignatures_format order_format number_bytes items encode_with
 written = refl
 
 -- one byte of zero is no order
 zero_fails : FailsWhole order_format (0 ∷ []) 0
-unfolding trust_format target_format load_format body_format sized_signature_format countersignatures_format order_format number_at raw_at items
+unfolding trust_format target_format payload_format body_format sized_signature_format countersignatures_format order_format number_at raw_at items
 zero_fails =
     let whole : IsExactWhole order_format = IsExactWhole-from_exact order_exact in
     whole.fails (0 ∷ []) 0 (are_bytes (0 ∷ []) (search rules depth 20)) refl

@@ -21,7 +21,7 @@ use Rattle.mb_laws.proofs.AliveLemmas.{alive_keys-nil, alive_keys-cons, alive_is
 
 -- ---- what is named last
 
-none_of_two : {X : Type 0} (a b : Option X) → option_or a b ≡ None → (a ≡ None) × (b ≡ None)
+pub none_of_two : {X : Type 0} (a b : Option X) → option_or a b ≡ None → (a ≡ None) × (b ≡ None)
 none_of_two None b e = (refl, e)
 none_of_two (Some x) b e = absurd (grind (arith, e))
 
@@ -59,7 +59,7 @@ names_none n (NewKey position number key_number layer kind key) none = by (key_n
     by false own e = refl
 names_none n (Succession position key) none = refl
 
-makes_none : (n : ℕ) (entry : Entry) → makes n entry ≡ false → key_in n entry ≡ None
+pub makes_none : (n : ℕ) (entry : Entry) → makes n entry ≡ false → key_in n entry ≡ None
 makes_none n (Birth serial key layers) other = refl
 makes_none n (Change position number kind layer cosigned layers kept next) other = refl
 makes_none n (NewKey position number key_number layer kind key) other =
@@ -199,7 +199,7 @@ first_alive log entry n made none is =
 
 -- ---- where the key is made
 
--- no entry before the key's own, and none behind it, makes a key with its number
+-- no entry before the key's own, and none after it, makes a key with its number
 unmade_before : (before : List Entry) (position number n L : ℕ) (kind : KeyKind) (key : PublicKey) (later : List Entry)
     → RuledLog (before ++ NewKey position number n L kind key ∷ later) → IsUnmade before n
 unmade_before before position number n L kind key later ruled =
@@ -207,9 +207,9 @@ unmade_before before position number n L kind key later ruled =
     let counted : n ≡ made before = (ruled before own later refl).1.key_counted in
     high_is_unmade before n (RuledLog-front before (own ∷ later) ruled) (omega (arith, counted))
 
-unmade_behind : (before : List Entry) (position number n L : ℕ) (kind : KeyKind) (key : PublicKey) (later : List Entry)
+unmade_after : (before : List Entry) (position number n L : ℕ) (kind : KeyKind) (key : PublicKey) (later : List Entry)
     → RuledLog (before ++ NewKey position number n L kind key ∷ later) → IsUnmade later n
-unmade_behind before position number n L kind key later ruled =
+unmade_after before position number n L kind key later ruled =
     let own : Entry = NewKey position number n L kind key in
     let counted : n ≡ made before = (ruled before own later refl).1.key_counted in
     later_is_unmade (before ++ own ∷ []) later n (omega (arith, counted, made-push before own)) (subst RuledLog (sym (append_snoc before own later)) ruled)
@@ -219,7 +219,7 @@ alive_of_ruled : (log before : List Entry) (position number n L : ℕ) (kind : K
 alive_of_ruled log before position number n L kind key later split ruled =
     let here : RuledLog (before ++ NewKey position number n L kind key ∷ later) = subst RuledLog split ruled in
     ap (λ es. is_alive es n L) split
-    ∙ alive_is_lasting before position number n L kind key later (unmade_before before position number n L kind key later here) (unmade_behind before position number n L kind key later here)
+    ∙ alive_is_lasting before position number n L kind key later (unmade_before before position number n L kind key later here) (unmade_after before position number n L kind key later here)
 
 longer : (log before : List Entry) (own entry : Entry) (later : List Entry) → log ≡ before ++ own ∷ later → log ++ entry ∷ [] ≡ before ++ own ∷ (later ++ entry ∷ [])
 longer log before own entry later split = ap (λ es. es ++ entry ∷ []) split ∙ append_assoc before (own ∷ later) (entry ∷ [])
@@ -231,8 +231,8 @@ stays_made log entry n made ruled is =
     let at = made_stands log n made is in
     let own : Entry = NewKey at.1 at.2 n made.layer made.kind made.key in
     let whole : RuledLog (at.0 ++ own ∷ (at.3 ++ entry ∷ [])) = subst RuledLog (longer log at.0 own entry at.3 at.4) ruled in
-    let behind : IsUnmade (at.3 ++ entry ∷ []) n = unmade_behind at.0 at.1 at.2 n made.layer made.kind made.key (at.3 ++ entry ∷ []) whole in
-    let other : makes n entry ≡ false = All-contains (λ e. makes n e ≡ false) (at.3 ++ entry ∷ []) entry behind (Contains-push at.3 entry) in
+    let remaining : IsUnmade (at.3 ++ entry ∷ []) n = unmade_after at.0 at.1 at.2 n made.layer made.kind made.key (at.3 ++ entry ∷ []) whole in
+    let other : makes n entry ≡ false = All-contains (λ e. makes n e ≡ false) (at.3 ++ entry ∷ []) entry remaining (Contains-push at.3 entry) in
     last_of-push (key_in n) log entry ∙ ap (λ o. option_or o (last_of (key_in n) log)) (makes_none n entry other) ∙ is
 
 and_one_more : (kind : KeyKind) (L : ℕ) (later : List Entry) (entry : Entry)
@@ -265,7 +265,7 @@ lives_on log entry n made ruled is =
 
 -- ---- what the flag says
 
-not_true : (b : Bool) → not b ≡ true → b ≡ false
+pub not_true : (b : Bool) → not b ≡ true → b ≡ false
 not_true false e = refl
 not_true true e = absurd (true≢false (sym e))
 

@@ -12,9 +12,9 @@ use Rattle.mb_model.specs.declared.reply.Reply.TheVariants as reply
 use Rattle.mb_model.specs.declared.state.State.{State}
 use Rattle.mb_model.specs.Layers.{is_runnable}
 use Rattle.mb_model.specs.Refusals.{Refusal, wrong_phase, wrong_layer, refused}
-use Rattle.mb_model.specs.OrderStep.{region_of, OrderStep, unread, failed, done}
-use Rattle.mb_model.specs.LayerEvents.{Outcome, on_region, is_named, has_number, value_reply, put_event, get_event, drop_event, sign_with, sign_event}
-use Rattle.mb_model.specs.Machine.{Phase, off, dead, ratchet, World, Told, boot_event, awake, awake_in, status_of, status_event, go_event, region_event, CommandStep, Machine, Step, answered, no_memory, stopped}
+use Rattle.mb_model.specs.OrderStep.{region_of, OrderStep, spells_none, fails_check, is_obeyed}
+use Rattle.mb_model.specs.LayerEvents.{Outcome, on_region, has_name, has_number, value_reply, put_event, get_event, drop_event, sign_with, sign_event}
+use Rattle.mb_model.specs.Machine.{Phase, off, dead, ratchet, World, Told, boot_event, awake, awake_in, status_of, status_event, go_event, region_event, CommandStep, Machine, Step, answered, lacks_memory, loses_power}
 use Rattle.mb_laws.specs.RefusalLaws.{Leaves, BringsBytes, IsPhase}
 use Rattle.mb_laws.proofs.OrderLemmas.{one_order_step, some_order_step, refused_order_leaves}
 
@@ -92,7 +92,7 @@ spared state outcome none n e = absurd (none n e)
 put_spares : (L : ℕ) (name value : List ℕ) (state : State) → Spares state (put_event L name value state)
 unfolding put_event
 put_spares L name value state =
-    either_spares state (not (list_any (is_named name) (region_of state L).secrets) && nat_le 16 (length (region_of state L).secrets)) _ _
+    either_spares state (not (list_any (has_name name) (region_of state L).secrets) && nat_le 16 (length (region_of state L).secrets)) _ _
     (λ n e. refl) (λ n e. absurd (grind (arith, e)))
 
 get_spares : (L : ℕ) (name : List ℕ) (state : State) → Spares state (get_event L name state)
@@ -102,7 +102,7 @@ get_spares L name state n e = refl
 drop_spares : (L : ℕ) (name : List ℕ) (state : State) → Spares state (drop_event L name state)
 unfolding drop_event
 drop_spares L name state =
-    either_spares state (list_any (is_named name) (region_of state L).secrets) _ _ (λ n e. absurd (grind (arith, e))) (λ n e. refl)
+    either_spares state (list_any (has_name name) (region_of state L).secrets) _ _ (λ n e. absurd (grind (arith, e))) (λ n e. refl)
 
 sign_with_spares : (L : ℕ) (key : Option RegionKey) (message : List ℕ) (state : State) → Spares state (sign_with L key message state)
 sign_with_spares L None message state = λ n e. refl
@@ -118,7 +118,7 @@ region_spares r L does state spares =
     either_spares state (nat_lt L r || not (is_runnable state.layers L)) (refused wrong_layer, state) (does state) (λ n e. refl) spares
 
 -- a device that is awake has the state
-awake_state : (phase : Phase) (state : Option State) (on : ℕ × State) → awake phase state ≡ Ok on → state ≡ Some on.1
+pub awake_state : (phase : Phase) (state : Option State) (on : ℕ × State) → awake phase state ≡ Ok on → state ≡ Some on.1
 awake_state off state on e = absurd (grind (arith, e))
 awake_state dead state on e = absurd (grind (arith, e))
 awake_state (ratchet r) None on e = absurd (grind (arith, e))
@@ -158,8 +158,8 @@ machine_leaves world (event.Sign L key message) n next x = region_leaves world (
 
 pub refusals_leave : (world : World) (given : Event) (n : ℕ) (next : World) → Step world given (reply.Refused n) next → Leaves world given next
 refusals_leave world given n next (answered x) = machine_leaves world given n next x
-refusals_leave world given n next (no_memory x wants same) = absurd (grind (arith, x))
-refusals_leave world given n next (stopped told whole state x armed y cut z same) = absurd (grind (arith, x))
+refusals_leave world given n next (lacks_memory p) = absurd (grind (arith, p.answered))
+refusals_leave world given n next (loses_power p) = absurd (grind (arith, p.answered))
 
 -- ---- the machine's own answers
 
@@ -176,7 +176,7 @@ either_own false x y first second = second
 put_own : (L : ℕ) (name value : List ℕ) (state : State) → is_own (put_event L name value state).0 ≡ true
 unfolding put_event
 put_own L name value state =
-    either_own (not (list_any (is_named name) (region_of state L).secrets) && nat_le 16 (length (region_of state L).secrets)) _ _ refl refl
+    either_own (not (list_any (has_name name) (region_of state L).secrets) && nat_le 16 (length (region_of state L).secrets)) _ _ refl refl
 
 value_own : (secret : Option Secret) → is_own (value_reply secret) ≡ true
 value_own None = refl
@@ -184,11 +184,11 @@ value_own (Some secret) = refl
 
 get_own : (L : ℕ) (name : List ℕ) (state : State) → is_own (get_event L name state).0 ≡ true
 unfolding get_event
-get_own L name state = value_own (find (is_named name) (region_of state L).secrets)
+get_own L name state = value_own (find (has_name name) (region_of state L).secrets)
 
 drop_own : (L : ℕ) (name : List ℕ) (state : State) → is_own (drop_event L name state).0 ≡ true
 unfolding drop_event
-drop_own L name state = either_own (list_any (is_named name) (region_of state L).secrets) _ _ refl refl
+drop_own L name state = either_own (list_any (has_name name) (region_of state L).secrets) _ _ refl refl
 
 sign_with_own : (L : ℕ) (key : Option RegionKey) (message : List ℕ) (state : State) → is_own (sign_with L key message state).0 ≡ true
 sign_with_own L None message state = refl
@@ -224,9 +224,9 @@ go_own world (Ok on) =
     either_told (nat_lt 2 on.0) _ _ refl (either_told (is_runnable on.1.layers (on.0 + 1)) _ _ refl refl)
 
 order_own : (state : State) (text draw : List ℕ) (answer : Reply) (next : State) → OrderStep state text draw answer next → is_own answer ≡ true
-order_own state text draw answer next (unread none x y) = ap is_own x
-order_own state text draw answer next (failed order spelled refusal fails x y) = ap is_own x
-order_own state text draw answer next (done order spelled passes x y) = ap is_own y
+order_own state text draw answer next (spells_none p) = ap is_own p.answered
+order_own state text draw answer next (fails_check p) = ap is_own p.answered
+order_own state text draw answer next (is_obeyed p) = ap is_own p.answered
 
 command_own : (world : World) (text draw : List ℕ) (on : Result (ℕ × State) Refusal) (answer : Reply) (next : World) → CommandStep world text draw on answer next → is_own answer ≡ true
 command_own world text draw (Err refusal) answer next x = ap is_own x.0
@@ -261,8 +261,8 @@ machine_is_whole world given answer next x =
 
 pub no_memory_leaves : (world : World) (given : Event) (next : World) → Step world given reply.NoMemory next → next ≡ world
 no_memory_leaves world given next (answered x) = absurd ((machine_is_whole world given reply.NoMemory next x).0 refl)
-no_memory_leaves world given next (no_memory x wants same) = same
-no_memory_leaves world given next (stopped told whole state x armed y cut z same) = absurd (grind (arith, x))
+no_memory_leaves world given next (lacks_memory p) = p.stays
+no_memory_leaves world given next (loses_power p) = absurd (grind (arith, p.answered))
 
 -- ---- the machine is a function
 
@@ -357,8 +357,8 @@ machine_phase world (event.Sign L key message) answer next holds x = same_phase 
 
 pub phases_stay_phases : (world : World) (given : Event) (answer : Reply) (next : World) → IsPhase world.phase → Step world given answer next → IsPhase next.phase
 phases_stay_phases world given answer next holds (answered x) = machine_phase world given answer next holds x
-phases_stay_phases world given answer next holds (no_memory x wants same) = subst IsPhase (sym (ap (λ (w : World). w.phase) same)) holds
-phases_stay_phases world given answer next holds (stopped told whole state x armed y cut z same) = subst IsPhase (sym (ap (λ (w : World). w.phase) same)) tt
+phases_stay_phases world given answer next holds (lacks_memory p) = subst IsPhase (sym (ap (λ (w : World). w.phase) p.stays)) holds
+phases_stay_phases world given answer next holds (loses_power p) = subst IsPhase (sym (ap (λ (w : World). w.phase) p.follows)) tt
 
 -- ---- no event is without an answer
 

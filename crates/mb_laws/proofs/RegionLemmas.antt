@@ -1,5 +1,5 @@
 -- What a change leaves in a region: nothing, where its layer is not reliable; and only what was kept rightly.
-use Rattle.std.proofs.Common.{◌≡◌, ◌≤◌, ℕ, List, [], ◌∷◌, ◌++◌, inl, inr, append_assoc, Option, Bool, true, false, refl, sym, ap, subst, ◌∙◌, arith}
+use Rattle.std.proofs.Common.{◌≡◌, ◌≤◌, ℕ, List, [], ◌∷◌, ◌++◌, inl, inr, append_assoc, Option, Some, Bool, true, false, refl, sym, ap, subst, ◌∙◌, arith}
 use Rattle.std.specs.Prelude.{◌==◌, ◌&&◌, nat_lt, IsTrue, if◌then◌else◌}
 use Rattle.std.proofs.lemmas.List.Elements.{All-nil, All-cons, All-append, All-filter}
 use Rattle.mb_model.specs.declared.key.PublicKey.{PublicKey}
@@ -36,7 +36,7 @@ layer_of-after layers kind k cosigned new L upper =
     at_upper (λ m. layer_of (after layers kind k cosigned new) m ≡ layer_after layers kind k cosigned new m) L upper refl refl
 
 -- a change that leaves its own layer unreliable is no ordinary load
-unreliable_is_no_load : (kind : ChangeKind) (old new : Layer) → CanPlace kind old new → new.reliable ≡ false → is_own_load kind ≡ false
+unreliable_is_no_load : (kind : ChangeKind) (old new : Layer) → CanPlace kind old new → new.reliable ≡ false → is_own_load (Some kind) ≡ false
 unreliable_is_no_load Establish old new can not_reliable = refl
 unreliable_is_no_load Surrender old new can not_reliable = refl
 unreliable_is_no_load Load old new can not_reliable = grind (arith, can, not_reliable)

@@ -38,7 +38,7 @@ written_spaceless bytes are = IsHex-spaceless (hex_word bytes) bytes (hex_word-r
 written_same : (a b : List ℕ) → IsBytes a → IsBytes b → hex_word a ≡ hex_word b → a ≡ b
 written_same a b aa ab e = IsHex-same (hex_word a) (hex_word b) a b e (hex_word-read a aa) (hex_word-read b ab)
 
--- the words for how layers stand, each with what stands behind it
+-- the words for how layers stand, each with what stands after it
 abbrev stands_letters : List ℕ → ℕ
 stands_letters word = 65536 * get_or word 0 0 + 256 * get_or word 1 0 + get_or word 2 0
 

@@ -12,18 +12,19 @@ use Rattle.mb_model.specs.declared.key.KeySeed.{KeySeed}
 use Rattle.mb_model.specs.declared.key.Chains.TheVariants.{W4}
 use Rattle.mb_model.specs.Key.{IsSized}
 use Rattle.mb_model.specs.Winternitz.{coef, chain_step, steps_from, steps, value_at, chain_ends, one_time_key, one_time_key_mark, digits_of, message_hash}
-use Rattle.mb_model.specs.Merkle.{leaf_node, inner_node, parent_node, climb, part, leaf_number, randomizer, root_from, hash_of, HasForm, Verifies}
+use Rattle.mb_model.specs.Pieces.{part}
+use Rattle.mb_model.specs.Merkle.{leaf_node, inner_node, parent_node, climb, leaf_number, randomizer, root_from, hash_of, HasForm, Verifies}
 use Rattle.mb_model.specs.Signing.{private_value, randomizer_of, public_ends, one_time_public, node_above, levels_above, node_of, public_of, signed_values, signed_digits, sibling, path_from, signature_of}
 use Rattle.mb_model.specs.Born.{born_key, officer_key}
 use Rattle.mb_laws.specs.SigningLaws.{IsSizedSeed}
 
 -- what stands in the first of two texts, and the second of two
-part_before : (xs ys : List ℕ) (at n : ℕ) → at + n ≤ length xs → part (xs ++ ys) at n ≡ part xs at n
+part_before : (xs ys : List ℕ) (at n : ℕ) → at + n ≤ length xs → part at n (xs ++ ys) ≡ part at n xs
 part_before xs ys at n within =
     ap (take n) (drop-append-le at xs ys (omega arith))
     ∙ take-append-le n (drop at xs) ys (omega (arith, length-drop at xs))
 
-part_last : (xs ys : List ℕ) (at n : ℕ) → length xs ≡ at → length ys ≡ n → part (xs ++ ys) at n ≡ ys
+part_last : (xs ys : List ℕ) (at n : ℕ) → length xs ≡ at → length ys ≡ n → part at n (xs ++ ys) ≡ ys
 part_last xs ys at n before is = ap (take n) (drop_at xs ys at before) ∙ take_all n ys (omega arith)
 
 -- pieces of 32 bytes in a row
@@ -255,15 +256,15 @@ climb-path_from key q less =
 
 -- what the bytes of a signature by a key of types 5 and 3 are made of
 record HasParts (sig a b c d e f : List ℕ) : Type 0 where
-  index : part sig 0 4 ≡ a
-  chains : part sig 4 4 ≡ b
-  randomizer : part sig 8 32 ≡ c
-  values : part sig 40 2144 ≡ d
-  tree : part sig 2184 4 ≡ e
+  index : part 0 4 sig ≡ a
+  chains : part 4 4 sig ≡ b
+  randomizer : part 8 32 sig ≡ c
+  values : part 40 2144 sig ≡ d
+  tree : part 2184 4 sig ≡ e
   path : drop 2188 sig ≡ f
   sized : length sig ≡ 2348
 
--- six texts of these lengths, one behind another
+-- six texts of these lengths, one after another
 six_parts : (a b c d e f : List ℕ) → length a ≡ 4 → length b ≡ 4 → length c ≡ 32 → length d ≡ 2144 → length e ≡ 4 → length f ≡ 160
     → HasParts (a ++ b ++ c ++ d ++ e ++ f) a b c d e f
 six_parts a b c d e f la lb lc ld le lf =
@@ -272,13 +273,13 @@ six_parts a b c d e f la lb lc ld le lf =
     let four : length (a ++ b ++ c ++ d) ≡ 2184 = omega (arith, length-append (a ++ b ++ c) d) in
     let five : length (a ++ b ++ c ++ d ++ e) ≡ 2188 = omega (arith, length-append (a ++ b ++ c ++ d) e) in
     let whole : List ℕ = a ++ b ++ c ++ d ++ e ++ f in
-    let in_five : (at n : ℕ) → at + n ≤ 2188 → part whole at n ≡ part (a ++ b ++ c ++ d ++ e) at n =
+    let in_five : (at n : ℕ) → at + n ≤ 2188 → part at n whole ≡ part at n (a ++ b ++ c ++ d ++ e) =
     λ at n within. part_before (a ++ b ++ c ++ d ++ e) f at n (omega arith) in
-    let in_four : (at n : ℕ) → at + n ≤ 2184 → part whole at n ≡ part (a ++ b ++ c ++ d) at n =
+    let in_four : (at n : ℕ) → at + n ≤ 2184 → part at n whole ≡ part at n (a ++ b ++ c ++ d) =
     λ at n within. in_five at n (omega arith) ∙ part_before (a ++ b ++ c ++ d) e at n (omega arith) in
-    let in_three : (at n : ℕ) → at + n ≤ 40 → part whole at n ≡ part (a ++ b ++ c) at n =
+    let in_three : (at n : ℕ) → at + n ≤ 40 → part at n whole ≡ part at n (a ++ b ++ c) =
     λ at n within. in_four at n (omega arith) ∙ part_before (a ++ b ++ c) d at n (omega arith) in
-    let in_two : (at n : ℕ) → at + n ≤ 8 → part whole at n ≡ part (a ++ b) at n =
+    let in_two : (at n : ℕ) → at + n ≤ 8 → part at n whole ≡ part at n (a ++ b) =
     λ at n within. in_three at n (omega arith) ∙ part_before (a ++ b) c at n (omega arith) in
     record {
       index = in_two 0 4 (omega arith) ∙ take_at a b 4 la;
@@ -309,7 +310,7 @@ parts_of key q text =
 pub length-signature_of : (key : KeySeed) (q : ℕ) (text : List ℕ) → length (signature_of key q text) ≡ 2348
 length-signature_of key q text = (parts_of key q text).sized
 
-word_read : (sig : List ℕ) (at n : ℕ) → part sig at 4 ≡ to_be_bytes w32 n → n < 2 ^ 32 → from_be_bytes w32 (part sig at 4) ≡ n
+word_read : (sig : List ℕ) (at n : ℕ) → part at 4 sig ≡ to_be_bytes w32 n → n < 2 ^ 32 → from_be_bytes w32 (part at 4 sig) ≡ n
 word_read sig at n is fits = ap (from_be_bytes w32) is ∙ from_be_bytes-to_be_bytes_4 n fits
 
 -- and begins with its index
@@ -322,15 +323,15 @@ reached id hash q values path =
     climb id (32 + q) (leaf_node id (32 + q) (one_time_key W4 id q (digits_of W4 hash) values)) path 5
 
 root_from-reached : (key : KeySeed) (hash sig : List ℕ)
-    → root_from (public_of key) hash sig ≡ reached key.identifier hash (leaf_number sig) (part sig 40 2144) (drop 2188 sig)
+    → root_from (public_of key) hash sig ≡ reached key.identifier hash (leaf_number sig) (part 40 2144 sig) (drop 2188 sig)
 unfolding root_from public_of
 root_from-reached key hash sig = refl
 
-hash_of-signed : (key : KeySeed) (text sig : List ℕ) (q : ℕ) (c : List ℕ) → leaf_number sig ≡ q → part sig 8 32 ≡ c
+hash_of-signed : (key : KeySeed) (text sig : List ℕ) (q : ℕ) (c : List ℕ) → leaf_number sig ≡ q → part 8 32 sig ≡ c
     → hash_of (public_of key) text sig ≡ message_hash key.identifier q c text
 unfolding hash_of public_of
 hash_of-signed key text sig q c index randomizer =
-    ap (λ n. message_hash key.identifier n (part sig 8 32) text) index ∙ ap (λ r. message_hash key.identifier q r text) randomizer
+    ap (λ n. message_hash key.identifier n (part 8 32 sig) text) index ∙ ap (λ r. message_hash key.identifier q r text) randomizer
 
 -- the parts of a signature lead to the root of the key's tree
 reached-signed : (key : KeySeed) (q : ℕ) (text : List ℕ) → q < 32
@@ -357,7 +358,7 @@ root_reached key q text sig less parts index =
     let values : List ℕ = signed_values key q (signed_digits key q text) 67 in
     ap (λ h. root_from (public_of key) h sig) (hash_of-signed key text sig q (randomizer_of key q) index parts.randomizer)
     ∙ root_from-reached key hash sig
-    ∙ ap (λ n. reached id hash n (part sig 40 2144) (drop 2188 sig)) index
+    ∙ ap (λ n. reached id hash n (part 40 2144 sig) (drop 2188 sig)) index
     ∙ ap (λ v. reached id hash q v (drop 2188 sig)) parts.values
     ∙ ap (reached id hash q values) parts.path
     ∙ reached-signed key q text less

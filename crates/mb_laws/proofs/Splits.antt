@@ -77,7 +77,7 @@ not_all P items place item first all =
 pub one_first : {X : Type 0} (P : X → Type 0) (items : List X) (p q : ℕ) (x y : X) → IsFirstFailing P items p x → IsFirstFailing P items q y → (p ≡ q) × (x ≡ y)
 one_first P items p q x y one other =
     elim (two_splits one.before other.before x y one.rest other.rest (sym one.split ∙ other.split)) [
-      | inl same ↦ (one.place_is ∙ ap length same.0 ∙ sym other.place_is, same.1)
+      | inl same ↦ (one.index ∙ ap length same.0 ∙ sym other.index, same.1)
       | inr (inl first) ↦ absurd (one.fails (All-split P one.before x first.0 (subst (All P) first.1 other.hold)))
       | inr (inr second) ↦ absurd (other.fails (All-split P other.before y second.0 (subst (All P) second.1 one.hold)))
     ]
@@ -86,11 +86,11 @@ one_first P items p q x y one other =
 pub first_fails_or_all : {X : Type 0} (P : X → Type 0) (items : List X) → ((place : ℕ) (item : X) → IsFirstFailing P items place item → ⊥) → (All P items → ⊥) → ⊥
 first_fails_or_all P [] none fails = fails (All-nil P)
 first_fails_or_all P (x ∷ xs) none fails =
-    let behind = λ (p : P x) (place : ℕ) (item : _) (first : IsFirstFailing P xs place item). none (place + 1) item (record {
+    let remaining = λ (p : P x) (place : ℕ) (item : _) (first : IsFirstFailing P xs place item). none (place + 1) item (record {
       before = x ∷ first.before;
       rest = first.rest;
       split = ap (λ t. x ∷ t) first.split;
-      place_is = omega (arith, first.place_is);
+      index = omega (arith, first.index);
       hold = All-cons P x first.before p first.hold;
       fails = first.fails;
     }) in
@@ -98,9 +98,9 @@ first_fails_or_all P (x ∷ xs) none fails =
       before = [];
       rest = xs;
       split = refl;
-      place_is = refl;
+      index = refl;
       hold = All-nil P;
-      fails = λ p. first_fails_or_all P xs (behind p) (λ all. fails (All-cons P x xs p all));
+      fails = λ p. first_fails_or_all P xs (remaining p) (λ all. fails (All-cons P x xs p all));
     })
 
 -- ---- answers
@@ -124,7 +124,7 @@ Lacks c P G r = ((r ≡ c) × (P → ⊥)) ⊎ (P × G r)
 pub one_lacks : {R : Type 0} (c : R) (P : Type 0) (G : R → Type 0) → IsOne G → IsOne (Lacks c P G)
 one_lacks c P G others = one_more (λ r. (r ≡ c) × (P → ⊥)) P G (λ r x p. x.1 p) (λ r s x y. x.0 ∙ sym y.0) others
 
--- nothing is lacking where P holds, and nothing behind it is
+-- nothing is lacking where P holds, and nothing after it is
 pub lacks_none : {R : Type 0} (c : R) (P : Type 0) (G : R → Type 0) (r : R) → P → (G r → ⊥) → Lacks c P G r → ⊥
 lacks_none c P G r p none (inl x) = x.1 p
 lacks_none c P G r p none (inr x) = none x.1

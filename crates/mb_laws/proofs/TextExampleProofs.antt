@@ -13,16 +13,15 @@ use Rattle.mb_model.specs.declared.order.Act.{Act}
 use Rattle.mb_model.specs.declared.order.Act.TheVariants as act
 use Rattle.mb_model.specs.declared.order.Order.{Order}
 use Rattle.mb_model.specs.declared.reply.Reply.TheVariants as reply
-use Rattle.mb_model.specs.Board.{part}
 use Rattle.mb_model.specs.Replies.{reply_line}
-use Rattle.mb_model.specs.FirstTexts.{reply_line as first_line}
+use Rattle.mb_model.specs.FirstTexts.{first_reply_line as first_line}
 use Rattle.mb_model.specs.Texts.{IsHex}
-use Rattle.mb_model.specs.Lines.{IsLine, Begins, bad, short, Reads, TextFailsAtLine}
+use Rattle.mb_model.specs.Lines.{IsLine, IsBeginning, ends_early, Reads, TextFailsAtLine}
 use Rattle.mb_model.specs.Script.{IsName, SaysEvent, is_skipped, IsScript, with_before, commands_in, drawn_events}
 use Rattle.mb_model.specs.Drafts.{SayAct, AreLoadLines, IsDraft}
 use Rattle.mb_model.specs.Listing.{summary}
 use Rattle.mb_laws.specs.TextExamples.{LineExamples, ScriptExamples, script_text, script_events, DrawExamples, ReplyExamples, DraftExamples, surrender, load, ListingExamples}
-use Rattle.mb_laws.proofs.LineLemmas.{cons_same, cons_none, isnt, HasLines-nil}
+use Rattle.mb_laws.proofs.LineLemmas.{cons_same, cons_none, isnt, HasLines-nil, bad_after}
 use Rattle.mb_laws.proofs.EventLemmas.{letters, letters_of, says_letters}
 use Rattle.mb_laws.proofs.DraftLemmas.{letters_at, targets_same, act_letters, act_begins, head_letters, head}
 
@@ -145,7 +144,7 @@ second_says first second later [] says = absurd says
 second_says first second later (a ∷ []) says = absurd says.1
 second_says first second later (a ∷ b ∷ events) says = (b, says.1.0)
 
-jump_begins : Begins IsScript (codes "boot" ∷ [] ∷ codes "jump" ∷ []) → ⊥
+jump_begins : IsBeginning IsScript (codes "boot" ∷ [] ∷ codes "jump" ∷ []) → ⊥
 jump_begins begins =
     let said = second_says (codes "boot") (codes "jump") (filter (λ line. not (is_skipped line)) begins.more) begins.value begins.stands.said in
     no_jump said.0 (says_letters (codes "jump") said.0 said.1)
@@ -154,8 +153,8 @@ no_script : TextFailsAtLine IsScript (codes "boot" ++ 10 ∷ 10 ∷ codes "jump"
 no_script = record {
   lines = codes "boot" ∷ [] ∷ codes "jump" ∷ [];
   has = record { plain = lines_plain (codes "boot" ∷ [] ∷ codes "jump" ∷ []) refl; whole = inl refl };
-  fails = bad (codes "boot" ∷ [] ∷ []) (codes "jump") [] refl
-      (record { more = []; value = event.Boot ∷ []; stands = record { said = (refl, tt); most = lit≤ tt } }) jump_begins refl;
+  fails = bad_after IsScript (codes "boot" ∷ [] ∷ []) (codes "jump") []
+      (record { more = []; value = event.Boot ∷ []; stands = record { said = (refl, tt); most = lit≤ tt } }) jump_begins;
 }
 
 pub scripts : ScriptExamples
@@ -166,7 +165,7 @@ scripts = record {
 }
 
 pub draws : DrawExamples
-unfolding with_before commands_in drawn_events part
+unfolding with_before commands_in drawn_events
 draws = record { drawn = λ text draw. refl }
 
 -- ---- replies
@@ -197,7 +196,7 @@ replies = record {
 
 -- ---- drafts
 
-load_lines : AreLoadLines (codes "version 258" ∷ codes "trust never" ∷ codes "code 616263" ∷ []) 258 Never (codes "abc")
+load_lines : AreLoadLines (codes "version 258" ∷ codes "trust never" ∷ codes "code 616263" ∷ []) (record { version = 258; trust = Never; code = codes "abc" })
 unfolding digits decode_pairs
 load_lines = record {
   code_line = codes "code 616263";
@@ -213,7 +212,7 @@ surrender_draft = record {
   target_lines = codes "target length 7" ∷ [];
   act_lines = [];
   spelled = refl;
-  named = refl;
+  named = (lit≤ tt, lit≤ tt);
   targeted = ((lit≤ tt, refl), tt);
   few = lit≤ tt;
   says_act = refl;
@@ -227,7 +226,7 @@ load_draft = record {
   target_lines = [];
   act_lines = codes "version 258" ∷ codes "trust never" ∷ codes "code 616263" ∷ [];
   spelled = refl;
-  named = refl;
+  named = (lit≤ tt, lit≤ tt);
   targeted = tt;
   few = lit≤ tt;
   says_act = load_lines;
@@ -240,8 +239,8 @@ two_lines : (first second : List ℕ) (lines : List (List ℕ)) (a : Act) → li
     → SayAct lines a → ⊥
 two_lines first second lines (act.Establish owner trust) e kind says = omega (arith, kind)
 two_lines first second lines act.Surrender e kind says = omega (arith, kind)
-two_lines first second lines (act.Load version trust code) e kind says = omega (arith, ap length (sym e ∙ says.spelled))
-two_lines first second lines (act.Emergency version trust code) e kind says = omega (arith, kind)
+two_lines first second lines (act.Load payload) e kind says = omega (arith, ap length (sym e ∙ says.spelled))
+two_lines first second lines (act.Emergency payload) e kind says = omega (arith, kind)
 two_lines first second lines (act.NewKey kind_of_key) e kind says = omega (arith, kind)
 
 half_load : (value : Order) → IsDraft (codes "order load 3" ∷ codes "version 258" ∷ codes "trust never" ∷ []) value → ⊥
@@ -256,7 +255,11 @@ pub drafts : DraftExamples
 drafts = record {
   surrender = surrender_draft;
   load = load_draft;
-  too_short = short (record { more = codes "code 616263" ∷ []; value = load; stands = load_draft }) half_load refl;
+  too_short = ends_early (record {
+    good = record { more = codes "code 616263" ∷ []; value = load; stands = load_draft };
+    unfinished = half_load;
+    number = refl;
+  });
 }
 
 -- ---- listings

@@ -4,7 +4,6 @@ use Rattle.std.specs.Prelude.{◌==◌, ◌&&◌, nat_lt, All, is_some, IsSome, 
 use Rattle.std.specs.Option.{option_or}
 use Rattle.std.specs.List.{list_any}
 use Rattle.std.proofs.lemmas.List.Elements.{All-tail, All-head}
-use Rattle.mb_model.specs.declared.key.PublicKey.{PublicKey}
 use Rattle.mb_model.specs.declared.layer.Layer.{Layer}
 use Rattle.mb_model.specs.declared.layer.Layers.{Layers}
 use Rattle.mb_model.specs.declared.layer.Pair.{Pair}
@@ -16,14 +15,14 @@ use Rattle.mb_model.specs.declared.order.Countersignature.{Countersignature}
 use Rattle.mb_model.specs.declared.order.KeyKind.{KeyKind}
 use Rattle.mb_model.specs.declared.order.Order.{Order}
 use Rattle.mb_model.specs.declared.entry.Entry.{Entry}
-use Rattle.mb_model.specs.declared.entry.Entry.TheVariants.{Change, NewKey, Succession}
+use Rattle.mb_model.specs.declared.entry.Entry.TheVariants.{Succession}
 use Rattle.mb_model.specs.declared.state.Codes.{Codes}
 use Rattle.mb_model.specs.declared.state.State.{State}
 use Rattle.mb_model.specs.Layers.{layer_of, is_layer_number}
-use Rattle.mb_model.specs.Rules.{kind_of, Condition, CanPlace, placed, is_load, may_cosign, kept_regions, admits, after}
-use Rattle.mb_model.specs.Log.{entries_of, number_of, layers_of, used, made, Ruled}
+use Rattle.mb_model.specs.Rules.{kind_of, change_of, renews, Condition, CanPlace, placed, is_load, may_cosign, kept_regions, admits, after}
+use Rattle.mb_model.specs.Log.{entries_of, layers_of, used, Ruled}
 use Rattle.mb_model.specs.Signing.{public_of}
-use Rattle.mb_model.specs.OrderStep.{region_of, IsCountersigned, renews, next_key, succeeded, device_after, uses_after, code_after, codes_after, cosigned_by, changed, keyed}
+use Rattle.mb_model.specs.OrderStep.{region_of, IsCountersigned, next_key, succeeded, device_after, uses_after, code_after, codes_after, cosigned_by, named_next, change_entry, changed, key_entry, keyed}
 use Rattle.mb_model.specs.Valid.{IsNamed, AreNamed, IsValidState}
 use Rattle.mb_laws.specs.RegionLaws.{HasValidRegions}
 use Rattle.mb_laws.proofs.RuleLemmas.{placed_can}
@@ -58,11 +57,11 @@ pub own_layer : (layers : Layers) (kind : ChangeKind) (k : ℕ) (by : Pair) (new
 unfolding after
 own_layer layers kind k by new is = at_number (λ m. k ≡ m → layer_of (after layers kind m by new) m ≡ new) k is (λ e. refl) (λ e. refl) (λ e. refl) refl
 
-named_placed : (old : Layer) (code : Option (List ℕ)) (a : Act) → is_some (kind_of a) ≡ true → IsNamed (placed old a).code (code_after code a)
+named_placed : (old : Layer) (code : Option (List ℕ)) (a : Act) → is_some (change_of (kind_of a)) ≡ true → IsNamed (placed old a).code (code_after code a)
 named_placed old code (act.Establish owner trust) is = tt
 named_placed old code act.Surrender is = tt
-named_placed old code (act.Load version trust bytes) is = refl
-named_placed old code (act.Emergency version trust bytes) is = refl
+named_placed old code (act.Load payload) is = refl
+named_placed old code (act.Emergency payload) is = refl
 named_placed old code (act.NewKey kind) is = absurd (grind (arith, is))
 
 named_after : (at at' beneath b : Bool) (old new : Layer) (code : Option (List ℕ)) (a : Act) → at ≡ at'
@@ -81,12 +80,12 @@ swapped m k =
       | false ↦ λ e. grind (arith, e)
     ]) refl
 
-codes_follow : (layers : Layers) (codes : Codes) (kind : ChangeKind) (k : ℕ) (by : Pair) (a : Act) → kind_of a ≡ Some kind
+codes_follow : (layers : Layers) (codes : Codes) (kind : ChangeKind) (k : ℕ) (by : Pair) (a : Act) → change_of (kind_of a) ≡ Some kind
     → AreNamed layers codes → AreNamed (after layers kind k by (placed (layer_of layers k) a)) (codes_after codes k a)
 unfolding after
 codes_follow layers codes kind k by a is named =
     let new : Layer = placed (layer_of layers k) a in
-    let some : is_some (kind_of a) ≡ true = ap is_some is in
+    let some : is_some (change_of (kind_of a)) ≡ true = ap is_some is in
     record {
       one = named_after (1 == k) (k == 1) (nat_lt 1 k) (admits layers kind k by 1) layers.one new codes.one a (swapped 1 k) (named_placed (layer_of layers k) codes.one a some) named.one;
       two = named_after (2 == k) (k == 2) (nat_lt 2 k) (admits layers kind k by 2) layers.two new codes.two a (swapped 2 k) (named_placed (layer_of layers k) codes.two a some) named.two;
@@ -97,7 +96,7 @@ codes_follow layers codes kind k by a is named =
 
 -- the order is a load, and the countersignature is of a layer above it
 abbrev pub IsAbove : Option ChangeKind → ℕ → Countersignature → Type 0
-IsAbove kind k by = IsSomeAnd kind (λ c. IsTrue (is_load c)) × (k < by.layer)
+IsAbove change k by = IsTrue (is_load change) × (k < by.layer)
 
 any_with : {X : Type 0} (p : X → Bool) (P : X → Type 0) (xs : List X) → All P xs → list_any p xs ≡ true → (x : X) × (p x ≡ true) × P x
 any_with p P [] all e = absurd (grind (arith, e))
@@ -108,7 +107,7 @@ any_with {X} p P (x ∷ xs) all e =
     ]) refl
 
 -- a layer that countersigned may do so
-pub cosigned_may : (state : State) (order : Order) (kind : ChangeKind) (m : ℕ) → kind_of order.act ≡ Some kind
+pub cosigned_may : (state : State) (order : Order) (kind : ChangeKind) (m : ℕ) → change_of (kind_of order.act) ≡ Some kind
     → All (IsAbove (Some kind) order.layer) order.countersignatures → All (IsCountersigned state order) order.countersignatures
     → list_any (λ by. by.layer == m) order.countersignatures ≡ true → IsTrue (may_cosign state.layers kind order.layer m)
 cosigned_may state order kind m is above signed any =
@@ -135,10 +134,6 @@ succeeded_valid state draw valid last =
 
 -- ---- a change
 
--- the key that a change names
-abbrev pub named_next : Bool → State → List ℕ → Option PublicKey
-named_next next state draw = if next then Some (public_of (next_key state draw)) else None
-
 device_named : (next : Bool) (state : State) (draw : List ℕ)
     → Some (public_of (device_after next state draw)) ≡ option_or (named_next next state draw) (Some (public_of state.device))
 device_named true state draw = refl
@@ -153,17 +148,9 @@ is_named_next : (next : Bool) (state : State) (draw : List ℕ) → is_some (nam
 is_named_next true state draw = refl
 is_named_next false state draw = refl
 
--- the entry that tells of a change
-abbrev pub change_entry : State → ChangeKind → Order → List ℕ → Entry
-change_entry state kind order draw =
-    Change (length state.log) (number_of (entries_of state.log) + 1) kind order.layer (cosigned_by order)
-    (after state.layers kind order.layer (cosigned_by order) (placed (layer_of state.layers order.layer) order.act))
-    (kept_regions state.layers kind order.layer (cosigned_by order))
-    (named_next (renews (Some kind) order.layer) state draw)
-
 -- an order of a kind that may be given, in a state in which the device key has an index for it
 pub record MayChange (state : State) (kind : ChangeKind) (order : Order) : Type 0 where
-  pub kind_is : kind_of order.act ≡ Some kind
+  pub kind_is : change_of (kind_of order.act) ≡ Some kind
   pub allowed : Condition state.layers (Some kind) order.layer
   pub above : All (IsAbove (Some kind) order.layer) order.countersignatures
   pub signed : All (IsCountersigned state order) order.countersignatures
@@ -207,10 +194,6 @@ changed_valid state kind order draw valid may =
     (changed_keeps state kind order draw may.kind_is valid.layers (regions_of state valid))
 
 -- ---- a new key
-
-abbrev pub key_entry : State → ℕ → KeyKind → List ℕ → Entry
-key_entry state L kind draw =
-    NewKey (length state.log) (number_of (entries_of state.log)) (made (entries_of state.log)) L kind (public_of (next_key state draw))
 
 -- the state after a new key of layer 2 or 3 is valid
 pub keyed_valid : (state : State) (L : ℕ) (kind : KeyKind) (draw : List ℕ) → IsValidState state

@@ -27,7 +27,7 @@ use Rattle.mb_model.specs.Rules.{Condition, CanPlace, admits, is_kept, kept_regi
 use Rattle.mb_model.specs.Log.{is_change, number_of, layers_of, made, RuledLog}
 use Rattle.mb_model.specs.Lives.{ends, MadeKey, alive_keys}
 use Rattle.mb_model.specs.Regions.{empty_region, is_epoch, without_configuration_keys, region_after, with_key, AdmittedSince, KeyAdmitted, RegionKeptRightly}
-use Rattle.mb_model.specs.LayerEvents.{is_named, with_secret, has_number, with_use}
+use Rattle.mb_model.specs.LayerEvents.{has_name, with_secret, has_number, with_use}
 use Rattle.mb_model.specs.Signing.{public_of}
 use Rattle.mb_model.specs.Valid.{as_made, IsValidRegion}
 use Rattle.mb_laws.specs.AliveLaws.{goes_on, made_by}
@@ -147,7 +147,7 @@ not_ended (NewKey position number key_number layer key_kind key) L other kinds.C
 not_ended (Succession position key) L other kinds.Epoch = refl
 not_ended (Succession position key) L other kinds.Configuration = refl
 
--- an entry that is no change leaves the keys, and what it makes stands behind them
+-- an entry that is no change leaves the keys, and what it makes stands after them
 keys_over_other : (log : List Entry) (entry : Entry) (L : ℕ) (keys : List RegionKey) → is_change entry ≡ false → map as_made keys ≡ alive_keys log L
     → alive_keys (log ++ entry ∷ []) L ≡ map as_made keys ++ made_by L entry
 keys_over_other log entry L keys other are =
@@ -218,19 +218,19 @@ valid_over_new_key log layers position L kind seed region ruled allowed room val
 abbrev called : List ℕ → Secret
 called name = record { name = name; value = []; born = 0 }
 
-named-same : (xs ys : List ℕ) → is_named ys (called xs) ≡ true → xs ≡ ys
+named-same : (xs ys : List ℕ) → has_name ys (called xs) ≡ true → xs ≡ ys
 named-same [] [] e = refl
 named-same [] (y ∷ ys) e = absurd (true≢false (sym e))
 named-same (x ∷ xs) [] e = absurd (true≢false (sym e))
 named-same (x ∷ xs) (y ∷ ys) e = both (x == y) refl (named-same xs ys) e
   where
-    both : (same : Bool) → (x == y) ≡ same → (is_named ys (called xs) ≡ true → xs ≡ ys) → (if same then is_named ys (called xs) else false) ≡ true → x ∷ xs ≡ y ∷ ys
+    both : (same : Bool) → (x == y) ≡ same → (has_name ys (called xs) ≡ true → xs ≡ ys) → (if same then has_name ys (called xs) else false) ≡ true → x ∷ xs ≡ y ∷ ys
     both false first rest e = absurd (true≢false (sym e))
     both true first rest e = ap (λ n. n ∷ xs) (eqb-true x y first) ∙ ap (λ ns. y ∷ ns) (rest e)
 
-named-own : (xs : List ℕ) → is_named xs (called xs) ≡ true
+named-own : (xs : List ℕ) → has_name xs (called xs) ≡ true
 named-own [] = refl
-named-own (x ∷ xs) = ap (λ b. if b then is_named xs (called xs) else false) (eq-eqb x x refl) ∙ named-own xs
+named-own (x ∷ xs) = ap (λ b. if b then has_name xs (called xs) else false) (eq-eqb x x refl) ∙ named-own xs
 
 AllPairs-map : {X Y : Type 0} (R : X → X → Type 0) (S : Y → Y → Type 0) (f : X → Y) → ((a b : X) → R a b → S (f a) (f b)) → (xs : List X) → AllPairs R xs → AllPairs S (map f xs)
 AllPairs-map R S f keeps [] pairs = λ i j d less within. absurd (omega (arith, within))
@@ -241,41 +241,41 @@ AllPairs-map R S f keeps (x ∷ xs) pairs =
 
 -- the secret that a new one leaves in its place
 abbrev kept_or : Secret → Secret → Secret
-kept_or new old = if is_named new.name old then new else old
+kept_or new old = if has_name new.name old then new else old
 
 -- what holds of the new secret and of the old ones holds of all afterwards
 with_secret-all : (P : Secret → Type 0) (new : Secret) (secrets : List Secret) → P new → All P secrets → All P (with_secret new secrets)
 unfolding with_secret
-with_secret-all P new secrets own old = by (list_any (is_named new.name) secrets)
+with_secret-all P new secrets own old = by (list_any (has_name new.name) secrets)
   where
     one : (b : Bool) (secret : Secret) → P secret → P (if b then new else secret)
     one true secret holds = own
     one false secret holds = holds
 
     by : (b : Bool) → All P (if b then map (kept_or new) secrets else secrets ++ new ∷ [])
-    by true = All-map P (kept_or new) secrets (All-weaker P (λ secret. P (kept_or new secret)) (λ secret holds. one (is_named new.name secret) secret holds) secrets old)
+    by true = All-map P (kept_or new) secrets (All-weaker P (λ secret. P (kept_or new secret)) (λ secret holds. one (has_name new.name secret) secret holds) secrets old)
     by false = All-append P secrets (new ∷ []) old (All-cons P new [] own (All-nil P))
 
 same_name : (new old : Secret) → (kept_or new old).name ≡ old.name
-same_name new old = by (is_named new.name old) refl
+same_name new old = by (has_name new.name old) refl
   where
-    by : (b : Bool) → is_named new.name old ≡ b → (if b then new else old).name ≡ old.name
+    by : (b : Bool) → has_name new.name old ≡ b → (if b then new else old).name ≡ old.name
     by true e = sym (named-same old.name new.name e)
     by false e = refl
 
 -- names still differ
 with_secret-names : (new : Secret) (secrets : List Secret) → AllPairs (λ a b. a.name ≢ b.name) secrets → AllPairs (λ a b. a.name ≢ b.name) (with_secret new secrets)
 unfolding with_secret
-with_secret-names new secrets differ = by (list_any (is_named new.name) secrets) refl
+with_secret-names new secrets differ = by (list_any (has_name new.name) secrets) refl
   where
-    by : (b : Bool) → list_any (is_named new.name) secrets ≡ b → AllPairs (λ (a b : Secret). a.name ≢ b.name) (if b then map (kept_or new) secrets else secrets ++ new ∷ [])
+    by : (b : Bool) → list_any (has_name new.name) secrets ≡ b → AllPairs (λ (a b : Secret). a.name ≢ b.name) (if b then map (kept_or new) secrets else secrets ++ new ∷ [])
     by true e =
         AllPairs-map (λ (a b : Secret). a.name ≢ b.name) (λ (a b : Secret). a.name ≢ b.name) (kept_or new) (λ a b apart same. apart (sym (same_name new a) ∙ same ∙ same_name new b)) secrets differ
     by false e =
         all_pairs_push (λ (a b : Secret). a.name ≢ b.name) secrets new differ
         (λ k d within same.
-        let found : is_named new.name (get_or secrets k d) ≡ true = ap (λ ns. is_named new.name (called ns)) same ∙ named-own new.name in
-        true≢false (sym (list_any_at (is_named new.name) secrets k d within found) ∙ e))
+        let found : has_name new.name (get_or secrets k d) ≡ true = ap (λ ns. has_name new.name (called ns)) same ∙ named-own new.name in
+        true≢false (sym (list_any_at (has_name new.name) secrets k d within found) ∙ e))
 
 -- a secret that is put
 pub valid_over_put : (log : List Entry) (layers : Layers) (L : ℕ) (name value : List ℕ) (region : Region)
@@ -298,9 +298,9 @@ valid_over_put log layers L name value region ruled upper runs valid =
 -- a secret that is dropped
 pub valid_over_drop : (log : List Entry) (layers : Layers) (L : ℕ) (name : List ℕ) (region : Region)
     → IsTrue (is_upper L) → Runnable layers L → IsValidRegion log layers L region
-    → IsValidRegion log layers L (record region { secrets = filter (λ secret. not (is_named name secret)) region.secrets })
+    → IsValidRegion log layers L (record region { secrets = filter (λ secret. not (has_name name secret)) region.secrets })
 valid_over_drop log layers L name region upper runs valid =
-    let others : Secret → Bool = λ secret. not (is_named name secret) in
+    let others : Secret → Bool = λ secret. not (has_name name secret) in
     record {
       empty = may_hold layers L (record region { secrets = filter others region.secrets }) upper runs;
       names = AllPairs-filter (λ a b. a.name ≢ b.name) others region.secrets valid.names;
@@ -314,7 +314,7 @@ valid_over_drop log layers L name region upper runs valid =
     }
 
 -- the key as it stands afterwards, where the one with this number is used
-abbrev used_if : ℕ → RegionKey → RegionKey
+abbrev pub used_if : ℕ → RegionKey → RegionKey
 used_if number key = if has_number number key then record key { uses = key.uses + 1 } else key
 
 used_as_made : (number : ℕ) (key : RegionKey) → as_made (used_if number key) ≡ as_made key

@@ -19,13 +19,13 @@ use Rattle.mb_model.specs.declared.region.Region.{Region}
 use Rattle.mb_model.specs.declared.region.RegionKey.{RegionKey}
 use Rattle.mb_model.specs.declared.state.State.{State}
 use Rattle.mb_model.specs.Layers.{layer_of, is_upper, is_runnable, Runnable}
-use Rattle.mb_model.specs.Rules.{kind_of, Condition, placed, kept_regions, after}
+use Rattle.mb_model.specs.Rules.{kind_of, change_of, renews, Condition, placed, kept_regions, after}
 use Rattle.mb_model.specs.Log.{entries_of, layers_of, number_of, made, Ruled, RuledLog}
 use Rattle.mb_model.specs.Regions.{region_after, with_key}
-use Rattle.mb_model.specs.OrderStep.{region_of, with_region, signed_by, log_with, next_key, renews, cosigned_by, succeeded, changed, keyed}
+use Rattle.mb_model.specs.OrderStep.{region_of, with_region, signed_by, log_with, next_key, cosigned_by, succeeded, changed, keyed}
 use Rattle.mb_model.specs.Refusals.{wrong_layer, refused}
 use Rattle.mb_model.specs.Signing.{public_of}
-use Rattle.mb_model.specs.LayerEvents.{Outcome, is_named, has_number, put_event, get_event, drop_event, sign_with, sign_event}
+use Rattle.mb_model.specs.LayerEvents.{Outcome, has_name, has_number, put_event, get_event, drop_event, sign_with, sign_event}
 use Rattle.mb_model.specs.Valid.{EachFollows, IsValidRegion, IsValidState}
 use Rattle.mb_laws.specs.RegionLaws.{KeepsStatesValid, HasValidRegions}
 use Rattle.mb_laws.proofs.Splits.{map_split}
@@ -100,7 +100,7 @@ unfolding put_event
 put_keeps L name value = where_it_runs L (put_event L name value) (λ state runs valid.
     let region : Region = region_of state L in
     let next : IsValidState (with_region state L _) = valid_with state L _ valid (λ upper. valid_over_put (entries_of state.log) state.layers L name value region (valid_is_ruled state valid) upper runs (region_is_valid state L upper valid)) in
-    either_keeps (not (list_any (is_named name) region.secrets) && nat_le 16 (length region.secrets)) _ _ valid next)
+    either_keeps (not (list_any (has_name name) region.secrets) && nat_le 16 (length region.secrets)) _ _ valid next)
 
 pub get_keeps : (L : ℕ) (name : List ℕ) → KeepsStatesValid L (get_event L name)
 unfolding get_event
@@ -111,7 +111,7 @@ unfolding drop_event
 drop_keeps L name = where_it_runs L (drop_event L name) (λ state runs valid.
     let region : Region = region_of state L in
     let next : IsValidState (with_region state L _) = valid_with state L _ valid (λ upper. valid_over_drop (entries_of state.log) state.layers L name region upper runs (region_is_valid state L upper valid)) in
-    either_keeps (list_any (is_named name) region.secrets) _ _ next valid)
+    either_keeps (list_any (has_name name) region.secrets) _ _ next valid)
 
 signed_keeps : (L : ℕ) (found : Option RegionKey) (message : List ℕ) (state : State) → Runnable state.layers L → IsValidState state → IsValidState (sign_with L found message state).1
 signed_keeps L None message state runs valid = valid
@@ -140,7 +140,7 @@ succeeded_keeps state draw valid =
     }
 
 -- an order changes a layer
-pub changed_keeps : (state : State) (kind : ChangeKind) (order : Order) (draw : List ℕ) → kind_of order.act ≡ Some kind
+pub changed_keeps : (state : State) (kind : ChangeKind) (order : Order) (draw : List ℕ) → change_of (kind_of order.act) ≡ Some kind
     → state.layers ≡ layers_of (entries_of state.log) → HasValidRegions state → HasValidRegions (changed state kind order draw)
 unfolding changed signed_by
 changed_keeps state kind order draw of_kind are valid =

@@ -20,13 +20,13 @@ use Rattle.mb_model.specs.declared.reply.Reply.TheVariants as reply
 use Rattle.mb_model.specs.declared.state.State.{State}
 use Rattle.mb_model.specs.OrderFormat.{Climb, climbed, countersignature_format, countersignatures_format, order_format}
 use Rattle.mb_model.specs.Layers.{is_runnable}
-use Rattle.mb_model.specs.Rules.{kind_of, Condition}
+use Rattle.mb_model.specs.Rules.{kind_of, change_of, renews, Condition}
 use Rattle.mb_model.specs.Log.{entries_of, used}
 use Rattle.mb_model.specs.Signing.{public_of}
 use Rattle.mb_model.specs.Refusals.{Refusal, wrong_phase, wrong_layer, refused}
-use Rattle.mb_model.specs.OrderStep.{IsCountersigned, renews, needs_succession, next_key, RegionHasRoom, Passes, succeeded, carried_out, obeyed, OrderStep, unread, failed, done}
+use Rattle.mb_model.specs.OrderStep.{IsCountersigned, needs_succession, next_key, RegionHasRoom, Passes, succeeded, carried_out, obeyed, OrderStep, spells_none, fails_check, is_obeyed}
 use Rattle.mb_model.specs.LayerEvents.{Outcome, put_event, get_event, drop_event, sign_event}
-use Rattle.mb_model.specs.Machine.{Phase, off, dead, ratchet, World, Told, boot_event, awake, awake_in, status_event, go_event, region_event, CommandStep, Machine, Step, answered, no_memory, stopped, Run}
+use Rattle.mb_model.specs.Machine.{Phase, off, dead, ratchet, World, Told, boot_event, awake, awake_in, status_event, go_event, region_event, CommandStep, Machine, Step, answered, lacks_memory, loses_power, Run}
 use Rattle.mb_model.specs.Valid.{IsValidState, Valid}
 use Rattle.mb_laws.proofs.LogLemmas.{used-push}
 use Rattle.mb_laws.specs.RegionLaws.{KeepsStatesValid}
@@ -48,17 +48,17 @@ climbing (suc n) climb k (c ∷ cs) low allowed =
     All-cons P c cs (omega (arith, above, low)) (climbing n (climbed climb c) k cs (omega (arith, above, low)) allowed.1)
 
 above_by : (a : Act) (layer : ℕ) (targets : List Target) (cs : List Countersignature)
-    → (countersignatures_format (record { layer = layer; targets = targets; act = a })).Allowed cs → All (IsAbove (kind_of a) layer) cs
+    → (countersignatures_format (record { layer = layer; targets = targets; act = a })).Allowed cs → All (IsAbove (change_of (kind_of a)) layer) cs
 unfolding countersignatures_format
 above_by (act.Establish owner trust) layer targets cs allowed = λ i d within. absurd (omega (arith, within, allowed.0.1))
 above_by act.Surrender layer targets cs allowed = λ i d within. absurd (omega (arith, within, allowed.0.1))
 above_by (act.NewKey kind) layer targets cs allowed = λ i d within. absurd (omega (arith, within, allowed.0.1))
-above_by (act.Load version trust code) layer targets cs allowed =
+above_by (act.Load payload) layer targets cs allowed =
     λ i d within. (refl, climbing (length cs) (record { below = layer; left = length cs }) layer cs (omega arith) allowed.1 i d within)
-above_by (act.Emergency version trust code) layer targets cs allowed =
+above_by (act.Emergency payload) layer targets cs allowed =
     λ i d within. (refl, climbing (length cs) (record { below = layer; left = length cs }) layer cs (omega arith) allowed.1 i d within)
 
-pub all_above : (order : Order) → order_format.Allowed order → All (IsAbove (kind_of order.act) order.layer) order.countersignatures
+pub all_above : (order : Order) → order_format.Allowed order → All (IsAbove (change_of (kind_of order.act)) order.layer) order.countersignatures
 unfolding order_format
 all_above order allowed = above_by order.act order.layer order.targets order.countersignatures allowed.1.1
 
@@ -77,8 +77,8 @@ over_succession_room : (state : State) (draw : List ℕ) (L : ℕ) (a : Act) →
 unfolding succeeded
 over_succession_room state draw L (act.Establish owner trust) is = is
 over_succession_room state draw L act.Surrender is = is
-over_succession_room state draw L (act.Load version trust code) is = is
-over_succession_room state draw L (act.Emergency version trust code) is = is
+over_succession_room state draw L (act.Load payload) is = is
+over_succession_room state draw L (act.Emergency payload) is = is
 over_succession_room state draw L (act.NewKey kind) is = is
 
 never : (n : ℕ) → n ≡ 31 → n ≡ 0 → ⊥
@@ -92,19 +92,19 @@ used_anew state draw =
 
 -- an order leads to a valid state, where the device key has an index for it
 carried_by : (ready : State) (order : Order) (draw : List ℕ) (a : Act) → order.act ≡ a → IsValidState ready
-    → Condition ready.layers (kind_of a) order.layer → All (IsAbove (kind_of a) order.layer) order.countersignatures
+    → Condition ready.layers (change_of (kind_of a)) order.layer → All (IsAbove (change_of (kind_of a)) order.layer) order.countersignatures
     → All (IsCountersigned ready order) order.countersignatures
-    → (used (entries_of ready.log) ≡ 31 → IsTrue (renews (kind_of a) order.layer))
+    → (used (entries_of ready.log) ≡ 31 → IsTrue (renews (change_of (kind_of a)) order.layer))
     → RegionHasRoom ready order.layer a
     → IsValidState (carried_out ready order a draw)
 carried_by ready order draw (act.Establish owner trust) is valid allowed above signed index room =
-    changed_valid ready Establish order draw valid (record { kind_is = ap kind_of is; allowed = allowed; above = above; signed = signed; index = index })
+    changed_valid ready Establish order draw valid (record { kind_is = ap (λ (x : Act). change_of (kind_of x)) is; allowed = allowed; above = above; signed = signed; index = index })
 carried_by ready order draw act.Surrender is valid allowed above signed index room =
-    changed_valid ready Surrender order draw valid (record { kind_is = ap kind_of is; allowed = allowed; above = above; signed = signed; index = index })
-carried_by ready order draw (act.Load version trust code) is valid allowed above signed index room =
-    changed_valid ready Load order draw valid (record { kind_is = ap kind_of is; allowed = allowed; above = above; signed = signed; index = index })
-carried_by ready order draw (act.Emergency version trust code) is valid allowed above signed index room =
-    changed_valid ready Emergency order draw valid (record { kind_is = ap kind_of is; allowed = allowed; above = above; signed = signed; index = index })
+    changed_valid ready Surrender order draw valid (record { kind_is = ap (λ (x : Act). change_of (kind_of x)) is; allowed = allowed; above = above; signed = signed; index = index })
+carried_by ready order draw (act.Load payload) is valid allowed above signed index room =
+    changed_valid ready Load order draw valid (record { kind_is = ap (λ (x : Act). change_of (kind_of x)) is; allowed = allowed; above = above; signed = signed; index = index })
+carried_by ready order draw (act.Emergency payload) is valid allowed above signed index room =
+    changed_valid ready Emergency order draw valid (record { kind_is = ap (λ (x : Act). change_of (kind_of x)) is; allowed = allowed; above = above; signed = signed; index = index })
 carried_by ready order draw (act.NewKey kind) is valid allowed above signed index room =
     keyed_valid ready order.layer kind draw valid allowed (λ e. absurd (grind (arith, index e))) room
 
@@ -118,29 +118,29 @@ not_needed n true e last = refl
 not_needed n false e last = absurd (grind (arith, e, last))
 
 -- the order finds an index, and then is carried out
-obeyed_valid : (state : State) (order : Order) (draw : List ℕ) → IsValidState state → order_format.Allowed order → Passes state order
+pub obeyed_valid : (state : State) (order : Order) (draw : List ℕ) → IsValidState state → order_format.Allowed order → Passes state order
     → IsValidState (obeyed state order draw)
 unfolding obeyed
 obeyed_valid state order draw valid allowed passes =
     let above = all_above order allowed in
     (elim (needs_succession state order) as (λ b. needs_succession state order ≡ b → IsValidState (carried_out (if b then succeeded state draw else state) order order.act draw)) [
       | true ↦ λ e.
-          let last : used (entries_of state.log) ≡ 31 = needed_last (used (entries_of state.log)) (renews (kind_of order.act) order.layer) e in
+          let last : used (entries_of state.log) ≡ 31 = needed_last (used (entries_of state.log)) (renews (change_of (kind_of order.act)) order.layer) e in
           carried_by (succeeded state draw) order draw order.act refl (succeeded_valid state draw valid last)
-          (over_succession_condition state draw (kind_of order.act) order.layer passes.condition) above
+          (over_succession_condition state draw (change_of (kind_of order.act)) order.layer passes.condition) above
           (over_succession_signed state draw order passes.countersignatures)
           (λ f. absurd (never (used (entries_of (succeeded state draw).log)) f (used_anew state draw)))
           (over_succession_room state draw order.layer order.act passes.keys)
       | false ↦ λ e.
           carried_by state order draw order.act refl valid passes.condition above passes.countersignatures
-          (not_needed (used (entries_of state.log)) (renews (kind_of order.act) order.layer) e) passes.keys
+          (not_needed (used (entries_of state.log)) (renews (change_of (kind_of order.act)) order.layer) e) passes.keys
     ]) refl
 
 pub order_step_valid : (state : State) (text draw : List ℕ) (answer : Reply) (next : State) → IsValidState state → OrderStep state text draw answer next → IsValidState next
-order_step_valid state text draw answer next valid (unread none is same) = subst IsValidState (sym same) valid
-order_step_valid state text draw answer next valid (failed order spelled refusal fails is same) = subst IsValidState (sym same) valid
-order_step_valid state text draw answer next valid (done order spelled passes same is) =
-    subst IsValidState (sym same) (obeyed_valid state order draw valid spelled.allowed passes)
+order_step_valid state text draw answer next valid (spells_none step) = subst IsValidState (sym step.stays) valid
+order_step_valid state text draw answer next valid (fails_check step) = subst IsValidState (sym step.stays) valid
+order_step_valid state text draw answer next valid (is_obeyed step) =
+    subst IsValidState (sym step.follows) (obeyed_valid state step.order draw valid step.spelled.allowed step.passes)
 
 -- ---- the machine
 
@@ -207,11 +207,13 @@ machine_valid world (event.Sign L key message) answer next valid is = told_valid
 -- each step leads from a valid state to a valid one
 pub step_valid : (world : World) (e : Event) (answer : Reply) (next : World) → Valid world.state → Step world e answer next → Valid next.state
 step_valid world e answer next valid (answered machine) = machine_valid world e answer next valid machine
-step_valid world e answer next valid (no_memory is may same) = subst (λ (w : World). Valid w.state) (sym same) valid
-step_valid world e answer next valid (stopped told whole state is armed machine may (inl before) same) =
-    subst (λ (w : World). Valid w.state) (sym same) (subst Valid (sym before) valid)
-step_valid world e answer next valid (stopped told whole state is armed machine may (inr after) same) =
-    subst (λ (w : World). Valid w.state) (sym same) (subst Valid (sym after) (machine_valid world e told whole valid machine))
+step_valid world e answer next valid (lacks_memory lacks) = subst (λ (w : World). Valid w.state) (sym lacks.stays) valid
+step_valid world e answer next valid (loses_power lost) =
+    let left : Valid lost.state = elim (lost.counts) [
+      | inl before ↦ subst Valid (sym before) valid
+      | inr after ↦ subst Valid (sym after) (machine_valid world e lost.told lost.whole valid lost.machine)
+    ] in
+    subst (λ (w : World). Valid w.state) (sym lost.follows) left
 
 -- and so does a run
 pub run_valid : (world : World) (answered : List Answered) (next : World) → Valid world.state → Run world answered next → Valid next.state

@@ -3,7 +3,7 @@ use Rattle.std.proofs.Common.{◌≡◌, [], ◌∷◌, refl}
 use Rattle.rand_core.specs.Steps.{first_words, u32_at}
 use Rattle.rand_chacha.specs.Block.{quarter_round, column_round, diagonal_round, double_rounds, block_word}
 use Rattle.mb_model.specs.Script.{with_before}
-use Rattle.mb_model.specs.Workload.{generated, signed_orders, script_lines}
+use Rattle.mb_model.specs.Workload.{generated, signed_orders, workload_lines}
 use Rattle.mb_laws.specs.WorkloadExamples.{WorkloadExamples}
 
 words : generated 0 2 ≡ 0xADE0B876 ∷ 0x903DF1A0 ∷ []
@@ -11,7 +11,7 @@ unfolding generated first_words u32_at quarter_round column_round diagonal_round
 words = refl
 
 pub workload : WorkloadExamples
-unfolding with_before signed_orders script_lines
+unfolding with_before signed_orders workload_lines
 workload = record {
   words = words;
   first_round = λ code. refl;

@@ -1,5 +1,7 @@
--- Laws of the keys that are alive by a log and of their configurations, entry by entry. Can a reader that goes over a log once tell them?
-use Rattle.std.specs.Prelude.{◌≡◌, ℕ, ◌<◌, ◌≤◌, ◌==◌, Bool, false, not, List, [], ◌∷◌, ◌++◌, filter, All, AllPairs, Contains, IsTrue, if◌then◌else◌}
+-- Laws of the keys that are alive by a log and of their configurations, entry by entry. Can a reader that goes over a
+-- log once tell them?
+use Rattle.std.specs.Prelude.{◌≡◌, ℕ, ◌<◌, ◌≤◌, ◌==◌, Bool, false, not, List, [], ◌∷◌, ◌++◌, filter, All, AllPairs}
+use Rattle.std.specs.Prelude.{Contains, IsTrue, if◌then◌else◌}
 use Rattle.std.specs.List.{list_all}
 use Rattle.mb_model.specs.declared.key.PublicKey.{PublicKey}
 use Rattle.mb_model.specs.declared.order.KeyKind.{KeyKind}
@@ -37,7 +39,7 @@ IsUnmade log n = All (λ entry. makes n entry ≡ false) log
 abbrev pub NoKeyAtFirst : Type 0
 NoKeyAtFirst = (L : ℕ) → alive_keys [] L ≡ []
 
--- one more entry leaves the keys that it does not end, and behind them stands the one that it makes
+-- one more entry leaves the keys that it does not end, and after them stands the one that it makes
 abbrev pub AliveAfterOneMore : Type 0
 AliveAfterOneMore =
     (log : List Entry) (entry : Entry) (L : ℕ)
@@ -91,5 +93,7 @@ LivesAfterOneMore =
 -- A key that is alive lives in the layers that stand: its last configuration has these, up to its own.
 abbrev pub AliveKeysLiveNow : Type 0
 AliveKeysLiveNow =
-    (log : List Entry) (n L : ℕ) (kind : KeyKind) (key : PublicKey) → RuledLog log → IsTrue (is_upper L) → Alive log n L kind key
-    → (earlier : List Configuration) × (number : ℕ) × (lives_of log n ≡ earlier ++ configuration L number (layers_of log) ∷ [])
+    (log : List Entry) (n L : ℕ) (kind : KeyKind) (key : PublicKey) → RuledLog log → IsTrue (is_upper L)
+    → Alive log n L kind key
+    → (earlier : List Configuration) × (number : ℕ)
+    × (lives_of log n ≡ earlier ++ configuration L number (layers_of log) ∷ [])

@@ -1,4 +1,5 @@
--- Laws of chains: each has one verdict at most, and an accepted one tells what its device tells. Can one chain be taken for two?
+-- Laws of chains: each has one verdict at most, and an accepted one tells what its device tells. Can one chain be taken
+-- for two?
 use Rattle.std.specs.Prelude.{◌≡◌, ℕ, List, ◌++◌}
 use Rattle.mb_format.specs.Format.{IsBytes}
 use Rattle.mb_model.specs.declared.key.PublicKey.{PublicKey}

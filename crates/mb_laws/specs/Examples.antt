@@ -9,6 +9,7 @@ use Rattle.mb_model.specs.declared.key.Trust.TheVariants.{Always, Never, Counter
 use Rattle.mb_model.specs.declared.layer.Layer.{Layer}
 use Rattle.mb_model.specs.declared.layer.Layers.{Layers}
 use Rattle.mb_model.specs.declared.layer.Pair.{Pair}
+use Rattle.mb_model.specs.declared.order.Payload.{Payload}
 use Rattle.mb_model.specs.declared.order.Act.TheVariants as act
 use Rattle.mb_model.specs.declared.order.ChangeKind.TheVariants.{Establish, Surrender, Load, Emergency}
 use Rattle.mb_model.specs.declared.order.KeyKind.TheVariants as kinds
@@ -32,12 +33,22 @@ bare n trust = record { owner = Some (officer n); code = None; reliable = false;
 -- a layer with an owner and reliable code
 abbrev pub running : ℕ → Trust → Layer
 running n trust =
-    record { owner = Some (officer n); code = Some (record { hash = replicate 32 n; version = 1 }); reliable = true; trust = trust }
+    record {
+      owner = Some (officer n);
+      code = Some (record { hash = replicate 32 n; version = 1 });
+      reliable = true;
+      trust = trust;
+    }
 
 -- the layers after a load of this code into layer n by its owner, or from beneath
 abbrev loaded_with : ℕ → Trust → List ℕ → Layer
 loaded_with n trust code =
-    record { owner = Some (officer n); code = Some (record { hash = sha256 code; version = 7 }); reliable = true; trust = trust }
+    record {
+      owner = Some (officer n);
+      code = Some (record { hash = sha256 code; version = 7 });
+      reliable = true;
+      trust = trust;
+    }
 
 -- code of layer n that is no longer to be relied on
 abbrev doubted : ℕ → Trust → Layer
@@ -125,6 +136,10 @@ pub record StandingExamples : Type 0 where
   pub three : standing (record (all_run Never) { two = doubted 2 Never }) 3 ≡ stands.Reliable
   pub unowned_layer : standing newborn 2 ≡ stands.Unowned
 
+-- a load of version 7
+abbrev pub seven : Trust → List ℕ → Payload
+seven trust code = record { version = 7; trust = trust; code = code }
+
 -- what each kind of change leaves
 pub record AfterExamples : Type 0 where
   pub establish : after newborn Establish 2 nobody (placed unowned (act.Establish (officer 2) Never)) ≡ established
@@ -132,13 +147,16 @@ pub record AfterExamples : Type 0 where
   pub surrender : after (all_run Always) Surrender 2 nobody (placed (running 2 Always) act.Surrender)
       ≡ record { one = running 1 Always; two = unowned; three = doubted 3 Countersigned }
   -- layer 2 trusts the load of layer 1, and layer 3 would have had to countersign it
-  pub load : (code : List ℕ) → after (all_run Always) Load 1 nobody (placed (running 1 Always) (act.Load 7 Never code))
+  pub load : (code : List ℕ)
+      → after (all_run Always) Load 1 nobody (placed (running 1 Always) (act.Load (seven Never code)))
       ≡ record { one = loaded_with 1 Never code; two = running 2 Always; three = doubted 3 Countersigned }
   -- layer 3 countersigned, and layer 2 trusts never
-  pub load_countersigned : (code : List ℕ) → after (all_run Never) Load 1 by_three (placed (running 1 Always) (act.Load 7 Always code))
+  pub load_countersigned : (code : List ℕ)
+      → after (all_run Never) Load 1 by_three (placed (running 1 Always) (act.Load (seven Always code)))
       ≡ record { one = loaded_with 1 Always code; two = doubted 2 Never; three = running 3 Countersigned }
   -- the layer itself is reliable again; the one beneath stays
-  pub emergency : (code : List ℕ) → after (all_run Never) Emergency 2 by_three (placed (doubted 2 Never) (act.Emergency 7 Always code))
+  pub emergency : (code : List ℕ)
+      → after (all_run Never) Emergency 2 by_three (placed (doubted 2 Never) (act.Emergency (seven Always code)))
       ≡ record { one = running 1 Always; two = loaded_with 2 Always code; three = running 3 Countersigned }
 
 abbrev pub by_both : Pair
@@ -150,7 +168,12 @@ layers_with one two three = record { one = one; two = two; three = three }
 -- layer n after its second load
 abbrev pub renewed : ℕ → Trust → Layer
 renewed n trust =
-    record { owner = Some (officer n); code = Some (record { hash = replicate 32 n; version = 2 }); reliable = true; trust = trust }
+    record {
+      owner = Some (officer n);
+      code = Some (record { hash = replicate 32 n; version = 2 });
+      reliable = true;
+      trust = trust;
+    }
 
 -- the layers of a device's life, in turn
 abbrev pub at_birth : Layers
@@ -197,7 +220,7 @@ pub record LogExamples : Type 0 where
   pub used : used life ≡ 1
   pub made : made life ≡ 3
 
--- a configuration key of layer 2, made behind that life, and a load of layer 3
+-- a configuration key of layer 2, made after that life, and a load of layer 3
 abbrev pub longer_life : List Entry
 longer_life =
     life ++ NewKey 8 6 3 2 kinds.Configuration (officer 13)
@@ -221,5 +244,7 @@ pub record LifeExamples : Type 0 where
   pub configuration_key : lives_of longer_life 3 ≡
       record { number = 6; upto = 2; layers = layers_with (renewed 1 Always) (running 2 Countersigned) unowned } ∷ []
   -- a load of layer 2 ends the configuration key; the epoch key of layer 3, which did not trust it, ends too
-  pub configuration_key_ended : numbers_of (longer_life ++ Change 10 8 Load 2 nobody three_renewed by_two None ∷ []) 3 ≡ 6 ∷ []
-  pub epoch_key_ended : numbers_of (longer_life ++ Change 10 8 Load 2 nobody three_renewed by_two None ∷ []) 1 ≡ 4 ∷ 5 ∷ 6 ∷ 7 ∷ []
+  pub configuration_key_ended : numbers_of (longer_life ++ Change 10 8 Load 2 nobody three_renewed by_two None ∷ []) 3
+      ≡ 6 ∷ []
+  pub epoch_key_ended : numbers_of (longer_life ++ Change 10 8 Load 2 nobody three_renewed by_two None ∷ []) 1
+      ≡ 4 ∷ 5 ∷ 6 ∷ 7 ∷ []

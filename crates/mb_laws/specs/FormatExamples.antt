@@ -19,12 +19,19 @@ surrender_bytes = 2 ∷ 2 ∷ 1 ∷ 2 ∷ 0 ∷ 0 ∷ 0 ∷ 7 ∷ []
 -- how values are spelled
 pub record SpellingExamples : Type 0 where
   -- the types come first
-  pub public_key : (identifier root : List ℕ) → public_key_format.spelling (record { tree = H5; chains = W4; identifier = identifier; root = root })
+  pub public_key : (identifier root : List ℕ)
+      → public_key_format.spelling (record { tree = H5; chains = W4; identifier = identifier; root = root })
       ≡ 0 ∷ 0 ∷ 0 ∷ 5 ∷ 0 ∷ 0 ∷ 0 ∷ 3 ∷ identifier ++ root
-  pub surrender : body_format.spelling (record { layer = 2; targets = target.Length 7 ∷ []; act = act.Surrender }) ≡ surrender_bytes
-  pub new_key : body_format.spelling (record { layer = 3; targets = []; act = act.NewKey kinds.Configuration }) ≡ 5 ∷ 3 ∷ 0 ∷ 1 ∷ []
+  pub surrender : body_format.spelling (record { layer = 2; targets = target.Length 7 ∷ []; act = act.Surrender })
+      ≡ surrender_bytes
+  pub new_key : body_format.spelling (record { layer = 3; targets = []; act = act.NewKey kinds.Configuration })
+      ≡ 5 ∷ 3 ∷ 0 ∷ 1 ∷ []
   -- version 258, trust never, a code of three bytes
-  pub load : body_format.spelling (record { layer = 3; targets = []; act = act.Load 258 Never (0x61 ∷ 0x62 ∷ 0x63 ∷ []) })
+  pub load : body_format.spelling (record {
+    layer = 3;
+    targets = [];
+    act = act.Load (record { version = 258; trust = Never; code = 0x61 ∷ 0x62 ∷ 0x63 ∷ [] });
+  })
       ≡ 3 ∷ 3 ∷ 0 ∷ 0 ∷ 0 ∷ 1 ∷ 2 ∷ 1 ∷ 0 ∷ 0 ∷ 0 ∷ 3 ∷ 0x61 ∷ 0x62 ∷ 0x63 ∷ []
 
 -- a load of layer 1 without code or signature, with two countersignatures announced, and the first layer that is named
@@ -37,7 +44,7 @@ pub record FailingExamples : Type 0 where
   pub countersigned_surrender : FailsWhole order_format (surrender_bytes ++ 0 ∷ 0 ∷ 1 ∷ []) 10
   -- nothing follows an order
   pub left_over : FailsWhole order_format (surrender_bytes ++ 0 ∷ 0 ∷ 0 ∷ 9 ∷ []) 11
-  -- where two countersign layer 1, the first is layer 2: with layer 3 it fails at that byte, with layer 2 behind it
+  -- where two countersign layer 1, the first is layer 2: with layer 3 it fails at that byte, with layer 2 after it
   pub three_first : FailsWhole order_format (countersigned_first_by 3) 15
   pub two_first : FailsWhole order_format (countersigned_first_by 2) 16
   -- layer 1 takes no surrender

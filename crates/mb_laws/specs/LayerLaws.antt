@@ -10,7 +10,7 @@ use Rattle.mb_model.specs.declared.region.Region.{Region}
 use Rattle.mb_model.specs.declared.region.RegionKey.{RegionKey}
 use Rattle.mb_model.specs.declared.order.KeyKind.{KeyKind}
 use Rattle.mb_model.specs.Layers.{layer_of, is_upper, IsLayers, Runnable}
-use Rattle.mb_model.specs.Rules.{kind_of, Condition, CanPlace, placed, after}
+use Rattle.mb_model.specs.Rules.{kind_of, change_of, Condition, CanPlace, placed, after}
 use Rattle.mb_model.specs.Log.{is_change, layers_in, device_in, number_of, layers_of, device_of, used, RuledLog}
 use Rattle.mb_model.specs.Regions.{empty_region, region_after, with_key, AdmittedSince, RegionKeptRightly}
 use Rattle.mb_model.specs.declared.entry.Entry.{Entry}
@@ -19,7 +19,8 @@ use Rattle.mb_model.specs.declared.entry.Entry.TheVariants.{Change, NewKey}
 -- each layer from 1 up to one that may run is reliable
 abbrev pub RunnableLayersAreReliable : Type 0
 RunnableLayersAreReliable =
-    (layers : Layers) (n : ℕ) → n ≤ 3 → Runnable layers n → (m : ℕ) → 1 ≤ m → m ≤ n → IsTrue (layer_of layers m).reliable
+    (layers : Layers) (n : ℕ) → n ≤ 3 → Runnable layers n → (m : ℕ) → 1 ≤ m → m ≤ n
+    → IsTrue (layer_of layers m).reliable
 
 -- where layers 1 to n are all reliable, layer n may run
 abbrev pub ReliableLayersRun : Type 0
@@ -30,19 +31,21 @@ ReliableLayersRun =
 -- what an order puts in place, a change of its kind can put in place
 abbrev pub OrdersPlaceWhatEntriesShow : Type 0
 OrdersPlaceWhatEntriesShow =
-    (old : Layer) (order : Act) (kind : ChangeKind) → kind_of order ≡ Some kind → CanPlace kind old (placed old order)
+    (old : Layer) (order : Act) (kind : ChangeKind) → change_of (kind_of order) ≡ Some kind
+    → CanPlace kind old (placed old order)
 
--- what a change can put in place, some order of its kind does, but for the code behind the name
+-- what a change can put in place, some order of its kind does, but for the code that the name stands for
 abbrev pub EntriesShowWhatOrdersPlace : Type 0
 EntriesShowWhatOrdersPlace =
     (kind : ChangeKind) (old new : Layer) → CanPlace kind old new
-    → (order : Act) × (kind_of order ≡ Some kind) × (record (placed old order) { code = new.code } ≡ new)
+    → (order : Act) × (change_of (kind_of order) ≡ Some kind) × (record (placed old order) { code = new.code } ≡ new)
 
 -- an allowed change leaves layers that a device can hold
 abbrev pub LayersStayLayers : Type 0
 LayersStayLayers =
     (layers : Layers) (kind : ChangeKind) (k : ℕ) (cosigned : Pair) (new : Layer) → IsLayers layers
-    → Condition layers (Some kind) k → CanPlace kind (layer_of layers k) new → IsLayers (after layers kind k cosigned new)
+    → Condition layers (Some kind) k → CanPlace kind (layer_of layers k) new
+    → IsLayers (after layers kind k cosigned new)
 
 -- where the region of each unreliable layer was empty, it is so after a change
 abbrev pub UnreliableRegionsAreEmpty : Type 0
@@ -53,30 +56,32 @@ UnreliableRegionsAreEmpty =
     → (layer_of (after layers kind k cosigned new) L).reliable ≡ false
     → region_after layers kind k cosigned L region ≡ empty_region
 
--- the layers are those of an entry that names some, where none behind it does
+-- the layers are those of an entry that names some, where none after it does
 abbrev pub LastLayersCount : Type 0
 LastLayersCount =
     (before : List Entry) (entry : Entry) (rest : List Entry) (layers : Layers) → layers_in entry ≡ Some layers
     → All (λ e. layers_in e ≡ None) rest → layers_of (before ++ entry ∷ rest) ≡ layers
 
--- the device key is that of an entry that names one, where none behind it does
+-- the device key is that of an entry that names one, where none after it does
 abbrev pub LastDeviceCounts : Type 0
 LastDeviceCounts =
     (before : List Entry) (entry : Entry) (rest : List Entry) (key : PublicKey) → device_in entry ≡ Some key
     → All (λ e. device_in e ≡ None) rest → device_of (before ++ entry ∷ rest) ≡ Some key
 
--- and it has signed the entries behind that one
-abbrev pub UsedBehindTheLast : Type 0
-UsedBehindTheLast =
+-- and it has signed the entries after that one
+abbrev pub UsedAfterTheLast : Type 0
+UsedAfterTheLast =
     (before : List Entry) (entry : Entry) (rest : List Entry) (key : PublicKey) → device_in entry ≡ Some key
     → All (λ e. device_in e ≡ None) rest → used (before ++ entry ∷ rest) ≡ length rest
 
 -- what a change leaves of a region was kept rightly, where it was before
 abbrev pub ChangesKeepRightly : Type 0
 ChangesKeepRightly =
-    (log : List Entry) (position number : ℕ) (kind : ChangeKind) (k : ℕ) (cosigned : Pair) (layers : Layers) (kept : Pair) (next : Option PublicKey) (L : ℕ) (region : Region)
+    (log : List Entry) (position number : ℕ) (kind : ChangeKind) (k : ℕ) (cosigned : Pair)
+    → (layers : Layers) (kept : Pair) (next : Option PublicKey) (L : ℕ) (region : Region)
     → RegionKeptRightly log L region
-    → RegionKeptRightly (log ++ Change position number kind k cosigned layers kept next ∷ []) L (region_after (layers_of log) kind k cosigned L region)
+    → RegionKeptRightly (log ++ Change position number kind k cosigned layers kept next ∷ []) L
+    (region_after (layers_of log) kind k cosigned L region)
 
 -- and so with a new key
 abbrev pub NewKeysKeepRightly : Type 0
@@ -88,7 +93,8 @@ NewKeysKeepRightly =
 -- and over an entry that is no change
 abbrev pub OtherEntriesKeepRightly : Type 0
 OtherEntriesKeepRightly =
-    (log : List Entry) (entry : Entry) (L : ℕ) (region : Region) → is_change entry ≡ false → RegionKeptRightly log L region
+    (log : List Entry) (entry : Entry) (L : ℕ) (region : Region) → is_change entry ≡ false
+    → RegionKeptRightly log L region
     → RegionKeptRightly (log ++ entry ∷ []) L region
 
 -- what comes into a region with the present number was admitted at each change since

@@ -1,15 +1,29 @@
--- Laws of images: what a memory stands for and what is wrong with it exclude each other. Can one image be taken for two?
-use Rattle.std.specs.Prelude.{◌≡◌, ℕ, List, [], ◌∷◌, take, Option, None, Some}
+-- Laws of images: what a memory stands for and what is wrong with it exclude each other. Can one image be taken for
+-- two?
+use Rattle.std.specs.Prelude.{◌≡◌, ℕ, List, [], ◌∷◌, length, take, Option, None, Some}
 use Rattle.mb_format.specs.Format.{IsBytes}
 use Rattle.mb_model.specs.declared.key.KeySeed.{KeySeed}
 use Rattle.mb_model.specs.declared.key.PublicKey.{PublicKey}
 use Rattle.mb_model.specs.declared.state.State.{State}
 use Rattle.mb_model.specs.Log.{entries_of, layers_of}
-use Rattle.mb_model.specs.Memory.{IsBlank, BeginsWithRecord, flash_area}
-use Rattle.mb_model.specs.PublicFormat.{public_format}
-use Rattle.mb_model.specs.Meaning.{StandsFor, IsWellFormed, Fault, HasFault}
-use Rattle.mb_model.specs.Clean.{public_of_state, IsCleanFor, Clean}
-use Rattle.mb_model.specs.Factory.{IsFactoryImage}
+use Rattle.mb_model.specs.Memory.{IsBlank}
+use Rattle.mb_model.specs.Flash.{HoldsPublic}
+use Rattle.mb_model.specs.Meaning.{Contents, HoldsContents, StandsFor, IsWellFormed}
+use Rattle.mb_model.specs.Faults.{Fault, HasFault}
+use Rattle.mb_model.specs.Clean.{root_of, IsCleanFor, Clean}
+use Rattle.mb_model.specs.Factory.{state_at_birth, IsFactoryImage}
+
+-- the bytes of a memory hold one contents at most
+abbrev pub HoldsOneContents : Type 0
+HoldsOneContents =
+    (flash bbram : List ℕ) (a b : Contents) → IsBytes flash → IsBytes bbram
+    → HoldsContents flash bbram a → HoldsContents flash bbram b → a ≡ b
+
+-- and stand for one state
+abbrev pub StandsForOne : Type 0
+StandsForOne =
+    (flash bbram : List ℕ) (a b : Option State) → IsBytes flash → IsBytes bbram
+    → StandsFor flash bbram a → StandsFor flash bbram b → a ≡ b
 
 -- an image of bytes has one fault at most
 abbrev pub OneFault : Type 0
@@ -17,22 +31,26 @@ OneFault = (image : List ℕ) (a b : Fault) → IsBytes image → HasFault image
 
 -- a well-formed one has none
 abbrev pub WellFormedHasNoFault : Type 0
-WellFormedHasNoFault = (image : List ℕ) (state : Option State) (fault : Fault) → IsBytes image → IsWellFormed image state → HasFault image fault → ⊥
+WellFormedHasNoFault =
+    (image : List ℕ) (state : Option State) (fault : Fault) → IsBytes image
+    → IsWellFormed image state → HasFault image fault → ⊥
 
 -- no image is neither well formed nor faulty
 abbrev pub WellFormedOrFaulty : Type 0
 WellFormedOrFaulty =
-    (image : List ℕ) → ((state : Option State) → IsWellFormed image state → ⊥) → ((fault : Fault) → HasFault image fault → ⊥) → ⊥
+    (image : List ℕ) → ((state : Option State) → IsWellFormed image state → ⊥)
+    → ((fault : Fault) → HasFault image fault → ⊥) → ⊥
 
 -- a well-formed one stands for one state
 abbrev pub WellFormedStandsForOne : Type 0
-WellFormedStandsForOne = (image : List ℕ) (a b : Option State) → IsBytes image → IsWellFormed image a → IsWellFormed image b → a ≡ b
+WellFormedStandsForOne =
+    (image : List ℕ) (a b : Option State) → IsBytes image → IsWellFormed image a → IsWellFormed image b → a ≡ b
 
--- a memory that is clean for a state stands for it, where the public record is in the area that the root names
+-- a memory that is clean for a state stands for it, where the flash holds its codes and its log as the root names it
 abbrev pub CleanStandsForIt : Type 0
 CleanStandsForIt =
-    (flash bbram : List ℕ) (state : State) (clean : IsCleanFor bbram state)
-    → BeginsWithRecord public_format (flash_area flash clean.area) (public_of_state state)
+    (flash bbram : List ℕ) (state : State) (clean : IsCleanFor bbram state) → length flash ≡ 1048576
+    → HoldsPublic flash (root_of state clean.area) state.codes state.log []
     → state.layers ≡ layers_of (entries_of state.log) → StandsFor flash bbram (Some state)
 
 -- a memory that is all zero is clean for the dead device, and for no other
@@ -42,5 +60,13 @@ BlankIsDead = (bbram : List ℕ) (state : Option State) → IsBlank bbram → Cl
 -- the battery-backed memory of a new device begins with the life byte and three selectors that are 0
 abbrev pub FactoryMemoryBegins : Type 0
 FactoryMemoryBegins =
-    (root : KeySeed) (index : ℕ) (owner : PublicKey) (code noise image : List ℕ) (made : IsFactoryImage root index owner code noise image)
+    (maker : KeySeed) (index : ℕ) (owner : PublicKey) (code noise image : List ℕ)
+    (made : IsFactoryImage maker index owner code noise image)
     → take 4 made.bbram ≡ 0xA5 ∷ 0 ∷ 0 ∷ 0 ∷ []
+
+-- and the image is well formed
+abbrev pub FactoryImageIsWellFormed : Type 0
+FactoryImageIsWellFormed =
+    (maker : KeySeed) (index : ℕ) (owner : PublicKey) (code noise image : List ℕ)
+    → IsFactoryImage maker index owner code noise image
+    → IsWellFormed image (Some (state_at_birth maker index owner code noise))

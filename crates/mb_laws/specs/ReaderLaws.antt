@@ -1,4 +1,5 @@
--- Laws of what a log says of one key, entry by entry. Can a reader that goes over a log once, with a flag, tell its lives?
+-- Laws of what a log says of one key, entry by entry. Can a reader that goes over a log once, with a flag, tell its
+-- lives?
 use Rattle.std.specs.Prelude.{◌≡◌, ℕ, ◌==◌, true, not, ◌&&◌, List, [], ◌∷◌, ◌++◌, None, Some, if◌then◌else◌}
 use Rattle.mb_model.specs.declared.entry.Entry.{Entry}
 use Rattle.mb_model.specs.declared.entry.Entry.TheVariants.{Birth, Change, NewKey, Succession}
@@ -7,7 +8,7 @@ use Rattle.mb_model.specs.Log.{layers_of, RuledLog}
 use Rattle.mb_model.specs.Lives.{ends, Alive, configuration, opened_by, lives_of}
 use Rattle.mb_model.specs.Acceptance.{KeyEntry, key_in, key_of, is_alive}
 
--- the first configuration of the key with this number, where an entry behind a log makes it
+-- the first configuration of the key with this number, where an entry after a log makes it
 abbrev pub first_life : ℕ → List Entry → Entry → List Configuration
 first_life n log (Birth serial key layers) = []
 first_life n log (Change position number kind layer cosigned layers kept next) = []
@@ -21,12 +22,14 @@ NoLivesUnmade = (log : List Entry) (n : ℕ) → key_of log n ≡ None → lives
 
 -- where the key is not made yet: what the next entry says of it
 abbrev pub FirstSight : Type 0
-FirstSight = (log : List Entry) (entry : Entry) (n : ℕ) → key_of log n ≡ None → key_of (log ++ entry ∷ []) n ≡ key_in n entry
+FirstSight =
+    (log : List Entry) (entry : Entry) (n : ℕ) → key_of log n ≡ None → key_of (log ++ entry ∷ []) n ≡ key_in n entry
 
 -- then its first configuration
 abbrev pub FirstLife : Type 0
 FirstLife =
-    (log : List Entry) (entry : Entry) (n : ℕ) → key_of log n ≡ None → lives_of (log ++ entry ∷ []) n ≡ first_life n log entry
+    (log : List Entry) (entry : Entry) (n : ℕ) → key_of log n ≡ None
+    → lives_of (log ++ entry ∷ []) n ≡ first_life n log entry
 
 -- and where the entry makes it, it is alive
 abbrev pub FirstAlive : Type 0
@@ -37,34 +40,41 @@ FirstAlive =
 -- where the key is made: no later entry says otherwise
 abbrev pub StaysMade : Type 0
 StaysMade =
-    (log : List Entry) (entry : Entry) (n : ℕ) (made : KeyEntry) → RuledLog (log ++ entry ∷ []) → key_of log n ≡ Some made
+    (log : List Entry) (entry : Entry) (n : ℕ) (made : KeyEntry) → RuledLog (log ++ entry ∷ [])
+    → key_of log n ≡ Some made
     → key_of (log ++ entry ∷ []) n ≡ Some made
 
 -- it is alive until an entry ends it
 abbrev pub StaysAlive : Type 0
 StaysAlive =
-    (log : List Entry) (entry : Entry) (n : ℕ) (made : KeyEntry) → RuledLog (log ++ entry ∷ []) → key_of log n ≡ Some made
+    (log : List Entry) (entry : Entry) (n : ℕ) (made : KeyEntry) → RuledLog (log ++ entry ∷ [])
+    → key_of log n ≡ Some made
     → is_alive (log ++ entry ∷ []) n made.layer ≡ (is_alive log n made.layer && not (ends made.kind made.layer entry))
 
 -- and lives on in what entries open while it is alive
 abbrev pub LivesOn : Type 0
 LivesOn =
-    (log : List Entry) (entry : Entry) (n : ℕ) (made : KeyEntry) → RuledLog (log ++ entry ∷ []) → key_of log n ≡ Some made
+    (log : List Entry) (entry : Entry) (n : ℕ) (made : KeyEntry) → RuledLog (log ++ entry ∷ [])
+    → key_of log n ≡ Some made
     → lives_of (log ++ entry ∷ []) n
-    ≡ lives_of log n ++ (if is_alive log n made.layer && not (ends made.kind made.layer entry) then opened_by made.layer entry else [])
+    ≡ lives_of log n
+    ++ (if is_alive log n made.layer && not (ends made.kind made.layer entry) then opened_by made.layer entry else [])
 
 -- the log holds the entry of a key that is made
 abbrev pub MadeKeysStandInTheLog : Type 0
 MadeKeysStandInTheLog =
     (log : List Entry) (n : ℕ) (made : KeyEntry) → key_of log n ≡ Some made
-    → (before : List Entry) × (position : ℕ) × (number : ℕ) × (later : List Entry) × (log ≡ before ++ NewKey position number n made.layer made.kind made.key ∷ later)
+    → (before : List Entry) × (position : ℕ) × (number : ℕ) × (later : List Entry)
+    × (log ≡ before ++ NewKey position number n made.layer made.kind made.key ∷ later)
 
 -- the flag says whether the key is alive
 abbrev pub FlaggedKeysLive : Type 0
 FlaggedKeysLive =
-    (log : List Entry) (n : ℕ) (made : KeyEntry) → RuledLog log → key_of log n ≡ Some made → is_alive log n made.layer ≡ true
+    (log : List Entry) (n : ℕ) (made : KeyEntry) → RuledLog log → key_of log n ≡ Some made
+    → is_alive log n made.layer ≡ true
     → Alive log n made.layer made.kind made.key
 
 abbrev pub LivingKeysAreFlagged : Type 0
 LivingKeysAreFlagged =
-    (log : List Entry) (n : ℕ) (made : KeyEntry) → Alive log n made.layer made.kind made.key → is_alive log n made.layer ≡ true
+    (log : List Entry) (n : ℕ) (made : KeyEntry) → Alive log n made.layer made.kind made.key
+    → is_alive log n made.layer ≡ true

@@ -1,4 +1,5 @@
--- Laws of the machine: what a refusal leaves, and that an event comes to one thing. Can a refused event change anything?
+-- Laws of the machine: what a refusal leaves, and that an event comes to one thing. Can a refused event change
+-- anything?
 use Rattle.std.specs.Prelude.{◌≡◌, ℕ, ◌≤◌, ◌⊎◌, List, None}
 use Rattle.mb_format.specs.Format.{IsBytes}
 use Rattle.mb_model.specs.declared.event.Event.{Event}
@@ -25,7 +26,9 @@ pub record Leaves (world : World) (given : Event) (next : World) : Type 0 where
 
 -- a refused event does
 abbrev pub RefusalsLeave : Type 0
-RefusalsLeave = (world : World) (given : Event) (n : ℕ) (next : World) → Step world given (reply.Refused n) next → Leaves world given next
+RefusalsLeave =
+    (world : World) (given : Event) (n : ℕ) (next : World) → Step world given (reply.Refused n) next
+    → Leaves world given next
 
 -- one for which no memory is found leaves all
 abbrev pub NoMemoryLeaves : Type 0
@@ -43,11 +46,14 @@ OneFailure = (state : State) (order : Order) (a b : Refusal) → Fails state ord
 
 -- and none where it passes
 abbrev pub PassesFailNothing : Type 0
-PassesFailNothing = (state : State) (order : Order) (refusal : Refusal) → Passes state order → Fails state order refusal → ⊥
+PassesFailNothing =
+    (state : State) (order : Order) (refusal : Refusal) → Passes state order → Fails state order refusal → ⊥
 
 -- no order neither passes nor fails a check
 abbrev pub PassesOrFails : Type 0
-PassesOrFails = (state : State) (order : Order) → (Passes state order → ⊥) → ((refusal : Refusal) → Fails state order refusal → ⊥) → ⊥
+PassesOrFails =
+    (state : State) (order : Order) → (Passes state order → ⊥) → ((refusal : Refusal) → Fails state order refusal → ⊥)
+    → ⊥
 
 -- bytes that are given as an order have one answer, and lead to one state
 abbrev pub OneOrderStep : Type 0

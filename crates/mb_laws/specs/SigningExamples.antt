@@ -1,4 +1,5 @@
--- The digits and checksums of RFC 8554 on short bytes; the checker computes each line. Do the definitions count as the standard does?
+-- The digits and checksums of RFC 8554 on short bytes; the checker computes each line. Do the definitions count as the
+-- standard does?
 use Rattle.std.specs.Prelude.{◌≡◌, ℕ, List, [], ◌∷◌, replicate}
 use Rattle.mb_model.specs.declared.key.Chains.TheVariants.{W1, W2, W4, W8}
 use Rattle.mb_model.specs.Winternitz.{coef, checksum}

@@ -17,7 +17,8 @@ SignaturesBearTheirIndex =
 -- the nodes 32 to 63 of a tree are the leaves of its one-time keys 0 to 31
 abbrev pub LeavesAreOfOneTimeKeys : Type 0
 LeavesAreOfOneTimeKeys =
-    (key : KeySeed) (r : ℕ) → 32 ≤ r → r < 64 → node_of key r ≡ leaf_node key.identifier r (one_time_public key (r - 32))
+    (key : KeySeed) (r : ℕ) → 32 ≤ r → r < 64
+    → node_of key r ≡ leaf_node key.identifier r (one_time_public key (r - 32))
 
 -- the nodes 1 to 31 are hashes of the two nodes under them
 abbrev pub InnerNodesHashTwo : Type 0

@@ -1,8 +1,11 @@
 -- Laws of the machine. Can a device leave the states that it can have?
-use Rattle.std.specs.Prelude.{List}
+use Rattle.std.specs.Prelude.{◌≡◌, ℕ, List}
 use Rattle.mb_model.specs.declared.event.Event.{Event}
 use Rattle.mb_model.specs.declared.event.Answered.{Answered}
 use Rattle.mb_model.specs.declared.reply.Reply.{Reply}
+use Rattle.mb_model.specs.declared.order.Order.{Order}
+use Rattle.mb_model.specs.declared.state.State.{State}
+use Rattle.mb_model.specs.OrderStep.{log_with, ready_for, own_entry, obeyed}
 use Rattle.mb_model.specs.Machine.{World, Step, Run}
 use Rattle.mb_model.specs.Valid.{Valid}
 
@@ -17,3 +20,10 @@ abbrev pub RunsStayValid : Type 0
 RunsStayValid =
     (world : World) (answered : List Answered) (next : World) → Valid world.state → Run world answered next
     → Valid next.state
+
+-- an order that is obeyed appends its own entry to the log of the state that is ready for it
+abbrev pub OrdersAppendTheirEntry : Type 0
+OrdersAppendTheirEntry =
+    (state : State) (order : Order) (draw : List ℕ)
+    → (obeyed state order draw).log
+    ≡ log_with (ready_for state order draw) (own_entry (ready_for state order draw) order order.act draw)

@@ -15,7 +15,7 @@ use Rattle.mb_model.specs.Replies.{reply_line}
 use Rattle.mb_model.specs.Drafts.{IsDraft}
 use Rattle.mb_model.specs.OrderLines.{IsOrderLine, order_line}
 use Rattle.mb_model.specs.Listing.{layer_line, summary}
-use Rattle.mb_model.specs.FirstTexts.{reply_line as first_line}
+use Rattle.mb_model.specs.FirstTexts.{first_reply_line as first_line}
 
 -- ---- lines
 
@@ -31,7 +31,8 @@ pub record LineExamples : Type 0 where
 
 abbrev pub script_text : List ℕ
 script_text =
-    codes "boot" ++ 10 ∷ codes "# a secret, and a cut" ++ 10 ∷ codes "put 2 pin 31323334" ++ 10 ∷ 10 ∷ codes "cut 3 keep 5 fill fF"
+    codes "boot" ++ 10 ∷ codes "# a secret, and a cut" ++ 10
+    ∷ codes "put 2 pin 31323334" ++ 10 ∷ 10 ∷ codes "cut 3 keep 5 fill fF"
     ++ 10 ∷ codes "cut 3 fill 00" ++ 10 ∷ codes "command -" ++ 10 ∷ codes "sign 3 1 68656c6c6f" ++ 10 ∷ []
 
 abbrev pub script_events : List Event
@@ -52,7 +53,9 @@ pub record ScriptExamples : Type 0 where
 
 -- the draws of two commands
 pub record DrawExamples : Type 0 where
-  pub drawn : (text draw : List ℕ) → drawn_events (replicate 32 1 ++ replicate 32 2) (event.Command text draw ∷ event.Off ∷ event.Command text draw ∷ [])
+  pub drawn : (text draw : List ℕ)
+      → drawn_events (replicate 32 1 ++ replicate 32 2)
+      (event.Command text draw ∷ event.Off ∷ event.Command text draw ∷ [])
       ≡ event.Command text (replicate 32 1) ∷ event.Off ∷ event.Command text (replicate 32 2) ∷ []
 
 -- ---- replies
@@ -82,11 +85,19 @@ pub record ReplyExamples : Type 0 where
 
 -- surrender layer 2 of a device whose log has seven entries
 abbrev pub surrender : Order
-surrender = record { layer = 2; targets = target.Length 7 ∷ []; act = act.Surrender; signature = []; countersignatures = [] }
+surrender =
+    record { layer = 2; targets = target.Length 7 ∷ []; act = act.Surrender; signature = []; countersignatures = [] }
 
 -- load the three bytes abc into layer 3
 abbrev pub load : Order
-load = record { layer = 3; targets = []; act = act.Load 258 Never (codes "abc"); signature = []; countersignatures = [] }
+load =
+    record {
+      layer = 3;
+      targets = [];
+      act = act.Load (record { version = 258; trust = Never; code = codes "abc" });
+      signature = [];
+      countersignatures = [];
+    }
 
 -- what drafts stand for, and where they fail
 pub record DraftExamples : Type 0 where
@@ -104,7 +115,7 @@ surrender_line = codes "command 0202010200000007000000"
 pub record OrderLineExamples : Type 0 where
   pub order : IsOrderLine (surrender_line ∷ []) surrender
   pub written : order_line surrender ≡ surrender_line
-  -- an empty line behind it is line 2
+  -- an empty line after it is line 2
   pub second : FailsAtLine IsOrderLine (surrender_line ∷ [] ∷ []) 2
   pub no_line : FailsAtLine IsOrderLine [] 1
   pub no_order : FailsAtLine IsOrderLine (codes "command 00" ∷ [] ∷ []) 1
@@ -113,5 +124,11 @@ pub record OrderLineExamples : Type 0 where
 
 pub record ListingExamples : Type 0 where
   pub unowned_layer : layer_line 3 unowned ≡ codes "layer 3 - - - unreliable never"
-  pub summary : summary (record { event = event.Boot; reply = reply.Booted } ∷ record { event = event.Command [] []; reply = reply.Done 1 2 } ∷ []) 2 (0x0F ∷ [])
-      ≡ codes "events 2" ∷ codes "done 1" ∷ codes "signed 0" ∷ codes "refused 0" ∷ codes "length 2" ∷ codes "image 0f" ∷ []
+  pub summary : summary
+      (record { event = event.Boot; reply = reply.Booted }
+      ∷ record { event = event.Command [] []; reply = reply.Done 1 2 }
+      ∷ [])
+      2
+      (0x0F ∷ [])
+      ≡ codes "events 2" ∷ codes "done 1" ∷ codes "signed 0" ∷ codes "refused 0"
+      ∷ codes "length 2" ∷ codes "image 0f" ∷ []

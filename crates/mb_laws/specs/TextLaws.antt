@@ -35,12 +35,14 @@ WordsAreReadBack = (bytes : List ℕ) → IsBytes bytes → IsHex (hex_word byte
 
 -- each event of a script is one that a line can give
 abbrev pub ScriptsGiveScriptEvents : Type 0
-ScriptsGiveScriptEvents = (lines : List (List ℕ)) (events : List Event) → IsScript lines events → All IsScriptEvent events
+ScriptsGiveScriptEvents =
+    (lines : List (List ℕ)) (events : List Event) → IsScript lines events → All IsScriptEvent events
 
 -- and so it is with its draw
 abbrev pub DrawsKeepScriptEvents : Type 0
 DrawsKeepScriptEvents =
-    (events : List Event) (noise : List ℕ) (drawn : List Event) → All IsScriptEvent events → Drawn events noise drawn → All IsScriptEvent drawn
+    (events : List Event) (noise : List ℕ) (drawn : List Event) → All IsScriptEvent events → Drawn events noise drawn
+    → All IsScriptEvent drawn
 
 -- all lists of bytes in an event are of bytes
 abbrev pub HoldsBytes : Event → Type 0
@@ -68,7 +70,8 @@ ScriptEventsAreSaid = (e : Event) → IsScriptEvent e → HoldsBytes e → (line
 -- one event more, and its draw: those before it keep theirs
 abbrev pub DrawsInTurn : Type 0
 DrawsInTurn =
-    (noise : List ℕ) (events : List Event) (e : Event) → drawn_events noise (events ++ e ∷ []) ≡ drawn_events noise events ++ drawn_event noise events e ∷ []
+    (noise : List ℕ) (events : List Event) (e : Event)
+    → drawn_events noise (events ++ e ∷ []) ≡ drawn_events noise events ++ drawn_event noise events e ∷ []
 
 -- no event is left out, and none added
 abbrev pub DrawsKeepCount : Type 0
@@ -80,19 +83,19 @@ TooManyEvents =
     (lines later : List (List ℕ)) (line : List ℕ) (events : List Event) → IsScript lines events → length events ≡ 65536
     → is_skipped line ≡ false → FailsAtLine IsScript (lines ++ line ∷ later) (length lines + 1)
 
--- a line behind that of an order, be it empty, is wrong
+-- a line after that of an order, be it empty, is wrong
 abbrev pub SecondOrderLine : Type 0
 SecondOrderLine =
     (line other : List ℕ) (later : List (List ℕ)) (order : Order) → IsOrderLine (line ∷ []) order
     → FailsAtLine IsOrderLine (line ∷ other ∷ later) 2
 
--- and so is one behind that of a statement
+-- and so is one after that of a statement
 abbrev pub SecondStatementLine : Type 0
 SecondStatementLine =
     (line other : List ℕ) (later : List (List ℕ)) (statement : Statement) → IsStatementLine (line ∷ []) statement
     → FailsAtLine IsStatementLine (line ∷ other ∷ later) 2
 
--- where the first line is that of no order, it is wrong, whatever stands behind it
+-- where the first line is that of no order, it is wrong, whatever stands after it
 abbrev pub FirstOrderLine : Type 0
 FirstOrderLine =
     (line : List ℕ) (later : List (List ℕ)) → ((order : Order) → IsOrderLine (line ∷ []) order → ⊥)
@@ -111,7 +114,8 @@ IsInRange reply.Dropped = Unit {0}
 IsInRange (reply.Value value) = IsBytes value
 IsInRange reply.Absent = Unit {0}
 IsInRange (reply.Signed key index statement) = (key ≤ number_limit) × (index ≤ number_limit) × IsBytes statement
-IsInRange (reply.Status serial number log one two three) = IsBytes serial × (number ≤ number_limit) × (log ≤ number_limit)
+IsInRange (reply.Status serial number log one two three) =
+    IsBytes serial × (number ≤ number_limit) × (log ≤ number_limit)
 IsInRange (reply.Refused number) = (number ≤ number_limit) × HasLine (reply.Refused number)
 IsInRange reply.Stopped = Unit {0}
 IsInRange reply.NoMemory = Unit {0}

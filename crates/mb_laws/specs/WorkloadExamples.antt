@@ -1,6 +1,7 @@
 -- The generated workload at work; the checker computes each line. Does the workload come out as it is meant?
 use Rattle.std.specs.Prelude.{◌≡◌, ℕ, List, [], ◌∷◌, length, replicate, codes}
-use Rattle.mb_model.specs.Workload.{generated, RoundDraws, Draws, round_plan, plans, signatures_by, secret_name, script_lines}
+use Rattle.mb_model.specs.Workload.{generated, RoundDraws, Draws, round_plan, plans, signatures_by, secret_name}
+use Rattle.mb_model.specs.Workload.{workload_lines}
 
 -- what might be drawn for a round, and for 24 rounds
 abbrev pub some_round : List ℕ → RoundDraws
@@ -32,7 +33,7 @@ pub record WorkloadExamples : Type 0 where
   pub by_two : (drawn : List ℕ) → signatures_by 2 (plans (some_draws drawn)) ≡ 18
   pub by_three : (drawn : List ℕ) → signatures_by 3 (plans (some_draws drawn)) ≡ 25
   -- an event for each line
-  pub events : (drawn : List ℕ) → length (script_lines (some_draws drawn)) ≡ 247
+  pub events : (drawn : List ℕ) → length (workload_lines (some_draws drawn)) ≡ 247
   pub first_name : secret_name 0 ≡ codes "s00"
   pub later_name : secret_name 13 ≡ codes "s13"
   pub same_name : secret_name 29 ≡ codes "s13"

@@ -3,7 +3,7 @@
 ghost use Rattle.mb_laws.specs.AliveLaws.{NoKeyAtFirst, AliveAfterOneMore, LivingKeysAreListed, ListedKeysLive, AliveNumbersIncrease, AliveNumbersAreBelowTheNext, HighNumbersAreUnmade, UnmadeKeysHaveNoLives, LivesOfANewKey, LivesAfterOneMore, AliveKeysLiveNow};
 
 /// The keys that are alive by a log, as its entries come: none at first, and then those that the entry does not end,
-/// with the one that it makes behind them.
+/// with the one that it makes after them.
 pub fn alive_keys_follow_the_log()
     ensures first { NoKeyAtFirst }
     ensures more { AliveAfterOneMore }
@@ -15,8 +15,8 @@ pub fn alive_keys_are_alive()
     ensures living { ListedKeysLive }
 {}
 
-/// By a log that obeys the rules no two keys have one number: the numbers of those alive increase, and the next key's is
-/// above all that were given.
+/// By a log that obeys the rules, the numbers of a layer's keys that are alive increase, and the next key's number is above
+/// them.
 pub fn key_numbers_increase()
     ensures increase { AliveNumbersIncrease }
     ensures below { AliveNumbersAreBelowTheNext }

@@ -4,7 +4,7 @@ ghost use Rattle.std.specs.Prelude.{◌≤◌, List, length, ◌≢◌, [], ℕ}
 ghost use Rattle.mb_model.specs.Layers.{IsLayers};
 ghost use Rattle.mb_model.specs.Log.{number_of, layers_of, used, made, RuledLog};
 ghost use Rattle.mb_laws.specs.Examples.{AuthorityExamples, TargetExamples, StandingExamples, AdmissionExamples, ConditionExamples, AfterExamples, life, LogExamples, LifeExamples};
-ghost use Rattle.mb_laws.specs.LayerLaws.{RunnableLayersAreReliable, ReliableLayersRun, OrdersPlaceWhatEntriesShow, EntriesShowWhatOrdersPlace, LayersStayLayers, UnreliableRegionsAreEmpty, LastLayersCount, LastDeviceCounts, UsedBehindTheLast, ChangesKeepRightly, NewKeysKeepRightly, OtherEntriesKeepRightly, NowIsAdmitted};
+ghost use Rattle.mb_laws.specs.LayerLaws.{RunnableLayersAreReliable, ReliableLayersRun, OrdersPlaceWhatEntriesShow, EntriesShowWhatOrdersPlace, LayersStayLayers, UnreliableRegionsAreEmpty, LastLayersCount, LastDeviceCounts, UsedAfterTheLast, ChangesKeepRightly, NewKeysKeepRightly, OtherEntriesKeepRightly, NowIsAdmitted};
 ghost use Rattle.mb_model.specs.declared.entry.Entry.{Entry};
 
 /// Which changes a layer admits, by its trust and by who countersigned.
@@ -66,11 +66,11 @@ pub fn unreliable_regions_are_empty()
 {}
 
 /// Layers and device key of a log are those of the last entry that names such, and the device key has signed the
-/// entries behind it.
+/// entries after it.
 pub fn the_last_counts()
     ensures layers { LastLayersCount }
     ensures device { LastDeviceCounts }
-    ensures used { UsedBehindTheLast }
+    ensures used { UsedAfterTheLast }
 {}
 
 /// A log that obeys the rules leaves its device key an index to sign with, and counts no more changes and no more keys

@@ -8,6 +8,7 @@
 mod alive;
 mod chains;
 mod formats;
+mod inputs;
 mod laws;
 mod meaning;
 mod reader;
@@ -25,6 +26,7 @@ pub use chains::{
     accepted_chains_obey_the_rules, chains_have_one_verdict, honest_chains_tell_of_their_device,
 };
 pub use formats::{failing_examples, spelling_examples};
+pub use inputs::inputs_are_clear;
 pub use laws::{
     admission_examples, authority_examples, change_examples, condition_examples,
     layers_stay_layers, life_examples, orders_and_entries_agree, regions_stay_kept_rightly,
@@ -45,7 +47,7 @@ pub use signing::{
     digit_examples, keys_are_sized, nodes_are_leaves_or_inner, signatures_bear_their_index,
     signatures_verify,
 };
-pub use steps::states_stay_valid;
+pub use steps::{orders_append_their_entry, states_stay_valid};
 pub use texts::{
     drafts_are_clear, draws_in_turn, events_are_bounded, one_workload, order_lines_are_clear,
     refusals_have_words, replies_differ, script_events, scripts_are_clear, text_examples,

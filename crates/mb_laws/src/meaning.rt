@@ -1,14 +1,11 @@
 //! Laws of what a memory stands for.
 
-ghost use Rattle.std.specs.Prelude.{◌≡◌, ℕ, List, Option};
-ghost use Rattle.mb_format.specs.Format.{IsBytes};
-ghost use Rattle.mb_model.specs.declared.state.State.{State};
-ghost use Rattle.mb_model.specs.Meaning.{StandsFor};
-ghost use Rattle.mb_laws.specs.MeaningLaws.{OneFault, WellFormedHasNoFault, WellFormedOrFaulty, WellFormedStandsForOne, CleanStandsForIt, BlankIsDead, FactoryMemoryBegins};
+ghost use Rattle.mb_laws.specs.MeaningLaws.{HoldsOneContents, StandsForOne, OneFault, WellFormedHasNoFault, WellFormedOrFaulty, WellFormedStandsForOne, CleanStandsForIt, BlankIsDead, FactoryMemoryBegins, FactoryImageIsWellFormed};
 
-/// The bytes of a memory stand for one state only.
+/// The bytes of a memory hold one contents at most, and stand for one state only.
 pub fn one_meaning()
-    ensures { (flash bbram : List ℕ) (a b : Option State) → IsBytes flash → IsBytes bbram → StandsFor flash bbram a → StandsFor flash bbram b → a ≡ b }
+    ensures contents { HoldsOneContents }
+    ensures state { StandsForOne }
 {}
 
 /// An image of bytes has one fault at most. A well-formed one has none, and stands for one state; no image is neither
@@ -20,14 +17,16 @@ pub fn images_are_clear()
     ensures state { WellFormedStandsForOne }
 {}
 
-/// A memory that is clean for a state stands for it, where the public record is in its place; one that is all zero is
+/// A memory that is clean for a state stands for it, where the public record is in the flash; one that is all zero is
 /// clean for the dead device alone.
 pub fn clean_memories_stand_for_it()
     ensures live { CleanStandsForIt }
     ensures dead { BlankIsDead }
 {}
 
-/// The battery-backed memory from the factory begins with these four bytes.
+/// The image from the factory is well formed, and stands for the state of a new device. Its battery-backed memory begins
+/// with these four bytes.
 pub fn factory_memories_begin_so()
-    ensures { FactoryMemoryBegins }
+    ensures begins { FactoryMemoryBegins }
+    ensures well_formed { FactoryImageIsWellFormed }
 {}

@@ -13,18 +13,18 @@ pub fn texts_have_lines()
     ensures one { OneListOfLines }
 {}
 
-/// A script stands for one list of events, or one line of it is the first that is wrong, and never both.
+/// A script stands for at most one list of events, at most one line of it is the first that is wrong, and never both.
 pub fn scripts_are_clear()
     ensures { IsClearText IsScript }
 {}
 
-/// A draft stands for one order, or one line of it is the first that is wrong, and never both.
+/// A draft stands for at most one order, at most one line of it is the first that is wrong, and never both.
 pub fn drafts_are_clear()
     ensures { IsClearText IsDraft }
 {}
 
-/// So do the lines of orders and of statements. A line behind one of them, be it empty, is line 2; a first line that is
-/// none is line 1, whatever stands behind it.
+/// The same holds of the lines of orders and of statements. A line after one of them, be it empty, is line 2. A first line
+/// that is not that of an order is line 1, whatever follows it.
 pub fn order_lines_are_clear()
     ensures order { IsClearText IsOrderLine }
     ensures statement { IsClearText IsStatementLine }

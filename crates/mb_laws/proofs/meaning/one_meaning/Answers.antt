@@ -2,4 +2,4 @@ use Rattle.mb_laws.proofs.MeaningLemmas as lemmas
 use Rattle.mb_laws.proofs.meaning.one_meaning.Goals as goal
 
 pub returns : goal.returns
-returns c = lemmas.one_meaning
+returns c = record { contents = lemmas.one_contents; state = lemmas.one_meaning }

@@ -1,0 +1,17 @@
+use Rattle.std.proofs.Common.{arith}
+use Rattle.mb_format.proofs.Whole.{IsClearWhole-from_exact}
+use Rattle.mb_model.proofs.KeyFormatLaws.{keyfile_exact}
+use Rattle.mb_laws.proofs.ClearTexts as texts
+use Rattle.mb_laws.proofs.inputs.inputs_are_clear.Goals as goal
+
+pub returns : goal.returns
+returns c = record {
+  key_noise = λ name bytes value place are is faulty. omega (arith, is.0, faulty.0);
+  key = λ name bytes value place are is faulty.
+      (IsClearWhole-from_exact keyfile_exact).never_both bytes value faulty.0 are is faulty.2;
+  draft = λ name bytes value place are is faulty. texts.drafts.never_both bytes value faulty.0 is faulty.2;
+  order = λ name bytes value place are is faulty. texts.order_lines.never_both bytes value faulty.0 is faulty.2;
+  image = λ name bytes value place are is faulty. faulty.1 value is;
+  script = λ name bytes value place are is faulty. faulty.1 value is;
+  noise = λ orders name bytes value place are is faulty. faulty.1 value is;
+}

@@ -1,0 +1,19 @@
+//! Laws of the inputs of commands.
+
+ghost use Rattle.std.specs.Prelude.{ℕ, List};
+ghost use Rattle.mb_model.specs.declared.role.Role.TheVariants.{Image, Script, Noise};
+ghost use Rattle.mb_model.specs.FirstTexts.{IsFirstScript};
+ghost use Rattle.mb_model.specs.FirstCommand.{formed_input, IsFirstImage, IsFirstDrawn};
+ghost use Rattle.mb_model.specs.Inputs.{IsClearInput, key_noise_input, key_input, draft_input, order_input};
+
+/// No input of a command both stands for a value and is at fault.
+pub fn inputs_are_clear()
+    ensures key_noise { (name : List ℕ) → IsClearInput (key_noise_input name) }
+    ensures key { (name : List ℕ) → IsClearInput (key_input name) }
+    ensures draft { (name : List ℕ) → IsClearInput (draft_input name) }
+    ensures order { (name : List ℕ) → IsClearInput (order_input name) }
+    ensures image { (name : List ℕ) → IsClearInput (formed_input Image IsFirstImage name) }
+    ensures script { (name : List ℕ) → IsClearInput (formed_input Script IsFirstScript name) }
+    ensures noise { (orders : List (List ℕ)) (name : List ℕ) →
+        IsClearInput (formed_input Noise (IsFirstDrawn orders) name) }
+{}
