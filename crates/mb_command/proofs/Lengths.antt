@@ -12,6 +12,8 @@ use Rattle.mb_model.specs.declared.key.Trust.{Trust}
 use Rattle.mb_model.specs.declared.order.KeyKind.{KeyKind}
 use Rattle.mb_model.specs.declared.order.Target.{Target}
 use Rattle.mb_model.specs.declared.order.Target.TheVariants.{Serial, Length, Owner, Code}
+use Rattle.mb_model.specs.declared.order.Payload.{Payload}
+use Rattle.mb_model.specs.Rules.{kind_of}
 use Rattle.mb_model.specs.declared.order.Act.{Act}
 use Rattle.mb_model.specs.declared.order.Act.TheVariants.{Establish, Load, Emergency, NewKey}
 use Rattle.mb_model.specs.declared.order.Order.{Order}
@@ -19,7 +21,7 @@ use Rattle.mb_model.specs.Key.{tree_type, chains_type}
 use Rattle.mb_model.specs.KeyFormat.{public_key_format}
 use Rattle.mb_model.specs.LayerFormat.{trust_byte, trust_format}
 use Rattle.mb_model.specs.EntryFormat.{key_kind_byte, key_kind_format}
-use Rattle.mb_model.specs.OrderFormat.{target_format, order_byte, order_kind, load_format, act_by, body_format, order_body, order_format}
+use Rattle.mb_model.specs.OrderFormat.{target_format, order_byte, payload_format, act_by, body_format, order_body, order_format}
 
 length-number : {w : Width} → IsWide w → (n : ℕ) → length (number_bytes w n) ≡ byte_len w
 unfolding number_bytes
@@ -103,38 +105,39 @@ length-key_kind : (kind : KeyKind) → length (key_kind_format.spelling kind) �
 unfolding key_kind_format
 length-key_kind kind = length-number wide8 (key_kind_byte kind)
 
-length-load : (version : ℕ) (trust : Trust) (code : List ℕ) → 9 + length code ≡ length (load_format.spelling (version, (trust, code)))
-unfolding load_format
-length-load version trust code =
-    let four : length (number_bytes w32 version) ≡ 4 = length-number wide32 version in
-    let one = length-trust trust in
+length-payload : (payload : Payload) → 9 + length payload.code ≡ length (payload_format.spelling payload)
+unfolding payload_format
+length-payload payload =
+    let four : length (number_bytes w32 payload.version) ≡ 4 = length-number wide32 payload.version in
+    let one = length-trust payload.trust in
+    let code : List ℕ = payload.code in
     let size : length (number_bytes w32 (length code)) ≡ 4 = length-number wide32 (length code) in
-    omega (arith, four, one, size, length-append (number_bytes w32 version) (trust_format.spelling trust ++ (number_bytes w32 (length code) ++ code)), length-append (trust_format.spelling trust) (number_bytes w32 (length code) ++ code), length-append (number_bytes w32 (length code)) code)
+    omega (arith, four, one, size, length-append (number_bytes w32 payload.version) (trust_format.spelling payload.trust ++ (number_bytes w32 (length code) ++ code)), length-append (trust_format.spelling payload.trust) (number_bytes w32 (length code) ++ code), length-append (number_bytes w32 (length code)) code)
 
-pub length-establish : (owner : PublicKey) (trust : Trust) → (act_by (order_kind (Establish owner trust))).Allowed (Establish owner trust) → 57 ≡ length ((act_by (order_kind (Establish owner trust))).spelling (Establish owner trust))
+pub length-establish : (owner : PublicKey) (trust : Trust) → (act_by (kind_of (Establish owner trust))).Allowed (Establish owner trust) → 57 ≡ length ((act_by (kind_of (Establish owner trust))).spelling (Establish owner trust))
 length-establish owner trust h =
     let key = length-public_key owner h.0 in
     let one = length-trust trust in
     omega (arith, key, one, length-append (public_key_format.spelling owner) (trust_format.spelling trust))
 
-pub length-new_key : (kind : KeyKind) → 1 ≡ length ((act_by (order_kind (NewKey kind))).spelling (NewKey kind))
+pub length-new_key : (kind : KeyKind) → 1 ≡ length ((act_by (kind_of (NewKey kind))).spelling (NewKey kind))
 length-new_key kind = sym (length-key_kind kind)
 
 -- a load of either kind
-pub length-loaded : (act : Act) (code : List ℕ) → ((version : ℕ) × (trust : Trust) × (act ≡ Load version trust code)) ⊎ ((version : ℕ) × (trust : Trust) × (act ≡ Emergency version trust code)) → 9 + length code ≡ length ((act_by (order_kind act)).spelling act)
-length-loaded act code (inl load) = rw load.2 (length-load load.0 load.1 code)
-length-loaded act code (inr load) = rw load.2 (length-load load.0 load.1 code)
+pub length-loaded : (act : Act) (payload : Payload) → (act ≡ Load payload) ⊎ (act ≡ Emergency payload) → 9 + length payload.code ≡ length ((act_by (kind_of act)).spelling act)
+length-loaded act payload (inl load) = rw load (length-payload payload)
+length-loaded act payload (inr load) = rw load (length-payload payload)
 
 -- ---- the signed part
 
-pub length-body : (order : Order) → 2 + length ((counted (between w8 0 8) target_format).spelling order.targets) + length ((act_by (order_kind order.act)).spelling order.act) ≡ length (order_body order)
+pub length-body : (order : Order) → 2 + length ((counted (between w8 0 8) target_format).spelling order.targets) + length ((act_by (kind_of order.act)).spelling order.act) ≡ length (order_body order)
 unfolding body_format
 length-body order =
-    let one : length (number_bytes w8 (order_byte (order_kind order.act))) ≡ 1 = length-number wide8 (order_byte (order_kind order.act)) in
+    let one : length (number_bytes w8 (order_byte (kind_of order.act))) ≡ 1 = length-number wide8 (order_byte (kind_of order.act)) in
     let two : length (number_bytes w8 order.layer) ≡ 1 = length-number wide8 order.layer in
     let targets = (counted (between w8 0 8) target_format).spelling order.targets in
-    let act = (act_by (order_kind order.act)).spelling order.act in
-    omega (arith, one, two, length-append (number_bytes w8 (order_byte (order_kind order.act))) (number_bytes w8 order.layer ++ (targets ++ act)), length-append (number_bytes w8 order.layer) (targets ++ act), length-append targets act)
+    let act = (act_by (kind_of order.act)).spelling order.act in
+    omega (arith, one, two, length-append (number_bytes w8 (order_byte (kind_of order.act))) (number_bytes w8 order.layer ++ (targets ++ act)), length-append (number_bytes w8 order.layer) (targets ++ act), length-append targets act)
 
 -- an order's spelling begins with its signed part
 pub body_first : (order : Order) (n : ℕ) → n ≡ length (order_body order) → take n (order_format.spelling order) ≡ order_body order

@@ -6,16 +6,17 @@ use Rattle.mb_model.specs.declared.order.Act.{Act}
 use Rattle.mb_model.specs.declared.order.Act.TheVariants.{Establish, Surrender, Load, Emergency, NewKey}
 use Rattle.mb_model.specs.declared.order.Countersignature.{Countersignature}
 use Rattle.mb_model.specs.declared.order.Order.{Order}
-use Rattle.mb_model.specs.OrderFormat.{target_format, order_kind, load_format, act_by, body_of, body_format, sized_signature_format, Climb, countersignature_format, climbed, countersignatures_format, order_format}
+use Rattle.mb_model.specs.OrderFormat.{target_format, payload_format, act_by, body_of, body_format, sized_signature_format, Climb, countersignature_format, climbed, countersignatures_format, order_format}
+use Rattle.mb_model.specs.Rules.{kind_of}
 use Rattle.mb_model.proofs.FormatBounds.{most_two}
 use Rattle.mb_command.specs.Writing.{HasShortCode, HasShortSignature, IsSized}
 
-pub short_code : (act : Act) → (act_by (order_kind act)).Allowed act → HasShortCode act
-unfolding load_format
+pub short_code : (act : Act) → (act_by (kind_of act)).Allowed act → HasShortCode act
+unfolding payload_format
 short_code (Establish owner trust) h = tt
 short_code Surrender h = tt
-short_code (Load version trust code) h = h.1.1.0.1
-short_code (Emergency version trust code) h = h.1.1.0.1
+short_code (Load payload) h = h.1.1.0.1
+short_code (Emergency payload) h = h.1.1.0.1
 short_code (NewKey kind) h = tt
 
 short_signature : (n : ℕ) (climb : Climb) (cs : List Countersignature) → (items countersignature_format climbed n climb).Allowed cs → (k : ℕ) (d : Countersignature) → k < length cs → HasShortSignature (get_or cs k d)

@@ -3,7 +3,7 @@ use Rattle.std.specs.Prelude.{ℕ, Option, Some, None}
 use Rattle.mb_command.specs.declared.end.OrderEnd.{OrderEnd}
 use Rattle.mb_command.specs.declared.end.OrderEnd.TheVariants.{NoMemory, BadText}
 
--- the place at which an error points, and None for want of memory
+-- the offset at which an error points, and None where an allocation failed
 abbrev pub text_at : OrderEnd → Option ℕ
 text_at (BadText at) = Some at
 text_at NoMemory = None

@@ -9,8 +9,8 @@ use Rattle.mb_model.specs.declared.order.Order.{Order}
 abbrev pub HasShortCode : Act → Type 0
 HasShortCode (Establish owner trust) = Unit {0}
 HasShortCode Surrender = Unit {0}
-HasShortCode (Load version trust code) = length code ≤ 32768
-HasShortCode (Emergency version trust code) = length code ≤ 32768
+HasShortCode (Load payload) = length payload.code ≤ 32768
+HasShortCode (Emergency payload) = length payload.code ≤ 32768
 HasShortCode (NewKey kind) = Unit {0}
 
 abbrev pub HasShortSignature : Countersignature → Type 0

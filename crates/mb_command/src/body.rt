@@ -5,15 +5,15 @@ ghost use Rattle.mb_model.specs.OrderFormat.{body_by, body_format, body_of, orde
 ghost use Rattle.mb_bytes.specs.Reads.{ReadsAs};
 ghost use Rattle.mb_bytes.specs.Puts.{Puts};
 ghost use Rattle.mb_command.specs.Ends.{text_at};
-ghost use Rattle.mb_command.specs.Parts.{kind_in, body_in, HasLayer};
+ghost use Rattle.mb_command.specs.Parts.{body_in, HasLayer};
 ghost use Rattle.mb_command.specs.Writing.{HasShortCode};
 
 use crate::act::{act_at, act_length, put_act};
 use crate::end::OrderEnd;
-use crate::kind::{Kind, kind_at, kind_number, kind_of, least_layer};
+use crate::kind::{kind_at, kind_number, kind_of, least_layer};
 use crate::targets::{put_targets, targets_at, targets_length};
 use mb_bytes::{Cursor, put_u8, u8_between};
-use mb_model::{Act, NoMemory, Order, Targets};
+use mb_model::{Act, NoMemory, Order, OrderKind, Targets};
 use std::alloc::Global;
 
 /// The part of an order that its owner signs.
@@ -25,8 +25,12 @@ pub struct SignedPart {
     pub act: Act,
 }
 
-fn behind_kind_at(alloc: Global, cursor: &mut Cursor, kind: Kind) -> Result<SignedPart, OrderEnd>
-    ensures reads { ReadsAs body_in text_at (body_by (kind_in kind)) cursor.old result cursor.new }
+fn after_kind_at(
+    alloc: Global,
+    cursor: &mut Cursor,
+    kind: OrderKind,
+) -> Result<SignedPart, OrderEnd>
+    ensures reads { ReadsAs body_in text_at (body_by kind) cursor.old result cursor.new }
     ensures layer { IfOk result HasLayer }
 {
     let layer = u8_between(cursor, least_layer(kind), 3)?;
@@ -46,7 +50,7 @@ pub fn body_at(alloc: Global, cursor: &mut Cursor) -> Result<SignedPart, OrderEn
     ensures layer { IfOk result HasLayer }
 {
     let kind = kind_at(cursor)?;
-    behind_kind_at(alloc, cursor, kind)
+    after_kind_at(alloc, cursor, kind)
 }
 
 /// Appends the signed part of an order.

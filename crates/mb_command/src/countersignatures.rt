@@ -12,16 +12,16 @@ ghost use Rattle.mb_command.specs.Writing.{HasShortSignature};
 use crate::body::SignedPart;
 use crate::end::OrderEnd;
 use crate::kind::{kind_of, most_countersigned};
-use mb_bytes::{Cursor, bytes_behind_u16, put_behind_u16, put_u8, u8_between};
+use mb_bytes::{Cursor, bytes_after_u16, put_after_u16, put_u8, u8_between};
 use mb_model::{Bytes, Countersignature, Countersignatures, Items, NoMemory, SIGNATURE_LIMIT};
 use std::alloc::Global;
 
-/// A signature behind two bytes for its length.
+/// A signature after two bytes for its length.
 #[tactic(auto, unfolding(mb_model::specs::OrderFormat::sized_signature_format))]
 pub fn signature_at(alloc: Global, cursor: &mut Cursor) -> Result<Bytes, OrderEnd>
     ensures { Reads text_at sized_signature_format cursor.old result cursor.new }
 {
-    let signature = bytes_behind_u16(cursor, 0, SIGNATURE_LIMIT as u16)?;
+    let signature = bytes_after_u16(cursor, 0, SIGNATURE_LIMIT as u16)?;
     Ok(Bytes::copy(alloc, signature)?)
 }
 
@@ -42,7 +42,7 @@ fn countersignature_at(
     Ok(Countersignature { layer, signature })
 }
 
-/// The countersignatures behind the signed part and its signature: a byte for their number, and as many, their layers
+/// The countersignatures after the signed part and its signature: a byte for their number, and as many, their layers
 /// ascending.
 #[tactic(auto, unfolding(mb_model::specs::OrderFormat::countersignatures_format))]
 pub fn countersignatures_at(
@@ -71,7 +71,7 @@ pub fn put_signature(out: &mut Vec<u8>, signature: &Bytes) -> Result<(), NoMemor
     requires { length signature.now ≤ 9324 }
     ensures { Puts (sized_signature_format.spelling signature.now) out.old result out.new }
 {
-    put_behind_u16(out, signature.as_slice())
+    put_after_u16(out, signature.as_slice())
 }
 
 fn put_countersignature(

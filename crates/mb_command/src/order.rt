@@ -42,13 +42,15 @@ fn whole_order(alloc: Global, bytes: &[u8]) -> Result<Order, OrderEnd>
     let mut cursor = Cursor::new(bytes);
     let order = order_at(alloc, &mut cursor)?;
     if cursor.left() > 0 {
-        return Err(OrderEnd::BadText { at: cursor.place() });
+        return Err(OrderEnd::BadText {
+            at: cursor.offset(),
+        });
     }
     Ok(order)
 }
 
 /// The order that the whole of the bytes spells, of however many bytes. Else `BadText` with the place of the first field
-/// that lacks bytes or is not allowed, or of the first byte behind the last field; it is at most 65,536. An order is
+/// that lacks bytes or is not allowed, or of the first byte after the last field; it is at most 65,536. An order is
 /// shorter than that, so no more bytes are looked at. Memory is taken for what the order holds, and nothing is said of
 /// when it is found: the tests read orders where there is enough.
 pub fn read_order(alloc: Global, bytes: &[u8]) -> Result<Order, OrderEnd>
@@ -71,8 +73,8 @@ fn put_order(out: &mut Vec<u8>, order: &Order) -> Result<(), NoMemory>
     put_countersignatures(out, &order.countersignatures)
 }
 
-/// Appends the spelling of the order, which has one, or leaves `out` as it was. Where the capacity of `out` holds it, no
-/// memory is taken and the answer is Ok.
+/// Appends the spelling of the order, which has one, or leaves `out` as it was. Where the capacity of `out` holds it, the
+/// answer is Ok.
 #[tactic(auto, using(crate::proofs::Sizes::sized_of))]
 pub fn write_order(order: &Order, out: &mut Vec<u8>) -> Result<(), NoMemory>
     requires { order_format.Allowed order.now }

@@ -46,7 +46,7 @@ fn code_at(cursor: &mut Cursor) -> Result<Target, BadRecord>
 fn target_at(cursor: &mut Cursor) -> Result<Target, BadRecord>
     ensures { Reads bad_at target_format cursor.old result cursor.new }
 {
-    let at = cursor.place();
+    let at = cursor.offset();
     match cursor.take_u8()? {
         1 => serial_at(cursor),
         2 => length_at(cursor),
@@ -56,7 +56,7 @@ fn target_at(cursor: &mut Cursor) -> Result<Target, BadRecord>
     }
 }
 
-/// The targets of an order, behind a byte for their number.
+/// The targets of an order, after a byte for their number.
 pub fn targets_at(alloc: Global, cursor: &mut Cursor) -> Result<Targets, OrderEnd>
     ensures { Reads text_at (counted (between w8 0 8) target_format) cursor.old result cursor.new }
 {

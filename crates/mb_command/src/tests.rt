@@ -1,6 +1,8 @@
 //! Orders both ways, by bytes of another program and by bytes that are written out. Where there is memory, no call may
 //! answer that there is none, which the clauses leave open.
 
+mod limits;
+
 use crate::{OrderEnd, body_length, read_order, write_order};
 use mb_model::{Act, Bytes, Items, Order, Target};
 use std::alloc::Global;

@@ -3,13 +3,13 @@ use Rattle.std.proofs.Common.{◌≡◌, ℕ, ◌+◌, ◌-◌, ◌*◌, ◌<◌
 use Rattle.std.specs.Prelude.{IsTrue, Some, slice_get, slice_set, cond}
 use Rattle.std.proofs.lemmas.List.{append-nil, length-take-le, length-drop, take-append-drop, take_all, take_at, drop_all, drop-drop, set-append_right}
 use Rattle.std.proofs.lemmas.List.Sums.{sum_by-append}
-use Rattle.mb_model.specs.Board.{part}
+use Rattle.mb_model.specs.Pieces.{part}
 use Rattle.mb_model.specs.declared.event.Event.{Event}
 use Rattle.mb_model.specs.declared.event.Event.TheVariants as event
 use Rattle.mb_model.specs.Script.{with_before, is_command, commands_in, drawn_event, drawn_events}
 use Rattle.mb_laws.proofs.DrawLemmas.{drawn-push, drawn-length}
 
--- The events before a place have their draws, and the noise behind these is left.
+-- The events before a place have their draws, and the noise after these is left.
 pub record IsDrawing (noise : List ℕ) (old now : List Event) (left : List ℕ) (at : ℕ) : Type 0 where
   pub drawn : now ≡ drawn_events noise (take at old) ++ drop at old
   pub rest : left ≡ drop (32 * commands_in (take at old)) noise
@@ -32,11 +32,11 @@ drawn_count noise old now left at is within =
 
 -- ---- the event at a place
 
-get_behind : (front back : List Event) (i : ℕ) → length front ≡ i → slice_get (front ++ back) i ≡ slice_get back 0
-get_behind [] back zero e = refl
-get_behind [] back (suc i) e = absurd (omega (arith, e))
-get_behind (x ∷ front) back zero e = absurd (omega (arith, e))
-get_behind (x ∷ front) back (suc i) e = get_behind front back i (omega (arith, e))
+get_after : (front back : List Event) (i : ℕ) → length front ≡ i → slice_get (front ++ back) i ≡ slice_get back 0
+get_after [] back zero e = refl
+get_after [] back (suc i) e = absurd (omega (arith, e))
+get_after (x ∷ front) back zero e = absurd (omega (arith, e))
+get_after (x ∷ front) back (suc i) e = get_after front back i (omega (arith, e))
 
 first_got : (back : List Event) (e : Event) → slice_get back 0 ≡ Some e → back ≡ e ∷ drop 1 back
 first_got [] e got = absurd (cc got)
@@ -46,7 +46,7 @@ first_got (x ∷ back) e got = let same : x ≡ e = cc in ap (λ (y : Event). y 
 old_event : (noise : List ℕ) (old now : List Event) (left : List ℕ) (at : ℕ) (e : Event) → IsDrawing noise old now left at → at ≤ length old → slice_get now at ≡ Some e
     → drop at old ≡ e ∷ drop (at + 1) old
 old_event noise old now left at e is within got =
-    let here = sym (get_behind (drawn_events noise (take at old)) (drop at old) at (front_length noise old at within)) ∙ ap (λ (x : List Event). slice_get x at) (sym is.drawn) ∙ got in
+    let here = sym (get_after (drawn_events noise (take at old)) (drop at old) at (front_length noise old at within)) ∙ ap (λ (x : List Event). slice_get x at) (sym is.drawn) ∙ got in
     first_got (drop at old) e here ∙ ap (λ (x : List Event). e ∷ x) (drop-drop 1 at old)
 
 old_split : (old : List Event) (at : ℕ) (e : Event) → drop at old ≡ e ∷ drop (at + 1) old → old ≡ take at old ++ e ∷ drop (at + 1) old
@@ -72,11 +72,11 @@ pub draw_left : (noise : List ℕ) (old now : List Event) (left : List ℕ) (at 
 draw_left noise old now left at e is within got enough command =
     let here = old_event noise old now left at e is within got in
     let all = ap commands_in (old_split old at e here) ∙ count_append (take at old) (e ∷ drop (at + 1) old) in
-    let behind : commands_in (e ∷ drop (at + 1) old) ≡ commands_in (e ∷ []) + commands_in (drop (at + 1) old) = count_append (e ∷ []) (drop (at + 1) old) in
-    omega (arith, enough, all, behind, one_command e command, ap length is.rest, length-drop (32 * commands_in (take at old)) noise)
+    let remaining : commands_in (e ∷ drop (at + 1) old) ≡ commands_in (e ∷ []) + commands_in (drop (at + 1) old) = count_append (e ∷ []) (drop (at + 1) old) in
+    omega (arith, enough, all, remaining, one_command e command, ap length is.rest, length-drop (32 * commands_in (take at old)) noise)
 
 same_draw : (noise left : List ℕ) (before : List Event) (e : Event) → left ≡ drop (32 * commands_in before) noise → drawn_event left [] e ≡ drawn_event noise before e
-unfolding part commands_in
+unfolding commands_in
 same_draw noise left before event.Boot e = refl
 same_draw noise left before event.Off e = refl
 same_draw noise left before event.Tamper e = refl
@@ -91,15 +91,15 @@ same_draw noise left before (event.Sign region key message) e = refl
 
 -- ---- one place more
 
-set_behind : (front back : List Event) (at : ℕ) (x y : Event) → length front ≡ at → slice_set (front ++ x ∷ back) at y ≡ front ++ y ∷ back
-set_behind front back at x y long =
+set_after : (front back : List Event) (at : ℕ) (x y : Event) → length front ≡ at → slice_set (front ++ x ∷ back) at y ≡ front ++ y ∷ back
+set_after front back at x y long =
     let none : at - at ≡ 0 = omega arith in
     set-append_right front (x ∷ back) at at y long (omega arith) ∙ ap (λ (n : ℕ). front ++ slice_set (x ∷ back) n y) none
 
-pub place_one : (noise : List ℕ) (old now mid new : List Event) (left behind : List ℕ) (at : ℕ) (e placeholder drawn : Event) → IsDrawing noise old now left at → at < length old → slice_get now at ≡ Some e
-    → mid ≡ slice_set now at placeholder → new ≡ slice_set mid at drawn → drawn ≡ drawn_event left [] e → behind ≡ drop (32 * commands_in (e ∷ [])) left
-    → IsDrawing noise old new behind (at + 1)
-place_one noise old now mid new left behind at e placeholder drawn is within got taken put made rest =
+pub place_one : (noise : List ℕ) (old now mid new : List Event) (left remaining : List ℕ) (at : ℕ) (e placeholder drawn : Event) → IsDrawing noise old now left at → at < length old → slice_get now at ≡ Some e
+    → mid ≡ slice_set now at placeholder → new ≡ slice_set mid at drawn → drawn ≡ drawn_event left [] e → remaining ≡ drop (32 * commands_in (e ∷ [])) left
+    → IsDrawing noise old new remaining (at + 1)
+place_one noise old now mid new left remaining at e placeholder drawn is within got taken put made rest =
     let before = take at old in
     let front = drawn_events noise before in
     let back = drop (at + 1) old in
@@ -107,8 +107,8 @@ place_one noise old now mid new left behind at e placeholder drawn is within got
     let here = old_event noise old now left at e is (omega (arith, within)) got in
     let one = take_one old at e within here in
     let now_is : now ≡ front ++ e ∷ back = is.drawn ∙ ap (λ (x : List Event). front ++ x) here in
-    let mid_is : mid ≡ front ++ placeholder ∷ back = taken ∙ ap (λ (x : List Event). slice_set x at placeholder) now_is ∙ set_behind front back at e placeholder long in
-    let new_is : new ≡ front ++ drawn ∷ back = put ∙ ap (λ (x : List Event). slice_set x at drawn) mid_is ∙ set_behind front back at placeholder drawn long in
+    let mid_is : mid ≡ front ++ placeholder ∷ back = taken ∙ ap (λ (x : List Event). slice_set x at placeholder) now_is ∙ set_after front back at e placeholder long in
+    let new_is : new ≡ front ++ drawn ∷ back = put ∙ ap (λ (x : List Event). slice_set x at drawn) mid_is ∙ set_after front back at placeholder drawn long in
     let event_is : drawn ≡ drawn_event noise before e = made ∙ same_draw noise left before e is.rest in
     let fronts : drawn_events noise (take (at + 1) old) ≡ front ++ drawn ∷ [] =
     ap (drawn_events noise) one ∙ drawn-push noise before e ∙ ap (λ (x : Event). front ++ x ∷ []) (sym event_is) in

@@ -8,7 +8,7 @@ use Rattle.mb_model.specs.declared.event.Event.TheVariants as event
 use Rattle.mb_model.specs.declared.event.Tear.{Tear}
 use Rattle.mb_model.specs.Texts.{IsHex}
 use Rattle.mb_model.specs.Lines.{spaced, number_limit}
-use Rattle.mb_model.specs.Script.{tear_of, IsName, IsShort, IsCutLine, SaysEvent}
+use Rattle.mb_model.specs.Script.{tear_of, IsName, FitsMessage, IsCutLine, SaysEvent}
 use Rattle.mb_laws.proofs.LineLemmas.{Without, first_same, first_none}
 use Rattle.mb_laws.proofs.EventLemmas.{letters, letters_of, says_letters}
 use Rattle.mb_script.specs.Reading.{HasNumberFirst, HasRegionFirst, SaysSecret, SaysTail, kept, none, IsFill}
@@ -47,7 +47,7 @@ pub record IsPut (rest : List ℕ) : Type 0 where
   pub value : List ℕ
   pub first : HasRegionFirst rest region (name ++ 32 ∷ word)
   pub named : IsName name
-  pub short : IsHex word value × IsShort value
+  pub short : IsHex word value × FitsMessage value
 
 pub put_says : (rest : List ℕ) (e : Event) → SaysEvent (codes "put " ++ rest) e → IsPut rest
 put_says rest (event.Put region name value) says = record {
@@ -70,7 +70,7 @@ pub record IsSign (rest : List ℕ) : Type 0 where
   pub message : List ℕ
   pub first : HasRegionFirst rest region (decimal key ++ 32 ∷ word)
   pub within : key ≤ number_limit
-  pub short : IsHex word message × IsShort message
+  pub short : IsHex word message × FitsMessage message
 
 pub sign_says : (rest : List ℕ) (e : Event) → SaysEvent (codes "sign " ++ rest) e → IsSign rest
 sign_says rest (event.Sign region key message) says = record {
@@ -178,8 +178,8 @@ lone_none word plain boot off tamper status go (event.Drop region name) says = f
 lone_none word plain boot off tamper status go (event.Sign region key message) says = first_none 32 word (codes "sign") _ plain says.3.2
 
 -- the first word of a line is that of its kind
-kind_word : (word rest kind behind : List ℕ) → Without 32 word → Without 32 kind → (word ≢ kind) → word ++ 32 ∷ rest ≡ kind ++ 32 ∷ behind → ⊥
-kind_word word rest kind behind plain kind_plain apart e = apart (first_same 32 word kind rest behind plain kind_plain e).0
+kind_word : (word rest kind remaining : List ℕ) → Without 32 word → Without 32 kind → (word ≢ kind) → word ++ 32 ∷ rest ≡ kind ++ 32 ∷ remaining → ⊥
+kind_word word rest kind remaining plain kind_plain apart e = apart (first_same 32 word kind rest remaining plain kind_plain e).0
 
 pub words_none : (word rest : List ℕ) → Without 32 word → (word ≢ codes "cut") → (word ≢ codes "command") → (word ≢ codes "put") → (word ≢ codes "get") → (word ≢ codes "drop") → (word ≢ codes "sign")
     → (e : Event) → SaysEvent (word ++ 32 ∷ rest) e → ⊥

@@ -31,13 +31,13 @@ Without-from_test s (byte ∷ bytes) h =
     let here = parts.0 in
     All-cons (isnt s) byte bytes (λ is. let same : (byte == s) ≡ true = eq-eqb byte s is in cc) (Without-from_test s bytes parts.1)
 
--- ---- words with a space behind them
+-- ---- words with a space after them
 
 -- the word before the first space, and a number before a space
-pub number_word : (most : ℕ) (text word behind : List ℕ) (number : ℕ) (rest : List ℕ) → most ≤ number_limit → IsSplit 32 text word behind
-    → HasNumberFirst most text number rest → IsNumber most word number × (behind ≡ rest)
-number_word most text word behind number rest small split has =
-    let parts = first_same 32 word (decimal number) behind rest split.first (decimal_spaceless number (omega (arith, has.within, small))) (sym split.whole ∙ has.whole) in
+pub number_word : (most : ℕ) (text word remaining : List ℕ) (number : ℕ) (rest : List ℕ) → most ≤ number_limit → IsSplit 32 text word remaining
+    → HasNumberFirst most text number rest → IsNumber most word number × (remaining ≡ rest)
+number_word most text word remaining number rest small split has =
+    let parts = first_same 32 word (decimal number) remaining rest split.first (decimal_spaceless number (omega (arith, has.within, small))) (sym split.whole ∙ has.whole) in
     ((parts.0, has.within), parts.1)
 
 pub number_none : (most : ℕ) (text : List ℕ) (number : ℕ) (rest : List ℕ) → Without 32 text → HasNumberFirst most text number rest → ⊥
@@ -59,9 +59,9 @@ region_number text region rest has =
     let within = upper_within region has.upper in
     (record { within = within.1; whole = has.whole }, within.0)
 
-pub name_word : (text word behind name rest : List ℕ) → IsSplit 32 text word behind → HasNameFirst text name rest → (word ≡ name) × (behind ≡ rest)
-name_word text word behind name rest split has =
-    first_same 32 word name behind rest split.first (name_spaceless name has.named) (sym split.whole ∙ has.whole)
+pub name_word : (text word remaining name rest : List ℕ) → IsSplit 32 text word remaining → HasNameFirst text name rest → (word ≡ name) × (remaining ≡ rest)
+name_word text word remaining name rest split has =
+    first_same 32 word name remaining rest split.first (name_spaceless name has.named) (sym split.whole ∙ has.whole)
 
 pub name_none : (text name rest : List ℕ) → Without 32 text → HasNameFirst text name rest → ⊥
 name_none text name rest without has = first_none 32 text name rest without has.whole
@@ -70,12 +70,12 @@ pub name_same : (text m n a b : List ℕ) → HasNameFirst text m a → HasNameF
 name_same text m n a b ha hb =
     first_same 32 m n a b (name_spaceless m ha.named) (name_spaceless n hb.named) (sym ha.whole ∙ hb.whole)
 
--- ---- what stands behind the count of a cut
+-- ---- what stands after the count of a cut
 
 pub tail_same : (tail a b : List ℕ) (j k : ℕ) → SaysTail tail j a → SaysTail tail k b → (j ≡ k) × (a ≡ b)
 tail_same tail a b j k (kept mj ea) (kept mk eb) =
-    let behind = append_cancel_left (codes "keep ") _ _ (sym ea ∙ eb) in
-    let parts = number_front j k (codes "fill " ++ a) (codes "fill " ++ b) (omega (arith, mj)) (omega (arith, mk)) behind in
+    let remaining = append_cancel_left (codes "keep ") _ _ (sym ea ∙ eb) in
+    let parts = number_front j k (codes "fill " ++ a) (codes "fill " ++ b) (omega (arith, mj)) (omega (arith, mk)) remaining in
     (parts.0, append_cancel_left (codes "fill ") a b parts.1)
 tail_same tail a b j k (kept mj ea) (none zb eb) = absurd (omega (arith, (cons_same 107 102 _ _ (sym ea ∙ eb)).0))
 tail_same tail a b j k (none za ea) (kept mk eb) = absurd (omega (arith, (cons_same 102 107 _ _ (sym ea ∙ eb)).0))
@@ -109,7 +109,7 @@ decoded : (out : List ℕ) (u : Unit {0}) (r : Result (Unit {0}) FromHexError) (
 decoded out u r (Ok bytes) is h = ap (λ (x : List ℕ). Ok x) (sym h.1)
 decoded out u r (Err e) is h = absurd (cc (sym is ∙ h))
 
--- what is decoded into the first part of a field fills, and zeros stand behind it
+-- what is decoded into the first part of a field fills, and zeros stand after it
 pub tear_read : (word out zeros : List ℕ) (keep k : ℕ) (u : Unit {0}) (r : Result (Unit {0}) FromHexError) → r ≡ Ok u → k ≡ length word / 2 → k ≢ 0 → k ≤ 16 → zeros ≡ replicate 16 0
     → MatchResult (decode_sized word (length (take k zeros))) (λ bytes. (r ≡ Ok tt) × (out ≡ bytes)) (λ e. r ≡ Err e)
     → (fill : List ℕ) × IsFill word fill × (let tear : Tear = record { keep = keep; fill = out ++ drop k zeros; fill_length = k } in tear ≡ tear_of keep fill)
@@ -121,7 +121,7 @@ tear_read word out zeros keep k u r is half some most blank h =
     let digits = sym (decode_sized-twice word n twice) ∙ sized in
     let long = (decode_of-ok word out digits).2 in
     let count : length out ≡ k = omega arith in
-    let behind : drop k zeros ≡ replicate (16 - length out) 0 =
+    let remaining : drop k zeros ≡ replicate (16 - length out) 0 =
     ap (λ (x : List ℕ). drop k x) blank ∙ drop-replicate k 16 0 ∙ ap (λ (m : ℕ). replicate (16 - m) 0) (sym count) in (
       out,
       record {
@@ -129,7 +129,7 @@ tear_read word out zeros keep k u r is half some most blank h =
         some = omega (arith, some, count);
         most = omega (arith, most, count);
       },
-      λ i. record { keep = keep; fill = out ++ behind i; fill_length = sym count i },
+      λ i. record { keep = keep; fill = out ++ remaining i; fill_length = sym count i },
     )
 
 -- ---- a line's words, one after another
@@ -152,9 +152,9 @@ sign_word text m n j k rest v w has number first within =
     (number_same number_limit rest j k v w (omega arith) number (sign_key text m n k rest w has first within)).1
 
 -- a tail that begins with a count of kept bytes, and does not go on with the word for what fills
-pub tail_none : (text behind rest : List ℕ) (keep : ℕ) → ((word : List ℕ) → text ≢ codes "fill " ++ word) → text ≡ codes "keep " ++ behind
-    → HasNumberFirst 1048576 behind keep rest → ((word : List ℕ) → rest ≢ codes "fill " ++ word) → (n : ℕ) (word : List ℕ) → SaysTail text n word → ⊥
-tail_none text behind rest keep first second number third n word (kept most whole) =
-    let same = append_cancel_left (codes "keep ") behind (decimal n ++ 32 ∷ (codes "fill " ++ word)) (sym second ∙ whole) in
-    third word (number_same 1048576 behind keep n rest (codes "fill " ++ word) (omega arith) number (record { within = most; whole = same })).1
-tail_none text behind rest keep first second number third n word (none zero whole) = first word whole
+pub tail_none : (text remaining rest : List ℕ) (keep : ℕ) → ((word : List ℕ) → text ≢ codes "fill " ++ word) → text ≡ codes "keep " ++ remaining
+    → HasNumberFirst 1048576 remaining keep rest → ((word : List ℕ) → rest ≢ codes "fill " ++ word) → (n : ℕ) (word : List ℕ) → SaysTail text n word → ⊥
+tail_none text remaining rest keep first second number third n word (kept most whole) =
+    let same = append_cancel_left (codes "keep ") remaining (decimal n ++ 32 ∷ (codes "fill " ++ word)) (sym second ∙ whole) in
+    third word (number_same 1048576 remaining keep n rest (codes "fill " ++ word) (omega arith) number (record { within = most; whole = same })).1
+tail_none text remaining rest keep first second number third n word (none zero whole) = first word whole

@@ -10,12 +10,12 @@ use Rattle.mb_model.specs.Lines.{hex_word}
 use Rattle.mb_bytes.specs.Puts.{Appends, StopsShort, Puts}
 use Rattle.mb_bytes.proofs.Putting.{puts_then, puts_stop, puts_stop_later}
 
--- ---- puts, one behind another
+-- ---- puts, one after another
 
--- a put behind what was appended
-pub puts_behind : {E : Type 0} (a b : List ℕ) (old middle new : Vec ℕ) (r : Result (Unit {0}) E) → Appends a old middle → Puts b middle r new → Puts (a ++ b) old r new
-puts_behind {E} a b old middle new (Ok u) p q = puts_then p q
-puts_behind {E} a b old middle new (Err e) p q = puts_stop_later p q
+-- a put after what was appended
+pub puts_after : {E : Type 0} (a b : List ℕ) (old middle new : Vec ℕ) (r : Result (Unit {0}) E) → Appends a old middle → Puts b middle r new → Puts (a ++ b) old r new
+puts_after {E} a b old middle new (Ok u) p q = puts_then p q
+puts_after {E} a b old middle new (Err e) p q = puts_stop_later p q
 
 -- ---- numbers
 
@@ -27,7 +27,7 @@ pub number_ends : {E : Type 0} (n digit : ℕ) (old middle new : Vec ℕ) (r : R
     → Puts (digit ∷ []) middle r new → Puts (decimal n) old r new
 number_ends {E} n digit old middle new r most fits is front last =
     let whole = ap (λ (d : ℕ). decimal (n / 10) ++ d ∷ []) is ∙ sym (decimal_step n most fits) in
-    subst (λ (x : List ℕ). Puts x old r new) whole (puts_behind (decimal (n / 10)) (digit ∷ []) old middle new r front last)
+    subst (λ (x : List ℕ). Puts x old r new) whole (puts_after (decimal (n / 10)) (digit ∷ []) old middle new r front last)
 
 pub one_digit_put : {E : Type 0} (n digit : ℕ) (old new : Vec ℕ) (r : Result (Unit {0}) E) → n < 10 → digit ≡ 48 + n % 10 → Puts (digit ∷ []) old r new → Puts (decimal n) old r new
 one_digit_put {E} n digit old new r less is last =

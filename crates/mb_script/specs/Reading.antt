@@ -11,7 +11,8 @@ use Rattle.mb_script.specs.declared.script.ScriptEnd.TheVariants as end
 
 -- ---- a script
 
--- The text stands for these events, or this line of it is the first that is wrong; of want of memory nothing is said.
+-- The text stands for these events, or this line of it is the first that is wrong. Nothing is said of a failed
+-- allocation.
 abbrev pub ReadsScript : List ℕ → Result (List Event) ScriptEnd → Type 0
 ReadsScript text (Ok events) = Reads IsScript text events
 ReadsScript text (Err (end.BadLine line)) = TextFailsAtLine IsScript text line
@@ -19,17 +20,17 @@ ReadsScript text (Err end.NoMemory) = Unit {0}
 
 -- ---- parts of a line
 
--- a text is a number, a space, and what stands behind that
+-- a text is a number, a space, and what stands after that
 pub record HasNumberFirst (most : ℕ) (text : List ℕ) (number : ℕ) (rest : List ℕ) : Type 0 where
   pub within : number ≤ most
   pub whole : text ≡ decimal number ++ 32 ∷ rest
 
--- a text is the number of a region, a space, and what stands behind that
+-- a text is the number of a region, a space, and what stands after that
 pub record HasRegionFirst (text : List ℕ) (region : ℕ) (rest : List ℕ) : Type 0 where
   pub upper : IsTrue (is_upper region)
   pub whole : text ≡ decimal region ++ 32 ∷ rest
 
--- a text is a name, a space, and what stands behind that
+-- a text is a name, a space, and what stands after that
 pub record HasNameFirst (text name rest : List ℕ) : Type 0 where
   pub named : IsName name
   pub whole : text ≡ name ++ 32 ∷ rest
@@ -46,7 +47,8 @@ pub record SaysSecret (text : List ℕ) (region : ℕ) (name : List ℕ) : Type 
   pub named : IsName name
   pub whole : text ≡ decimal region ++ 32 ∷ name
 
--- What stands behind the count of a cut: how many bytes are kept, where that is said, and the word of the bytes that fill.
+-- What stands after the count of a cut: how many bytes are kept, where that is said, and the word of the bytes that
+-- fill.
 pub data SaysTail (text : List ℕ) (keep : ℕ) (word : List ℕ) : Type 0 where
   kept : keep ≤ 1048576 → text ≡ codes "keep " ++ decimal keep ++ 32 ∷ (codes "fill " ++ word) → SaysTail text keep word
   none : keep ≡ 0 → text ≡ codes "fill " ++ word → SaysTail text keep word

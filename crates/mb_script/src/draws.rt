@@ -28,9 +28,9 @@ pub fn place_draws(events: &mut Events, noise: &[u8]) -> Result<(), ShortNoise>
     for at in 0..count {
         // an event is taken out for its draw, so something has to stand in its place
         let event = events.set(at, Event::Off);
-        let (drawn, behind) = draw_event(event, left);
+        let (drawn, remaining) = draw_event(event, left);
         let _placeholder = events.set(at, drawn);
-        left = behind;
+        left = remaining;
     }
     Ok(())
 }
@@ -47,7 +47,7 @@ fn count_commands(events: &[Event]) -> usize
 }
 
 /// The event with its draw, the first bytes of the noise where it is a command; and the noise that is left.
-#[tactic(auto, unfolding(mb_model::specs::Script::commands_in, mb_model::specs::Board::part))]
+#[tactic(auto, unfolding(mb_model::specs::Script::commands_in))]
 fn draw_event(event: Event, noise: &[u8]) -> (Event, &[u8])
     requires { IsTrue (is_command event) → 32 ≤ length noise.now }
     ensures drawn { result.0 ≡ drawn_event noise.now [] event }
@@ -55,10 +55,10 @@ fn draw_event(event: Event, noise: &[u8]) -> (Event, &[u8])
 {
     match event {
         Event::Command { text, draw: _ } => {
-            let (front, behind) = noise.split_at(DRAW);
+            let (front, remaining) = noise.split_at(DRAW);
             let mut draw = [0; DRAW];
             draw.copy_from_slice(front);
-            (Event::Command { text, draw }, behind)
+            (Event::Command { text, draw }, remaining)
         }
         other => (other, noise),
     }

@@ -7,7 +7,7 @@ ghost use Rattle.mb_script.specs.Reading.{SaysTail, SaysSecret};
 
 use crate::words::{is_name, read_short, read_tear, split_name, split_number, split_region};
 use mb_model::{Bytes, Event};
-use mb_words::{NotSaid, behind, read_hex, split_at_byte};
+use mb_words::{NotSaid, after_word, read_hex, split_at_byte};
 use std::alloc::Global;
 
 /// The largest count of a cut.
@@ -98,16 +98,16 @@ fn read_cut(words: &[u8]) -> Option<Event>
 fn split_kept(words: &[u8]) -> Option<(u32, &[u8])>
     ensures { MatchOption result ((keep : ℕ) (word : List ℕ) → SaysTail words.now keep word → ⊥) (λ parts. SaysTail words.now parts.0 parts.1.now) }
 {
-    if let Some(word) = behind(words, b"fill ") {
+    if let Some(word) = after_word(words, b"fill ") {
         return Some((0, word));
     }
-    let Some(number) = behind(words, b"keep ") else {
+    let Some(number) = after_word(words, b"keep ") else {
         return None;
     };
     let Some((keep, rest)) = split_number(number, MOST_KEPT) else {
         return None;
     };
-    match behind(rest, b"fill ") {
+    match after_word(rest, b"fill ") {
         Some(word) => Some((keep, word)),
         None => None,
     }

@@ -11,8 +11,8 @@ ghost use Rattle.mb_bytes.specs.Puts.{Puts, Writes};
 use mb_bytes::put_slice;
 use mb_model::{NoMemory, Reply, Standing};
 
-/// Appends the line of a reply and its LF, or leaves `out` as it was; where the capacity holds them, the answer is Ok and
-/// no memory is taken. A refusal whose number no device gives has no words behind the number.
+/// Appends the line of a reply and its LF, or leaves `out` as it was; where the capacity holds them, the answer is Ok. A
+/// refusal whose number no device gives has no words after the number.
 pub fn write_reply(reply: &Reply, out: &mut Vec<u8>) -> Result<(), NoMemory>
     ensures { Writes (ended (reply_line reply.now)) out.old result out.new }
 {

@@ -5,12 +5,9 @@ ghost use Rattle.mb_model.specs.Script.{is_skipped};
 ghost use Rattle.mb_script.specs.Reading.{ReadsScript};
 
 use crate::events::read_event;
-use mb_model::{Events, NoMemory};
+use mb_model::{EVENT_LIMIT, Events, NoMemory};
 use mb_words::{NotSaid, split_line};
 use std::alloc::Global;
-
-/// The most events of a script.
-const MOST_EVENTS: usize = 65_536;
 
 /// Why a script was not read.
 #[derive(Clone, Copy, Debug, PartialEq, Eq)]
@@ -20,7 +17,7 @@ pub enum ScriptEnd {
         /// The number of the first such line, from 1.
         line: u32,
     },
-    /// Memory was wanted and not found.
+    /// An allocation failed.
     NoMemory,
 }
 
@@ -46,13 +43,13 @@ pub fn read_script(alloc: Global, text: &[u8]) -> Result<Events, ScriptEnd>
     let mut number: u32 = 0;
     let mut rest = text;
     while !rest.is_empty() {
-        let (line, behind) = split_line(rest);
+        let (line, remaining) = split_line(rest);
         number += 1;
-        rest = behind;
+        rest = remaining;
         if is_skipped(line) {
             continue;
         }
-        let is_full = events.as_slice().len() == MOST_EVENTS;
+        let is_full = events.as_slice().len() == EVENT_LIMIT;
         if is_full {
             return Err(ScriptEnd::BadLine { line: number });
         }

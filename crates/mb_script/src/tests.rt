@@ -1,5 +1,7 @@
 //! Scripts, draws and replies, by texts and bytes that are written out.
 
+mod limits;
+
 use crate::{ScriptEnd, place_draws, read_script, write_reply};
 use mb_model::{Bytes, Event, Events, NoMemory, Reply, Standing, Tear};
 use std::alloc::Global;

@@ -3,7 +3,7 @@
 ghost use Rattle.std.specs.Prelude.{◌≡◌, ◌↔◌, ℕ, List, MatchOption, IsTrue};
 ghost use Rattle.mb_model.specs.Layers.{is_upper};
 ghost use Rattle.mb_model.specs.Texts.{IsHex};
-ghost use Rattle.mb_model.specs.Script.{IsName, IsShort, tear_of};
+ghost use Rattle.mb_model.specs.Script.{IsName, FitsMessage, tear_of};
 ghost use Rattle.mb_words.specs.Words.{Finds};
 ghost use Rattle.mb_script.specs.Reading.{HasNumberFirst, HasRegionFirst, HasNameFirst, IsFill};
 
@@ -20,7 +20,7 @@ const MOST_OF_SHORT: usize = 128;
 /// The most bytes that fill.
 const MOST_OF_FILL: usize = 16;
 
-/// The number that the first word is, at most `most`, and what stands behind it.
+/// The number that the first word is, at most `most`, and what stands after it.
 pub(crate) fn split_number(text: &[u8], most: u32) -> Option<(u32, &[u8])>
     ensures { MatchOption result ((number : ℕ) (rest : List ℕ) → HasNumberFirst most text.now number rest → ⊥) (λ parts. HasNumberFirst most text.now parts.0 parts.1.now) }
 {
@@ -33,7 +33,7 @@ pub(crate) fn split_number(text: &[u8], most: u32) -> Option<(u32, &[u8])>
     }
 }
 
-/// The region that the first word is, 2 or 3, and what stands behind it.
+/// The region that the first word is, 2 or 3, and what stands after it.
 pub(crate) fn split_region(text: &[u8]) -> Option<(u8, &[u8])>
     ensures { MatchOption result ((region : ℕ) (rest : List ℕ) → HasRegionFirst text.now region rest → ⊥) (λ parts. HasRegionFirst text.now parts.0 parts.1.now) }
 {
@@ -43,7 +43,7 @@ pub(crate) fn split_region(text: &[u8]) -> Option<(u8, &[u8])>
     }
 }
 
-/// The name that the first word is, and what stands behind it.
+/// The name that the first word is, and what stands after it.
 pub(crate) fn split_name(text: &[u8]) -> Option<(&[u8], &[u8])>
     ensures { MatchOption result ((name rest : List ℕ) → HasNameFirst text.now name rest → ⊥) (λ parts. HasNameFirst text.now parts.0.now parts.1.now) }
 {
@@ -68,7 +68,7 @@ pub(crate) fn is_name(word: &[u8]) -> bool
 
 /// The bytes of a hexadecimal word, which are at most 128: those of a value or a message.
 pub(crate) fn read_short(alloc: Global, word: &[u8]) -> Result<Bytes, NotSaid>
-    ensures { Finds (λ bytes. IsHex word.now bytes × IsShort bytes) result }
+    ensures { Finds (λ bytes. IsHex word.now bytes × FitsMessage bytes) result }
 {
     let bytes = read_hex(alloc, word)?;
     if bytes.as_slice().len() > MOST_OF_SHORT {

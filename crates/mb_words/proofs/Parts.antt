@@ -20,9 +20,9 @@ clash answer is isnt = cc
 -- ---- what a line begins with
 
 pub begins : (line word rest : List ℕ) → pointwise eqb (take (length word) line) word ≡ true → rest ≡ drop (length word) line → line ≡ word ++ rest
-begins line word rest is behind =
+begins line word rest is remaining =
     let front = (slice_eq-Decides Decides-eqb (take (length word) line) word _ refl).0 is in
-    sym (take-append-drop (length word) line) ∙ ap (λ (x : List ℕ). x ++ drop (length word) line) front ∙ ap (λ (x : List ℕ). word ++ x) (sym behind)
+    sym (take-append-drop (length word) line) ∙ ap (λ (x : List ℕ). x ++ drop (length word) line) front ∙ ap (λ (x : List ℕ). word ++ x) (sym remaining)
 
 pub begins_not : (line word rest : List ℕ) → pointwise eqb (take (length word) line) word ≡ false → line ≡ word ++ rest → ⊥
 begins_not line word rest isnt e =

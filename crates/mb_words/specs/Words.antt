@@ -6,13 +6,13 @@ use Rattle.mb_words.specs.declared.said.NotSaid.TheVariants as why
 
 -- ---- words
 
--- what is found is so, or nothing is; of want of memory nothing is said
+-- what is found is so, or nothing is; of a failed allocation nothing is said
 abbrev pub Finds : {A : Type 0} → (A → Type 0) → Result A NotSaid → Type 0
 Finds Is (Ok a) = Is a
 Finds {A} Is (Err why.Form) = (a : A) → Is a → ⊥
 Finds Is (Err why.NoMemory) = Unit {0}
 
--- the same where no memory is wanted
+-- the same where nothing is allocated
 abbrev pub FindsSome : {A : Type 0} → (A → Type 0) → Option A → Type 0
 FindsSome Is (Some a) = Is a
 FindsSome {A} Is None = (a : A) → Is a → ⊥
@@ -24,7 +24,7 @@ pub record IsSplit (byte : ℕ) (text front rest : List ℕ) : Type 0 where
 
 -- ---- lines
 
--- a text is its first line, which has no LF, and what stands behind the line's LF; the last line may lack its LF
+-- a text is its first line, which has no LF, and what stands after the line's LF; the last line may lack its LF
 pub record SplitsLine (text first rest : List ℕ) : Type 0 where
   pub plain : IsLine first
   pub whole : (text ≡ first ++ 10 ∷ rest) ⊎ ((text ≡ first) × (rest ≡ []))

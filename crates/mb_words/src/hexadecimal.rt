@@ -11,7 +11,8 @@ use std::alloc::Global;
 
 /// The bytes of a hexadecimal word: two digits of either case for each, or a dash for none.
 ///
-/// Errors: `Form` where the word is none, and `NoMemory`.
+/// Errors: `Form` where the word is none, and `NoMemory`, of which no clause says when it comes: the tests read words
+/// where there is enough.
 pub fn read_hex(alloc: Global, word: &[u8]) -> Result<Bytes, NotSaid>
     ensures { Finds (IsHex word.now) result }
 {

@@ -1,7 +1,7 @@
 //! The words of lines.
 //!
 //! This crate owns how the texts of this repository are read word by word: the next line of a text, a word before a byte
-//! or behind one that is known, numbers in decimal, and bytes in hexadecimal. The texts themselves, scripts and drafts,
+//! or after one that is known, numbers in decimal, and bytes in hexadecimal. The texts themselves, scripts and drafts,
 //! are read in the crates above. It stands on `mb_model`, which says what a line, a number and a hexadecimal word are, on
 //! `mb_laws` for what these give, and on `hex`.
 #![tactic(auto)]
@@ -14,6 +14,6 @@ mod said;
 mod tests;
 
 pub use hexadecimal::{read_array, read_hex};
-pub use lines::{behind, split_at_byte, split_line};
+pub use lines::{after_word, split_at_byte, split_line};
 pub use numbers::read_number;
 pub use said::NotSaid;

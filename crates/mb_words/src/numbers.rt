@@ -44,7 +44,7 @@ fn read_digits(word: &[u8]) -> Option<u32>
     add_digit(tens, digit)
 }
 
-/// The number with one digit more behind it, which is below 10.
+/// The number with one digit more after it, which is below 10.
 fn add_digit(tens: u32, digit: u32) -> Option<u32>
     ensures { SomeIff result (10 * tens + digit < 2 ^ 32) (10 * tens + digit) }
 {

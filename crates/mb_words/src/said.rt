@@ -9,7 +9,7 @@ use mb_model::NoMemory;
 pub enum NotSaid {
     /// It is not in the grammar.
     Form,
-    /// Memory was wanted and not found.
+    /// An allocation failed.
     NoMemory,
 }
 

@@ -1,7 +1,8 @@
 //! Words and lines, by bytes that are written out.
 
-use crate::{NotSaid, behind, read_array, read_hex, read_number, split_at_byte, split_line};
+use crate::{NotSaid, after_word, read_array, read_hex, read_number, split_at_byte, split_line};
 use std::alloc::Global;
+use std::test::Fail;
 
 #[test]
 fn numbers_are_read(rt: HostRuntime) {
@@ -52,6 +53,25 @@ fn bytes_are_read(rt: HostRuntime) {
     assert_eq!(rt; read_array::<1>(b"-"), None);
 }
 
+/// How many bytes are read of a word of so many.
+fn read_length(alloc: Global, count: usize) -> Result<Option<usize>, Fail> {
+    let mut word = Vec::new(alloc);
+    for _i in 0..count {
+        word.extend_from_slice(b"0a")?;
+    }
+    match read_hex(alloc, word.as_slice()) {
+        Ok(bytes) => Ok(Some(bytes.as_slice().len())),
+        Err(_) => Ok(None),
+    }
+}
+
+#[test]
+fn long_words_are_read(rt: HostRuntime) -> Result<(), Fail> {
+    assert_eq!(rt; read_length(rt.alloc(), 32_768)?, Some(32_768));
+    assert_eq!(rt; read_length(rt.alloc(), 61_033)?, Some(61_033));
+    Ok(())
+}
+
 #[test]
 fn texts_are_cut(rt: HostRuntime) {
     assert_eq!(rt;
@@ -65,6 +85,6 @@ fn texts_are_cut(rt: HostRuntime) {
         Some((b"a".as_slice(), b"b c".as_slice()))
     );
     assert_eq!(rt; split_at_byte(b"abc", b' '), None);
-    assert_eq!(rt; behind(b"code 00", b"code "), Some(b"00".as_slice()));
-    assert_eq!(rt; behind(b"code", b"code "), None);
+    assert_eq!(rt; after_word(b"code 00", b"code "), Some(b"00".as_slice()));
+    assert_eq!(rt; after_word(b"code", b"code "), None);
 }

@@ -8,4 +8,4 @@ pub returns-in-NewKey-clause-length : goal.returns-in-NewKey-clause-length
 returns-in-NewKey-clause-length c = rw c.in-NewKey.is (length-new_key _)
 
 pub returns-in-Load-clause-length : goal.returns-in-Load-clause-length
-returns-in-Load-clause-length c = rw c.as_slice.ensures (length-loaded c.args.act.now c.in-Load.code c.in-Load.is)
+returns-in-Load-clause-length c = rw c.as_slice.ensures (length-loaded c.args.act.now c.in-Load.payload c.in-Load.is)

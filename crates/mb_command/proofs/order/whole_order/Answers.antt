@@ -16,7 +16,7 @@ returns-then-left-gt0 c =
     let start = c.new-cursor.ensures in
     let read = c.in_ok-order.ensures in
     let size = ap length (read.bytes ∙ start.all) in
-    rw c.place.ensures (whole_left c.args.bytes.now order_exact start.all start.first read (omega (arith, size, c.left.ensures)))
+    rw c.offset.ensures (whole_left c.args.bytes.now order_exact start.all start.first read (omega (arith, size, c.left.ensures)))
 
 pub returns : goal.returns
 returns c =

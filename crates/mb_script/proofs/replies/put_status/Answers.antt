@@ -5,7 +5,7 @@ use Rattle.std.proofs.lemmas.Result.{err_from_is_err_and}
 use Rattle.mb_model.specs.Lines.{hex_word}
 use Rattle.mb_model.specs.Replies.{standing_word}
 use Rattle.mb_bytes.proofs.Putting.{puts_stop, puts_stop_later}
-use Rattle.mb_script.proofs.Written.{puts_behind}
+use Rattle.mb_script.proofs.Written.{puts_after}
 use Rattle.mb_script.proofs.replies.put_status.Goals as goal
 
 pub returns-in_err-put_hex_word : goal.returns-in_err-put_hex_word
@@ -34,7 +34,7 @@ returns c =
     let layers = 32 ∷ (standing_word c.args.layers.0 ++ 32 ∷ (standing_word c.args.layers.1 ++ 32 ∷ standing_word c.args.layers.2)) in
     let new = c.put_layers.new.out in
     let result = c.put_layers.result in
-    puts_behind (codes "status") (serial ++ (number ++ (log ++ layers))) c.args.out.now c.put_slice.new.out new result c.in_ok-put_slice.ensures.puts
-    (puts_behind serial (number ++ (log ++ layers)) c.put_slice.new.out c.put_hex_word.new.out new result c.in_ok-put_hex_word.ensures
-    (puts_behind number (log ++ layers) c.put_hex_word.new.out c.put_number_word.new.out new result c.in_ok-put_number_word.ensures
-    (puts_behind log layers c.put_number_word.new.out c.put_number_word-2.new.out new result c.in_ok-put_number_word-2.ensures c.put_layers.ensures)))
+    puts_after (codes "status") (serial ++ (number ++ (log ++ layers))) c.args.out.now c.put_slice.new.out new result c.in_ok-put_slice.ensures.puts
+    (puts_after serial (number ++ (log ++ layers)) c.put_slice.new.out c.put_hex_word.new.out new result c.in_ok-put_hex_word.ensures
+    (puts_after number (log ++ layers) c.put_hex_word.new.out c.put_number_word.new.out new result c.in_ok-put_number_word.ensures
+    (puts_after log layers c.put_number_word.new.out c.put_number_word-2.new.out new result c.in_ok-put_number_word-2.ensures c.put_layers.ensures)))
