@@ -19,12 +19,12 @@ is_named-other name file h =
     let decides = bytes_eq-Decides file.name name in
     grind (arith, common_steps, decides)
 
--- the place is the first one
-place_is : (files : List File) (name : List ℕ) (at : ℕ) →
+-- the index is the first one
+index_is : (files : List File) (name : List ℕ) (at : ℕ) →
     position (is_named name) files ≡ Some at → at ≡ position_or_len (is_named name) files
-place_is files name at h = grind (arith, common_steps, h)
+index_is files name at h = grind (arith, common_steps, h)
 
--- with no place there is no file
+-- with no index there is no file
 find-none : (files : List File) (name : List ℕ) → position (is_named name) files ≡ None → find (is_named name) files ≡ None
 find-none files name h = rw (find_at (is_named name) files) (grind (arith, common_steps, slice_get_past))
 
@@ -36,7 +36,7 @@ Stores-set files name bytes at file is h =
     let own : is_named name file ≡ true = rw is found.1 in
     let named : file.name ≡ name = (bytes_eq-Decides file.name name).0 own in
     record {
-      held = ap (option_map (λ (f : File). f.bytes)) (find-set (is_named name) files at _ (place_is files name at h) found.0 own);
+      held = ap (option_map (λ (f : File). f.bytes)) (find-set (is_named name) files at _ (index_is files name at h) found.0 own);
       others = λ other differs.
           let not : is_named other file ≡ false = is_named-other other file (λ e. differs (e ∙ named)) in
           ap (option_map (λ (f : File). f.bytes)) (find_past (is_named other) files at _ file (rw (sym is) not) not);

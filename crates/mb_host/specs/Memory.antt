@@ -12,6 +12,9 @@ pub record Shown : Type 0 where
   pub read_faults : ℕ
   pub absences : ℕ
   pub write_faults : ℕ
+  pub reads : ℕ
+  pub writes : ℕ
+  pub prints : ℕ
 
 -- the file has this name
 abbrev pub is_named : List ℕ → File → Bool
@@ -29,6 +32,9 @@ told shown = record {
   read_faults = shown.read_faults;
   absences = shown.absences;
   write_faults = shown.write_faults;
+  reads = shown.reads;
+  writes = shown.writes;
+  prints = shown.prints;
 }
 
 -- the file of this name holds these bytes now, and the others are as they were

@@ -1,7 +1,28 @@
--- What a host tells that tells no content.
-use Rattle.std.specs.Prelude.{ℕ, None}
-use Rattle.mb_model.specs.Outside.{Outside}
+-- What a host tells that tells no content, and how its counts change.
+use Rattle.std.specs.Prelude.{ℕ, List, Option, None, Result, Ok, Err}
+use Rattle.mb_model.specs.Outside.{Outside, raised}
+use Rattle.mb_host.specs.declared.faults.Faults.{Faults}
+use Rattle.mb_host.specs.declared.whole.ReadCounts.{ReadCounts}
+use Rattle.mb_host.specs.declared.whole.WriteCounts.{WriteCounts}
 
--- such a host tells two counts alone; it cannot know that a file is absent
-abbrev pub untold : ℕ → ℕ → Outside
-untold reads writes = record { files = None; printed = None; read_faults = reads; absences = 0; write_faults = writes }
+-- such a host tells its counts alone; it cannot know that a file is absent
+abbrev pub untold : ReadCounts → WriteCounts → Outside
+untold reads writes = record {
+  files = None;
+  printed = None;
+  read_faults = reads.faults.count;
+  absences = 0;
+  write_faults = writes.faults.count;
+  reads = reads.calls;
+  writes = writes.files;
+  prints = writes.prints;
+}
+
+-- one fault more
+abbrev pub one_more : Faults → Faults
+one_more faults = record { count = raised faults.count }
+
+-- what is known of what was opened
+abbrev pub known : {S E : Type 0} → (S → Option (List ℕ)) → Result S E → Option (List ℕ)
+known bytes (Ok it) = bytes it
+known bytes (Err e) = None

@@ -1,12 +1,12 @@
 //! Counts that stand still at their last value.
 
-ghost use Rattle.std.specs.Prelude.{◌≤◌};
-ghost use Rattle.mb_model.specs.Outside.{HasRisen};
+ghost use Rattle.std.specs.Prelude.{◌≡◌};
+ghost use Rattle.mb_model.specs.Outside.{raised as raised_count};
 
 // One more than the count, which stands still at its last value.
+#[tactic(auto, unfolding(mb_model::specs::Outside::raised))]
 pub(crate) fn raised(count: u64) -> u64
-    ensures kept { count ≤ result }
-    ensures risen { HasRisen count result }
+    ensures { result ≡ raised_count count }
 {
     count.saturating_add(1)
 }

@@ -4,9 +4,11 @@
 #![tactic(auto)]
 
 mod count;
+mod faults;
 mod host;
 mod memory;
 mod real;
+mod whole;
 
 pub use host::{Host, HostEnd, HostFailed};
 pub use memory::MemoryHost;

@@ -21,6 +21,9 @@ pub struct MemoryHost {
     read_faults: u64,
     absences: u64,
     write_faults: u64,
+    reads: u64,
+    writes: u64,
+    prints: u64,
 }
 
 impl Model for MemoryHost {
@@ -34,6 +37,9 @@ impl Model for MemoryHost {
       read_faults = host.read_faults;
       absences = host.absences;
       write_faults = host.write_faults;
+      reads = host.reads;
+      writes = host.writes;
+      prints = host.prints;
     } };
 }
 
@@ -41,7 +47,7 @@ impl MemoryHost {
     /// A host with these files and nothing printed, which grows by `alloc`. The calls of `read`, `write` and `print`
     /// whose numbers are in `failing` fail; they are numbered together, from 0.
     ///
-    /// `NoMemory` where memory is wanted, which no clause rules out: the tests show that a host is made.
+    /// `NoMemory` where an allocation fails, which no clause rules out: the tests show that a host is made.
     pub fn new(alloc: Global, files: Files, failing: Calls) -> Result<MemoryHost, NoMemory>
         ensures { IfOk result (λ host. told host ≡ record {
           files = Some (content_of files);
@@ -49,6 +55,9 @@ impl MemoryHost {
           read_faults = 0;
           absences = 0;
           write_faults = 0;
+          reads = 0;
+          writes = 0;
+          prints = 0;
         }) }
     {
         Ok(MemoryHost {
@@ -60,6 +69,9 @@ impl MemoryHost {
             read_faults: 0,
             absences: 0,
             write_faults: 0,
+            reads: 0,
+            writes: 0,
+            prints: 0,
         })
     }
 
@@ -98,7 +110,28 @@ impl MemoryHost {
         self.write_faults
     }
 
-    // Counts a call, and says whether it is one of those that fail. No contract sees the number of a call, so which
+    /// How many calls of `read` there were.
+    pub fn reads(&self) -> u64
+        ensures { result ≡ (told self.now).reads }
+    {
+        self.reads
+    }
+
+    /// How many calls of `write` there were.
+    pub fn writes(&self) -> u64
+        ensures { result ≡ (told self.now).writes }
+    {
+        self.writes
+    }
+
+    /// How many calls of `print` there were.
+    pub fn prints(&self) -> u64
+        ensures { result ≡ (told self.now).prints }
+    {
+        self.prints
+    }
+
+    // Numbers a call, and says whether it is one of those that fail. No contract sees the number of a call, so which
     // calls fail is tested.
     fn call_fails(&mut self) -> bool
         ensures { self.new ≡ self.old }
@@ -113,6 +146,7 @@ impl Host for MemoryHost {
     ghost outside = { told };
 
     fn read(&mut self, alloc: Global, name: &str) -> Result<Vec<u8>, HostEnd> {
+        self.reads = raised(self.reads);
         if self.call_fails() {
             self.read_faults = raised(self.read_faults);
             return Err(HostEnd::Failed);
@@ -128,6 +162,7 @@ impl Host for MemoryHost {
     }
 
     fn write(&mut self, name: &str, bytes: &[u8]) -> Result<(), HostFailed> {
+        self.writes = raised(self.writes);
         if self.call_fails() || store(&mut self.files, self.alloc, name, bytes).is_err() {
             self.write_faults = raised(self.write_faults);
             return Err(HostFailed);
@@ -136,6 +171,7 @@ impl Host for MemoryHost {
     }
 
     fn print(&mut self, bytes: &[u8]) -> Result<(), HostFailed> {
+        self.prints = raised(self.prints);
         if self.call_fails() || self.printed.extend_from_slice(bytes).is_err() {
             self.write_faults = raised(self.write_faults);
             return Err(HostFailed);
@@ -144,8 +180,8 @@ impl Host for MemoryHost {
     }
 }
 
-// The place of the first file of this name.
-fn place(files: &[File], name: &str) -> Option<usize>
+// The index of the first file of this name.
+fn index_of(files: &[File], name: &str) -> Option<usize>
     ensures { result ≡ position (is_named name.now) files.now }
 {
     files
@@ -169,7 +205,7 @@ fn store(files: &mut Vec<File>, alloc: Global, name: &str, bytes: &[u8]) -> Resu
     ensures kept { OnErr result (files.new.items ≡ files.old.items) }
 {
     let bytes = Bytes::copy(alloc, bytes)?;
-    match place(files.as_slice(), name) {
+    match index_of(files.as_slice(), name) {
         Some(at) => files[at].bytes = bytes,
         None => {
             let name = Bytes::copy(alloc, name.as_bytes())?;

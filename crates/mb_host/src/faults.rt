@@ -1,0 +1,91 @@
+//! What the system gives, call by call, with each of its errors counted.
+//!
+//! Whole reads and writes see a source and a sink through the traits here alone. So an error that is not counted does
+//! not reach them, and they count no fault where the system gave no error.
+
+ghost use Rattle.std.specs.Prelude.{◌≡◌, ℕ, ◌<◌, ◌≤◌, List, Option, length, take, IfSome, MatchOption, MatchResult};
+ghost use Rattle.std.specs.Io.KnownBytes.{Appends, Consumes, IsAtEnd, Keeps};
+ghost use Rattle.mb_host.specs.Real.{one_more};
+
+use crate::count::raised;
+use std::io;
+use std::io::{Read, Write};
+
+/// How many errors the system gave.
+#[derive(Drop)]
+pub(crate) struct Faults {
+    count: u64,
+}
+
+impl Faults {
+    // No error yet.
+    pub(crate) fn none() -> Faults
+        ensures { result ≡ record { count = 0 } }
+    {
+        Faults { count: 0 }
+    }
+
+    // Counts what a call of the system gave, where that is an error.
+    pub(crate) fn note<T>(&mut self, given: &io::Result<T>)
+        ensures { MatchResult given.now (λ _. self.new ≡ self.old) (λ _. self.new ≡ one_more self.old) }
+    {
+        if given.is_err() {
+            self.count = raised(self.count);
+        }
+    }
+}
+
+/// Where bytes come from.
+pub(crate) trait Source {
+    // The bytes that it has left, where they are known.
+    ghost left: { Self → Option (List ℕ) };
+
+    /// Fills the front of `piece`, and says how many bytes it gave; `None` after an error, which is counted. A piece
+    /// that is not empty gets none at the end alone.
+    fn give(&mut self, faults: &mut Faults, piece: &mut [u8]) -> Option<usize>
+        ensures counted { MatchOption result (faults.new ≡ one_more faults.old) (λ _. faults.new ≡ faults.old) }
+        ensures bound { IfSome result (λ count. count ≤ length piece.new) }
+        ensures bytes { MatchOption result
+            (Keeps (left self.old) (left self.new))
+            (λ count. Consumes (left self.old) (left self.new) (take count piece.new)) }
+        ensures end { IfSome result (λ count. count ≡ 0 → 0 < length piece.new → IsAtEnd (left self.new)) };
+}
+
+impl<S: Read> Source for S {
+    ghost left = { S.remaining };
+
+    fn give(&mut self, faults: &mut Faults, piece: &mut [u8]) -> Option<usize> {
+        let given = self.read(piece);
+        faults.note(&given);
+        given.ok()
+    }
+}
+
+/// Where bytes go.
+pub(crate) trait Sink {
+    // The bytes that it holds, where they are known.
+    ghost held: { Self → Option (List ℕ) };
+
+    /// Appends the first of `bytes`, at least one of them, and says how many it took; `None` after an error, which is
+    /// counted. To take nothing is an error.
+    fn take(&mut self, faults: &mut Faults, bytes: &[u8]) -> Option<usize>
+        ensures counted { MatchOption result (faults.new ≡ one_more faults.old) (λ _. faults.new ≡ faults.old) }
+        ensures bound { IfSome result (λ count. count ≤ length bytes.now) }
+        ensures some { IfSome result (λ count. 0 < count) }
+        ensures bytes { MatchOption result
+            (Keeps (held self.old) (held self.new))
+            (λ count. Appends (held self.old) (held self.new) (take count bytes.now)) };
+}
+
+impl<S: Write> Sink for S {
+    ghost held = { S.contents };
+
+    fn take(&mut self, faults: &mut Faults, bytes: &[u8]) -> Option<usize> {
+        let given = match self.write(bytes) {
+            Ok(0) => Err(io::Error::from(io::ErrorKind::WriteZero)),
+            given => given,
+        };
+        faults.note(&given);
+        given.ok()
+    }
+}

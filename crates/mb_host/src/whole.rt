@@ -1,0 +1,157 @@
+//! Whole reads and writes over any source and any sink: what they answer, and how they are counted.
+
+ghost use Rattle.std.specs.Prelude.{◌≡◌, ℕ, ◌<◌, ◌≤◌, IfOk, IfSome, IsErr, IsErrOf, OnErr, OnOk, length, take, vec_len};
+ghost use Rattle.std.specs.Io.KnownBytes.{Appends, Consumes, IsAtEnd};
+ghost use Rattle.mb_model.specs.Outside.{raised as raised_count};
+ghost use Rattle.mb_host.specs.Real.{one_more, known};
+
+use crate::count::raised;
+use crate::faults::{Faults, Sink, Source};
+use crate::host::{HostEnd, HostFailed};
+use mb_model::FILE_LIMIT;
+use std::alloc::Global;
+use std::io;
+
+// The most bytes that one read asks for.
+const PIECE_LENGTH: usize = 65_536;
+
+/// How many reads there were, and how many of them failed. Nothing but a read raises these.
+#[derive(Drop)]
+pub(crate) struct ReadCounts {
+    calls: u64,
+    faults: Faults,
+}
+
+impl ReadCounts {
+    // No read yet.
+    pub(crate) fn none() -> ReadCounts
+        ensures { result ≡ record { calls = 0; faults = record { count = 0 } } }
+    {
+        ReadCounts {
+            calls: 0,
+            faults: Faults::none(),
+        }
+    }
+
+    // All that the source gives, where it was opened.
+    pub(crate) fn read<S: Source + Drop>(
+        &mut self,
+        alloc: Global,
+        opened: io::Result<S>,
+    ) -> Result<Vec<u8>, HostEnd>
+        ensures unopened { OnErr opened (IsErrOf result HostEnd.Failed) }
+        ensures whole { IfOk opened (λ source. IfSome (S.left source) (λ all.
+            IfOk result (λ bytes. bytes.items ≡ all))) }
+        ensures short { IfOk result (λ bytes. vec_len bytes ≤ 4194304) }
+        ensures too_long { IsErrOf result HostEnd.TooLong → IfOk opened (λ source. IfSome (S.left source) (λ all.
+            4194304 < length all)) }
+        ensures failed { IsErrOf result HostEnd.Failed →
+            self.new ≡ record { calls = raised_count self.old.calls; faults = one_more self.old.faults } }
+        ensures counted { (IsErrOf result HostEnd.Failed → ⊥) →
+            self.new ≡ record { calls = raised_count self.old.calls; faults = self.old.faults } }
+    {
+        self.calls = raised(self.calls);
+        self.faults.note(&opened);
+        let mut source = opened.map_err(|_| HostEnd::Failed)?;
+        read_whole(&mut source, &mut self.faults, alloc)
+    }
+}
+
+/// How many writes of files and how many prints there were, and how many of both failed. Nothing but these raises them.
+#[derive(Drop)]
+pub(crate) struct WriteCounts {
+    files: u64,
+    prints: u64,
+    faults: Faults,
+}
+
+impl WriteCounts {
+    // No write yet.
+    pub(crate) fn none() -> WriteCounts
+        ensures { result ≡ record { files = 0; prints = 0; faults = record { count = 0 } } }
+    {
+        WriteCounts {
+            files: 0,
+            prints: 0,
+            faults: Faults::none(),
+        }
+    }
+
+    // Writes all of these bytes to a file, where it was opened.
+    pub(crate) fn write<S: Sink>(
+        &mut self,
+        opened: &mut io::Result<S>,
+        bytes: &[u8],
+    ) -> Result<(), HostFailed>
+        ensures unopened { OnErr opened.old (IsErr result) }
+        ensures whole { OnOk result (Appends (known S.held opened.old) (known S.held opened.new) bytes.now) }
+        ensures part { OnErr result ((n : ℕ) ×
+            Appends (known S.held opened.old) (known S.held opened.new) (take n bytes.now)) }
+        ensures done { OnOk result (self.new ≡ record self.old { files = raised_count self.old.files }) }
+        ensures failed { OnErr result
+            (self.new ≡ record self.old { files = raised_count self.old.files; faults = one_more self.old.faults }) }
+    {
+        self.files = raised(self.files);
+        self.faults.note(opened);
+        match opened {
+            Ok(sink) => write_whole(sink, &mut self.faults, bytes),
+            Err(_) => Err(HostFailed),
+        }
+    }
+
+    // Prints all of these bytes.
+    pub(crate) fn print<S: Sink>(&mut self, output: &mut S, bytes: &[u8]) -> Result<(), HostFailed>
+        ensures whole { OnOk result (Appends (S.held output.old) (S.held output.new) bytes.now) }
+        ensures part { OnErr result ((n : ℕ) × Appends (S.held output.old) (S.held output.new) (take n bytes.now)) }
+        ensures done { OnOk result (self.new ≡ record self.old { prints = raised_count self.old.prints }) }
+        ensures failed { OnErr result
+            (self.new ≡ record self.old { prints = raised_count self.old.prints; faults = one_more self.old.faults }) }
+    {
+        self.prints = raised(self.prints);
+        write_whole(output, &mut self.faults, bytes)
+    }
+}
+
+// All that is left of a source. A read that gives nothing is its end.
+fn read_whole<S: Source>(
+    source: &mut S,
+    faults: &mut Faults,
+    alloc: Global,
+) -> Result<Vec<u8>, HostEnd>
+    ensures whole { IfOk result (λ bytes. Consumes (S.left source.old) (S.left source.new) bytes.items) }
+    ensures end { OnOk result (IsAtEnd (S.left source.new)) }
+    ensures short { IfOk result (λ bytes. vec_len bytes ≤ 4194304) }
+    ensures too_long { IsErrOf result HostEnd.TooLong → IfSome (S.left source.old) (λ all. 4194304 < length all) }
+    ensures failed { IsErrOf result HostEnd.Failed → faults.new ≡ one_more faults.old }
+    ensures fine { (IsErrOf result HostEnd.Failed → ⊥) → faults.new ≡ faults.old }
+{
+    let mut piece = [0; PIECE_LENGTH];
+    let mut bytes = Vec::new(alloc);
+    while bytes.len() <= FILE_LIMIT {
+        let count = source.give(faults, &mut piece).ok_or(HostEnd::Failed)?;
+        if count == 0 {
+            return Ok(bytes);
+        }
+        bytes
+            .extend_from_slice(&piece[..count])
+            .map_err(|_| HostEnd::NoMemory)?;
+    }
+    Err(HostEnd::TooLong)
+}
+
+// Writes all of these bytes.
+fn write_whole<S: Sink>(sink: &mut S, faults: &mut Faults, bytes: &[u8]) -> Result<(), HostFailed>
+    ensures whole { OnOk result (Appends (S.held sink.old) (S.held sink.new) bytes.now) }
+    ensures part { OnErr result ((n : ℕ) × Appends (S.held sink.old) (S.held sink.new) (take n bytes.now)) }
+    ensures done { OnOk result (faults.new ≡ faults.old) }
+    ensures failed { OnErr result (faults.new ≡ one_more faults.old) }
+{
+    let mut rest = bytes;
+    while !rest.is_empty() {
+        let Some(count) = sink.take(faults, rest) else {
+            return Err(HostFailed);
+        };
+        rest = &rest[count..];
+    }
+    Ok(())
+}
