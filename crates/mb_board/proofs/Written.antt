@@ -1,7 +1,8 @@
 -- What is the same in two memories outside of a range stays so as the range grows, and inside it after a copy.
 use Rattle.std.proofs.Common.{◌≡◌, ℕ, ◌+◌, ◌-◌, ◌≤◌, min, max, List, ◌++◌, length, take, drop, ap, sym, ◌∙◌, arith}
 use Rattle.std.proofs.lemmas.List.{take-take, drop-drop, drop-take, take-append-drop}
-use Rattle.mb_model.specs.Board.{part, put}
+use Rattle.mb_model.specs.Pieces.{part}
+use Rattle.mb_model.specs.Board.{put}
 use Rattle.mb_model.proofs.Places.{take-put_below, drop-put_above, length-part, length-put}
 use Rattle.mb_board.specs.Kept.{IsSameOutside}
 
@@ -24,21 +25,20 @@ IsSameOutside-put from to at end bytes standing memory same ends within =
       from_within = omega arith;
       to_within = omega arith;
       before = take_less (min from at) from standing memory (omega arith) same.before ∙ sym (take-put_below (min from at) at bytes memory (omega arith) (omega arith));
-      behind = drop_more (max to end) to standing memory (omega arith) same.behind ∙ sym (drop-put_above (max to end) at bytes memory (omega arith) (omega arith));
+      beyond = drop_more (max to end) to standing memory (omega arith) same.beyond ∙ sym (drop-put_above (max to end) at bytes memory (omega arith) (omega arith));
     }
 
 -- the range is empty
 pub same_everywhere : (from to : ℕ) (standing memory : List ℕ) → to ≤ from → IsSameOutside from to standing memory → standing ≡ memory
 same_everywhere from to standing memory empty same =
     let front : take to standing ≡ take to memory = take_less to from standing memory empty same.before in
-    let behind : drop to standing ≡ drop to memory = same.behind in
+    let beyond : drop to standing ≡ drop to memory = same.beyond in
     let split-standing : take to standing ++ drop to standing ≡ standing = take-append-drop to standing in
     let split-memory : take to memory ++ drop to memory ≡ memory = take-append-drop to memory in
     cc
 
 -- a list is its front, a part, and the rest
 parts : (from to : ℕ) (memory : List ℕ) → from ≤ to → (take from memory ++ part from (to - from) memory) ++ drop to memory ≡ memory
-unfolding part
 parts from to memory ordered =
     let front : take from (take to memory) ≡ take from memory = take-take from to memory ordered in
     let whole : from + (to - from) ≡ to = omega arith in
@@ -57,6 +57,6 @@ put-part from to standing memory ordered same =
     let end : from + length (part from (to - from) memory) ≡ to = omega arith in
     let rest : drop (from + length (part from (to - from) memory)) standing ≡ drop to standing = ap (λ i. drop i standing) end in
     let before : take from standing ≡ take from memory = same.before in
-    let behind : drop to standing ≡ drop to memory = same.behind in
+    let beyond : drop to standing ≡ drop to memory = same.beyond in
     let all : (take from memory ++ part from (to - from) memory) ++ drop to memory ≡ memory = parts from to memory ordered in
     cc

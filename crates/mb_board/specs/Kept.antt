@@ -8,7 +8,7 @@ pub record IsSameOutside (from to : ℕ) (standing bytes : List ℕ) : Type 0 wh
   pub from_within : from ≤ length bytes
   pub to_within : to ≤ length bytes
   pub before : take from standing ≡ take from bytes
-  pub behind : drop to standing ≡ drop to bytes
+  pub beyond : drop to standing ≡ drop to bytes
 
 abbrev pub IsKept : Inside → Type 0
 IsKept bank = IsSameOutside bank.from bank.to bank.standing.items bank.bytes.items

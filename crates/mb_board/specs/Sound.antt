@@ -7,4 +7,5 @@ pub record IsSound (board : Inside) : Type 0 where
   pub copies : board.copies.items ≡ board.waiting.items
   pub count : length board.waiting.items ≤ 65536
   -- the list of answers has room for the event that is out and for those that wait
-  pub room : length board.answered.items + length (option_to_list board.out) + length board.waiting.items ≤ vec_capacity board.answered
+  pub room : length board.answered.items + length (option_to_list board.out) + length board.waiting.items
+      ≤ vec_capacity board.answered

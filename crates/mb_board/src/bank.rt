@@ -1,7 +1,8 @@
 //! One of a device's memories.
 
 ghost use Rattle.std.specs.Prelude.{◌≡◌, ◌+◌, ◌-◌, ◌≤◌, ◌<◌, [], length, take, drop, IfOk};
-ghost use Rattle.mb_model.specs.Board.{put, part};
+ghost use Rattle.mb_model.specs.Pieces.{part};
+ghost use Rattle.mb_model.specs.Board.{put};
 ghost use Rattle.mb_model.specs.FirstPath.{erased};
 ghost use Rattle.mb_board.specs.Shown.{kept};
 ghost use Rattle.mb_board.specs.Kept.{IsSameOutside};

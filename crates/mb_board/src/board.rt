@@ -2,7 +2,8 @@
 
 ghost use Rattle.std.specs.Prelude.{◌≡◌, ◌≢◌, ◌+◌, ◌*◌, ◌/◌, ◌-◌, ◌<◌, ◌≤◌, ◌++◌, ◌∷◌, [], ℕ, Bool, true, false, length, All, IfOk, OnOk, OnErr, IfNone, IfSome, List, Some, None, if◌then◌else◌};
 ghost use Rattle.mb_model.specs.FirstPath.{IsFirstEvent, StepsBetween, erased};
-ghost use Rattle.mb_model.specs.Board.{Memory, Ledger, IsLoaded, image_of, loaded, put, part, is_off};
+ghost use Rattle.mb_model.specs.Pieces.{part};
+ghost use Rattle.mb_model.specs.Board.{Memory, Ledger, IsLoaded, image_of, loaded, put, is_off};
 
 use mb_model::{Answered, Event, Events, NoMemory, Reply};
 use std::alloc::Global;
@@ -60,7 +61,7 @@ pub trait Board {
         ensures stopped { OnErr result ((ledger self.old).armed ≡ true) };
 
     /// Loads an image, the flash followed by the battery-backed memory, and the events that will be handed out. Room
-    /// for all answers is taken. On want of memory the board is as before.
+    /// for all answers is taken. If an allocation fails, the board is as before.
     fn load(&mut self, alloc: Global, image: &[u8], events: Events) -> Result<(), NoMemory>
         requires image { length image.now ≡ 1077248 }
         requires count { length events ≤ 65536 }

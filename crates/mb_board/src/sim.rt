@@ -82,7 +82,6 @@ impl Board for SimBoard {
         self.is_on = false;
     }
 
-    #[tactic(auto, unfolding(mb_model::specs::Board::part))]
     fn flash_read(&self, at: u32, out: &mut [u8]) {
         let start = at as usize;
         out.copy_from_slice(&self.flash.as_slice()[start..start + out.len()]);

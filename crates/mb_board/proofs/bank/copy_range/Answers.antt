@@ -1,10 +1,8 @@
 use Rattle.std.proofs.Common.{◌∙◌, arith}
-use Rattle.mb_model.specs.Board.{part}
 use Rattle.mb_board.proofs.Written.{put-part, same_everywhere}
 use Rattle.mb_board.proofs.bank.copy_range.Goals as goal
 
 pub returns-then-from-to : goal.returns-then-from-to
-unfolding part
 returns-then-from-to c =
     c.write.ensures ∙ put-part c.args.from c.args.to _ _ (omega arith) c.requires
 
