@@ -21,9 +21,9 @@ tar --create --exclude='crates/*/out' crates.txt HANDLES crates | tar --extract 
 
 # The program is a crate of the copy.
 crate="$work/crates/bench_keys"
-mkdir -p "$crate/src" "$crate/proofs/signs_kept"
+mkdir -p "$crate/src" "$crate/proofs/does"
 cp "$here/keys/main.txt" "$crate/src/main.rt"
-cp "$here/keys/invariants.txt" "$crate/proofs/signs_kept/Invariants.antt"
+cp "$here/keys/invariants.txt" "$crate/proofs/does/Invariants.antt"
 echo 'bench_keys: mb_model mb_lms mb_signer' >>"$work/crates.txt"
 echo "Proving and building the program, and every crate below it where that is not done yet .." >&2
 if ! (cd "$crate" && rt run -- nothing 1) >"$work/build.log" 2>&1; then

@@ -10,4 +10,5 @@ use Rattle.mb_lms.specs.declared.checker.Checker.{Checker}
 -- the checker is for the key, and has hashed what precedes a text under the signature, and then the text
 pub record IsChecking (checker : Checker) (key : PublicKey) (sig text : List ℕ) : Type 0 where
   pub key_kept : checker.key ≡ key
-  pub hashed : Holds256 checker.hasher (key.identifier ++ to_be_bytes w32 (leaf_number sig) ++ message_mark ++ randomizer sig ++ text)
+  pub hashed : Holds256 checker.hasher
+      (key.identifier ++ to_be_bytes w32 (leaf_number sig) ++ message_mark ++ randomizer sig ++ text)

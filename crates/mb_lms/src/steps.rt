@@ -4,10 +4,11 @@ ghost use Rattle.std.specs.Prelude.{◌≡◌, ◌+◌, ◌<◌, ◌++◌};
 ghost use Rattle.sha2.specs.Sha256.{sha256};
 
 use sha2::{Digest, Sha256};
+use std::alloc::Global;
 use std::marker::Model;
 use std::sync::ledger::{Blank, Book, Ledger, Share};
 
-/// How many hashes were taken. It takes no bytes, and `hash` alone raises it.
+/// How many hashes were taken. It takes no bytes, and `hash` alone raises it. It can be neither copied nor set back.
 #[derive(Drop)]
 pub struct Steps<L: Ledger> {
     book: Book<L>,
@@ -25,8 +26,10 @@ impl<L: Ledger> Model for Steps<L> {
 }
 
 impl<L: Ledger> Steps<L> {
-    /// A count of none yet, over a ledger of at least one part.
-    pub fn begin(blank: Blank) -> Steps<L>
+    /// A count of none yet, over a ledger of at least one part. It takes no memory. The allocator is a permission,
+    /// which a function has only where its caller gives it: no call that hashes is given one, here or in `mb_signer`,
+    /// so that none can begin a count of its own beside its caller's.
+    pub fn begin(_permission: Global, blank: Blank) -> Steps<L>
         requires name { blank.name ≡ L.name }
         requires parts { blank.parts ≡ L.parts }
         requires some { 0 < blank.parts }

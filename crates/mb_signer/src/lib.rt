@@ -3,7 +3,8 @@
 //!
 //! This crate owns the rights to sign, each of which serves one signature; the tree of a key, which may be kept; and
 //! signing. It stands on `mb_lms`, by whose counted hash alone it hashes, on `mb_model`, and on the laws of
-//! a key's tree in `mb_laws`. No call takes memory.
+//! a key's tree in `mb_laws`. Each call that hashes does so on the count of its caller, and begins none. No call takes
+//! memory.
 #![tactic(auto)]
 
 mod bytes;

@@ -11,8 +11,7 @@ use crate::uses::OneUse;
 use mb_bytes::put_at;
 use mb_lms::{Steps, digit, digits_of};
 use mb_model::{Chains, KeySeed, PublicKey, Tree};
-use std::marker::Brand;
-use std::sync::ledger::{Blank, Ledger};
+use std::sync::ledger::Ledger;
 
 /// The LM-OTS type of each signature (RFC 8554, section 4.1).
 const CHAINS_TYPE: u32 = 3;
@@ -20,7 +19,7 @@ const CHAINS_TYPE: u32 = 3;
 /// The LMS type of each signature (RFC 8554, section 5.1).
 const TREE_TYPE: u32 = 5;
 
-/// Where the LM-OTS type stands in a signature, behind the index.
+/// Where the LM-OTS type stands in a signature, after the index.
 const CHAINS_TYPE_AT: usize = 4;
 
 /// Where C begins in a signature.
@@ -35,21 +34,13 @@ const TREE_TYPE_AT: usize = 2184;
 /// Where the path begins in a signature.
 const PATH_AT: usize = 2188;
 
-/// The public key that belongs to the seed (RFC 8554, section 5.3).
-pub fn public(seed: &KeySeed) -> PublicKey
-    ensures { result ≡ public_of seed.now }
-{
-    public_counted::<Brand>(seed, Blank::new(1))
-}
-
+/// The public key that belongs to the seed, in as many steps as its tree takes (RFC 8554, section 5.3).
 #[tactic(auto, unfolding(mb_model::specs::Signing::public_of))]
-fn public_counted<L: Ledger>(seed: &KeySeed, blank: Blank) -> PublicKey
-    requires name { blank.name ≡ L.name }
-    requires parts { blank.parts ≡ L.parts }
-    requires some { 0 < blank.parts }
-    ensures { result ≡ public_of seed.now }
+pub fn public<L: Ledger>(seed: &KeySeed, steps: &mut Steps<L>) -> PublicKey
+    ensures key { result ≡ public_of seed.now }
+    ensures counted { steps.new ≡ steps.old + 34399 }
 {
-    let tree = KeptTree::build(seed, &mut Steps::<L>::begin(blank));
+    let tree = KeptTree::build(seed, steps);
     PublicKey {
         tree: Tree::H5,
         chains: Chains::W4,
@@ -58,33 +49,31 @@ fn public_counted<L: Ledger>(seed: &KeySeed, blank: Blank) -> PublicKey
     }
 }
 
-/// Writes the one signature of `head` followed by `body` at the right's index (RFC 8554, section 5.4.1).
-pub fn sign(right: OneUse, seed: &KeySeed, head: &[u8], body: &[u8], out: &mut [u8; 2348])
-    ensures { out.new ≡ signature_of seed.now right (head.now ++ body.now) }
-{
-    sign_counted::<Brand>(right, seed, head, body, out, Blank::new(1));
-}
-
-fn sign_counted<L: Ledger>(
+/// Writes the one signature of `head` followed by `body` at the right's index, in at most 35,473 steps: those of the
+/// key's tree, and those of signing by it (RFC 8554, section 5.4.1).
+pub fn sign<L: Ledger>(
     right: OneUse,
     seed: &KeySeed,
     head: &[u8],
     body: &[u8],
     out: &mut [u8; 2348],
-    blank: Blank,
+    steps: &mut Steps<L>,
 )
-    requires name { blank.name ≡ L.name }
-    requires parts { blank.parts ≡ L.parts }
-    requires some { 0 < blank.parts }
-    ensures { out.new ≡ signature_of seed.now right (head.now ++ body.now) }
+    ensures signature { out.new ≡ signature_of seed.now right (head.now ++ body.now) }
+    ensures cost { steps.new ≤ steps.old + 35473 }
 {
-    let mut steps = Steps::<L>::begin(blank);
-    let tree = KeptTree::build(seed, &mut steps);
-    sign_kept(right, &tree, seed, head, body, out, &mut steps);
+    let tree = KeptTree::build(seed, steps);
+    sign_kept(right, &tree, seed, head, body, out, steps);
 }
 
 /// Writes the one signature of `head` followed by `body` at the right's index, by the key's tree, in at most 1,074
 /// steps: 67 private values, at most 1,005 steps of chains, C, and the hash of the text (RFC 8554, section 5.4.1).
+///
+/// A step is a `mb_lms::hash` on the caller's count, and this crate makes hashes by no other call. So the clause
+/// `cost` excludes a body that builds a tree again, which takes 34,399. A body can't begin a count beside the
+/// caller's: `Steps::begin` wants an allocator, and no call here is given one. The clause doesn't exclude a SHA-256
+/// that is written out here, nor a call of `verify` or `key_hash`, which count nothing and can't give a node of a
+/// tree.
 pub fn sign_kept<L: Ledger>(
     right: OneUse,
     tree: &KeptTree,

@@ -5,7 +5,7 @@ ghost use Rattle.std.specs.Prelude.{◌≡◌, ◌<◌};
 use super::*;
 use hex::FromHex;
 use mb_lms::{Steps, hash, key_bytes, verify};
-use mb_model::KeySeed;
+use mb_model::{KeySeed, PublicKey};
 use std::alloc::Global;
 use std::marker::Brand;
 use std::process::Abort;
@@ -24,16 +24,55 @@ fn seed_of(identifier: &str, seed: &str) -> Result<KeySeed, Fail> {
     })
 }
 
-fn hash_of(bytes: &[u8]) -> [u8; 32] {
-    hash_counted::<Brand>(bytes, Blank::new(1))
+fn hash_of(alloc: Global, bytes: &[u8]) -> [u8; 32] {
+    hash_counted::<Brand>(alloc, bytes, Blank::new(1))
 }
 
-fn hash_counted<L: Ledger>(bytes: &[u8], blank: Blank) -> [u8; 32]
+fn hash_counted<L: Ledger>(alloc: Global, bytes: &[u8], blank: Blank) -> [u8; 32]
     requires name { blank.name ≡ L.name }
     requires parts { blank.parts ≡ L.parts }
     requires some { 0 < blank.parts }
 {
-    hash(bytes, &[], &[], &mut Steps::<L>::begin(blank))
+    hash(bytes, &[], &[], &mut Steps::<L>::begin(alloc, blank))
+}
+
+/// The public key, on a count of its own.
+fn key_of(alloc: Global, seed: &KeySeed) -> PublicKey {
+    key_counted::<Brand>(alloc, seed, Blank::new(1))
+}
+
+fn key_counted<L: Ledger>(alloc: Global, seed: &KeySeed, blank: Blank) -> PublicKey
+    requires name { blank.name ≡ L.name }
+    requires parts { blank.parts ≡ L.parts }
+    requires some { 0 < blank.parts }
+{
+    public(seed, &mut Steps::<L>::begin(alloc, blank))
+}
+
+/// The signature of the text, handed over in two pieces, on a count of its own.
+fn signature_of(alloc: Global, index: u32, seed: &KeySeed, head: &[u8], body: &[u8]) -> [u8; 2348]
+    requires { index < 32 }
+{
+    signature_counted::<Brand>(alloc, index, seed, head, body, Blank::new(1))
+}
+
+fn signature_counted<L: Ledger>(
+    alloc: Global,
+    index: u32,
+    seed: &KeySeed,
+    head: &[u8],
+    body: &[u8],
+    blank: Blank,
+) -> [u8; 2348]
+    requires index { index < 32 }
+    requires name { blank.name ≡ L.name }
+    requires parts { blank.parts ≡ L.parts }
+    requires some { 0 < blank.parts }
+{
+    let mut out = no_signature();
+    let mut steps = Steps::<L>::begin(alloc, blank);
+    sign(right_at(index), seed, head, body, &mut out, &mut steps);
+    out
 }
 
 /// The right to sign at an index.
@@ -58,10 +97,16 @@ fn no_signature() -> [u8; 2348] {
 }
 
 /// The seed has this public key.
-fn expect_public(rt: &impl Abort, identifier: &str, seed: &str, key: &str) -> Result<(), Fail> {
+fn expect_public(
+    rt: &impl Abort,
+    alloc: Global,
+    identifier: &str,
+    seed: &str,
+    key: &str,
+) -> Result<(), Fail> {
     let seed = seed_of(identifier, seed)?;
     assert_eq!(rt;
-        key_bytes(&public(&seed)),
+        key_bytes(&key_of(alloc, &seed)),
         <[u8; 56] as FromHex>::from_hex(key)?
     );
     Ok(())
@@ -81,21 +126,20 @@ fn expect_signature(
     let expected = <[u8; 32] as FromHex>::from_hex(expected)?;
     let text = hex::decode(alloc, text)?;
     let (head, body) = text.split_at(text.len() / 2);
-    let mut signature = no_signature();
-    sign(right_at(index), &seed, head, body, &mut signature);
-    assert_eq!(rt; hash_of(&signature), expected);
-    assert!(rt; verify(&public(&seed), head, body, &signature));
+    let signature = signature_of(alloc, index, &seed, head, body);
+    assert_eq!(rt; hash_of(alloc, &signature), expected);
+    assert!(rt; verify(&key_of(alloc, &seed), head, body, &signature));
     Ok(())
 }
 
 /// Two signatures by one kept tree are those that are made without it.
-fn expect_kept<L: Ledger>(rt: &impl Abort, blank: Blank) -> Result<(), Fail>
+fn expect_kept<L: Ledger>(rt: &impl Abort, alloc: Global, blank: Blank) -> Result<(), Fail>
     requires name { blank.name ≡ L.name }
     requires parts { blank.parts ≡ L.parts }
     requires some { 0 < blank.parts }
 {
     let seed = seed_of(IDENTIFIER, SEED)?;
-    let mut steps = Steps::<L>::begin(blank);
+    let mut steps = Steps::<L>::begin(alloc, blank);
     let tree = KeptTree::build(&seed, &mut steps);
     for index in 0..2u32 {
         let mut kept = no_signature();
@@ -109,7 +153,14 @@ fn expect_kept<L: Ledger>(rt: &impl Abort, blank: Blank) -> Result<(), Fail>
             &mut steps,
         );
         let mut anew = no_signature();
-        sign(right_at(index), &seed, b"kept ", b"tree", &mut anew);
+        sign(
+            right_at(index),
+            &seed,
+            b"kept ",
+            b"tree",
+            &mut anew,
+            &mut steps,
+        );
         assert_eq!(rt; kept, anew);
     }
     Ok(())
@@ -119,18 +170,21 @@ fn expect_kept<L: Ledger>(rt: &impl Abort, blank: Blank) -> Result<(), Fail>
 fn public_keys(rt: HostRuntime) -> Result<(), Fail> {
     expect_public(
         &rt,
+        rt.alloc(),
         "415f9f8fc3e618dd8524180f3db6a7c9",
         "eb495b20b522240648df79d22ec304c592f6d73c19b49bf70f19f34f72888b1a",
         "0000000500000003415f9f8fc3e618dd8524180f3db6a7c9a7881c4ccb3521694cbdd14fd42b0822cdfb7c6f9fc531cab957f755e6a2d2bc",
     )?;
     expect_public(
         &rt,
+        rt.alloc(),
         "f5d541e6c1f5736fac8d67703916a7e4",
         "b7b94ea512bd312bfcd9eedbebef91090a23420ddbc50323fc7193e510217f8c",
         "0000000500000003f5d541e6c1f5736fac8d67703916a7e43b6ec035344e351fe5527a7c1f6b590c34bc0a1eca4c29075b6155648ccc2b87",
     )?;
     expect_public(
         &rt,
+        rt.alloc(),
         "45e47fb59aa5a55f0f83d81c6d9de2ea",
         "ffbfddc10c0c223395dda0609b99feeda3baded74bf09ba9881a083b49fe63e4",
         "000000050000000345e47fb59aa5a55f0f83d81c6d9de2ea40811d1aa53e467789ef706d859ed038b16e8bee901fca5c6f44384e54216c13",
@@ -272,5 +326,5 @@ fn each_index_is_taken_once(rt: HostRuntime) {
 
 #[test]
 fn kept_tree(rt: HostRuntime) -> Result<(), Fail> {
-    expect_kept::<Brand>(&rt, Blank::new(1))
+    expect_kept::<Brand>(&rt, rt.alloc(), Blank::new(1))
 }
