@@ -1,5 +1,5 @@
 -- A whole draft: where it may end, and which line is the first that is wrong.
-use Rattle.std.proofs.Common.{◌≡◌, ℕ, ◌+◌, ◌<◌, ◌≤◌, inl, inr, List, [], ◌∷◌, ◌++◌, length, refl, sym, ap, subst, ◌∙◌, arith, append_assoc, length-append, replicate}
+use Rattle.std.proofs.Common.{◌≡◌, ℕ, ◌+◌, ◌<◌, ◌≤◌, inl, inr, List, [], ◌∷◌, ◌++◌, length, refl, sym, ap, subst, ◌∙◌, arith, append_assoc, length-append, replicate, lit≤}
 use Rattle.std.specs.Prelude.{codes}
 use Rattle.std.specs.List.{AllZip}
 use Rattle.std.specs.Fmt.{decimal}
@@ -14,7 +14,7 @@ use Rattle.mb_model.specs.declared.order.Act.TheVariants as act
 use Rattle.mb_model.specs.declared.order.Target.{Target}
 use Rattle.mb_model.specs.declared.order.Order.{Order}
 use Rattle.mb_model.specs.Key.{key_bytes}
-use Rattle.mb_model.specs.Lines.{HasLines, spaced, Begins, bad, short, Reads, TextFailsAtLine}
+use Rattle.mb_model.specs.Lines.{HasLines, spaced, IsBeginning, bad_line, ends_early, Reads, TextFailsAtLine}
 use Rattle.mb_model.specs.Drafts.{SaysTarget, trust_line, order_words, SayAct, IsDraft}
 use Rattle.hex.specs.Hex.{decode_pairs}
 use Rattle.mb_model.specs.Texts.{IsHex}
@@ -27,7 +27,7 @@ use Rattle.mb_officer.specs.declared.draft.Said.{Said}
 use Rattle.mb_officer.specs.declared.draft.Said.TheVariants as said
 use Rattle.mb_words.proofs.NextLines.{with_line}
 use Rattle.mb_words.specs.Words.{SplitsLine}
-use Rattle.mb_officer.specs.Drafting.{load_act, kind_of, heading_line, drafted, IsSound, SaysTargets, SaysCode, SaysLoad, SaysOwner, SaysRest, Follows}
+use Rattle.mb_officer.specs.Drafting.{load_act, ordered_by, heading_line, drafted, IsSound, SaysTargets, SaysCode, SaysLoad, SaysOwner, SaysRest, Follows}
 use Rattle.mb_officer.proofs.Lines.{establish_load, from_owner, from_version}
 use Rattle.mb_officer.proofs.Headings.{from_targets}
 
@@ -36,7 +36,7 @@ use Rattle.mb_officer.proofs.Headings.{from_targets}
 finish_of : (k : Kind) (layer : ℕ) (targets : List Target) (order : Order) (target_lines act_lines : List (List ℕ)) (rest : List Target)
     → [] ≡ target_lines ++ act_lines → AllZip SaysTarget target_lines rest → order.targets ≡ targets ++ rest
     → SaysTargets k layer targets [] order → SayAct act_lines order.act
-    → SayAct [] order.act × (kind_of order.act ≡ k) × (order ≡ drafted layer targets order.act)
+    → SayAct [] order.act × (ordered_by order.act ≡ k) × (order ≡ drafted layer targets order.act)
 finish_of k layer targets order [] act_lines [] split zip all says acts =
     let of_layer = says.of_layer in
     let of_targets = all ∙ append-nil targets in
@@ -49,22 +49,22 @@ finish_of k layer targets order [] act_lines [] split zip all says acts =
 finish_of k layer targets order [] act_lines (t ∷ rest) split zip all says acts = absurd zip
 finish_of k layer targets order (first ∷ lines) act_lines rest split zip all says acts = absurd (cons_none first (lines ++ act_lines) split)
 
-load_more : (l : Loading) (a : Act) → SayAct [] a → kind_of a ≡ kind.Load l → ⊥
+load_more : (l : Loading) (a : Act) → SayAct [] a → ordered_by a ≡ kind.Load l → ⊥
 load_more l (act.Establish owner trust) says of_kind = establish_load l of_kind
 load_more l act.Surrender says of_kind = cc
-load_more l (act.Load version trust code) says of_kind = cons_none _ (trust_line trust ∷ says.code_line ∷ []) says.spelled
-load_more l (act.Emergency version trust code) says of_kind = cons_none _ (trust_line trust ∷ says.code_line ∷ []) says.spelled
+load_more l (act.Load payload) says of_kind = cons_none _ (trust_line payload.trust ∷ says.code_line ∷ []) says.spelled
+load_more l (act.Emergency payload) says of_kind = cons_none _ (trust_line payload.trust ∷ says.code_line ∷ []) says.spelled
 load_more l (act.NewKey key) says of_kind = cc
 
-establish_more : (a : Act) → SayAct [] a → kind_of a ≡ kind.Establish → ⊥
+establish_more : (a : Act) → SayAct [] a → ordered_by a ≡ kind.Establish → ⊥
 establish_more (act.Establish owner trust) says of_kind = cons_none says.owner_line (trust_line trust ∷ []) says.spelled
 establish_more act.Surrender says of_kind = cc
-establish_more (act.Load version trust code) says of_kind = cc
-establish_more (act.Emergency version trust code) says of_kind = cc
+establish_more (act.Load payload) says of_kind = cc
+establish_more (act.Emergency payload) says of_kind = cc
 establish_more (act.NewKey key) says of_kind = cc
 
 finish_targets : (k : Kind) (layer : ℕ) (targets : List Target) (order : Order) → SaysTargets k layer targets [] order
-    → SayAct [] order.act × (kind_of order.act ≡ k) × (order ≡ drafted layer targets order.act)
+    → SayAct [] order.act × (ordered_by order.act ≡ k) × (order ≡ drafted layer targets order.act)
 finish_targets k layer targets order says = finish_of k layer targets order says.target_lines says.act_lines says.more says.spelled says.targeted says.all says says.says_act
 
 pub load_unfinished : (l : Loading) (layer : ℕ) (targets : List Target) (order : Order) → SaysTargets (kind.Load l) layer targets [] order → ⊥
@@ -117,7 +117,7 @@ pub owner_unfinished : (layer : ℕ) (owner : PublicKey) (targets : List Target)
 owner_unfinished layer owner targets order says = cons_none (trust_line says.trust) [] says.spelled
 
 pub version_unfinished : (l : Loading) (layer version : ℕ) (targets : List Target) (order : Order) → SaysLoad l layer version targets [] order → ⊥
-version_unfinished l layer version targets order says = cons_none (trust_line says.trust) says.behind says.spelled
+version_unfinished l layer version targets order says = cons_none (trust_line says.trust) says.remaining says.spelled
 
 pub trust_unfinished : (l : Loading) (layer version : ℕ) (trust : Trust) (targets : List Target) (order : Order) → SaysCode l layer version trust targets [] order → ⊥
 trust_unfinished l layer version trust targets order says = cons_none says.line [] says.spelled
@@ -155,7 +155,7 @@ ends_load : (l : Loading) (layer version : ℕ) (targets : List Target)
     → SaysLoad l layer version targets (codes "trust always" ∷ codes "code -" ∷ []) (drafted layer targets (load_act l version Always []))
 ends_load l layer version targets = record {
   trust = Always;
-  behind = codes "code -" ∷ [];
+  remaining = codes "code -" ∷ [];
   spelled = refl;
   coded = ends_code l layer version Always targets;
 }
@@ -199,7 +199,7 @@ ends : (s : Said) (targets : List Target) → IsSound s targets → Ends s targe
 ends said.Nothing targets none = record {
   more = heading_line kind.Surrender 2 ∷ [];
   order = drafted 2 [] act.Surrender;
-  says = from_targets kind.Surrender 2 (heading_line kind.Surrender 2) [] (drafted 2 [] act.Surrender) (refl, refl) (surrender_finished 2 [] (omega arith));
+  says = from_targets kind.Surrender 2 (heading_line kind.Surrender 2) [] (drafted 2 [] act.Surrender) ((lit≤ tt, lit≤ tt), refl) (surrender_finished 2 [] (omega arith));
 }
 ends (said.Heading k layer) targets sound = ends_heading k layer targets sound.1
 ends (said.Owner layer owner) targets sound = record {
@@ -225,7 +225,7 @@ ends (said.All layer a) targets sound = record { more = []; order = drafted laye
 pub record HasRead (text rest : List ℕ) (number : ℕ) (s : Said) (targets : List Target) : Type 0 where
   pub before : List (List ℕ)
   pub counted : number ≡ length before + 1
-  pub lines : (behind : List (List ℕ)) → HasLines rest behind → HasLines text (before ++ behind)
+  pub lines : (remaining : List (List ℕ)) → HasLines rest remaining → HasLines text (before ++ remaining)
   pub sound : IsSound s targets
   pub on : (more : List (List ℕ)) (order : Order) → SaysRest s targets more order → IsDraft (before ++ more) order
   pub only : (more : List (List ℕ)) (order : Order) → IsDraft (before ++ more) order → SaysRest s targets more order
@@ -234,7 +234,7 @@ pub HasRead-start : (text : List ℕ) (targets : List Target) → targets ≡ []
 HasRead-start text targets none = record {
   before = [];
   counted = refl;
-  lines = λ behind has. has;
+  lines = λ remaining has. has;
   sound = none;
   on = λ more order says. says;
   only = λ more order says. says;
@@ -248,9 +248,9 @@ pub HasRead-step : (text rest line later : List ℕ) (number next_number : ℕ) 
 HasRead-step text rest line later number next_number s next targets after read splits some follows counts = record {
   before = read.before ++ line ∷ [];
   counted = omega (arith, counts, read.counted, length-append read.before (line ∷ []));
-  lines = λ behind has.
-      subst (λ (x : List (List ℕ)). HasLines text x) (sym (longer read.before line behind))
-      (read.lines (line ∷ behind) (with_line rest line later behind splits some has));
+  lines = λ remaining has.
+      subst (λ (x : List (List ℕ)). HasLines text x) (sym (longer read.before line remaining))
+      (read.lines (line ∷ remaining) (with_line rest line later remaining splits some has));
   sound = follows.sound;
   on = λ more order says.
       subst (λ (x : List (List ℕ)). IsDraft x order) (sym (longer read.before line more)) (read.on (line ∷ more) order (follows.on more order says));
@@ -258,7 +258,7 @@ HasRead-step text rest line later number next_number s next targets after read s
       follows.only more order (read.only (line ∷ more) order (subst (λ (x : List (List ℕ)). IsDraft x order) (longer read.before line more) is));
 }
 
-begins_so : (text rest : List ℕ) (number : ℕ) (s : Said) (targets : List Target) (read : HasRead text rest number s targets) → Begins IsDraft read.before
+begins_so : (text rest : List ℕ) (number : ℕ) (s : Said) (targets : List Target) (read : HasRead text rest number s targets) → IsBeginning IsDraft read.before
 begins_so text rest number s targets read =
     let end = ends s targets read.sound in
     record { more = end.more; value = end.order; stands = read.on end.more end.order end.says }
@@ -267,16 +267,22 @@ pub HasRead-bad : (text rest line later : List ℕ) (number : ℕ) (s : Said) (t
     → SplitsLine rest line later → 0 < length rest → ((more : List (List ℕ)) (order : Order) → SaysRest s targets (line ∷ more) order → ⊥)
     → TextFailsAtLine IsDraft text number
 HasRead-bad text rest line later number s targets read splits some none =
-    let behind = HasLines-always later in
+    let remaining = HasLines-always later in
     record {
-      lines = read.before ++ line ∷ behind.0;
-      has = read.lines (line ∷ behind.0) (with_line rest line later behind.0 splits some behind.1);
-      fails = bad read.before line behind.0 refl (begins_so text rest number s targets read)
-          (λ begins.
-          none begins.more begins.value
-          (read.only (line ∷ begins.more) begins.value
-          (subst (λ (x : List (List ℕ)). IsDraft x begins.value) (longer read.before line begins.more) begins.stands)))
-          read.counted;
+      lines = read.before ++ line ∷ remaining.0;
+      has = read.lines (line ∷ remaining.0) (with_line rest line later remaining.0 splits some remaining.1);
+      fails = bad_line (record {
+        before = read.before;
+        line = line;
+        later = remaining.0;
+        split = refl;
+        good = begins_so text rest number s targets read;
+        bad = λ begins.
+            none begins.more begins.value
+            (read.only (line ∷ begins.more) begins.value
+            (subst (λ (x : List (List ℕ)). IsDraft x begins.value) (longer read.before line begins.more) begins.stands));
+        number = read.counted;
+      });
     }
 
 all_read : (text rest : List ℕ) (number : ℕ) (s : Said) (targets : List Target) (read : HasRead text rest number s targets) → rest ≡ [] → HasLines text read.before
@@ -297,7 +303,9 @@ pub HasRead-short : (text rest : List ℕ) (number : ℕ) (s : Said) (targets : 
 HasRead-short text rest number s targets read none nothing = record {
   lines = read.before;
   has = all_read text rest number s targets read none;
-  fails = short (begins_so text rest number s targets read)
-      (λ order is. nothing order (read.only [] order (subst (λ (x : List (List ℕ)). IsDraft x order) (sym (append-nil read.before)) is)))
-      read.counted;
+  fails = ends_early (record {
+    good = begins_so text rest number s targets read;
+    unfinished = λ order is. nothing order (read.only [] order (subst (λ (x : List (List ℕ)). IsDraft x order) (sym (append-nil read.before)) is));
+    number = read.counted;
+  });
 }

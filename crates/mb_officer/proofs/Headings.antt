@@ -1,58 +1,70 @@
 -- The first line of a draft, word by word, and what it leaves to be said.
-use Rattle.std.proofs.Common.{◌≡◌, ℕ, List, [], ◌∷◌, ◌++◌, refl, sym, ap, subst, ◌∙◌, arith}
+use Rattle.std.proofs.Common.{◌≡◌, ◌≤◌, ◌<◌, ◌^◌, ℕ, List, [], ◌∷◌, ◌++◌, refl, sym, ap, subst, ◌∙◌, arith}
 use Rattle.std.proofs.lemmas.Fmt.{decimal_injective}
 use Rattle.std.specs.Prelude.{codes, IsTrue}
 use Rattle.std.specs.List.{AllZip}
 use Rattle.std.specs.Fmt.{decimal}
 use Rattle.std.proofs.lemmas.List.{append_cancel_left}
 use Rattle.mb_model.specs.declared.order.KeyKind.{KeyKind}
+use Rattle.mb_model.specs.declared.order.OrderKind.{OrderKind}
+use Rattle.mb_model.specs.declared.order.OrderKind.TheVariants as orders
 use Rattle.mb_model.specs.declared.order.Act.{Act}
 use Rattle.mb_model.specs.declared.order.Act.TheVariants as act
 use Rattle.mb_model.specs.declared.order.Target.{Target}
 use Rattle.mb_model.specs.declared.order.Order.{Order}
-use Rattle.mb_model.specs.Layers.{is_upper, is_layer_number}
+use Rattle.mb_model.specs.Layers.{is_layer_number}
+use Rattle.mb_model.specs.Rules.{kind_of, MayBeFor}
 use Rattle.mb_model.specs.Lines.{spaced}
-use Rattle.mb_model.specs.Drafts.{kind_word, SaysTarget, order_words, may_name, IsDraft}
+use Rattle.mb_model.specs.Drafts.{kind_word, SaysTarget, order_words, IsDraft}
 use Rattle.mb_laws.proofs.LineLemmas.{cons_same}
 use Rattle.mb_officer.specs.declared.draft.Loading.TheVariants as loading
 use Rattle.mb_officer.specs.declared.draft.Kind.{Kind}
 use Rattle.mb_officer.specs.declared.draft.Kind.TheVariants as kind
-use Rattle.mb_officer.specs.Drafting.{kind_of, heading_line, may_order, IsHeading, SaysTargets}
-use Rattle.mb_officer.proofs.Wording.{letters_at, layered_same, upper_numbered, numbered_fits, kind_word_same}
+use Rattle.mb_officer.specs.Drafting.{ordered_by, heading_line, order_kind, IsHeading, SaysTargets}
+use Rattle.mb_officer.proofs.Wording.{letters_at, layered_same, kind_word_same}
 
-establish_parts : (line word : List ℕ) (k : Kind) (n : ℕ) → line ≡ codes "order establish " ++ word → IsHeading line k n → (kind.Establish ≡ k) × IsTrue (is_upper n) × (word ≡ decimal n)
+establish_parts : (line word : List ℕ) (k : Kind) (n : ℕ) → line ≡ codes "order establish " ++ word → IsHeading line k n → (kind.Establish ≡ k) × MayBeFor orders.Surrender n × (word ≡ decimal n)
 establish_parts line word kind.Establish n e is = (refl, is.0, append_cancel_left (codes "order establish ") word (decimal n) (sym e ∙ is.1))
 establish_parts line word kind.Surrender n e is = absurd (omega (arith, ap (letters_at 6) e, ap (letters_at 6) is.1))
 establish_parts line word (kind.Load loading.Ordinary) n e is = absurd (omega (arith, ap (letters_at 6) e, ap (letters_at 6) is.1))
 establish_parts line word (kind.Load loading.Emergency) n e is = absurd (omega (arith, ap (letters_at 6) e, ap (letters_at 6) is.1))
 establish_parts line word (kind.NewKey key) n e is = absurd (omega (arith, ap (letters_at 6) e, ap (letters_at 6) is.1))
 
-surrender_parts : (line word : List ℕ) (k : Kind) (n : ℕ) → line ≡ codes "order surrender " ++ word → IsHeading line k n → (kind.Surrender ≡ k) × IsTrue (is_upper n) × (word ≡ decimal n)
+surrender_parts : (line word : List ℕ) (k : Kind) (n : ℕ) → line ≡ codes "order surrender " ++ word → IsHeading line k n → (kind.Surrender ≡ k) × MayBeFor orders.Surrender n × (word ≡ decimal n)
 surrender_parts line word kind.Establish n e is = absurd (omega (arith, ap (letters_at 6) e, ap (letters_at 6) is.1))
 surrender_parts line word kind.Surrender n e is = (refl, is.0, append_cancel_left (codes "order surrender ") word (decimal n) (sym e ∙ is.1))
 surrender_parts line word (kind.Load loading.Ordinary) n e is = absurd (omega (arith, ap (letters_at 6) e, ap (letters_at 6) is.1))
 surrender_parts line word (kind.Load loading.Emergency) n e is = absurd (omega (arith, ap (letters_at 6) e, ap (letters_at 6) is.1))
 surrender_parts line word (kind.NewKey key) n e is = absurd (omega (arith, ap (letters_at 6) e, ap (letters_at 6) is.1))
 
-load_parts : (line word : List ℕ) (k : Kind) (n : ℕ) → line ≡ codes "order load " ++ word → IsHeading line k n → ((kind.Load loading.Ordinary) ≡ k) × IsTrue (is_layer_number n) × (word ≡ decimal n)
+load_parts : (line word : List ℕ) (k : Kind) (n : ℕ) → line ≡ codes "order load " ++ word → IsHeading line k n → ((kind.Load loading.Ordinary) ≡ k) × MayBeFor orders.Load n × (word ≡ decimal n)
 load_parts line word kind.Establish n e is = absurd (omega (arith, ap (letters_at 6) e, ap (letters_at 6) is.1))
 load_parts line word kind.Surrender n e is = absurd (omega (arith, ap (letters_at 6) e, ap (letters_at 6) is.1))
 load_parts line word (kind.Load loading.Ordinary) n e is = (refl, is.0, append_cancel_left (codes "order load ") word (decimal n) (sym e ∙ is.1))
 load_parts line word (kind.Load loading.Emergency) n e is = absurd (omega (arith, ap (letters_at 6) e, ap (letters_at 6) is.1))
 load_parts line word (kind.NewKey key) n e is = absurd (omega (arith, ap (letters_at 6) e, ap (letters_at 6) is.1))
 
-emergency_parts : (line word : List ℕ) (k : Kind) (n : ℕ) → line ≡ codes "order emergency " ++ word → IsHeading line k n → ((kind.Load loading.Emergency) ≡ k) × IsTrue (is_upper n) × (word ≡ decimal n)
+emergency_parts : (line word : List ℕ) (k : Kind) (n : ℕ) → line ≡ codes "order emergency " ++ word → IsHeading line k n → ((kind.Load loading.Emergency) ≡ k) × MayBeFor orders.Surrender n × (word ≡ decimal n)
 emergency_parts line word kind.Establish n e is = absurd (omega (arith, ap (letters_at 6) e, ap (letters_at 6) is.1))
 emergency_parts line word kind.Surrender n e is = absurd (omega (arith, ap (letters_at 6) e, ap (letters_at 6) is.1))
 emergency_parts line word (kind.Load loading.Ordinary) n e is = absurd (omega (arith, ap (letters_at 6) e, ap (letters_at 6) is.1))
 emergency_parts line word (kind.Load loading.Emergency) n e is = (refl, is.0, append_cancel_left (codes "order emergency ") word (decimal n) (sym e ∙ is.1))
 emergency_parts line word (kind.NewKey key) n e is = absurd (omega (arith, ap (letters_at 6) e, ap (letters_at 6) is.1))
 
+numbered : (n : ℕ) → 1 ≤ n → n ≤ 3 → IsTrue (is_layer_number n)
+numbered n least most = grind (arith, least, most)
+
+upper_numbered : (n : ℕ) → MayBeFor orders.NewKey n → IsTrue (is_layer_number n)
+upper_numbered n may = numbered n (omega (arith, may.0)) may.1
+
+may_fit : (n : ℕ) → n ≤ 3 → n < 2 ^ 64
+may_fit n most = omega (arith, most)
+
 -- the kind of a new key
 pub record IsNewKey (words : List ℕ) (k : Kind) (n : ℕ) : Type 0 where
   pub key : KeyKind
   pub is_kind : kind.NewKey key ≡ k
-  pub upper : IsTrue (is_upper n)
+  pub upper : MayBeFor orders.NewKey n
   pub whole : words ≡ decimal n ++ 32 ∷ kind_word key
 
 pub key_parts : (words : List ℕ) (k : Kind) (n : ℕ) → IsHeading (codes "order newkey " ++ words) k n → IsNewKey words k n
@@ -113,35 +125,35 @@ new_key_same line key k m n hj parts =
 pub heading_same : (line : List ℕ) (j k : Kind) (m n : ℕ) → IsHeading line j m → IsHeading line k n → (j ≡ k) × (m ≡ n)
 heading_same line kind.Establish k m n hj hk =
     let parts = establish_parts line (decimal m) k n hj.1 hk in
-    (parts.0, decimal_injective m n (numbered_fits m (upper_numbered m hj.0)) (numbered_fits n (upper_numbered n parts.1)) parts.2)
+    (parts.0, decimal_injective m n (may_fit m hj.0.1) (may_fit n parts.1.1) parts.2)
 heading_same line kind.Surrender k m n hj hk =
     let parts = surrender_parts line (decimal m) k n hj.1 hk in
-    (parts.0, decimal_injective m n (numbered_fits m (upper_numbered m hj.0)) (numbered_fits n (upper_numbered n parts.1)) parts.2)
+    (parts.0, decimal_injective m n (may_fit m hj.0.1) (may_fit n parts.1.1) parts.2)
 heading_same line (kind.Load loading.Ordinary) k m n hj hk =
     let parts = load_parts line (decimal m) k n hj.1 hk in
-    (parts.0, decimal_injective m n (numbered_fits m hj.0) (numbered_fits n parts.1) parts.2)
+    (parts.0, decimal_injective m n (may_fit m hj.0.1) (may_fit n parts.1.1) parts.2)
 heading_same line (kind.Load loading.Emergency) k m n hj hk =
     let parts = emergency_parts line (decimal m) k n hj.1 hk in
-    (parts.0, decimal_injective m n (numbered_fits m (upper_numbered m hj.0)) (numbered_fits n (upper_numbered n parts.1)) parts.2)
+    (parts.0, decimal_injective m n (may_fit m hj.0.1) (may_fit n parts.1.1) parts.2)
 heading_same line (kind.NewKey key) k m n hj hk =
     new_key_same line key k m n hj (key_parts (decimal m ++ 32 ∷ kind_word key) k n (subst (λ (x : List ℕ). IsHeading x k n) hj.1 hk))
 
--- ---- a first line and the lines behind it
+-- ---- a first line and the lines after it
 
 -- the words of a first line are its heading
-words_are : (a : Act) (layer : ℕ) → spaced (order_words a layer) ≡ heading_line (kind_of a) layer
+words_are : (a : Act) (layer : ℕ) → spaced (order_words a layer) ≡ heading_line (ordered_by a) layer
 words_are (act.Establish owner trust) layer = refl
 words_are act.Surrender layer = refl
-words_are (act.Load version trust code) layer = refl
-words_are (act.Emergency version trust code) layer = refl
+words_are (act.Load payload) layer = refl
+words_are (act.Emergency payload) layer = refl
 words_are (act.NewKey k) layer = refl
 
-may_is : (a : Act) (layer : ℕ) → may_name a layer ≡ may_order (kind_of a) layer
-may_is (act.Establish owner trust) layer = refl
-may_is act.Surrender layer = refl
-may_is (act.Load version trust code) layer = refl
-may_is (act.Emergency version trust code) layer = refl
-may_is (act.NewKey k) layer = refl
+kind_is : (a : Act) → kind_of a ≡ order_kind (ordered_by a)
+kind_is (act.Establish owner trust) = refl
+kind_is act.Surrender = refl
+kind_is (act.Load payload) = refl
+kind_is (act.Emergency payload) = refl
+kind_is (act.NewKey k) = refl
 
 -- an order is what a draft's first line and the rest say
 pub from_targets : (k : Kind) (layer : ℕ) (line : List ℕ) (more : List (List ℕ)) (order : Order) → IsHeading line k layer
@@ -150,11 +162,13 @@ from_targets k layer line more order is says = record {
   target_lines = says.target_lines;
   act_lines = says.act_lines;
   spelled =
-      let heading = is.1 ∙ ap (λ (x : Kind). heading_line x layer) (sym says.of_kind) ∙ ap (heading_line (kind_of order.act)) (sym says.of_layer)
+      let heading = is.1 ∙ ap (λ (x : Kind). heading_line x layer) (sym says.of_kind) ∙ ap (heading_line (ordered_by order.act)) (sym says.of_layer)
       ∙ sym (words_are order.act order.layer) in
       let rest = says.spelled in
       cc;
-  named = subst IsTrue (sym (may_is order.act order.layer ∙ ap (λ (x : Kind). may_order x order.layer) says.of_kind ∙ ap (may_order k) says.of_layer)) is.0;
+  named =
+      subst (λ (x : OrderKind). MayBeFor x order.layer) (sym (kind_is order.act ∙ ap order_kind says.of_kind))
+      (subst (λ (n : ℕ). MayBeFor (order_kind k) n) (sym says.of_layer) is.0);
   targeted = subst (λ (x : List Target). AllZip SaysTarget says.target_lines x) (sym says.all) says.targeted;
   few = says.few;
   says_act = says.says_act;
@@ -163,13 +177,13 @@ from_targets k layer line more order is says = record {
 }
 
 -- the first line of a draft is a heading
-pub first_is : (line : List ℕ) (more : List (List ℕ)) (order : Order) → IsDraft (line ∷ more) order → IsHeading line (kind_of order.act) order.layer
+pub first_is : (line : List ℕ) (more : List (List ℕ)) (order : Order) → IsDraft (line ∷ more) order → IsHeading line (ordered_by order.act) order.layer
 first_is line more order is =
     let parts = cons_same line (spaced (order_words order.act order.layer)) more (is.target_lines ++ is.act_lines) is.spelled in
-    (subst IsTrue (may_is order.act order.layer) is.named, parts.0 ∙ words_are order.act order.layer)
+    (subst (λ (x : OrderKind). MayBeFor x order.layer) (kind_is order.act) is.named, parts.0 ∙ words_are order.act order.layer)
 
 pub to_targets : (line : List ℕ) (more : List (List ℕ)) (order : Order) → IsDraft (line ∷ more) order
-    → SaysTargets (kind_of order.act) order.layer [] more order
+    → SaysTargets (ordered_by order.act) order.layer [] more order
 to_targets line more order is =
     let parts = cons_same line (spaced (order_words order.act order.layer)) more (is.target_lines ++ is.act_lines) is.spelled in
     record {

@@ -4,3 +4,4 @@ pub mod Lines
 pub mod Drafts
 pub mod Signatures
 pub mod Spelled
+pub mod OrderTexts

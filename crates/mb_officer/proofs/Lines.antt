@@ -1,6 +1,6 @@
 -- A draft line by line: what each line leaves to be said.
 use Rattle.std.proofs.Common.{◌≡◌, ◌≢◌, ℕ, ◌+◌, ◌≤◌, List, [], ◌∷◌, ◌++◌, length, refl, sym, ap, subst, ◌∙◌, arith, append_assoc, length-append}
-use Rattle.std.specs.Prelude.{codes, IsTrue, Option, Some, None, Result, Ok, Err}
+use Rattle.std.specs.Prelude.{codes, Option, Some, None, Result, Ok, Err}
 use Rattle.std.specs.Option.{ok_or}
 use Rattle.std.specs.List.{AllZip}
 use Rattle.std.specs.Fmt.{decimal}
@@ -14,6 +14,7 @@ use Rattle.mb_model.specs.declared.order.Target.{Target}
 use Rattle.mb_model.specs.declared.order.Target.TheVariants as target
 use Rattle.mb_model.specs.declared.order.Order.{Order}
 use Rattle.mb_model.specs.Key.{key_bytes, IsSized}
+use Rattle.mb_model.specs.Rules.{MayBeFor}
 use Rattle.mb_model.specs.Lines.{spaced, number_limit}
 use Rattle.mb_model.specs.Script.{EndsInHex}
 use Rattle.mb_model.specs.Drafts.{SaysTarget, trust_line, AreLoadLines, SayAct}
@@ -33,7 +34,7 @@ use Rattle.mb_officer.specs.declared.draft.Said.TheVariants as said
 use Rattle.mb_officer.proofs.Wording.{letters_at}
 use Rattle.mb_officer.proofs.Headings.{from_targets, first_is, to_targets, heading_same}
 use Rattle.mb_words.specs.Words.{FindsSome}
-use Rattle.mb_officer.specs.Drafting.{load_act, kind_of, may_order, IsHeading, drafted, IsSound, SaysTargets, SaysCode, SaysLoad, SaysOwner, SaysRest, Follows, TellsNext, AddsTarget, IsFirst}
+use Rattle.mb_officer.specs.Drafting.{load_act, ordered_by, order_kind, IsHeading, drafted, IsSound, SaysTargets, SaysCode, SaysLoad, SaysOwner, SaysRest, Follows, TellsNext, AddsTarget, IsFirst}
 
 -- ---- targets
 
@@ -52,24 +53,24 @@ target_begins line (target.Length n) says = ap (letters_at 0) says.1
 target_begins line (target.Owner layer hash) says = ap (letters_at 0) says.2.2
 target_begins line (target.Code layer hash) says = ap (letters_at 0) says.2.2
 
--- a line behind the targets is none of a target
+-- a line after the targets is none of a target
 act_line : (line : List ℕ) (lines : List (List ℕ)) (a : Act) → SayAct (line ∷ lines) a → letters_at 0 line ≡ target_front → ⊥
 act_line line lines (act.Establish owner trust) says front =
     let first = (cons_same line says.owner_line lines (trust_line trust ∷ []) says.spelled).0 in
     omega (arith, ap (letters_at 0) (first ∙ says.owned.2), front)
 act_line line lines act.Surrender says front = cons_none line lines (sym says)
-act_line line lines (act.Load version trust code) says front =
-    let first = (cons_same line _ lines (trust_line trust ∷ says.code_line ∷ []) says.spelled).0 in
+act_line line lines (act.Load payload) says front =
+    let first = (cons_same line _ lines (trust_line payload.trust ∷ says.code_line ∷ []) says.spelled).0 in
     omega (arith, ap (letters_at 0) first, front)
-act_line line lines (act.Emergency version trust code) says front =
-    let first = (cons_same line _ lines (trust_line trust ∷ says.code_line ∷ []) says.spelled).0 in
+act_line line lines (act.Emergency payload) says front =
+    let first = (cons_same line _ lines (trust_line payload.trust ∷ says.code_line ∷ []) says.spelled).0 in
     omega (arith, ap (letters_at 0) first, front)
 act_line line lines (act.NewKey k) says front = cons_none line lines (sym says)
 
--- behind targets, a line is one more target or the first of what goes with the order
+-- after targets, a line is one more target or the first of what goes with the order
 data Turn (k : Kind) (layer : ℕ) (targets : List Target) (line : List ℕ) (more : List (List ℕ)) (order : Order) : Type 0 where
   target_next : (t : Target) → SaysTarget line t → SaysTargets k layer (targets ++ t ∷ []) more order → length targets + 1 ≤ 8 → Turn k layer targets line more order
-  act_next : SayAct (line ∷ more) order.act → kind_of order.act ≡ k → order ≡ drafted layer targets order.act → Turn k layer targets line more order
+  act_next : SayAct (line ∷ more) order.act → ordered_by order.act ≡ k → order ≡ drafted layer targets order.act → Turn k layer targets line more order
 
 turn_of : (k : Kind) (layer : ℕ) (targets : List Target) (line : List ℕ) (more : List (List ℕ)) (order : Order)
     (target_lines act_lines : List (List ℕ)) (rest : List Target)
@@ -162,17 +163,17 @@ Follows-heading k layer targets line none is = record {
   sound = (is.0, omega (arith, ap length none));
   on = λ more order says. from_targets k layer line more order is (subst (λ (x : List Target). SaysTargets k layer x more order) none says);
   only = λ more order says.
-      let same = heading_same line (kind_of order.act) k order.layer layer (first_is line more order says) is in
+      let same = heading_same line (ordered_by order.act) k order.layer layer (first_is line more order says) is in
       subst (λ (x : List Target). SaysTargets k layer x more order) (sym none)
       (subst (λ (x : Kind). SaysTargets x layer [] more order) same.0
-      (subst (λ (x : ℕ). SaysTargets (kind_of order.act) x [] more order) same.1 (to_targets line more order says)));
+      (subst (λ (x : ℕ). SaysTargets (ordered_by order.act) x [] more order) same.1 (to_targets line more order says)));
 }
 
 -- ---- what goes with an order
 
 -- a line that is none of a target is the first of what goes with the order
 act_turn : (k : Kind) (layer : ℕ) (targets : List Target) (line : List ℕ) (more : List (List ℕ)) (order : Order) → ((t : Target) → SaysTarget line t → ⊥)
-    → Turn k layer targets line more order → SayAct (line ∷ more) order.act × (kind_of order.act ≡ k) × (order ≡ drafted layer targets order.act)
+    → Turn k layer targets line more order → SayAct (line ∷ more) order.act × (ordered_by order.act ≡ k) × (order ≡ drafted layer targets order.act)
 act_turn k layer targets line more order none (target_next t is rest room) = absurd (none t is)
 act_turn k layer targets line more order none (act_next acts of_kind made) = (acts, of_kind, made)
 
@@ -184,34 +185,34 @@ pub data FirstOf (k : Kind) (layer : ℕ) (targets : List Target) (line : List �
       → SaysLoad l layer version targets more order → FirstOf k layer targets line more order
 
 load_first : (k : Kind) (l : Loading) (layer : ℕ) (targets : List Target) (line : List ℕ) (more : List (List ℕ)) (order : Order) (version : ℕ) (trust : Trust) (code : List ℕ)
-    → AreLoadLines (line ∷ more) version trust code → k ≡ kind.Load l → order ≡ drafted layer targets (load_act l version trust code)
+    → AreLoadLines (line ∷ more) (record { version = version; trust = trust; code = code }) → k ≡ kind.Load l → order ≡ drafted layer targets (load_act l version trust code)
     → FirstOf k layer targets line more order
 load_first k l layer targets line more order version trust code says of_kind made =
     let parts = cons_same line _ more (trust_line trust ∷ says.code_line ∷ []) says.spelled in
     version_first l version of_kind says.version_fits parts.0
     (record {
       trust = trust;
-      behind = says.code_line ∷ [];
+      remaining = says.code_line ∷ [];
       spelled = parts.1;
       coded = record { line = says.code_line; code = code; coded = says.coded; fits = says.code_fits; spelled = refl; made = made };
     })
 
 first_of : (k : Kind) (layer : ℕ) (targets : List Target) (line : List ℕ) (more : List (List ℕ)) (order : Order) (a : Act) → SayAct (line ∷ more) a
-    → kind_of a ≡ k → order ≡ drafted layer targets a → FirstOf k layer targets line more order
+    → ordered_by a ≡ k → order ≡ drafted layer targets a → FirstOf k layer targets line more order
 first_of k layer targets line more order (act.Establish owner trust) says of_kind made =
     let parts = cons_same line says.owner_line more (trust_line trust ∷ []) says.spelled in
     owner_first owner (sym of_kind) says.sized (says.owned.0, says.owned.1, parts.0 ∙ says.owned.2)
     (record { trust = trust; spelled = parts.1; made = made })
 first_of k layer targets line more order act.Surrender says of_kind made = absurd (cons_none line more (sym says))
-first_of k layer targets line more order (act.Load version trust code) says of_kind made =
-    load_first k loading.Ordinary layer targets line more order version trust code says (sym of_kind) made
-first_of k layer targets line more order (act.Emergency version trust code) says of_kind made =
-    load_first k loading.Emergency layer targets line more order version trust code says (sym of_kind) made
+first_of k layer targets line more order (act.Load payload) says of_kind made =
+    load_first k loading.Ordinary layer targets line more order payload.version payload.trust payload.code says (sym of_kind) made
+first_of k layer targets line more order (act.Emergency payload) says of_kind made =
+    load_first k loading.Emergency layer targets line more order payload.version payload.trust payload.code says (sym of_kind) made
 first_of k layer targets line more order (act.NewKey key) says of_kind made = absurd (cons_none line more (sym says))
 
-first_behind : (k : Kind) (layer : ℕ) (targets : List Target) (line : List ℕ) (more : List (List ℕ)) (order : Order) → ((t : Target) → SaysTarget line t → ⊥)
+first_after : (k : Kind) (layer : ℕ) (targets : List Target) (line : List ℕ) (more : List (List ℕ)) (order : Order) → ((t : Target) → SaysTarget line t → ⊥)
     → SaysTargets k layer targets (line ∷ more) order → FirstOf k layer targets line more order
-first_behind k layer targets line more order none says =
+first_after k layer targets line more order none says =
     let at = act_turn k layer targets line more order none (turn k layer targets line more order says) in
     first_of k layer targets line more order order.act at.0 at.1 at.2
 
@@ -224,7 +225,7 @@ nowhere k layer targets line more order nothing (version_first l version of_kind
 -- a line with no first word of what goes with an order leads nowhere
 pub first_none : (k : Kind) (layer : ℕ) (targets : List Target) (line : List ℕ) → ((t : Target) → SaysTarget line t → ⊥)
     → ((s : Said) → IsFirst k layer line s → ⊥) → (more : List (List ℕ)) (order : Order) → SaysTargets k layer targets (line ∷ more) order → ⊥
-first_none k layer targets line none nothing more order says = nowhere k layer targets line more order nothing (first_behind k layer targets line more order none says)
+first_none k layer targets line none nothing more order says = nowhere k layer targets line more order nothing (first_after k layer targets line more order none says)
 
 pub establish_load : (l : Loading) → kind.Establish ≡ kind.Load l → ⊥
 establish_load l e = cc
@@ -232,10 +233,10 @@ establish_load l e = cc
 load_same : (j l : Loading) → kind.Load j ≡ kind.Load l → j ≡ l
 load_same j l e = cc
 
-load_lines : (line : List ℕ) (more : List (List ℕ)) (version : ℕ) (trust : Trust) (code_line code : List ℕ) (behind : List (List ℕ)) → EndsInHex code_line (codes "code" ∷ []) code
-    → length code ≤ 32768 → version ≤ number_limit → line ≡ spaced (codes "version" ∷ decimal version ∷ []) → more ≡ trust_line trust ∷ behind → behind ≡ code_line ∷ []
-    → AreLoadLines (line ∷ more) version trust code
-load_lines line more version trust code_line code behind coded fits small spelled second third = record {
+load_lines : (line : List ℕ) (more : List (List ℕ)) (version : ℕ) (trust : Trust) (code_line code : List ℕ) (remaining : List (List ℕ)) → EndsInHex code_line (codes "code" ∷ []) code
+    → length code ≤ 32768 → version ≤ number_limit → line ≡ spaced (codes "version" ∷ decimal version ∷ []) → more ≡ trust_line trust ∷ remaining → remaining ≡ code_line ∷ []
+    → AreLoadLines (line ∷ more) (record { version = version; trust = trust; code = code })
+load_lines line more version trust code_line code remaining coded fits small spelled second third = record {
   code_line = code_line;
   coded = coded;
   code_fits = fits;
@@ -285,9 +286,9 @@ Follows-owner k layer n targets line owner none sound is_kind same sized owned =
     subst (λ (x : ℕ). Follows (said.Heading k layer) targets line (said.Owner x owner) targets) (sym same)
     (subst (λ (x : Kind). Follows (said.Heading x layer) targets line (said.Owner layer owner) targets) (sym is_kind)
     (record {
-      sound = (subst (λ (x : Kind). IsTrue (may_order x layer)) is_kind sound.0, sound.1, sized);
+      sound = (subst (λ (x : Kind). MayBeFor (order_kind x) layer) is_kind sound.0, sound.1, sized);
       on = λ more order says. from_owner layer targets line owner more order sound.1 sized owned says;
-      only = λ more order says. to_owner layer targets line owner more order sized owned (first_behind kind.Establish layer targets line more order none says);
+      only = λ more order says. to_owner layer targets line owner more order sized owned (first_after kind.Establish layer targets line more order none says);
     }))
 
 -- ---- the version of a load
@@ -305,7 +306,7 @@ from_version loading.Ordinary layer targets line version more order room fits sp
       targeted = tt;
       all = sym (append-nil targets);
       few = room;
-      says_act = load_lines line more version says.trust says.coded.line says.coded.code says.behind says.coded.coded says.coded.fits fits spelled says.spelled says.coded.spelled;
+      says_act = load_lines line more version says.trust says.coded.line says.coded.code says.remaining says.coded.coded says.coded.fits fits spelled says.spelled says.coded.spelled;
       of_kind = refl;
       of_layer = refl;
       unsigned = refl;
@@ -321,7 +322,7 @@ from_version loading.Emergency layer targets line version more order room fits s
       targeted = tt;
       all = sym (append-nil targets);
       few = room;
-      says_act = load_lines line more version says.trust says.coded.line says.coded.code says.behind says.coded.coded says.coded.fits fits spelled says.spelled says.coded.spelled;
+      says_act = load_lines line more version says.trust says.coded.line says.coded.code says.remaining says.coded.coded says.coded.fits fits spelled says.spelled says.coded.spelled;
       of_kind = refl;
       of_layer = refl;
       unsigned = refl;
@@ -344,9 +345,9 @@ Follows-version k layer l n targets line version none sound is_kind same fits sp
     subst (λ (x : ℕ). Follows (said.Heading k layer) targets line (said.Version l x version) targets) (sym same)
     (subst (λ (x : Kind). Follows (said.Heading x layer) targets line (said.Version l layer version) targets) (sym is_kind)
     (record {
-      sound = (subst (λ (x : Kind). IsTrue (may_order x layer)) is_kind sound.0, sound.1, fits);
+      sound = (subst (λ (x : Kind). MayBeFor (order_kind x) layer) is_kind sound.0, sound.1, fits);
       on = λ more order says. from_version l layer targets line version more order sound.1 fits spelled says;
-      only = λ more order says. to_version l layer targets line version more order fits spelled (first_behind (kind.Load l) layer targets line more order none says);
+      only = λ more order says. to_version l layer targets line version more order fits spelled (first_after (kind.Load l) layer targets line more order none says);
     }))
 
 -- ---- trust and code
@@ -382,20 +383,20 @@ Follows-load-trust l layer version targets line trust sound is = record {
   sound = sound;
   on = λ more order says. record {
     trust = trust;
-    behind = more;
+    remaining = more;
     spelled = ap (λ (x : List ℕ). x ∷ more) is;
     coded = says;
   };
   only = λ more order says.
-      let parts = cons_same line (trust_line says.trust) more says.behind says.spelled in
+      let parts = cons_same line (trust_line says.trust) more says.remaining says.spelled in
       let same = trust_same says.trust trust (sym parts.0 ∙ is) in
       subst (λ (x : List (List ℕ)). SaysCode l layer version trust targets x order) (sym parts.1)
-      (subst (λ (x : Trust). SaysCode l layer version x targets says.behind order) same says.coded);
+      (subst (λ (x : Trust). SaysCode l layer version x targets says.remaining order) same says.coded);
 }
 
 pub load_trust_none : (l : Loading) (layer version : ℕ) (targets : List Target) (line : List ℕ) → ((trust : Trust) → line ≡ trust_line trust → ⊥)
     → (more : List (List ℕ)) (order : Order) → SaysLoad l layer version targets (line ∷ more) order → ⊥
-load_trust_none l layer version targets line none more order says = none says.trust (cons_same line (trust_line says.trust) more says.behind says.spelled).0
+load_trust_none l layer version targets line none more order says = none says.trust (cons_same line (trust_line says.trust) more says.remaining says.spelled).0
 
 pub Follows-code : (l : Loading) (layer version : ℕ) (trust : Trust) (targets : List Target) (line code : List ℕ) (a : Act)
     → IsSound (said.Trust l layer version trust) targets → length code ≤ 32768 → EndsInHex line (codes "code" ∷ []) code → a ≡ load_act l version trust code
@@ -458,7 +459,7 @@ first_found : (k : Kind) (layer : ℕ) (targets : List Target) (line : List ℕ)
 first_found k layer targets line (Some s) none sound is = Follows-first k layer targets line s none sound is
 first_found k layer targets line None none sound nothing = first_none k layer targets line none nothing
 
--- the first line behind the targets, where it is none of a target
+-- the first line after the targets, where it is none of a target
 pub first_tells : (k : Kind) (layer : ℕ) (targets : List Target) (line : List ℕ) (r : Option Said) (told : Result Said NotSaid) → ((t : Target) → SaysTarget line t → ⊥)
     → IsSound (said.Heading k layer) targets → FindsSome (IsFirst k layer line) r → told ≡ ok_or r why.Form → TellsNext (said.Heading k layer) targets line told targets
 first_tells k layer targets line r told none sound found is =

@@ -10,10 +10,11 @@ use Rattle.mb_model.specs.declared.order.Countersignature.{Countersignature}
 use Rattle.mb_model.specs.declared.order.Order.{Order}
 use Rattle.mb_model.specs.declared.tools.Keyfile.{Keyfile}
 use Rattle.mb_model.specs.Layers.{is_upper}
-use Rattle.mb_model.specs.OrderFormat.{order_body, body_format, order_kind, least_layer, most_countersigned, sized_signature_format, climbed, countersignature_format, countersignatures_format, order_format}
+use Rattle.mb_model.specs.OrderFormat.{order_body, body_format, most_countersigned, sized_signature_format, climbed, countersignature_format, countersignatures_format, order_format}
+use Rattle.mb_model.specs.Rules.{kind_of, change_of, least_layer, is_load}
 use Rattle.mb_model.specs.SignedTexts.{order_text, countersigned_text}
 use Rattle.mb_model.specs.Signing.{signature_of}
-use Rattle.mb_officer.specs.Signed.{signed_order, with_countersignature, countersigned_order, is_load, IsCountersignable}
+use Rattle.mb_model.specs.SignedOrders.{signed_order, with_countersignature, countersigned_order, IsCountersignable}
 
 pub signed_is : (k : Keyfile) (order : Order) (signature body : List ℕ) → signature ≡ signature_of k.seed k.next ((1 ∷ []) ++ body) → body ≡ order_body order
     → record order { signature = signature } ≡ signed_order k order
@@ -41,11 +42,11 @@ countersigned_is k m order signature body e f =
     ap (λ (s : List ℕ). record order { countersignatures = with_countersignature (record { layer = m; signature = s }) order.countersignatures })
     (e ∙ ap (λ (b : List ℕ). signature_of k.seed k.next (2 ∷ m ∷ b)) f)
 
-layer_least : (a : Act) (n : ℕ) → least_layer (order_kind a) ≤ n → 1 ≤ n
+layer_least : (a : Act) (n : ℕ) → least_layer (kind_of a) ≤ n → 1 ≤ n
 layer_least (act.Establish owner trust) n least = omega (arith, least)
 layer_least act.Surrender n least = omega (arith, least)
-layer_least (act.Load version trust code) n least = least
-layer_least (act.Emergency version trust code) n least = omega (arith, least)
+layer_least (act.Load payload) n least = least
+layer_least (act.Emergency payload) n least = omega (arith, least)
 layer_least (act.NewKey kind) n least = omega (arith, least)
 
 -- the layer of an order that has a spelling
@@ -53,11 +54,11 @@ first_layer : (order : Order) → order_format.Allowed order → 1 ≤ order.lay
 unfolding order_format body_format
 first_layer order allowed = layer_least order.act order.layer allowed.0.1.0.0
 
-load_most : (a : Act) (n : ℕ) → IsTrue (is_load a) → most_countersigned (order_kind a) n ≡ 3 - n
+load_most : (a : Act) (n : ℕ) → IsTrue (is_load (change_of (kind_of a))) → most_countersigned (kind_of a) n ≡ 3 - n
 load_most (act.Establish owner trust) n is = absurd (cc)
 load_most act.Surrender n is = absurd (cc)
-load_most (act.Load version trust code) n is = refl
-load_most (act.Emergency version trust code) n is = refl
+load_most (act.Load payload) n is = refl
+load_most (act.Emergency payload) n is = refl
 load_most (act.NewKey kind) n is = absurd (cc)
 
 abbrev AreAllowed : ℕ → List Countersignature → Type 0
@@ -134,8 +135,8 @@ lower_before c d less =
     let above = lt_not c.layer d.layer (omega (arith, less)) in
     simp (below, above) refl
 
-higher_behind : (c d : Countersignature) → c.layer < d.layer → with_countersignature c (d ∷ []) ≡ c ∷ d ∷ []
-higher_behind c d less =
+higher_after : (c d : Countersignature) → c.layer < d.layer → with_countersignature c (d ∷ []) ≡ c ∷ d ∷ []
+higher_after c d less =
     let below = lt_not d.layer c.layer (omega (arith, less)) in
     let above = lt_so c.layer d.layer less in
     simp (below, above) refl
@@ -156,7 +157,7 @@ all_allowed n m c list is above upper least sized (one_there d e apart low most 
           subst (λ (x : List Countersignature). (length x ≤ 3 - n) × AreAllowed n x) (sym (lower_before c d less))
           (omega (arith, low, less, is, top), two_allowed n d c low (omega (arith, less, is, top)) (omega (arith, less)) (omega (arith, is, top)) also_sized sized)
       | inr (inr less) ↦
-          subst (λ (x : List Countersignature). (length x ≤ 3 - n) × AreAllowed n x) (sym (higher_behind c d less)) (
+          subst (λ (x : List Countersignature). (length x ≤ 3 - n) × AreAllowed n x) (sym (higher_after c d less)) (
             omega (arith, above, less, is, most),
             two_allowed n c d (omega (arith, is, above)) (omega (arith, less, most)) (omega (arith, less)) most sized also_sized,
           )

@@ -9,26 +9,17 @@ use Rattle.mb_model.specs.declared.order.Target.{Target}
 use Rattle.mb_model.specs.declared.order.Target.TheVariants as target
 use Rattle.mb_model.specs.declared.order.Countersignature.{Countersignature}
 use Rattle.mb_model.specs.declared.order.Order.{Order}
-use Rattle.mb_model.specs.Layers.{is_layer_number, is_upper}
-use Rattle.mb_model.specs.Drafts.{may_name, SaysTarget, SayAct, IsDraft}
+use Rattle.mb_model.specs.Layers.{is_layer_number}
+use Rattle.mb_model.specs.Drafts.{SaysTarget, SayAct, IsDraft}
+use Rattle.mb_model.specs.Rules.{kind_of}
 use Rattle.mb_model.specs.Lines.{Reads}
 use Rattle.mb_model.specs.KeyFormat.{public_key_format}
 use Rattle.mb_model.specs.LayerFormat.{trust_format}
 use Rattle.mb_model.specs.EntryFormat.{key_kind_format}
-use Rattle.mb_model.specs.OrderFormat.{target_format, load_format, act_by, order_kind, least_layer, Body, body_of, body_format, sized_signature_format, countersignatures_format, order_format}
+use Rattle.mb_model.specs.OrderFormat.{target_format, payload_format, act_by, Body, body_of, body_format, sized_signature_format, countersignatures_format, order_format}
 
 numbered_within : (n : ℕ) → IsTrue (is_layer_number n) → (1 ≤ n) × (n ≤ 3)
 numbered_within n is = (grind (arith, is), grind (arith, is))
-
-upper_within : (n : ℕ) → IsTrue (is_upper n) → (2 ≤ n) × (n ≤ 3)
-upper_within n is = (grind (arith, is), grind (arith, is))
-
-layer_within : (a : Act) (n : ℕ) → IsTrue (may_name a n) → (least_layer (order_kind a) ≤ n) × (n ≤ 3)
-layer_within (act.Establish owner trust) n may = upper_within n may
-layer_within act.Surrender n may = upper_within n may
-layer_within (act.Load version trust code) n may = numbered_within n may
-layer_within (act.Emergency version trust code) n may = upper_within n may
-layer_within (act.NewKey kind) n may = upper_within n may
 
 target_allowed : (line : List ℕ) (t : Target) → SaysTarget line t → target_format.Allowed t
 unfolding target_format
@@ -44,12 +35,12 @@ targets_allowed [] (t ∷ targets) zip = absurd zip
 targets_allowed (line ∷ lines) [] zip = absurd zip
 targets_allowed (line ∷ lines) (t ∷ targets) zip = (target_allowed line t zip.0, targets_allowed lines targets zip.1)
 
-act_allowed : (lines : List (List ℕ)) (a : Act) → SayAct lines a → (act_by (order_kind a)).Allowed a
-unfolding load_format trust_format public_key_format key_kind_format
+act_allowed : (lines : List (List ℕ)) (a : Act) → SayAct lines a → (act_by (kind_of a)).Allowed a
+unfolding payload_format trust_format public_key_format key_kind_format
 act_allowed lines (act.Establish owner trust) says = ((tt, (tt, (says.sized.identifier, says.sized.root))), tt)
 act_allowed lines act.Surrender says = refl
-act_allowed lines (act.Load version trust code) says = (omega (arith, says.version_fits), (tt, ((omega arith, says.code_fits), refl)))
-act_allowed lines (act.Emergency version trust code) says = (omega (arith, says.version_fits), (tt, ((omega arith, says.code_fits), refl)))
+act_allowed lines (act.Load payload) says = (omega (arith, says.version_fits), (tt, ((omega arith, says.code_fits), refl)))
+act_allowed lines (act.Emergency payload) says = (omega (arith, says.version_fits), (tt, ((omega arith, says.code_fits), refl)))
 act_allowed lines (act.NewKey kind) says = tt
 
 no_signature : (signature : List ℕ) → signature ≡ [] → sized_signature_format.Allowed signature
@@ -67,7 +58,7 @@ IsDraft-spelled lines order is = (
   (
     tt,
     (
-      layer_within order.act order.layer is.named,
+      is.named,
       (((omega arith, is.few), targets_allowed is.target_lines order.targets is.targeted), act_allowed is.act_lines order.act is.says_act),
     ),
   ),

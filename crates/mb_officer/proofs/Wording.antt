@@ -1,5 +1,5 @@
 -- The words of a draft's lines: each is what stands there in one way only.
-use Rattle.std.proofs.Common.{◌≡◌, ℕ, ◌+◌, ◌*◌, ◌<◌, inl, inr, List, [], ◌∷◌, ◌++◌, length, get_or, ◌≢◌, ◌^◌, refl, sym, ap, subst, ◌∙◌, arith, ◌⊎◌}
+use Rattle.std.proofs.Common.{◌≡◌, ◌≤◌, ℕ, ◌+◌, ◌*◌, ◌<◌, inl, inr, List, [], ◌∷◌, ◌++◌, length, get_or, ◌^◌, refl, sym, ap, subst, ◌∙◌, arith, ◌⊎◌}
 use Rattle.std.specs.Prelude.{codes, IsTrue}
 use Rattle.std.specs.Fmt.{decimal}
 use Rattle.std.proofs.lemmas.Fmt.{decimal_digit}
@@ -8,7 +8,9 @@ use Rattle.mb_model.specs.declared.order.KeyKind.{KeyKind}
 use Rattle.mb_model.specs.declared.order.KeyKind.TheVariants as kinds
 use Rattle.mb_model.specs.declared.order.Target.{Target}
 use Rattle.mb_model.specs.declared.order.Target.TheVariants as target
-use Rattle.mb_model.specs.Layers.{is_upper, is_layer_number}
+use Rattle.mb_model.specs.declared.order.OrderKind.TheVariants.{Surrender}
+use Rattle.mb_model.specs.Layers.{is_layer_number}
+use Rattle.mb_model.specs.Rules.{MayBeFor}
 use Rattle.mb_model.specs.Texts.{IsHex}
 use Rattle.mb_model.specs.Lines.{IsNumber, number_limit}
 use Rattle.mb_model.specs.Drafts.{kind_word, SaysTarget}
@@ -22,8 +24,11 @@ digit_of n word small e = e ∙ sym (decimal_digit n small)
 layer_cases : (n : ℕ) → IsTrue (is_layer_number n) → (n ≡ 1) ⊎ (n ≡ 2) ⊎ (n ≡ 3)
 layer_cases n is = grind (arith, is)
 
-upper_cases : (n : ℕ) → IsTrue (is_upper n) → (n ≡ 2) ⊎ (n ≡ 3)
-upper_cases n is = grind (arith, is)
+upper_cases : (n : ℕ) → MayBeFor Surrender n → (n ≡ 2) ⊎ (n ≡ 3)
+upper_cases n may = at n may.0 may.1
+  where
+    at : (m : ℕ) → 2 ≤ m → m ≤ 3 → (m ≡ 2) ⊎ (m ≡ 3)
+    at m least most = grind (arith, least, most)
 
 -- a layer's word, before a space, is one of three
 pub layer_space_none : (text rest : List ℕ) (n : ℕ) → ((x : List ℕ) → text ≡ codes "1 " ++ x → ⊥) → ((x : List ℕ) → text ≡ codes "2 " ++ x → ⊥)
@@ -45,7 +50,7 @@ layer_word_none word n one two three is e =
     ]
 
 pub upper_word_none : (word : List ℕ) (n : ℕ) → (word ≡ codes "2" → ⊥) → (word ≡ codes "3" → ⊥)
-    → IsTrue (is_upper n) → word ≡ decimal n → ⊥
+    → MayBeFor Surrender n → word ≡ decimal n → ⊥
 upper_word_none word n two three is e =
     elim (upper_cases n is) [
       | inl b ↦ two (e ∙ ap (λ (x : ℕ). decimal x) b ∙ decimal_digit 2 (omega arith))
@@ -155,12 +160,6 @@ pub hash_none : (words word : List ℕ) (n : ℕ) → IsTrue (is_layer_number n)
 hash_none words word n is e none hashed =
     let parts = layered_same words word hashed.word n hashed.layer is hashed.numbered e hashed.whole in
     none hashed.hash (hashed.sized, subst (λ (x : List ℕ). IsHex x hashed.hash) (sym parts.1) hashed.spelled)
-
-pub upper_numbered : (n : ℕ) → IsTrue (is_upper n) → IsTrue (is_layer_number n)
-upper_numbered n is = grind (arith, is)
-
-pub numbered_upper : (n : ℕ) → IsTrue (is_layer_number n) → n ≢ 1 → IsTrue (is_upper n)
-numbered_upper n is not_one = grind (arith, is, not_one)
 
 -- ---- kinds of keys
 

@@ -1,15 +1,17 @@
 -- How a draft is read, line by line. Is what is read exactly what stands there?
-use Rattle.std.specs.Prelude.{◌≡◌, ℕ, ◌≤◌, List, [], ◌∷◌, ◌++◌, length, codes, IsTrue, Bool, ◌≢◌, Result, Ok, Err}
+use Rattle.std.specs.Prelude.{◌≡◌, ℕ, ◌≤◌, List, [], ◌∷◌, ◌++◌, length, codes, ◌≢◌, Result, Ok, Err}
 use Rattle.std.specs.List.{AllZip}
 use Rattle.std.specs.Fmt.{decimal}
 use Rattle.mb_model.specs.declared.key.PublicKey.{PublicKey}
 use Rattle.mb_model.specs.declared.key.Trust.{Trust}
+use Rattle.mb_model.specs.declared.order.OrderKind.{OrderKind}
+use Rattle.mb_model.specs.declared.order.OrderKind.TheVariants as orders
 use Rattle.mb_model.specs.declared.order.Act.{Act}
 use Rattle.mb_model.specs.declared.order.Act.TheVariants as act
 use Rattle.mb_model.specs.declared.order.Target.{Target}
 use Rattle.mb_model.specs.declared.order.Order.{Order}
 use Rattle.mb_model.specs.Key.{key_bytes, IsSized}
-use Rattle.mb_model.specs.Layers.{is_layer_number, is_upper}
+use Rattle.mb_model.specs.Rules.{MayBeFor}
 use Rattle.mb_model.specs.Lines.{spaced, number_limit, Reads, TextFailsAtLine}
 use Rattle.mb_model.specs.Script.{EndsInHex}
 use Rattle.mb_model.specs.Drafts.{kind_word, SaysTarget, trust_line, SayAct, IsDraft}
@@ -26,7 +28,8 @@ use Rattle.mb_officer.specs.declared.draft.Said.TheVariants as said
 
 -- ---- a draft
 
--- The text is the draft of this order, or this line of it is the first that is wrong; of want of memory nothing is said.
+-- The text is the draft of this order, or this line of it is the first that is wrong; of a failed allocation nothing is
+-- said.
 abbrev pub ReadsDraft : List ℕ → Result Order DraftEnd → Type 0
 ReadsDraft text (Ok order) = Reads IsDraft text order
 ReadsDraft text (Err (end.BadLine line)) = TextFailsAtLine IsDraft text line
@@ -36,16 +39,18 @@ ReadsDraft text (Err end.NoMemory) = Unit {0}
 
 -- the load of this kind
 abbrev pub load_act : Loading → ℕ → Trust → List ℕ → Act
-load_act loading.Ordinary version trust code = act.Load version trust code
-load_act loading.Emergency version trust code = act.Emergency version trust code
+load_act loading.Ordinary version trust code =
+    act.Load (record { version = version; trust = trust; code = code })
+load_act loading.Emergency version trust code =
+    act.Emergency (record { version = version; trust = trust; code = code })
 
 -- what is ordered, without what goes with it
-abbrev pub kind_of : Act → Kind
-kind_of (act.Establish owner trust) = kind.Establish
-kind_of act.Surrender = kind.Surrender
-kind_of (act.Load version trust code) = kind.Load loading.Ordinary
-kind_of (act.Emergency version trust code) = kind.Load loading.Emergency
-kind_of (act.NewKey k) = kind.NewKey k
+abbrev pub ordered_by : Act → Kind
+ordered_by (act.Establish owner trust) = kind.Establish
+ordered_by act.Surrender = kind.Surrender
+ordered_by (act.Load payload) = kind.Load loading.Ordinary
+ordered_by (act.Emergency payload) = kind.Load loading.Emergency
+ordered_by (act.NewKey k) = kind.NewKey k
 
 -- the first line of a draft
 abbrev pub heading_line : Kind → ℕ → List ℕ
@@ -55,19 +60,19 @@ heading_line (kind.Load loading.Ordinary) layer = codes "order load " ++ decimal
 heading_line (kind.Load loading.Emergency) layer = codes "order emergency " ++ decimal layer
 heading_line (kind.NewKey k) layer = codes "order newkey " ++ decimal layer ++ 32 ∷ kind_word k
 
--- the layers for which this may be ordered
-abbrev pub may_order : Kind → ℕ → Bool
-may_order kind.Establish layer = is_upper layer
-may_order kind.Surrender layer = is_upper layer
-may_order (kind.Load loading.Ordinary) layer = is_layer_number layer
-may_order (kind.Load loading.Emergency) layer = is_upper layer
-may_order (kind.NewKey k) layer = is_upper layer
+-- the kind of such an order
+abbrev pub order_kind : Kind → OrderKind
+order_kind kind.Establish = orders.Establish
+order_kind kind.Surrender = orders.Surrender
+order_kind (kind.Load loading.Ordinary) = orders.Load
+order_kind (kind.Load loading.Emergency) = orders.Emergency
+order_kind (kind.NewKey k) = orders.NewKey
 
 -- a line orders this of a layer
 abbrev pub IsHeading : List ℕ → Kind → ℕ → Type 0
-IsHeading line k layer = IsTrue (may_order k layer) × (line ≡ heading_line k layer)
+IsHeading line k layer = MayBeFor (order_kind k) layer × (line ≡ heading_line k layer)
 
--- ---- the lines behind those that were read
+-- ---- the lines after those that were read
 
 -- an order that nobody has signed
 abbrev pub drafted : ℕ → List Target → Act → Order
@@ -76,14 +81,21 @@ drafted layer targets a = record { layer = layer; targets = targets; act = a; si
 -- what was read is allowed
 abbrev pub IsSound : Said → List Target → Type 0
 IsSound said.Nothing targets = targets ≡ []
-IsSound (said.Heading k layer) targets = IsTrue (may_order k layer) × (length targets ≤ 8)
-IsSound (said.Owner layer owner) targets = IsTrue (is_upper layer) × (length targets ≤ 8) × IsSized owner
-IsSound (said.Version l layer version) targets = IsTrue (may_order (kind.Load l) layer) × (length targets ≤ 8) × (version ≤ number_limit)
-IsSound (said.Trust l layer version trust) targets = IsTrue (may_order (kind.Load l) layer) × (length targets ≤ 8) × (version ≤ number_limit)
+IsSound (said.Heading k layer) targets = MayBeFor (order_kind k) layer × (length targets ≤ 8)
+IsSound (said.Owner layer owner) targets = MayBeFor orders.Establish layer × (length targets ≤ 8) × IsSized owner
+IsSound (said.Version l layer version) targets =
+    MayBeFor (order_kind (kind.Load l)) layer × (length targets ≤ 8) × (version ≤ number_limit)
+IsSound (said.Trust l layer version trust) targets =
+    MayBeFor (order_kind (kind.Load l)) layer × (length targets ≤ 8) × (version ≤ number_limit)
 IsSound (said.All layer a) targets = length targets ≤ 8
 
--- the lines behind the first line and some targets
-pub record SaysTargets (k : Kind) (layer : ℕ) (targets : List Target) (lines : List (List ℕ)) (order : Order) : Type 0 where
+-- the lines after the first line and some targets
+pub record SaysTargets
+    (k : Kind)
+    (layer : ℕ)
+    (targets : List Target)
+    (lines : List (List ℕ))
+    (order : Order) : Type 0 where
   pub target_lines : List (List ℕ)
   pub act_lines : List (List ℕ)
   pub more : List Target
@@ -92,13 +104,19 @@ pub record SaysTargets (k : Kind) (layer : ℕ) (targets : List Target) (lines :
   pub all : order.targets ≡ targets ++ more
   pub few : length order.targets ≤ 8
   pub says_act : SayAct act_lines order.act
-  pub of_kind : kind_of order.act ≡ k
+  pub of_kind : ordered_by order.act ≡ k
   pub of_layer : order.layer ≡ layer
   pub unsigned : order.signature ≡ []
   pub alone : order.countersignatures ≡ []
 
--- the line of the code, behind the trust of a load
-pub record SaysCode (l : Loading) (layer version : ℕ) (trust : Trust) (targets : List Target) (lines : List (List ℕ)) (order : Order) : Type 0 where
+-- the line of the code, after the trust of a load
+pub record SaysCode
+    (l : Loading)
+    (layer version : ℕ)
+    (trust : Trust)
+    (targets : List Target)
+    (lines : List (List ℕ))
+    (order : Order) : Type 0 where
   pub line : List ℕ
   pub code : List ℕ
   pub coded : EndsInHex line (codes "code" ∷ []) code
@@ -106,15 +124,25 @@ pub record SaysCode (l : Loading) (layer version : ℕ) (trust : Trust) (targets
   pub spelled : lines ≡ line ∷ []
   pub made : order ≡ drafted layer targets (load_act l version trust code)
 
--- the lines behind the version of a load
-pub record SaysLoad (l : Loading) (layer version : ℕ) (targets : List Target) (lines : List (List ℕ)) (order : Order) : Type 0 where
+-- the lines after the version of a load
+pub record SaysLoad
+    (l : Loading)
+    (layer version : ℕ)
+    (targets : List Target)
+    (lines : List (List ℕ))
+    (order : Order) : Type 0 where
   pub trust : Trust
-  pub behind : List (List ℕ)
-  pub spelled : lines ≡ trust_line trust ∷ behind
-  pub coded : SaysCode l layer version trust targets behind order
+  pub remaining : List (List ℕ)
+  pub spelled : lines ≡ trust_line trust ∷ remaining
+  pub coded : SaysCode l layer version trust targets remaining order
 
--- the line behind the owner of an establish
-pub record SaysOwner (layer : ℕ) (owner : PublicKey) (targets : List Target) (lines : List (List ℕ)) (order : Order) : Type 0 where
+-- the line after the owner of an establish
+pub record SaysOwner
+    (layer : ℕ)
+    (owner : PublicKey)
+    (targets : List Target)
+    (lines : List (List ℕ))
+    (order : Order) : Type 0 where
   pub trust : Trust
   pub spelled : lines ≡ trust_line trust ∷ []
   pub made : order ≡ drafted layer targets (act.Establish owner trust)
@@ -131,10 +159,17 @@ SaysRest (said.All layer a) targets lines order = (lines ≡ []) × (order ≡ d
 -- ---- one line more
 
 -- with this line, what was read before becomes this: the same lines complete both
-pub record Follows (before : Said) (targets : List Target) (line : List ℕ) (next : Said) (after : List Target) : Type 0 where
+pub record Follows
+    (before : Said)
+    (targets : List Target)
+    (line : List ℕ)
+    (next : Said)
+    (after : List Target) : Type 0 where
   pub sound : IsSound next after
-  pub on : (more : List (List ℕ)) (order : Order) → SaysRest next after more order → SaysRest before targets (line ∷ more) order
-  pub only : (more : List (List ℕ)) (order : Order) → SaysRest before targets (line ∷ more) order → SaysRest next after more order
+  pub on : (more : List (List ℕ)) (order : Order)
+      → SaysRest next after more order → SaysRest before targets (line ∷ more) order
+  pub only : (more : List (List ℕ)) (order : Order)
+      → SaysRest before targets (line ∷ more) order → SaysRest next after more order
 
 -- what a line leads to, or that no draft goes on with it
 abbrev pub TellsNext : Said → List Target → List ℕ → Result Said NotSaid → List Target → Type 0
@@ -150,10 +185,11 @@ AddsTarget k layer targets target (Ok next) after =
 AddsTarget k layer targets target (Err why.Form) after = length targets ≡ 8
 AddsTarget k layer targets target (Err why.NoMemory) after = Unit {0}
 
--- the first line behind the targets: the new owner, or the version of the code
+-- the first line after the targets: the new owner, or the version of the code
 abbrev pub IsFirst : Kind → ℕ → List ℕ → Said → Type 0
 IsFirst k layer line (said.Owner n owner) =
     (k ≡ kind.Establish) × (n ≡ layer) × IsSized owner × EndsInHex line (codes "owner" ∷ []) (key_bytes owner)
 IsFirst k layer line (said.Version l n version) =
-    (k ≡ kind.Load l) × (n ≡ layer) × (version ≤ number_limit) × (line ≡ spaced (codes "version" ∷ decimal version ∷ []))
+    (k ≡ kind.Load l) × (n ≡ layer) × (version ≤ number_limit)
+    × (line ≡ spaced (codes "version" ∷ decimal version ∷ []))
 IsFirst k layer line other = ⊥

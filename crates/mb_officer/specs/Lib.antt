@@ -1,2 +1,2 @@
 pub mod Drafting
-pub mod Signed
+pub mod OrderReading

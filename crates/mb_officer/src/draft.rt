@@ -2,7 +2,8 @@
 
 ghost use Rattle.std.specs.Prelude.{◌≡◌, ◌≤◌, ◌∷◌, ◌++◌, [], List, length, codes, IsTrue, IfOk, MatchOption, None, Some};
 ghost use Rattle.std.specs.Fmt.{decimal};
-ghost use Rattle.mb_model.specs.Layers.{is_upper};
+ghost use Rattle.mb_model.specs.declared.order.OrderKind.TheVariants.{Surrender};
+ghost use Rattle.mb_model.specs.Rules.{MayBeFor};
 ghost use Rattle.mb_model.specs.Drafts.{kind_word};
 ghost use Rattle.mb_model.specs.OrderFormat.{order_format};
 ghost use Rattle.mb_words.specs.Words.{FindsSome};
@@ -12,9 +13,10 @@ use crate::words::{
     read_code, read_layer, read_owner, read_target, read_trust, read_version, split_layer,
 };
 use mb_model::{
-    Act, Bytes, Countersignatures, KeyKind, NoMemory, Order, PublicKey, Target, Targets, Trust,
+    Act, Bytes, Countersignatures, KeyKind, NoMemory, Order, Payload, PublicKey, Target, Targets,
+    Trust,
 };
-use mb_words::{NotSaid, behind, split_line};
+use mb_words::{NotSaid, after_word, split_line};
 use std::alloc::Global;
 
 /// The most targets of an order.
@@ -28,7 +30,7 @@ pub enum DraftEnd {
         /// The number of the first such line, from 1, or of the line after the last.
         line: u32,
     },
-    /// Memory was wanted and not found.
+    /// An allocation failed.
     NoMemory,
 }
 
@@ -221,7 +223,7 @@ fn add_target(kind: Kind, layer: u8, targets: &mut Targets, target: Target) -> R
     Ok(Said::Heading { kind, layer })
 }
 
-/// What the first line behind the targets says.
+/// What the first line after the targets says.
 fn read_first(kind: Kind, layer: u8, line: &[u8]) -> Option<Said>
     ensures { FindsSome (IsFirst kind layer line.now) result }
 {
@@ -247,17 +249,14 @@ fn read_first(kind: Kind, layer: u8, line: &[u8]) -> Option<Said>
 fn load_of(loading: Loading, version: u32, trust: Trust, code: Bytes) -> Act
     ensures { result ≡ load_act loading version trust code }
 {
+    let payload = Payload {
+        version,
+        trust,
+        code,
+    };
     match loading {
-        Loading::Ordinary => Act::Load {
-            version,
-            trust,
-            code,
-        },
-        Loading::Emergency => Act::Emergency {
-            version,
-            trust,
-            code,
-        },
+        Loading::Ordinary => Act::Load(payload),
+        Loading::Emergency => Act::Emergency(payload),
     }
 }
 
@@ -265,22 +264,22 @@ fn load_of(loading: Loading, version: u32, trust: Trust, code: Bytes) -> Act
 fn read_heading(line: &[u8]) -> Option<(Kind, u8)>
     ensures { FindsSome (λ heading. IsHeading line.now heading.0 heading.1) result }
 {
-    let Some(words) = behind(line, b"order ") else {
+    let Some(words) = after_word(line, b"order ") else {
         return None;
     };
-    if let Some(word) = behind(words, b"establish ") {
+    if let Some(word) = after_word(words, b"establish ") {
         return with_layer(Kind::Establish, read_upper(word));
     }
-    if let Some(word) = behind(words, b"surrender ") {
+    if let Some(word) = after_word(words, b"surrender ") {
         return with_layer(Kind::Surrender, read_upper(word));
     }
-    if let Some(word) = behind(words, b"load ") {
+    if let Some(word) = after_word(words, b"load ") {
         return with_layer(Kind::Load(Loading::Ordinary), read_layer(word));
     }
-    if let Some(word) = behind(words, b"emergency ") {
+    if let Some(word) = after_word(words, b"emergency ") {
         return with_layer(Kind::Load(Loading::Emergency), read_upper(word));
     }
-    match behind(words, b"newkey ") {
+    match after_word(words, b"newkey ") {
         Some(words) => read_key(words),
         None => None,
     }
@@ -298,7 +297,7 @@ fn with_layer(kind: Kind, layer: Option<u8>) -> Option<(Kind, u8)>
 
 /// The layer, 2 or 3, that the word is.
 fn read_upper(word: &[u8]) -> Option<u8>
-    ensures { FindsSome (λ layer. IsTrue (is_upper layer) × (word.now ≡ decimal layer)) result }
+    ensures { FindsSome (λ layer. MayBeFor Surrender layer × (word.now ≡ decimal layer)) result }
 {
     if word == b"2".as_slice() {
         Some(2)

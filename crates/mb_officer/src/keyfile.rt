@@ -17,7 +17,7 @@ pub(crate) const NONE_LEFT: u32 = 32;
 fn word_at(cursor: &mut Cursor) -> Result<(), BadRecord>
     ensures { Reads bad_at (mark keyfile_word) cursor.old result cursor.new }
 {
-    let at = cursor.place();
+    let at = cursor.offset();
     let word = cursor.take_array::<4>()?;
     if word != WORD {
         return Err(BadRecord { at });
@@ -36,7 +36,7 @@ fn keyfile_at(cursor: &mut Cursor) -> Result<Keyfile, BadRecord>
 }
 
 /// The key file that the bytes spell; else the place of the first field that is not in its form, or of the first byte
-/// behind the last field. There are at most 4,194,304 bytes.
+/// after the last field. There are at most 4,194,304 bytes.
 pub fn read_keyfile(bytes: &[u8]) -> Result<Keyfile, BadRecord>
     requires { length bytes.now ≤ 4194304 }
     ensures { ReadsWhole bad_at keyfile_format bytes.now result }
@@ -44,7 +44,9 @@ pub fn read_keyfile(bytes: &[u8]) -> Result<Keyfile, BadRecord>
     let mut cursor = Cursor::new(bytes);
     let keyfile = keyfile_at(&mut cursor)?;
     if cursor.left() > 0 {
-        return Err(BadRecord { at: cursor.place() });
+        return Err(BadRecord {
+            at: cursor.offset(),
+        });
     }
     Ok(keyfile)
 }

@@ -1,16 +1,19 @@
 //! Orders signed and countersigned by an officer's key.
 
-ghost use Rattle.std.specs.Prelude.{◌≡◌, ◌≢◌, ◌↔◌, ◌<◌, ◌≤◌, ◌++◌, ◌∷◌, [], List, length, All, IfOk, OnOk, OnErr, IsErrOf, IsTrue};
+ghost use Rattle.std.specs.Prelude.{◌≡◌, ◌≢◌, ◌↔◌, ◌+◌, ◌<◌, ◌≤◌, ◌++◌, ◌∷◌, [], List, length, All, IfOk, OnOk, OnErr, IsErrOf, IsTrue};
 ghost use Rattle.mb_model.specs.Layers.{is_upper};
 ghost use Rattle.mb_model.specs.OrderFormat.{order_body, order_format};
 ghost use Rattle.mb_model.specs.Signing.{signature_of};
-ghost use Rattle.mb_officer.specs.Signed.{used_once, signed_order, countersigned_order, with_countersignature, is_load, IsCountersignable};
+ghost use Rattle.mb_model.specs.SignedOrders.{used_once, signed_order, countersigned_order, with_countersignature, IsCountersignable};
+ghost use Rattle.mb_model.specs.Rules.{kind_of, change_of, is_load};
 
 use crate::keyfile::NONE_LEFT;
 use mb_command::{body_length, write_order};
+use mb_lms::Steps;
 use mb_model::{Act, Bytes, Countersignature, Countersignatures, Keyfile, NoMemory, Order};
 use mb_signer::{Uses, sign, take_index};
 use std::alloc::Global;
+use std::sync::ledger::Ledger;
 
 /// What the text begins with that the owner in charge signs.
 const ORDER: u8 = 1;
@@ -25,7 +28,7 @@ pub enum SignEnd {
     Spent,
     /// The order is no load, the layer is not above the order's, or that layer's countersignature is there.
     NotCountersignable,
-    /// Memory was wanted and not found.
+    /// An allocation failed.
     NoMemory,
 }
 
@@ -39,38 +42,45 @@ impl From<NoMemory> for SignEnd {
     }
 }
 
-/// Signs the order by the key, in place of the signature that it has, and answers the index of the signature. The order
-/// has a spelling, and the key's next index is at most 32.
+/// Signs the order by the key, in place of the signature that it has, and answers the index of the signature, in at
+/// most 35,473 steps. The order has a spelling, and the key's next index is at most 32.
 ///
 /// Errors: `Spent` exactly where the next index is 32, and `NoMemory`.
-pub fn sign_order(alloc: Global, k: &mut Keyfile, order: &mut Order) -> Result<u32, SignEnd>
+pub fn sign_order<L: Ledger>(
+    alloc: Global,
+    k: &mut Keyfile,
+    order: &mut Order,
+    steps: &mut Steps<L>,
+) -> Result<u32, SignEnd>
     requires next { k.old.next ≤ 32 }
     requires spelled { order_format.Allowed order.old }
     ensures signed { IfOk result (λ index. (index ≡ k.old.next) × (k.new ≡ used_once k.old) × (order.new ≡ signed_order k.old order.old)) }
     ensures spelled { OnOk result (order_format.Allowed order.new) }
     ensures spent { IsErrOf result SignEnd.Spent ↔ (k.old.next ≡ 32) }
     ensures countersignable { IsErrOf result SignEnd.NotCountersignable → ⊥ }
-    ensures unchanged { OnErr result ((k.new ≡ k.old) × (order.new ≡ order.old)) }
+    ensures unchanged { OnErr result ((k.new ≡ k.old) × (order.new ≡ order.old) × (steps.new ≡ steps.old)) }
+    ensures cost { steps.new ≤ steps.old + 35473 }
 {
     if k.next == NONE_LEFT {
         return Err(SignEnd::Spent);
     }
     let body = body_of(alloc, order)?;
     let room = signature_room(alloc)?;
-    order.signature = signature_at(k, &[ORDER], body.as_slice(), room);
+    order.signature = signature_at(k, &[ORDER], body.as_slice(), room, steps);
     Ok(use_up(k))
 }
 
-/// Adds the countersignature by the key of the owner of the layer, 2 or 3, in its place by layers, and answers the index
-/// of the signature. The order has a spelling, and the key's next index is at most 32.
+/// Adds the countersignature by the key of the owner of the layer, 2 or 3, in its place by layers, and answers the
+/// index of the signature, in at most 35,473 steps. The order has a spelling, and the key's next index is at most 32.
 ///
 /// Errors: `NotCountersignable` exactly where the order is no load, the layer is not above the order's, or that layer's
 /// countersignature is there; else `Spent` exactly where the next index is 32; and `NoMemory`.
-pub fn countersign(
+pub fn countersign<L: Ledger>(
     alloc: Global,
     k: &mut Keyfile,
     layer: u8,
     order: &mut Order,
+    steps: &mut Steps<L>,
 ) -> Result<u32, SignEnd>
     requires next { k.old.next ≤ 32 }
     requires spelled { order_format.Allowed order.old }
@@ -79,7 +89,8 @@ pub fn countersign(
     ensures spelled { OnOk result (order_format.Allowed order.new) }
     ensures countersignable { IsErrOf result SignEnd.NotCountersignable ↔ (IsCountersignable order.old layer → ⊥) }
     ensures spent { IsErrOf result SignEnd.Spent ↔ (IsCountersignable order.old layer × (k.old.next ≡ 32)) }
-    ensures unchanged { OnErr result ((k.new ≡ k.old) × (order.new ≡ order.old)) }
+    ensures unchanged { OnErr result ((k.new ≡ k.old) × (order.new ≡ order.old) × (steps.new ≡ steps.old)) }
+    ensures cost { steps.new ≤ steps.old + 35473 }
 {
     if !is_countersignable(order, layer) {
         return Err(SignEnd::NotCountersignable);
@@ -94,7 +105,8 @@ pub fn countersign(
         layer,
         signature: empty,
     })?;
-    let signature = signature_at(k, &[COUNTERSIGNATURE, layer], body.as_slice(), own_room);
+    let head = [COUNTERSIGNATURE, layer];
+    let signature = signature_at(k, &head, body.as_slice(), own_room, steps);
     put_in_place(
         &mut order.countersignatures,
         Countersignature { layer, signature },
@@ -129,9 +141,9 @@ fn is_countersignable(order: &Order, layer: u8) -> bool
 
 /// Whether the order is an ordinary load or an emergency load.
 fn is_load(act: &Act) -> bool
-    ensures { result ≡ is_load act.now }
+    ensures { result ≡ is_load (change_of (kind_of act.now)) }
 {
-    matches!(act, Act::Load { .. } | Act::Emergency { .. })
+    matches!(act, Act::Load(_) | Act::Emergency(_))
 }
 
 /// Puts the countersignature among those before the last, which it replaces; they are at most one, of another layer.
@@ -168,11 +180,18 @@ fn signature_room(alloc: Global) -> Result<Vec<u8>, NoMemory>
 }
 
 /// The signature of the head and the body by the key, at its next index, in the room for it.
-fn signature_at(k: &Keyfile, head: &[u8], body: &[u8], room: Vec<u8>) -> Bytes
+fn signature_at<L: Ledger>(
+    k: &Keyfile,
+    head: &[u8],
+    body: &[u8],
+    room: Vec<u8>,
+    steps: &mut Steps<L>,
+) -> Bytes
     requires next { k.now.next ≤ 31 }
     requires room { length room.items ≡ 2348 }
     ensures signature { result ≡ signature_of k.now.seed k.now.next (head.now ++ body.now) }
     ensures length { length result ≡ 2348 }
+    ensures cost { steps.new ≤ steps.old + 35473 }
 {
     let mut room = room;
     let mut uses = Uses::stored(k.next);
@@ -180,7 +199,7 @@ fn signature_at(k: &Keyfile, head: &[u8], body: &[u8], room: Vec<u8>) -> Bytes
         unreachable!();
     };
     let mut signature = [0; 2348];
-    sign(right, &k.seed, head, body, &mut signature);
+    sign(right, &k.seed, head, body, &mut signature, steps);
     room.copy_from_slice(&signature);
     Bytes::from_vec(room)
 }

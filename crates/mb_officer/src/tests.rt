@@ -1,6 +1,8 @@
 //! Keys made, written and read, by values of another program.
 
 mod drafts;
+mod limits;
+mod order_lines;
 mod orders;
 
 use crate::{BadRecord, Keyfile, make_key, read_keyfile, write_keyfile};

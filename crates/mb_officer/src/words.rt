@@ -11,7 +11,7 @@ ghost use Rattle.mb_words.specs.Words.{Finds, FindsSome};
 
 use mb_lms::parse_key;
 use mb_model::{Bytes, PublicKey, Target, Trust};
-use mb_words::{NotSaid, behind, read_array, read_hex, read_number};
+use mb_words::{NotSaid, after_word, read_array, read_hex, read_number};
 use std::alloc::Global;
 
 /// The most bytes of a layer's code.
@@ -32,17 +32,17 @@ pub(crate) fn read_layer(word: &[u8]) -> Option<u8>
     }
 }
 
-/// The layer, 1 to 3, that the first word is, and what stands behind it and a space.
+/// The layer, 1 to 3, that the first word is, and what stands after it and a space.
 pub(crate) fn split_layer(text: &[u8]) -> Option<(u8, &[u8])>
     ensures { MatchOption result ((layer : ℕ) (rest : List ℕ) → IsTrue (is_layer_number layer) → text.now ≡ decimal layer ++ 32 ∷ rest → ⊥) (λ parts. IsTrue (is_layer_number parts.0) × (text.now ≡ decimal parts.0 ++ 32 ∷ parts.1.now)) }
 {
-    if let Some(rest) = behind(text, b"1 ") {
+    if let Some(rest) = after_word(text, b"1 ") {
         return Some((1, rest));
     }
-    if let Some(rest) = behind(text, b"2 ") {
+    if let Some(rest) = after_word(text, b"2 ") {
         return Some((2, rest));
     }
-    match behind(text, b"3 ") {
+    match after_word(text, b"3 ") {
         Some(rest) => Some((3, rest)),
         None => None,
     }
@@ -52,38 +52,38 @@ pub(crate) fn split_layer(text: &[u8]) -> Option<(u8, &[u8])>
 pub(crate) fn read_target(line: &[u8]) -> Option<Target>
     ensures { FindsSome (SaysTarget line.now) result }
 {
-    match behind(line, b"target ") {
+    match after_word(line, b"target ") {
         Some(words) => read_demand(words),
         None => None,
     }
 }
 
-/// The target that a line says behind its first word.
+/// The target that a line says after its first word.
 fn read_demand(words: &[u8]) -> Option<Target>
     ensures { FindsSome (SaysTarget (codes "target " ++ words.now)) result }
 {
-    if let Some(word) = behind(words, b"serial ") {
+    if let Some(word) = after_word(words, b"serial ") {
         let Some(serial) = read_array(word) else {
             return None;
         };
         return Some(Target::Serial(serial));
     }
-    if let Some(word) = behind(words, b"length ") {
+    if let Some(word) = after_word(words, b"length ") {
         let Some(length) = read_number(word, u32::MAX) else {
             return None;
         };
         return Some(Target::Length(length));
     }
-    if let Some(words) = behind(words, b"owner ") {
+    if let Some(words) = after_word(words, b"owner ") {
         return read_owner_demand(words);
     }
-    match behind(words, b"code ") {
+    match after_word(words, b"code ") {
         Some(words) => read_code_demand(words),
         None => None,
     }
 }
 
-/// The target that demands an owner, by what stands behind its first two words.
+/// The target that demands an owner, by what stands after its first two words.
 fn read_owner_demand(words: &[u8]) -> Option<Target>
     ensures { FindsSome (SaysTarget (codes "target owner " ++ words.now)) result }
 {
@@ -96,7 +96,7 @@ fn read_owner_demand(words: &[u8]) -> Option<Target>
     Some(Target::Owner { layer, hash })
 }
 
-/// The target that demands code, by what stands behind its first two words.
+/// The target that demands code, by what stands after its first two words.
 fn read_code_demand(words: &[u8]) -> Option<Target>
     ensures { FindsSome (SaysTarget (codes "target code " ++ words.now)) result }
 {
@@ -128,7 +128,7 @@ pub(crate) fn read_trust(line: &[u8]) -> Option<Trust>
 pub(crate) fn read_owner(line: &[u8]) -> Option<PublicKey>
     ensures { FindsSome (λ owner. IsSized owner × EndsInHex line.now (codes "owner" ∷ []) (key_bytes owner)) result }
 {
-    let Some(word) = behind(line, b"owner ") else {
+    let Some(word) = after_word(line, b"owner ") else {
         return None;
     };
     match read_array(word) {
@@ -141,7 +141,7 @@ pub(crate) fn read_owner(line: &[u8]) -> Option<PublicKey>
 pub(crate) fn read_version(line: &[u8]) -> Option<u32>
     ensures { FindsSome (λ version. (version ≤ number_limit) × (line.now ≡ spaced (codes "version" ∷ decimal version ∷ []))) result }
 {
-    match behind(line, b"version ") {
+    match after_word(line, b"version ") {
         Some(word) => read_number(word, u32::MAX),
         None => None,
     }
@@ -151,7 +151,7 @@ pub(crate) fn read_version(line: &[u8]) -> Option<u32>
 pub(crate) fn read_code(alloc: Global, line: &[u8]) -> Result<Bytes, NotSaid>
     ensures { Finds (λ code. (length code ≤ 32768) × EndsInHex line.now (codes "code" ∷ []) code) result }
 {
-    let Some(word) = behind(line, b"code ") else {
+    let Some(word) = after_word(line, b"code ") else {
         return Err(NotSaid::Form);
     };
     let code = read_hex(alloc, word)?;

@@ -43,7 +43,7 @@ fn wrong_first_lines(rt: HostRuntime) {
 }
 
 #[test]
-fn wrong_lines_behind_the_first(rt: HostRuntime) {
+fn wrong_lines_after_the_first(rt: HostRuntime) {
     let alloc = rt.alloc();
     assert_eq!(rt;
         bad_line(&rt, alloc, b"order surrender 2\ntrust never"),

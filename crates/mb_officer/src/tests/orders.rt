@@ -1,19 +1,25 @@
 //! Orders drafted, signed and countersigned, by values of another program.
 
-ghost use Rattle.std.specs.Prelude.{◌≡◌, IfOk, OnOk};
+ghost use Rattle.std.specs.Prelude.{◌≡◌, ◌<◌, ◌≤◌, IfOk, OnOk, OnErr, IsTrue};
+ghost use Rattle.mb_model.specs.Layers.{is_upper};
 ghost use Rattle.mb_model.specs.OrderFormat.{order_format};
 
-use crate::{SignEnd, countersign, make_key, read_draft, sign_order};
+use crate::{
+    SignEnd, countersign, make_key, read_draft, read_order_line, sign_order, write_order_line,
+};
 use hex::FromHex;
 use mb_command::{body_length, write_order};
+use mb_lms::Steps;
 use mb_model::{Keyfile, Order};
 use sha2::{Digest, Sha256};
 use std::alloc::Global;
+use std::marker::Brand;
 use std::process::Abort;
+use std::sync::ledger::{Blank, Ledger};
 use std::test::Fail;
 
 /// The key of the owner in charge.
-fn signer() -> Result<Keyfile, Fail>
+pub(super) fn signer() -> Result<Keyfile, Fail>
     ensures { IfOk result (λ key. key.next ≡ 0) }
 {
     let noise = <[u8; 32] as FromHex>::from_hex(
@@ -30,6 +36,66 @@ fn countersigner() -> Result<Keyfile, Fail>
         "0102030405060708090a0b0c0d0e0f101112131415161718191a1b1c1d1e1f20",
     )?;
     Ok(make_key(&noise))
+}
+
+/// Signs the order, on a count of its own.
+pub(super) fn signed(alloc: Global, k: &mut Keyfile, order: &mut Order) -> Result<u32, SignEnd>
+    requires next { k.old.next ≤ 32 }
+    requires spelled { order_format.Allowed order.old }
+    ensures spelled { OnOk result (order_format.Allowed order.new) }
+    ensures unchanged { OnErr result ((k.new ≡ k.old) × (order.new ≡ order.old)) }
+{
+    signed_counted::<Brand>(alloc, k, order, Blank::new(1))
+}
+
+fn signed_counted<L: Ledger>(
+    alloc: Global,
+    k: &mut Keyfile,
+    order: &mut Order,
+    blank: Blank,
+) -> Result<u32, SignEnd>
+    requires next { k.old.next ≤ 32 }
+    requires spelled { order_format.Allowed order.old }
+    requires name { blank.name ≡ L.name }
+    requires parts { blank.parts ≡ L.parts }
+    requires some { 0 < blank.parts }
+    ensures spelled { OnOk result (order_format.Allowed order.new) }
+    ensures unchanged { OnErr result ((k.new ≡ k.old) × (order.new ≡ order.old)) }
+{
+    sign_order(alloc, k, order, &mut Steps::<L>::begin(alloc, blank))
+}
+
+/// Countersigns the order, on a count of its own.
+fn countersigned(
+    alloc: Global,
+    k: &mut Keyfile,
+    layer: u8,
+    order: &mut Order,
+) -> Result<u32, SignEnd>
+    requires next { k.old.next ≤ 32 }
+    requires spelled { order_format.Allowed order.old }
+    requires layer { IsTrue (is_upper layer) }
+    ensures spelled { OnOk result (order_format.Allowed order.new) }
+{
+    countersigned_counted::<Brand>(alloc, k, layer, order, Blank::new(1))
+}
+
+fn countersigned_counted<L: Ledger>(
+    alloc: Global,
+    k: &mut Keyfile,
+    layer: u8,
+    order: &mut Order,
+    blank: Blank,
+) -> Result<u32, SignEnd>
+    requires next { k.old.next ≤ 32 }
+    requires spelled { order_format.Allowed order.old }
+    requires layer { IsTrue (is_upper layer) }
+    requires name { blank.name ≡ L.name }
+    requires parts { blank.parts ≡ L.parts }
+    requires some { 0 < blank.parts }
+    ensures spelled { OnOk result (order_format.Allowed order.new) }
+{
+    countersign(alloc, k, layer, order, &mut Steps::<L>::begin(alloc, blank))
 }
 
 /// The hash of the order's bytes.
@@ -56,18 +122,19 @@ fn drafted(rt: &impl Abort, alloc: Global, draft: &[u8], body: &str) -> Result<O
     Ok(order)
 }
 
-/// The order has this hash when it is signed.
+/// The order has this hash when it is signed, and so has the one that its line hands on.
 fn signs(rt: &impl Abort, alloc: Global, order: &mut Order, hash: &str) -> Result<(), Fail>
     requires { order_format.Allowed order.old }
     ensures { OnOk result (order_format.Allowed order.new) }
 {
     let mut key = signer()?;
-    assert_eq!(rt; sign_order(alloc, &mut key, order)?, 0);
+    assert_eq!(rt; signed(alloc, &mut key, order)?, 0);
     assert_eq!(rt; key.next, 1);
-    assert_eq!(rt;
-        hash_of(alloc, order)?,
-        <[u8; 32] as FromHex>::from_hex(hash)?
-    );
+    let hash = <[u8; 32] as FromHex>::from_hex(hash)?;
+    assert_eq!(rt; hash_of(alloc, order)?, hash);
+    let line = write_order_line(alloc, order)?;
+    let read = read_order_line(alloc, line.as_slice())?;
+    assert_eq!(rt; hash_of(alloc, &read)?, hash);
     Ok(())
 }
 
@@ -76,7 +143,7 @@ fn countersigns(rt: &impl Abort, alloc: Global, order: &mut Order, hash: &str) -
     requires { order_format.Allowed order.old }
 {
     let mut key = countersigner()?;
-    assert_eq!(rt; countersign(alloc, &mut key, 3, order)?, 0);
+    assert_eq!(rt; countersigned(alloc, &mut key, 3, order)?, 0);
     assert_eq!(rt;
         hash_of(alloc, order)?,
         <[u8; 32] as FromHex>::from_hex(hash)?
@@ -187,12 +254,9 @@ fn a_spent_key_signs_nothing(rt: HostRuntime) -> Result<(), Fail> {
     let mut order = drafted(&rt, alloc, b"order surrender 2", "020200")?;
     let mut key = signer()?;
     key.next = 32;
+    assert_eq!(rt; signed(alloc, &mut key, &mut order), Err(SignEnd::Spent));
     assert_eq!(rt;
-        sign_order(alloc, &mut key, &mut order),
-        Err(SignEnd::Spent)
-    );
-    assert_eq!(rt;
-        countersign(alloc, &mut key, 3, &mut order),
+        countersigned(alloc, &mut key, 3, &mut order),
         Err(SignEnd::NotCountersignable)
     );
     Ok(())
@@ -206,12 +270,12 @@ fn countersignatures_stand_by_layers(rt: HostRuntime) -> Result<(), Fail> {
         b"order load 1\nversion 2\ntrust countersigned\ncode -\n",
     )?;
     let mut three = countersigner()?;
-    countersign(alloc, &mut three, 3, &mut order)?;
+    countersigned(alloc, &mut three, 3, &mut order)?;
     let mut two = signer()?;
-    countersign(alloc, &mut two, 2, &mut order)?;
+    countersigned(alloc, &mut two, 2, &mut order)?;
     let mut again = countersigner()?;
     assert_eq!(rt;
-        countersign(alloc, &mut again, 3, &mut order),
+        countersigned(alloc, &mut again, 3, &mut order),
         Err(SignEnd::NotCountersignable)
     );
     let list = order.countersignatures.as_slice();

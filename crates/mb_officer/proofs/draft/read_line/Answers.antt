@@ -1,7 +1,7 @@
 use Rattle.std.proofs.Common.{◌∷◌, ◌≡◌}
 use Rattle.mb_officer.specs.declared.draft.Said.{Said}
 use Rattle.mb_officer.specs.declared.draft.Said.TheVariants as said
-use Rattle.mb_officer.specs.Drafting.{kind_of}
+use Rattle.mb_officer.specs.Drafting.{ordered_by}
 use Rattle.mb_officer.proofs.Headings.{first_is}
 use Rattle.mb_officer.proofs.Lines.{tells, sound_at, rest_at, add_tells, first_tells, Follows-heading, Follows-code, all_none}
 use Rattle.mb_officer.proofs.draft.read_line.Goals as goal
@@ -9,7 +9,7 @@ use Rattle.mb_officer.proofs.draft.read_line.Goals.{in-Nothing+in-Some, in-Headi
 
 pub returns-in_default : goal.returns-in_default
 returns-in_default c = λ more order says.
-    c.in_default.ensures (kind_of order.act, order.layer)
+    c.in_default.ensures (ordered_by order.act, order.layer)
     (first_is c.args.line.now more order (rest_at _ said.Nothing c.args.targets.now (c.args.line.now ∷ more) order c.in-Nothing.is says))
 
 pub returns : goal.returns

@@ -15,7 +15,7 @@ returns-then-left-gt0 c =
     let start = c.new-cursor.ensures in
     let read = c.in_ok-keyfile.ensures in
     let size = ap length (read.bytes ∙ start.all) in
-    rw c.place.ensures (whole_left c.args.bytes.now keyfile_exact start.all start.first read (omega (arith, size, c.left.ensures)))
+    rw c.offset.ensures (whole_left c.args.bytes.now keyfile_exact start.all start.first read (omega (arith, size, c.left.ensures)))
 
 pub returns : goal.returns
 returns c =

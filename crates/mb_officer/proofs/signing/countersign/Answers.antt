@@ -5,13 +5,13 @@ use Rattle.mb_officer.proofs.Signatures.{countersigned_is, countersigned_allowed
 use Rattle.mb_officer.proofs.signing.countersign.Goals as goal
 
 pub put_in_place-requires-clause-most : goal.put_in_place-requires-clause-most
-put_in_place-requires-clause-most c =
+put_in_place-requires-clause-most g c =
     let can = c.is_countersignable.ensures.0 c.if-not-is_countersignable.false in
     let few = at_most_one c.args.order.now c.args.layer c.requires.spelled c.requires.layer can in
     omega (arith, few, ap length c.in_ok-push.ensures.ok ∙ length-append c.args.order.now.countersignatures (_ ∷ []))
 
 pub returns-clause-signed : goal.returns-clause-signed
-returns-clause-signed c =
+returns-clause-signed g c =
     let can = c.is_countersignable.ensures.0 c.if-not-is_countersignable.false in
     let placed = c.put_in_place.ensures c.args.order.now.countersignatures _ c.in_ok-push.ensures.ok can.new in (
       c.use_up.ensures.index,
@@ -22,7 +22,7 @@ returns-clause-signed c =
     )
 
 pub returns-clause-spelled : goal.returns-clause-spelled
-returns-clause-spelled c =
+returns-clause-spelled g c =
     let can = c.is_countersignable.ensures.0 c.if-not-is_countersignable.false in
     let placed = c.put_in_place.ensures c.args.order.now.countersignatures _ c.in_ok-push.ensures.ok can.new in
     subst (λ (list : List Countersignature). order_format.Allowed (record c.args.order.now { countersignatures = list })) (sym placed)

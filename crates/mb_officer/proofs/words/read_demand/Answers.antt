@@ -4,10 +4,10 @@ use Rattle.mb_model.specs.Drafts.{SaysTarget}
 use Rattle.mb_words.specs.Words.{FindsSome}
 use Rattle.mb_officer.proofs.words.read_demand.Goals as goal
 
-pub returns-in-Some-behind-2 : goal.returns-in-Some-behind-2
-returns-in-Some-behind-2 c =
-    subst (λ (x : List ℕ). FindsSome (SaysTarget (codes "target " ++ x)) c.read_owner_demand.result) (sym c.in-Some-behind-2.ensures) c.read_owner_demand.ensures
+pub returns-in-Some-after_word-2 : goal.returns-in-Some-after_word-2
+returns-in-Some-after_word-2 c =
+    subst (λ (x : List ℕ). FindsSome (SaysTarget (codes "target " ++ x)) c.read_owner_demand.result) (sym c.in-Some-after_word-2.ensures) c.read_owner_demand.ensures
 
-pub returns-in-Some-behind-3 : goal.returns-in-Some-behind-3
-returns-in-Some-behind-3 c =
-    subst (λ (x : List ℕ). FindsSome (SaysTarget (codes "target " ++ x)) c.read_code_demand.result) (sym c.in-Some-behind-3.ensures) c.read_code_demand.ensures
+pub returns-in-Some-after_word-3 : goal.returns-in-Some-after_word-3
+returns-in-Some-after_word-3 c =
+    subst (λ (x : List ℕ). FindsSome (SaysTarget (codes "target " ++ x)) c.read_code_demand.result) (sym c.in-Some-after_word-3.ensures) c.read_code_demand.ensures

@@ -1,0 +1,121 @@
+-- The line of an order, and the text that has no other.
+use Rattle.std.proofs.Common.{◌≡◌, ℕ, ◌<◌, List, [], ◌∷◌, ◌++◌, length, length-append, refl, sym, ap, subst, ◌∙◌, arith}
+use Rattle.std.specs.Prelude.{codes, Result, Ok, Err}
+use Rattle.std.proofs.lemmas.List.{append_cancel_left}
+use Rattle.std.specs.Int.{w8}
+use Rattle.hex.specs.Hex.{encode_lower}
+use Rattle.mb_format.specs.Format.{IsBytes, Spells, FailsWhole, IsClearWhole}
+use Rattle.mb_format.specs.Combinators.{number_bytes, between, counted}
+use Rattle.mb_format.proofs.Fields.{wide8}
+use Rattle.mb_format.proofs.Whole.{IsClearWhole-from_exact}
+use Rattle.mb_model.specs.declared.order.Order.{Order}
+use Rattle.mb_model.specs.Texts.{IsHex}
+use Rattle.mb_model.specs.Lines.{HasLines, hex_word, Reads, TextFailsAtLine}
+use Rattle.mb_model.specs.Rules.{kind_of}
+use Rattle.mb_model.specs.OrderFormat.{order_byte, target_format, act_by, body_of, body_format, order_body, sized_signature_format, countersignatures_format, order_format}
+use Rattle.mb_model.specs.OrderLines.{IsOrderLine}
+use Rattle.mb_model.proofs.OrderFormatLaws.{order_exact}
+use Rattle.mb_laws.proofs.LineLemmas.{cons_same, HasLines-none, HasLines-nil, HasLines-always}
+use Rattle.mb_laws.proofs.WordLemmas.{IsHex-same}
+use Rattle.mb_laws.proofs.OrderLineLemmas.{order_first, order_second, examples}
+use Rattle.mb_words.specs.declared.said.NotSaid.{NotSaid}
+use Rattle.mb_words.specs.declared.said.NotSaid.TheVariants as why
+use Rattle.mb_words.specs.Words.{Finds, SplitsLine}
+use Rattle.mb_words.proofs.NextLines.{with_line}
+
+-- ---- texts
+
+-- the first line is that of an order, and nothing follows it
+pub read_alone : (text line rest : List ℕ) (order : Order) → SplitsLine text line rest → 0 < length text → rest ≡ []
+    → IsOrderLine (line ∷ []) order → Reads IsOrderLine text order
+read_alone text line rest order splits some none is = record {
+  lines = line ∷ [];
+  has = with_line text line rest [] splits some (subst (λ (x : List ℕ). HasLines x []) (sym none) HasLines-nil);
+  stands = is;
+}
+
+-- there is no line
+pub no_line : (text : List ℕ) → text ≡ [] → TextFailsAtLine IsOrderLine text 1
+no_line text none = record {
+  lines = [];
+  has = subst (λ (x : List ℕ). HasLines x []) (sym none) HasLines-nil;
+  fails = examples.no_line;
+}
+
+-- the first line is that of no order
+pub first_wrong : (text line rest : List ℕ) → SplitsLine text line rest → 0 < length text
+    → ((order : Order) → IsOrderLine (line ∷ []) order → ⊥) → TextFailsAtLine IsOrderLine text 1
+first_wrong text line rest splits some none =
+    let remaining = HasLines-always rest in
+    record {
+      lines = line ∷ remaining.0;
+      has = with_line text line rest remaining.0 splits some remaining.1;
+      fails = order_first line remaining.0 none;
+    }
+
+second_in : (text line rest : List ℕ) (order : Order) (lines : List (List ℕ)) → SplitsLine text line rest → 0 < length text → 0 < length rest
+    → IsOrderLine (line ∷ []) order → HasLines rest lines → TextFailsAtLine IsOrderLine text 2
+second_in text line rest order [] splits some more is has = absurd (omega (arith, more, ap length (HasLines-none rest has)))
+second_in text line rest order (other ∷ later) splits some more is has = record {
+  lines = line ∷ other ∷ later;
+  has = with_line text line rest (other ∷ later) splits some has;
+  fails = order_second line other later order is;
+}
+
+-- another line follows that of an order
+pub second_wrong : (text line rest : List ℕ) (order : Order) → SplitsLine text line rest → 0 < length text → 0 < length rest
+    → IsOrderLine (line ∷ []) order → TextFailsAtLine IsOrderLine text 2
+second_wrong text line rest order splits some more is =
+    let remaining = HasLines-always rest in
+    second_in text line rest order remaining.0 splits some more is remaining.1
+
+-- ---- lines
+
+-- the word of a line that is that of an order is one of hexadecimal
+pub line_hex : (line word : List ℕ) (order : Order) (is : IsOrderLine (line ∷ []) order) → line ≡ codes "command " ++ word → IsHex word is.bytes
+line_hex line word order is begins =
+    let same = (cons_same line is.line [] [] is.one).0 in
+    let words = append_cancel_left (codes "command ") word is.worded.0 (sym begins ∙ same ∙ is.worded.2) in
+    subst (λ (x : List ℕ). IsHex x is.bytes) (sym words) is.worded.1
+
+-- what the bytes of the word spell is what the line says
+pub line_finds : (line word bytes : List ℕ) → line ≡ codes "command " ++ word → IsHex word bytes → (found : Result Order NotSaid)
+    → Finds (Spells order_format bytes) found → Finds (IsOrderLine (line ∷ [])) found
+line_finds line word bytes begins hex (Ok order) spelled =
+    record { line = line; bytes = bytes; one = refl; worded = (word, hex, begins); spelled = spelled }
+line_finds line word bytes begins hex (Err why.Form) none =
+    λ order is.
+    let same = IsHex-same word word bytes is.bytes refl hex (line_hex line word order is begins) in
+    none order (subst (λ (x : List ℕ). Spells order_format x order) (sym same) is.spelled)
+line_finds line word bytes begins hex (Err why.NoMemory) unsaid = tt
+
+-- bytes that fail somewhere spell no order
+pub no_order : (bytes : List ℕ) (place : ℕ) → IsBytes bytes → FailsWhole order_format bytes place → (order : Order) → Spells order_format bytes order → ⊥
+no_order bytes place are fails order spelled =
+    let whole : IsClearWhole order_format = IsClearWhole-from_exact order_exact in
+    whole.never_both bytes order place are spelled fails
+
+-- what is not in the grammar is none
+pub none_found : {A : Type 0} (Is : A → Type 0) (e : NotSaid) → e ≡ why.Form → Finds {A = A} Is (Err e) → (a : A) → Is a → ⊥
+none_found {A} Is e form found = subst (λ (x : NotSaid). Finds {A = A} Is (Err x)) form found
+
+-- ---- what is written
+
+digits_of : (bytes : List ℕ) → 0 < length bytes → hex_word bytes ≡ encode_lower bytes
+digits_of [] some = absurd (omega (arith, some))
+digits_of (byte ∷ bytes) some = refl
+
+-- an order's spelling begins with the number of its kind
+order_some : (order : Order) → 0 < length (order_format.spelling order)
+unfolding order_format body_format number_bytes
+order_some order =
+    let kind = number_bytes w8 (order_byte (kind_of order.act)) in
+    let one : length kind ≡ 1 = wide8.len (order_byte (kind_of order.act)) in
+    let targets = (counted (between w8 0 8) target_format).spelling order.targets in
+    let remaining = number_bytes w8 order.layer ++ (targets ++ (act_by (kind_of order.act)).spelling order.act) in
+    let signatures = sized_signature_format.spelling order.signature ++ (countersignatures_format (body_of order)).spelling order.countersignatures in
+    omega (arith, one, length-append kind remaining, length-append (order_body order) signatures)
+
+-- so its word is no dash
+pub order_digits : (order : Order) → hex_word (order_format.spelling order) ≡ encode_lower (order_format.spelling order)
+order_digits order = digits_of (order_format.spelling order) (order_some order)

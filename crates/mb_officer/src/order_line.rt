@@ -1,0 +1,86 @@
+//! The line of an order, as who signs hands it on: read, and written.
+
+ghost use Rattle.std.specs.Prelude.{◌≡◌, ◌∷◌, [], IfOk};
+ghost use Rattle.mb_format.specs.Format.{Spells};
+ghost use Rattle.mb_model.specs.Texts.{ended};
+ghost use Rattle.mb_model.specs.OrderFormat.{order_format};
+ghost use Rattle.mb_model.specs.OrderLines.{IsOrderLine, order_line};
+ghost use Rattle.mb_words.specs.Words.{Finds};
+ghost use Rattle.mb_officer.specs.OrderReading.{ReadsOrderLine};
+
+use mb_command::{OrderEnd, read_order, write_order};
+use mb_model::{NoMemory, Order};
+use mb_words::{NotSaid, after_word, read_hex, split_line};
+use std::alloc::Global;
+
+/// Why the line of an order was not read.
+#[derive(Clone, Copy, Debug, PartialEq, Eq)]
+pub enum OrderLineEnd {
+    /// The first line is not that of an order, or a second line follows it.
+    BadLine {
+        /// The number of the first such line: 1, also where the text has no line, or 2.
+        line: u32,
+    },
+    /// An allocation failed.
+    NoMemory,
+}
+
+/// The order of the text, whose one line is `command HEX`. The line may lack its LF.
+///
+/// Errors: `BadLine` with 1 where there is no line or the first is not that of an order, and with 2 where another line
+/// follows that of an order, be it empty; and `NoMemory`.
+pub fn read_order_line(alloc: Global, text: &[u8]) -> Result<Order, OrderLineEnd>
+    ensures read { ReadsOrderLine text.now result }
+    ensures spelled { IfOk result (λ order. order_format.Allowed order) }
+{
+    if text.is_empty() {
+        return Err(OrderLineEnd::BadLine { line: 1 });
+    }
+    let (line, rest) = split_line(text);
+    match order_in(alloc, line) {
+        Ok(order) => {
+            if rest.is_empty() {
+                Ok(order)
+            } else {
+                Err(OrderLineEnd::BadLine { line: 2 })
+            }
+        }
+        Err(NotSaid::Form) => Err(OrderLineEnd::BadLine { line: 1 }),
+        Err(NotSaid::NoMemory) => Err(OrderLineEnd::NoMemory),
+    }
+}
+
+/// The order whose line this is.
+fn order_in(alloc: Global, line: &[u8]) -> Result<Order, NotSaid>
+    ensures { Finds (IsOrderLine (line.now ∷ [])) result }
+{
+    let Some(word) = after_word(line, b"command ") else {
+        return Err(NotSaid::Form);
+    };
+    let bytes = read_hex(alloc, word)?;
+    order_of(alloc, bytes.as_slice())
+}
+
+/// The order that the bytes spell.
+fn order_of(alloc: Global, bytes: &[u8]) -> Result<Order, NotSaid>
+    ensures { Finds (Spells order_format bytes.now) result }
+{
+    match read_order(alloc, bytes) {
+        Ok(order) => Ok(order),
+        Err(OrderEnd::BadText { .. }) => Err(NotSaid::Form),
+        Err(OrderEnd::NoMemory) => Err(NotSaid::NoMemory),
+    }
+}
+
+/// The line of the order, which has a spelling, with its LF.
+///
+/// Errors: `NoMemory`. Nothing is said of when memory is found: the tests write lines where there is enough.
+pub fn write_order_line(alloc: Global, order: &Order) -> Result<Vec<u8>, NoMemory>
+    requires { order_format.Allowed order.now }
+    ensures { IfOk result (λ text. text.items ≡ ended (order_line order.now)) }
+{
+    let mut bytes = Vec::new(alloc);
+    write_order(order, &mut bytes)?;
+    let word = hex::encode(alloc, bytes.as_slice())?;
+    Ok(format!(in alloc; "command {word}\n")?.into_bytes())
+}
