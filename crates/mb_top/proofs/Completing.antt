@@ -1,137 +1,105 @@
--- From a command to what its words say; and that a command is done where all is well.
-use Rattle.std.proofs.Common.{◌≡◌, ◌⊎◌, ℕ, List, [], length, Option, Some, Result, Ok, Err, sym, ◌∙◌, ap, subst, inl, inr, arith}
-use Rattle.mb_model.specs.declared.event.Answered.{Answered}
-use Rattle.mb_model.specs.declared.role.Role.{Role}
-use Rattle.mb_model.specs.declared.role.Role.TheVariants.{Image, Script, Noise, Key, Public}
-use Rattle.mb_model.specs.FirstTexts.{IsFirstScript, IsFirstNoise}
-use Rattle.mb_model.specs.Outside.{Outside, HoldsTooMuch}
-use Rattle.mb_model.specs.Board.{Memory}
-use Rattle.mb_model.specs.Commands.{CommandEnds, HasInputsFor}
-use Rattle.mb_model.specs.FirstCommand.{Names, IsRun, IsFirstImage, HasInputsBefore, IsFormless, HasInputs, IsFaultless, RunEnds, done, too_long, formless, not_read, not_written, not_printed, no_memory, name_of}
-use Rattle.mb_model.specs.Keygen.{KeygenNames, IsKeygen, keygen}
-use Rattle.mb_model.specs.Top.{Ends, no_command, ran, made_key}
-use Rattle.mb_top.specs.declared.end.End.{End}
-use Rattle.mb_top.specs.Ending.{Leads}
-use Rattle.mb_top.proofs.OneScript.{one_script}
-use Rattle.mb_top.proofs.Running.{RunEndsFrom}
-use Rattle.mb_top.proofs.CommandLemmas.{EndsFrom, ComesToRefusal, command_completes, done_or_no_memory}
+-- A command whose inputs are there in their forms is done or refused, where no call of the host fails.
+use Rattle.std.proofs.Common.{◌≡◌, ◌≢◌, ℕ, ◌+◌, ◌<◌, ◌≤◌, ◌⊎◌, Bool, true, false, List, ◌++◌, codes, length, Option, Some, None, if◌then◌else◌, refl, sym, ◌∙◌, ap, subst, inl, inr, arith}
+use Rattle.std.proofs.Common.{nat_lt}
+use Rattle.std.proofs.lemmas.Bool.{ltb-false, ltb-true}
+use Rattle.mb_model.specs.declared.role.Place.{Place}
+use Rattle.mb_model.specs.Outside.{Outside, HasRisen, raised, count_limit, HoldsFile, HasNoFile, HoldsTooMuch, read_once, FailsToRead, by_fault, by_absence, Writes, FailsToWrite, Prints, FailsToPrint}
+use Rattle.mb_model.specs.Commands.{Input, Output, Command, read, find, either, serve, write, print, refuse, lack, Past, Ended, SaysLine, Stops, InputEnds, WriteEnds, PrintEnds, too_long, faulty, not_read, no_room, printed, not_printed, CommandEnds, IsFaultless, HasInputsFor, ComesToRefusal, onward, role_word}
 
--- ---- by the words
+-- ---- counts of faults
 
--- the ends of the program, from here on
-abbrev pub ProgramEndsFrom : List (List ℕ) → Outside → List Answered → Memory → Outside → ℕ → Type 0
-ProgramEndsFrom words before answered final = λ after status. Ends words before after answered final status
+rises : (n limit : ℕ) (b : Bool) → nat_lt n limit ≡ b → (n < (if b then n + 1 else n)) ⊎ (limit ≤ (if b then n + 1 else n))
+rises n limit true is = inl (omega arith)
+rises n limit false is = inr (ltb-false n limit is)
 
-pub ran_leads : (words : List (List ℕ)) (names : Names) (before : Outside) (answered : List Answered) (final : Memory) → IsRun words names → (result : Result (Unit {0}) End) (now : Outside)
-    → Leads (RunEndsFrom names before answered final) result now → Leads (ProgramEndsFrom words before answered final) result now
-ran_leads words names before answered final is (Ok u) now ends = ran names is ends
-ran_leads words names before answered final is (Err why) now leads = λ after print line. ran names is (leads after print line)
+pub raised_rises : (n : ℕ) → HasRisen n (raised n)
+unfolding raised
+raised_rises n = rises n count_limit (nat_lt n count_limit) refl
 
-pub made_key_leads : (words : List (List ℕ)) (names : KeygenNames) (before : Outside) (answered : List Answered) (final : Memory) → IsKeygen words names → answered ≡ [] → (result : Result (Unit {0}) End) (now : Outside)
-    → Leads (EndsFrom (keygen names) before) result now → Leads (ProgramEndsFrom words before answered final) result now
-made_key_leads words names before answered final is none (Ok u) now ends = made_key names is ends none
-made_key_leads words names before answered final is none (Err why) now leads = λ after print line. made_key names is (leads after print line) none
+-- a line that is printed leaves the read faults
+says_reads : (line : List ℕ) (before after : Outside) → SaysLine line before after → after.read_faults ≡ before.read_faults
+says_reads line before after (inl prints) = ap (λ o. o.read_faults) prints.stays
+says_reads line before after (inr fails) = ap (λ o. o.read_faults) fails.stays
 
--- ---- `run`
+-- a line that is printed leaves a risen count of write faults risen
+says_writes : (line : List ℕ) (n : ℕ) (before after : Outside) → before.write_faults ≡ raised n → SaysLine line before after → HasRisen n after.write_faults
+says_writes line n before after is (inl prints) = subst (λ m. HasRisen n m) (sym (ap (λ o. o.write_faults) prints.stays ∙ is)) (raised_rises n)
+says_writes line n before after is (inr fails) =
+    subst (λ m. HasRisen n m) (sym (ap (λ o. o.write_faults) fails.stays)) (later n before.write_faults (subst (λ m. HasRisen n m) (sym is) (raised_rises n)) (raised_rises before.write_faults))
+  where
+    later : (n mid : ℕ) → HasRisen n mid → HasRisen mid (raised mid) → HasRisen n (raised mid)
+    later n mid (inl rose) (inl more) = inl (omega arith)
+    later n mid (inl rose) (inr full) = inr full
+    later n mid (inr full) (inl more) = inr (omega arith)
+    later n mid (inr full) (inr still) = inr still
 
--- the words give one triple of names
-same_names : (words : List (List ℕ)) (a b : Names) → IsRun words a → IsRun words b → a ≡ b
-same_names words a b x y =
-    let e = sym x.spelled ∙ y.spelled in
-    let image : a.image ≡ b.image = cc in
-    let script : a.script ≡ b.script = cc in
-    let noise : a.noise ≡ b.noise = cc in
-    ap (λ i. record { image = i; script = a.script; noise = a.noise }) image
-    ∙ ap (λ s. record { image = b.image; script = s; noise = a.noise }) script
-    ∙ ap (λ n. record { image = b.image; script = b.script; noise = n }) noise
+-- ---- the end of a command
 
--- an input that is there and not too long is not too long
-not_too_long : (outside : Outside) (names : Names) (role : Role) → HasInputs outside names → HasInputsBefore outside names role → HoldsTooMuch outside (name_of names role) → ⊥
-not_too_long outside names Image had before held =
-    let found = held had.files had.told in
-    let same : found.0 ≡ had.image = cc in
-    omega (arith, ap length same, had.image_fits, found.2)
-not_too_long outside names Script had before held =
-    let found = held had.files had.told in
-    let same : found.0 ≡ had.script = cc in
-    omega (arith, ap length same, had.script_fits, found.2)
-not_too_long outside names Noise had before held =
-    let found = held had.files had.told in
-    let same : found.0 ≡ had.noise = cc in
-    omega (arith, ap length same, had.noise_fits, found.2)
-not_too_long outside names Key had before held = absurd before
-not_too_long outside names Public had before held = absurd before
+-- done, or an allocation failed, or a refusal to which the command comes
+abbrev pub Completes : Command → (List ℕ → Option (List ℕ)) → ℕ → Type 0
+Completes command files status = (status ≡ 0) ⊎ (status ≡ 6) ⊎ ((status ≡ 7) × ComesToRefusal command files)
 
--- an input that is there in its form has its form
-not_formless : (outside : Outside) (names : Names) (role : Role) → HasInputs outside names → IsFormless outside names role → ⊥
-not_formless outside names Image had none =
-    let found = none.held had.files had.told in
-    let same : had.image ≡ none.bytes = cc in
-    none.formless (had.state, subst (λ i. IsFirstImage i had.state) same had.is_image)
-not_formless outside names Script had none =
-    let found = none.held had.files had.told in
-    let same : had.script ≡ none.bytes = cc in
-    none.formless (had.orders, subst (λ s. IsFirstScript s had.orders) same had.is_script)
-not_formless outside names Noise had none =
-    let script_read = none.1 in
-    let found = script_read.held had.files had.told in
-    let script : had.script ≡ script_read.script = cc in
-    let orders : had.orders ≡ none.0 = one_script script_read.script had.orders none.0 (subst (λ s. IsFirstScript s had.orders) script had.is_script) script_read.is in
-    let heard = none.2.held had.files had.told in
-    let noise : had.noise ≡ none.2.bytes = cc in
-    none.2.formless (subst (λ n. IsFirstNoise none.0 n) noise (subst (λ o. IsFirstNoise o had.noise) orders had.is_noise))
-not_formless outside names Key had none = absurd none
-not_formless outside names Public had none = absurd none
+completes_as : (first second : Command) (files now : List ℕ → Option (List ℕ)) (status : ℕ) → (ComesToRefusal first now → ComesToRefusal second files) → Completes first now status → Completes second files status
+completes_as first second files now status also (inl zero) = inl zero
+completes_as first second files now status also (inr (inl six)) = inr (inl six)
+completes_as first second files now status also (inr (inr seven)) = inr (inr (seven.0, also seven.1))
 
-run_completes : (names : Names) (before after : Outside) (answered : List Answered) (final : Memory) (status : ℕ)
-    → RunEnds names before after answered final status → HasInputs before names → IsFaultless before after → (status ≡ 0) ⊎ (status ≡ 6)
-run_completes names before after answered final status (done _ _ _ _ is) had well = inl is
-run_completes names before after answered final status (too_long role inputs long _ _ _) had well = absurd (not_too_long before names role had inputs long)
-run_completes names before after answered final status (formless role _ none _ _ _) had well = absurd (not_formless before names role had none)
-run_completes names before after answered final status (not_read _ _ (inl fault) _ _ _) had well = absurd (well.read fault)
-run_completes names before after answered final status (not_read _ _ (inr absent) _ _ _) had well = absurd (well.absent absent.0)
-run_completes names before after answered final status (not_written _ rose _ _ _) had well = absurd (well.write rose)
-run_completes names before after answered final status (not_printed _ rose _ _ _ _ _ _) had well = absurd (well.write rose)
-run_completes names before after answered final status (no_memory _ _ is) had well = inr is
+input_never_ends : {A : Type 0} (input : Input A) (rest : A → Command) (past : Past) (e : Ended) (files : List ℕ → Option (List ℕ)) (bytes : List ℕ) → e.before.files ≡ Some files → files input.name ≡ Some bytes
+    → length bytes ≤ 4194304 → ((place : Place) → input.FaultyAt bytes place → ⊥) → IsFaultless e.before e.after → InputEnds input past e → Completes (read input rest) files e.status
+input_never_ends input rest past e files bytes told has fits faultless well (too_long held stops) =
+    let found = held files told in
+    let same : found.0 ≡ bytes = cc in
+    absurd (omega (arith, ap length same, fits, found.2))
+input_never_ends input rest past e files bytes told has fits faultless well (faulty other had place fault stops) =
+    let found = had.held files told in
+    let same : other ≡ bytes = cc in
+    absurd (faultless place (subst (λ b. input.FaultyAt b place) same fault))
+input_never_ends input rest past e files bytes told has fits faultless well (not_read mid (by_fault is) stops) =
+    absurd (well.read (subst (λ n. HasRisen e.before.read_faults n) (sym (says_reads (codes "read failed " ++ role_word input.role) mid e.after stops.says ∙ ap (λ o. o.read_faults) is)) (raised_rises e.before.read_faults)))
+input_never_ends input rest past e files bytes told has fits faultless well (not_read mid (by_absence none is) stops) =
+    let found = none files told in
+    absurd (cc)
+input_never_ends input rest past e files bytes told has fits faultless well (no_room wants) = inr (inl wants.stops.status_is)
 
--- ---- `keygen`
-
--- the words give one triple of names
-same_keygen_names : (words : List (List ℕ)) (a b : KeygenNames) → IsKeygen words a → IsKeygen words b → a ≡ b
-same_keygen_names words a b x y =
-    let e = sym x.spelled ∙ y.spelled in
-    let noise : a.noise ≡ b.noise = cc in
-    let key : a.key ≡ b.key = cc in
-    let public : a.public ≡ b.public = cc in
-    ap (λ n. record { noise = n; key = a.key; public = a.public }) noise
-    ∙ ap (λ k. record { noise = b.noise; key = k; public = a.public }) key
-    ∙ ap (λ p. record { noise = b.noise; key = b.key; public = p }) public
-
--- it has no refusal
-keygen_never_refuses : (names : KeygenNames) (files : List ℕ → Option (List ℕ)) → ComesToRefusal (keygen names) files → ⊥
-unfolding keygen ComesToRefusal
-keygen_never_refuses names files comes = comes.2
-
--- ---- either
-
-two_commands : (words : List (List ℕ)) (run : Names) (keys : KeygenNames) → IsRun words run → IsKeygen words keys → ⊥
-two_commands words run keys x y =
-    let e = sym x.spelled ∙ y.spelled in
-    absurd cc
-
-pub run_complete : (words : List (List ℕ)) (before after : Outside) (answered : List Answered) (final : Memory) (status : ℕ)
-    → Ends words before after answered final status → (names : Names) → IsRun words names → HasInputs before names → IsFaultless before after
-    → (status ≡ 0) ⊎ (status ≡ 6)
-run_complete words before after answered final status (no_command none _ _ _ _ _) names is had well = absurd (none names is)
-run_complete words before after answered final status (ran other other_is ends) names is had well =
-    run_completes names before after answered final status (subst (λ n. RunEnds n before after answered final status) (same_names words other names other_is is) ends) had well
-run_complete words before after answered final status (made_key other other_is _ _) names is had well = absurd (two_commands words names other is other_is)
-
-pub keygen_complete : (words : List (List ℕ)) (before after : Outside) (answered : List Answered) (final : Memory) (status : ℕ)
-    → Ends words before after answered final status → (names : KeygenNames) → IsKeygen words names → (files : List ℕ → Option (List ℕ)) → before.files ≡ Some files
-    → HasInputsFor (keygen names) files → IsFaultless before after → (status ≡ 0) ⊎ (status ≡ 6)
-keygen_complete words before after answered final status (no_command _ none _ _ _ _) names is files told had well = absurd (none names is)
-keygen_complete words before after answered final status (ran other other_is _) names is files told had well = absurd (two_commands words other names other_is is)
-keygen_complete words before after answered final status (made_key other other_is ends _) names is files told had well =
-    let mine = subst (λ n. CommandEnds (keygen n) before after status) (same_keygen_names words other names other_is is) ends in
-    done_or_no_memory (keygen names) status files (keygen_never_refuses names files) (command_completes (keygen names) before after status files told had well mine)
+pub command_completes : (command : Command) (past : Past) (e : Ended) (files : List ℕ → Option (List ℕ)) → e.before.files ≡ Some files → HasInputsFor command files → IsFaultless e.before e.after
+    → CommandEnds command past e → Completes command files e.status
+unfolding CommandEnds HasInputsFor ComesToRefusal
+command_completes (read input rest) past e files told has well (inl ends) =
+    input_never_ends input rest past e files has.0 told has.1 has.2 has.3 well ends
+command_completes (read input rest) past e files told has well (inr ends) =
+    let found = ends.1.held files told in
+    let same : ends.0 ≡ has.0 = cc in
+    let is : input.Is has.0 ends.2.0 = subst (λ b. input.Is b ends.2.0) same ends.2.1 in
+    completes_as (rest ends.2.0) (read input rest) files files e.status (λ refused. (has.0, has.1, (ends.2.0, is, refused)))
+    (command_completes (rest ends.2.0) past (onward (record e.before { reads = raised e.before.reads }) e) files told (has.4 ends.2.0 is) (record { read = well.read; write = well.write }) ends.2.2)
+command_completes (find Is rest) past e files told has well (inl ends) =
+    completes_as (rest ends.0) (find Is rest) files files e.status (λ refused. (ends.0, ends.1, refused))
+    (command_completes (rest ends.0) past e files told (has ends.0 ends.1) well ends.2)
+command_completes (find Is rest) past e files told has well (inr wants) = inr (inl wants.stops.status_is)
+command_completes (either If first second) past e files told has well (inl ends) =
+    completes_as first (either If first second) files files e.status (λ refused. inl (ends.0, refused)) (command_completes first past e files told (has.0 ends.0) well ends.1)
+command_completes (either If first second) past e files told has well (inr (inl ends)) =
+    completes_as second (either If first second) files files e.status (λ refused. inr (ends.0, refused)) (command_completes second past e files told (has.1 ends.0) well ends.1)
+command_completes (either If first second) past e files told has well (inr (inr wants)) = inr (inl wants.stops.status_is)
+command_completes (serve IsServed rest) past e files told has well (inl ends) =
+    completes_as (rest e.answered e.final) (serve IsServed rest) files files e.status (λ refused. (e.answered, e.final, ends.0, refused))
+    (command_completes (rest e.answered e.final) (record past { answered = e.answered }) e files told (has e.answered e.final ends.0) well ends.1)
+command_completes (serve IsServed rest) past e files told has well (inr wants) = inr (inl wants.stops.status_is)
+command_completes (write output rest) past e files told has well (inl ends) =
+    absurd (well.write (says_writes (codes "write failed " ++ role_word output.role) e.before.write_faults ends.mid e.after (ap (λ o. o.write_faults) ends.fails.stays) ends.stops.says))
+command_completes (write output rest) past e files told has well (inr (inl ends)) =
+    let now = ends.1.others files told in
+    let stays = ends.1.stays in
+    completes_as rest (write output rest) files now.0 e.status (λ refused. (now.0, now.2, refused))
+    (command_completes rest (record past { wrote = true }) (onward ends.0 e) now.0 now.1 (has now.0 now.2) (record {
+      read = λ rose. well.read (subst (λ n. HasRisen n e.after.read_faults) (ap (λ o. o.read_faults) stays) rose);
+      write = λ rose. well.write (subst (λ n. HasRisen n e.after.write_faults) (ap (λ o. o.write_faults) stays) rose);
+    }) ends.2)
+command_completes (write output rest) past e files told has well (inr (inr wants)) = inr (inl wants.stops.status_is)
+command_completes (print text) past e files told has well (inl (printed prints same is)) = inl is
+command_completes (print text) past e files told has well (inl (not_printed mid fails stops)) =
+    absurd (well.write (says_writes (codes "write failed output") e.before.write_faults mid e.after (ap (λ o. o.write_faults) fails.stays) stops.says))
+command_completes (print text) past e files told has well (inr wants) = inr (inl wants.stops.status_is)
+command_completes (refuse line) past e files told has well (inl stops) = inr (inr (stops.status_is, tt))
+command_completes (refuse line) past e files told has well (inr wants) = inr (inl wants.stops.status_is)
+command_completes lack past e files told has well stops = inr (inl stops.status_is)

@@ -6,16 +6,16 @@ use Rattle.mb_model.specs.declared.event.Event.{Event}
 use Rattle.mb_model.specs.declared.event.Event.TheVariants as event
 
 -- one order more was made a command, with the next 32 bytes of the noise
-pub commands-turn : (events made whole : List Event) (orders more : List (List ℕ)) (order rest behind draw : List ℕ)
-    → orders ≡ order ∷ more → draw ≡ take 32 rest → behind ≡ drop 32 rest → made ≡ events ++ event.Command order draw ∷ []
-    → events ++ commands orders rest ≡ whole → made ++ commands more behind ≡ whole
-commands-turn events made whole orders more order rest behind draw next drawn left pushed before =
+pub commands-turn : (events made whole : List Event) (orders more : List (List ℕ)) (order rest remaining draw : List ℕ)
+    → orders ≡ order ∷ more → draw ≡ take 32 rest → remaining ≡ drop 32 rest → made ≡ events ++ event.Command order draw ∷ []
+    → events ++ commands orders rest ≡ whole → made ++ commands more remaining ≡ whole
+commands-turn events made whole orders more order rest remaining draw next drawn left pushed before =
     let step =
-    ap (λ (x : List ℕ). event.Command order x ∷ commands more behind) drawn
+    ap (λ (x : List ℕ). event.Command order x ∷ commands more remaining) drawn
     ∙ ap (λ (x : List ℕ). event.Command order (take 32 rest) ∷ commands more x) left
     ∙ ap (λ (x : List (List ℕ)). commands x rest) (sym next) in
-    ap (λ (x : List Event). x ++ commands more behind) pushed
-    ∙ append_assoc events (event.Command order draw ∷ []) (commands more behind)
+    ap (λ (x : List Event). x ++ commands more remaining) pushed
+    ∙ append_assoc events (event.Command order draw ∷ []) (commands more remaining)
     ∙ ap (λ (x : List Event). events ++ x) step
     ∙ before
 

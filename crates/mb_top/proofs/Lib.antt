@@ -7,10 +7,13 @@ mod Sectors
 mod Stepping
 mod Served
 mod Inputs
-mod Outsides
 mod Scripts
-mod Running
-mod CommandLemmas
-mod Writing
-mod KeygenLemmas
-mod Completing
+pub mod CommandLemmas
+pub mod Completing
+pub mod WordLemmas
+pub mod OutputLemmas
+pub mod KeygenLemmas
+pub mod RunLemmas
+pub mod Requests
+pub mod SignLemmas
+pub mod LineLemmas

@@ -13,15 +13,15 @@ Split text = (first : List ℕ) × (rest : List ℕ) × SplitsLine text first re
 
 -- a byte before a text that is split: an LF ends the first line, and another byte begins it
 split_cons : (byte : ℕ) (bytes : List ℕ) → Split bytes → (lf : Bool) → (byte == 10) ≡ lf → Split (byte ∷ bytes)
-split_cons byte bytes behind true is =
+split_cons byte bytes remaining true is =
     ([], bytes, record { plain = All-nil is_plain; whole = inl (ap (λ (x : ℕ). x ∷ bytes) (eqb-true byte 10 is)) })
-split_cons byte bytes behind false isnt =
+split_cons byte bytes remaining false isnt =
     let longer = λ (x : List ℕ). byte ∷ x in (
-      byte ∷ behind.0,
-      behind.1,
+      byte ∷ remaining.0,
+      remaining.1,
       record {
-        plain = All-cons is_plain byte behind.0 (eqb-false byte 10 isnt) behind.2.plain;
-        whole = elim behind.2.whole [ inl ends ↦ inl (ap longer ends) | inr last ↦ inr (ap longer last.0, last.1) ];
+        plain = All-cons is_plain byte remaining.0 (eqb-false byte 10 isnt) remaining.2.plain;
+        whole = elim remaining.2.whole [ inl ends ↦ inl (ap longer ends) | inr last ↦ inr (ap longer last.0, last.1) ];
       },
     )
 
@@ -40,20 +40,20 @@ over_same : (text first rest : List ℕ) (orders : List (List ℕ)) → SplitsLi
 over_same text first rest orders splits off is =
     elim (IsRest-turn text first rest orders splits is) [
       | over line none empty ↦ empty
-      | next word order more line hex e behind ↦ absurd (off_command word (sym off ∙ line))
+      | next word order more line hex e remaining ↦ absurd (off_command word (sym off ∙ line))
     ]
 
--- what stands behind the first line of a script is that of one list of orders
+-- what stands after the first line of a script is that of one list of orders
 rest_same : (bound : ℕ) (text : List ℕ) (a b : List (List ℕ)) → length text < bound → IsRest text a → IsRest text b → a ≡ b
 rest_same zero text a b short is_a is_b = absurd (omega (arith, short))
 rest_same (suc bound) text a b short is_a is_b =
     let line = split text in
     elim (IsRest-turn text line.0 line.1 a line.2 is_a) [
       | over off none empty ↦ empty ∙ sym (over_same text line.0 line.1 b line.2 off is_b)
-      | next word order more command hex e behind ↦
+      | next word order more command hex e remaining ↦
           let other = IsRest-next text line.0 line.1 word order b line.2 command hex is_b in
           let shorter = SplitsLine-shorter text line.0 line.1 line.2 (command_some line.0 word command) in
-          let same = rest_same bound line.1 more other.0 (omega (arith, short, shorter)) behind other.2 in
+          let same = rest_same bound line.1 more other.0 (omega (arith, short, shorter)) remaining other.2 in
           e ∙ ap (λ (x : List (List ℕ)). order ∷ x) same ∙ sym other.1
     ]
 

@@ -16,7 +16,7 @@ use Rattle.mb_model.specs.declared.first.Ownership.{Ownership}
 use Rattle.mb_model.specs.declared.first.FirstState.{FirstState}
 use Rattle.mb_model.specs.Key.{key_bytes, IsSized}
 use Rattle.mb_model.specs.LayerFormat.{trust_byte}
-use Rattle.mb_model.specs.FirstPath.{FirstOrder, Spells, body_bytes, order_bytes, ownership_bytes, state_bytes, erased, IsSectorOf}
+use Rattle.mb_model.specs.FirstPath.{FirstOrder, SpellsFirst, body_bytes, order_bytes, ownership_bytes, state_bytes, erased, IsSectorOf}
 use Rattle.mb_model.proofs.KeyLemmas.{cons_same, length-key_bytes, key_bytes-same}
 use Rattle.mb_model.proofs.FirstPathLemmas.{key_front, trust_front, ownership_front, order_bytes-flat, owned_bytes-flat, state_bytes-flat}
 use Rattle.mb_top.specs.Records.{BeginsKey, BeginsTrust, BeginsOwnership, IsSignaturePart}
@@ -83,39 +83,39 @@ IsSignaturePart-from bytes size rest signature last fits two taken left whole ze
 abbrev pub order_head : List ℕ
 order_head = 1 ∷ 2 ∷ 0 ∷ []
 
--- what stands behind an order's body
+-- what stands after an order's body
 abbrev pub signed_part : FirstOrder → List ℕ
 signed_part order = to_be_bytes w16 (length order.signature) ++ (order.signature ++ 0 ∷ [])
 
 -- an order's bytes begin with its kind, its layer and that it has no targets
-pub Spells-head : (text : List ℕ) (order : FirstOrder) → Spells text order → pointwise eqb (take 3 text) order_head ≡ true
-Spells-head text order spells =
+pub SpellsFirst-head : (text : List ℕ) (order : FirstOrder) → SpellsFirst text order → pointwise eqb (take 3 text) order_head ≡ true
+SpellsFirst-head text order spells =
     (slice_eq-Decides Decides-eqb (take 3 text) order_head _ refl).1 (ap (take 3) (spells.bytes ∙ order_bytes-flat order))
 
 -- then comes the owner
-pub Spells-owner : (text rest : List ℕ) (order : FirstOrder) → Spells text order → rest ≡ drop 3 text
+pub SpellsFirst-owner : (text rest : List ℕ) (order : FirstOrder) → SpellsFirst text order → rest ≡ drop 3 text
     → BeginsKey rest order.owner (trust_byte order.trust ∷ signed_part order)
-Spells-owner text rest order spells left =
+SpellsFirst-owner text rest order spells left =
     record { allowed = spells.owner; whole = left ∙ ap (drop 3) (spells.bytes ∙ order_bytes-flat order) }
 
 -- then the trust
-pub Spells-trust : (text rest behind : List ℕ) (owner : PublicKey) (order : FirstOrder) → Spells text order → rest ≡ drop 3 text → BeginsKey rest owner behind
-    → BeginsTrust behind order.trust (signed_part order)
-Spells-trust text rest behind owner order spells left begins =
-    (BeginsKey-same rest behind _ owner order.owner begins (Spells-owner text rest order spells left)).1
+pub SpellsFirst-trust : (text rest remaining : List ℕ) (owner : PublicKey) (order : FirstOrder) → SpellsFirst text order → rest ≡ drop 3 text → BeginsKey rest owner remaining
+    → BeginsTrust remaining order.trust (signed_part order)
+SpellsFirst-trust text rest remaining owner order spells left begins =
+    (BeginsKey-same rest remaining _ owner order.owner begins (SpellsFirst-owner text rest order spells left)).1
 
 -- then the signature
-pub Spells-signature : (text rest behind signed : List ℕ) (owner : PublicKey) (trust : Trust) (order : FirstOrder) → Spells text order → rest ≡ drop 3 text
-    → BeginsKey rest owner behind → BeginsTrust behind trust signed → IsSignaturePart signed order.signature
-Spells-signature text rest behind signed owner trust order spells left begins trusts =
-    let same = trust_front trust order.trust signed _ (sym trusts ∙ Spells-trust text rest behind owner order spells left begins) in
+pub SpellsFirst-signature : (text rest remaining signed : List ℕ) (owner : PublicKey) (trust : Trust) (order : FirstOrder) → SpellsFirst text order → rest ≡ drop 3 text
+    → BeginsKey rest owner remaining → BeginsTrust remaining trust signed → IsSignaturePart signed order.signature
+SpellsFirst-signature text rest remaining signed owner trust order spells left begins trusts =
+    let same = trust_front trust order.trust signed _ (sym trusts ∙ SpellsFirst-trust text rest remaining owner order spells left begins) in
     record { fits = spells.signature; whole = same.1 }
 
 -- these fields make an order
-pub Spells-from : (text rest behind signed : List ℕ) (order : FirstOrder) → pointwise eqb (take 3 text) order_head ≡ true → rest ≡ drop 3 text
-    → BeginsKey rest order.owner behind → BeginsTrust behind order.trust signed → IsSignaturePart signed order.signature
-    → Spells text order
-Spells-from text rest behind signed order head left begins trusts signature =
+pub SpellsFirst-from : (text rest remaining signed : List ℕ) (order : FirstOrder) → pointwise eqb (take 3 text) order_head ≡ true → rest ≡ drop 3 text
+    → BeginsKey rest order.owner remaining → BeginsTrust remaining order.trust signed → IsSignaturePart signed order.signature
+    → SpellsFirst text order
+SpellsFirst-from text rest remaining signed order head left begins trusts signature =
     let fields = begins.whole ∙ ap (λ (x : List ℕ). key_bytes order.owner ++ x) (trusts ∙ ap (λ (x : List ℕ). trust_byte order.trust ∷ x) signature.whole) in
     record {
       owner = begins.allowed;
@@ -124,9 +124,9 @@ Spells-from text rest behind signed order head left begins trusts signature =
     }
 
 -- an order's body is its first 60 bytes
-pub Spells-body : (text : List ℕ) (order : FirstOrder) → Spells text order → (60 ≤ length text) × (take 60 text ≡ body_bytes order)
+pub SpellsFirst-body : (text : List ℕ) (order : FirstOrder) → SpellsFirst text order → (60 ≤ length text) × (take 60 text ≡ body_bytes order)
 unfolding order_bytes body_bytes
-Spells-body text order spells =
+SpellsFirst-body text order spells =
     let key_length = length-key_bytes order.owner spells.owner.sized in
     let body_length : length (1 ∷ 2 ∷ 0 ∷ key_bytes order.owner ++ trust_byte order.trust ∷ []) ≡ 60 = omega (arith, key_length, length-append (key_bytes order.owner) (trust_byte order.trust ∷ [])) in
     let split = spells.bytes
@@ -144,19 +144,19 @@ BeginsOwnership-some bytes rest None begins none = let e = ap length begins.whol
 BeginsOwnership-some bytes rest (Some held) begins none = let e = ap length begins.whole in omega (arith, e)
 
 -- no owner, or an owner and a trust
-pub data Owned (first : ℕ) (behind : List ℕ) (two : Option Ownership) (rest : List ℕ) : Type 0 where
-  unowned : first ≡ 0 → two ≡ None → behind ≡ rest → Owned first behind two rest
-  owned : (held : Ownership) → first ≡ 1 → two ≡ Some held → BeginsKey behind held.owner (trust_byte held.trust ∷ rest) → Owned first behind two rest
+pub data Owned (first : ℕ) (remaining : List ℕ) (two : Option Ownership) (rest : List ℕ) : Type 0 where
+  unowned : first ≡ 0 → two ≡ None → remaining ≡ rest → Owned first remaining two rest
+  owned : (held : Ownership) → first ≡ 1 → two ≡ Some held → BeginsKey remaining held.owner (trust_byte held.trust ∷ rest) → Owned first remaining two rest
 
 -- which of the two it is shows by the first byte
-pub BeginsOwnership-cases : (bytes : List ℕ) (first : ℕ) (behind rest : List ℕ) (two : Option Ownership) → bytes ≡ first ∷ behind → BeginsOwnership bytes two rest
-    → Owned first behind two rest
+pub BeginsOwnership-cases : (bytes : List ℕ) (first : ℕ) (remaining rest : List ℕ) (two : Option Ownership) → bytes ≡ first ∷ remaining → BeginsOwnership bytes two rest
+    → Owned first remaining two rest
 unfolding ownership_bytes
-BeginsOwnership-cases bytes first behind rest None split begins =
-    let parts = cons_same first 0 behind rest (sym split ∙ begins.whole) in
+BeginsOwnership-cases bytes first remaining rest None split begins =
+    let parts = cons_same first 0 remaining rest (sym split ∙ begins.whole) in
     unowned parts.0 refl parts.1
-BeginsOwnership-cases bytes first behind rest (Some held) split begins =
-    let parts = cons_same first 1 behind _ (sym split ∙ begins.whole ∙ owned_bytes-flat held rest) in
+BeginsOwnership-cases bytes first remaining rest (Some held) split begins =
+    let parts = cons_same first 1 remaining _ (sym split ∙ begins.whole ∙ owned_bytes-flat held rest) in
     owned held parts.0 refl (record { allowed = begins.allowed; whole = parts.1 })
 
 -- bytes that begin with 0 have no owner
@@ -165,36 +165,36 @@ unfolding ownership_bytes
 BeginsOwnership-none bytes rest e = record { allowed = tt; whole = e }
 
 -- bytes that begin with 1, a key and a trust have an owner
-pub BeginsOwnership-held : (bytes behind trusted rest : List ℕ) (held : Ownership) → bytes ≡ 1 ∷ behind → BeginsKey behind held.owner trusted → BeginsTrust trusted held.trust rest
+pub BeginsOwnership-held : (bytes remaining trusted rest : List ℕ) (held : Ownership) → bytes ≡ 1 ∷ remaining → BeginsKey remaining held.owner trusted → BeginsTrust trusted held.trust rest
     → BeginsOwnership bytes (Some held) rest
-BeginsOwnership-held bytes behind trusted rest held split begins trusts =
+BeginsOwnership-held bytes remaining trusted rest held split begins trusts =
     record {
       allowed = begins.allowed;
       whole = split ∙ ap (λ (x : List ℕ). 1 ∷ x) (begins.whole ∙ ap (λ (x : List ℕ). key_bytes held.owner ++ x) trusts) ∙ sym (owned_bytes-flat held rest);
     }
 
 -- where no key can be read there is no owner
-pub no_owner : (bytes behind rest : List ℕ) (first : ℕ) (two : Option Ownership) → bytes ≡ first ∷ behind → first ≡ 1
-    → ((key : PublicKey) (left : List ℕ) → BeginsKey behind key left → ⊥) → BeginsOwnership bytes two rest → ⊥
-no_owner bytes behind rest first two split one none begins =
-    elim (BeginsOwnership-cases bytes first behind rest two split begins) [
+pub no_owner : (bytes remaining rest : List ℕ) (first : ℕ) (two : Option Ownership) → bytes ≡ first ∷ remaining → first ≡ 1
+    → ((key : PublicKey) (left : List ℕ) → BeginsKey remaining key left → ⊥) → BeginsOwnership bytes two rest → ⊥
+no_owner bytes remaining rest first two split one none begins =
+    elim (BeginsOwnership-cases bytes first remaining rest two split begins) [
       | unowned zero_ empty left ↦ absurd (omega (arith, zero_, one))
       | owned held same some key ↦ none held.owner (trust_byte held.trust ∷ rest) key
     ]
 
--- where no trust can be read behind the key there is no owner
-pub no_trust : (bytes behind trusted rest : List ℕ) (first : ℕ) (owner : PublicKey) (two : Option Ownership) → bytes ≡ first ∷ behind → first ≡ 1
-    → BeginsKey behind owner trusted → ((trust : Trust) (left : List ℕ) → BeginsTrust trusted trust left → ⊥) → BeginsOwnership bytes two rest → ⊥
-no_trust bytes behind trusted rest first owner two split one key none begins =
-    elim (BeginsOwnership-cases bytes first behind rest two split begins) [
+-- where no trust can be read after the key there is no owner
+pub no_trust : (bytes remaining trusted rest : List ℕ) (first : ℕ) (owner : PublicKey) (two : Option Ownership) → bytes ≡ first ∷ remaining → first ≡ 1
+    → BeginsKey remaining owner trusted → ((trust : Trust) (left : List ℕ) → BeginsTrust trusted trust left → ⊥) → BeginsOwnership bytes two rest → ⊥
+no_trust bytes remaining trusted rest first owner two split one key none begins =
+    elim (BeginsOwnership-cases bytes first remaining rest two split begins) [
       | unowned zero_ empty left ↦ absurd (omega (arith, zero_, one))
-      | owned held same some other ↦ none held.trust rest (BeginsKey-same behind trusted (trust_byte held.trust ∷ rest) owner held.owner key other).1
+      | owned held same some other ↦ none held.trust rest (BeginsKey-same remaining trusted (trust_byte held.trust ∷ rest) owner held.owner key other).1
     ]
 
 -- the first byte is 0 or 1
-pub no_ownership : (bytes behind rest : List ℕ) (first : ℕ) (two : Option Ownership) → bytes ≡ first ∷ behind → first ≢ 0 → first ≢ 1 → BeginsOwnership bytes two rest → ⊥
-no_ownership bytes behind rest first two split not_zero not_one begins =
-    elim (BeginsOwnership-cases bytes first behind rest two split begins) [
+pub no_ownership : (bytes remaining rest : List ℕ) (first : ℕ) (two : Option Ownership) → bytes ≡ first ∷ remaining → first ≢ 0 → first ≢ 1 → BeginsOwnership bytes two rest → ⊥
+no_ownership bytes remaining rest first two split not_zero not_one begins =
+    elim (BeginsOwnership-cases bytes first remaining rest two split begins) [
       | unowned zero_ empty left ↦ not_zero zero_
       | owned held same some key ↦ not_one same
     ]
@@ -205,7 +205,7 @@ BeginsOwnership-same bytes xs ys a b ha hb = ownership_front a b xs ys ha.allowe
 
 -- ---- sectors
 
--- what stands behind the state in its sector
+-- what stands after the state in its sector
 abbrev pub blank_of : FirstState → List ℕ
 blank_of state = erased (4096 - length (state_bytes state))
 
@@ -219,10 +219,10 @@ pub IsSectorOf-head : (sector : List ℕ) (state : FirstState) → IsSectorOf se
 IsSectorOf-head sector state is =
     (slice_eq-Decides Decides-eqb (take 1 sector) (0 ∷ []) _ refl).1 (ap (take 1) (sector-flat sector state is))
 
--- behind the serial comes the owner of layer 1
-pub IsSectorOf-one : (sector rest behind : List ℕ) (state : FirstState) → IsSectorOf sector state → rest ≡ drop 1 sector → behind ≡ drop 16 rest
-    → BeginsKey behind state.one (ownership_bytes state.two ++ blank_of state)
-IsSectorOf-one sector rest behind state is left back =
+-- after the serial comes the owner of layer 1
+pub IsSectorOf-one : (sector rest remaining : List ℕ) (state : FirstState) → IsSectorOf sector state → rest ≡ drop 1 sector → remaining ≡ drop 16 rest
+    → BeginsKey remaining state.one (ownership_bytes state.two ++ blank_of state)
+IsSectorOf-one sector rest remaining state is left back =
     let serial_first = left ∙ ap (drop 1) (sector-flat sector state is) in
     record {
       allowed = is.allowed.one;
@@ -230,20 +230,20 @@ IsSectorOf-one sector rest behind state is left back =
     }
 
 -- then the owner and trust of layer 2
-pub IsSectorOf-two : (sector rest behind owned_ : List ℕ) (one : PublicKey) (state : FirstState) → IsSectorOf sector state → rest ≡ drop 1 sector → behind ≡ drop 16 rest
-    → BeginsKey behind one owned_ → BeginsOwnership owned_ state.two (blank_of state)
-IsSectorOf-two sector rest behind owned_ one state is left back begins =
+pub IsSectorOf-two : (sector rest remaining owned_ : List ℕ) (one : PublicKey) (state : FirstState) → IsSectorOf sector state → rest ≡ drop 1 sector → remaining ≡ drop 16 rest
+    → BeginsKey remaining one owned_ → BeginsOwnership owned_ state.two (blank_of state)
+IsSectorOf-two sector rest remaining owned_ one state is left back begins =
     record {
       allowed = is.allowed.two;
-      whole = (BeginsKey-same behind owned_ _ one state.one begins (IsSectorOf-one sector rest behind state is left back)).1;
+      whole = (BeginsKey-same remaining owned_ _ one state.one begins (IsSectorOf-one sector rest remaining state is left back)).1;
     }
 
 -- then erased flash
-pub IsSectorOf-blank : (sector rest behind owned_ blank : List ℕ) (one : PublicKey) (two : Option Ownership) (state : FirstState) → IsSectorOf sector state → rest ≡ drop 1 sector
-    → behind ≡ drop 16 rest → BeginsKey behind one owned_ → BeginsOwnership owned_ two blank → All (λ byte. byte ≡ 255) blank
+pub IsSectorOf-blank : (sector rest remaining owned_ blank : List ℕ) (one : PublicKey) (two : Option Ownership) (state : FirstState) → IsSectorOf sector state → rest ≡ drop 1 sector
+    → remaining ≡ drop 16 rest → BeginsKey remaining one owned_ → BeginsOwnership owned_ two blank → All (λ byte. byte ≡ 255) blank
 unfolding erased
-IsSectorOf-blank sector rest behind owned_ blank one two state is left back begins owns =
-    let same = (BeginsOwnership-same owned_ blank (blank_of state) two state.two owns (IsSectorOf-two sector rest behind owned_ one state is left back begins)).1 in
+IsSectorOf-blank sector rest remaining owned_ blank one two state is left back begins owns =
+    let same = (BeginsOwnership-same owned_ blank (blank_of state) two state.two owns (IsSectorOf-two sector rest remaining owned_ one state is left back begins)).1 in
     All-same (λ (byte : ℕ). byte ≡ 255) blank (erased (4096 - length (state_bytes state))) same (All-replicate (λ (byte : ℕ). byte ≡ 255) (4096 - length (state_bytes state)) 255 refl)
 
 -- bytes of one value are copies of it
@@ -254,10 +254,10 @@ copies xs n len all =
     (λ i below. let small : i < n = omega (arith, len, below) in all i 0 below ∙ sym (get_or-replicate n i 255 0 small))
 
 -- these fields make a sector
-pub IsSectorOf-from : (sector rest behind owned_ blank : List ℕ) (state : FirstState) → length sector ≡ 4096 → pointwise eqb (take 1 sector) (0 ∷ []) ≡ true → rest ≡ drop 1 sector
-    → length state.serial ≡ 16 → state.serial ≡ take 16 rest → behind ≡ drop 16 rest → BeginsKey behind state.one owned_ → BeginsOwnership owned_ state.two blank
+pub IsSectorOf-from : (sector rest remaining owned_ blank : List ℕ) (state : FirstState) → length sector ≡ 4096 → pointwise eqb (take 1 sector) (0 ∷ []) ≡ true → rest ≡ drop 1 sector
+    → length state.serial ≡ 16 → state.serial ≡ take 16 rest → remaining ≡ drop 16 rest → BeginsKey remaining state.one owned_ → BeginsOwnership owned_ state.two blank
     → All (λ byte. byte ≡ 255) blank → IsSectorOf sector state
-IsSectorOf-from sector rest behind owned_ blank state size head left serial_length serial back begins owns all =
+IsSectorOf-from sector rest remaining owned_ blank state size head left serial_length serial back begins owns all =
     let fields = begins.whole ∙ ap (λ (x : List ℕ). key_bytes state.one ++ x) owns.whole in
     let with_serial = sym (take-append-drop 16 rest) ∙ ap (λ (x : List ℕ). x ++ drop 16 rest) (sym serial) ∙ ap (λ (x : List ℕ). state.serial ++ x) (sym back ∙ fields) in
     let whole = strip_whole sector rest (0 ∷ []) head left ∙ ap (λ (x : List ℕ). 0 ∷ x) with_serial ∙ sym (state_bytes-flat state blank) in

@@ -39,7 +39,7 @@ IsPlain-from_test (byte ∷ bytes) h =
 
 -- ---- lines
 
--- an LF behind bytes without LF is the first one
+-- an LF after bytes without LF is the first one
 first_lf : (a b xs ys : List ℕ) → IsPlain a → IsPlain b → a ++ 10 ∷ xs ≡ b ++ 10 ∷ ys → (a ≡ b) × (xs ≡ ys)
 first_lf [] [] xs ys pa pb e = (refl, (cons_same 10 10 xs ys e).1)
 first_lf [] (b ∷ bs) xs ys pa pb e =
@@ -62,12 +62,12 @@ no_lf (a ∷ as_) (b ∷ bs) ys pa e =
     no_lf as_ bs ys (All-tail is_plain a as_ pa) (cons_same a b as_ (bs ++ 10 ∷ ys) e).1
 
 -- a first line that ends with an LF is the one that is split off
-pub line_of : (text first rest line behind : List ℕ) → SplitsLine text first rest → IsPlain line → text ≡ line ++ 10 ∷ behind
-    → (first ≡ line) × (rest ≡ behind)
-line_of text first rest line behind splits plain e =
+pub line_of : (text first rest line remaining : List ℕ) → SplitsLine text first rest → IsPlain line → text ≡ line ++ 10 ∷ remaining
+    → (first ≡ line) × (rest ≡ remaining)
+line_of text first rest line remaining splits plain e =
     elim splits.whole [
-      | inl ends ↦ first_lf first line rest behind splits.plain plain (sym ends ∙ e)
-      | inr last ↦ absurd (no_lf first line behind splits.plain (sym last.0 ∙ e))
+      | inl ends ↦ first_lf first line rest remaining splits.plain plain (sym ends ∙ e)
+      | inr last ↦ absurd (no_lf first line remaining splits.plain (sym last.0 ∙ e))
     ]
 
 -- a text without LF is the line that is split off
@@ -103,19 +103,19 @@ ended_before : (line xs : List ℕ) → ended line ++ xs ≡ line ++ 10 ∷ xs
 ended_before line xs = append_assoc line (10 ∷ []) xs
 
 -- a line before a text of lines
-IsText-cons : (line : List ℕ) (lines : List (List ℕ)) (text behind : List ℕ) → text ≡ line ++ 10 ∷ behind → IsText lines behind
+IsText-cons : (line : List ℕ) (lines : List (List ℕ)) (text remaining : List ℕ) → text ≡ line ++ 10 ∷ remaining → IsText lines remaining
     → IsText (line ∷ lines) text
-IsText-cons line lines text behind e is =
+IsText-cons line lines text remaining e is =
     elim is [
       | inl whole ↦ inl (e ∙ ap (λ (x : List ℕ). line ++ 10 ∷ x) whole ∙ sym (ended_before line (flat_map ended lines)))
       | inr cut ↦
-          inr (ap (λ (x : List ℕ). x ++ 10 ∷ []) e ∙ append_assoc line (10 ∷ behind) (10 ∷ [])
+          inr (ap (λ (x : List ℕ). x ++ 10 ∷ []) e ∙ append_assoc line (10 ∷ remaining) (10 ∷ [])
           ∙ ap (λ (x : List ℕ). line ++ 10 ∷ x) cut ∙ sym (ended_before line (flat_map ended lines)))
     ]
 
 -- the first line of a text of two lines or more
 IsText-head : (line : List ℕ) (lines : List (List ℕ)) (last text : List ℕ) → IsText (line ∷ (lines ++ last ∷ [])) text
-    → (behind : List ℕ) × (text ≡ line ++ 10 ∷ behind) × IsText (lines ++ last ∷ []) behind
+    → (remaining : List ℕ) × (text ≡ line ++ 10 ∷ remaining) × IsText (lines ++ last ∷ []) remaining
 IsText-head line lines last text is =
     elim is [
       | inl whole ↦
@@ -194,7 +194,7 @@ order_same line v w a b ev ew ha hb =
     let e = command_line-same v w (sym ev ∙ ew) in
     IsHex-same v a b ha (subst (λ (x : List ℕ). IsHex x b) (sym e) hb)
 
--- a line says nothing where it is not the last line, and has no word of an order behind the name of one
+-- a line says nothing where it is not the last line, and has no word of an order after the name of one
 pub Says-none : (line word : List ℕ) → (line ≡ codes "off" → ⊥) → line ≡ command_line word → ((bytes : List ℕ) → IsHex word bytes → ⊥)
     → (said : Line) → Says line said → ⊥
 Says-none line word off e none line_said.Off says = off says
@@ -202,7 +202,7 @@ Says-none line word off e none (line_said.Command order) says =
     let same = command_line-same says.0 word (sym says.1 ∙ e) in
     none order (subst (λ (x : List ℕ). IsHex x order) same says.2)
 
--- the first line of what stands behind the first line of a script, and what it leaves
+-- the first line of what stands after the first line of a script, and what it leaves
 pub data Turn (first rest : List ℕ) (orders : List (List ℕ)) : Type 0 where
   over : first ≡ codes "off" → rest ≡ [] → orders ≡ [] → Turn first rest orders
   next : (word order : List ℕ) (more : List (List ℕ)) → first ≡ command_line word → IsHex word order → orders ≡ order ∷ more → IsRest rest more → Turn first rest orders
@@ -231,11 +231,11 @@ turn_of text first rest splits (word ∷ words) (order ∷ orders) spelled is =
     next word order orders line.0 spelled.0 refl
     (record { words = words; spelled = spelled.1; lines = subst (λ (x : List ℕ). IsText (map command_line words ++ codes "off" ∷ []) x) (sym line.1) head.2 })
 
--- what stands behind the first line of a script begins with a turn
+-- what stands after the first line of a script begins with a turn
 pub IsRest-turn : (text first rest : List ℕ) (orders : List (List ℕ)) → SplitsLine text first rest → IsRest text orders → Turn first rest orders
 IsRest-turn text first rest orders splits is = turn_of text first rest splits is.words orders is.spelled is.lines
 
--- something stands behind the first line of a script
+-- something stands after the first line of a script
 rest_some : (words : List (List ℕ)) → IsText (map command_line words ++ codes "off" ∷ []) [] → ⊥
 rest_some [] is =
     elim is [
@@ -255,16 +255,16 @@ rest_some (word ∷ words) is =
 -- the line of an order before the rest of a script
 pub IsRest-cons : (text first rest word order : List ℕ) (more : List (List ℕ)) → SplitsLine text first rest → first ≡ command_line word
     → IsHex word order → IsRest rest more → IsRest text (order ∷ more)
-IsRest-cons text first rest word order more splits line is behind =
+IsRest-cons text first rest word order more splits line is remaining =
     elim splits.whole [
       | inl ends ↦ record {
-        words = word ∷ behind.words;
-        spelled = (is, behind.spelled);
-        lines = IsText-cons (command_line word) (map command_line behind.words ++ codes "off" ∷ []) text rest
-            (ends ∙ ap (λ (x : List ℕ). x ++ 10 ∷ rest) line) behind.lines;
+        words = word ∷ remaining.words;
+        spelled = (is, remaining.spelled);
+        lines = IsText-cons (command_line word) (map command_line remaining.words ++ codes "off" ∷ []) text rest
+            (ends ∙ ap (λ (x : List ℕ). x ++ 10 ∷ rest) line) remaining.lines;
       }
       | inr last ↦
-          absurd (rest_some behind.words (subst (λ (x : List ℕ). IsText (map command_line behind.words ++ codes "off" ∷ []) x) last.1 behind.lines))
+          absurd (rest_some remaining.words (subst (λ (x : List ℕ). IsText (map command_line remaining.words ++ codes "off" ∷ []) x) last.1 remaining.lines))
     ]
 
 -- the last line alone
@@ -286,20 +286,20 @@ IsRest-nil text first rest splits line none =
 -- the first line before the rest of a script
 pub IsFirstScript-cons : (text first rest : List ℕ) (orders : List (List ℕ)) → SplitsLine text first rest → first ≡ codes "boot"
     → IsRest rest orders → length orders ≤ 65534 → IsFirstScript text orders
-IsFirstScript-cons text first rest orders splits line behind count =
+IsFirstScript-cons text first rest orders splits line remaining count =
     elim splits.whole [
       | inl ends ↦ record {
-        words = behind.words;
-        spelled = behind.spelled;
+        words = remaining.words;
+        spelled = remaining.spelled;
         count = count;
-        lines = IsText-cons (codes "boot") (map command_line behind.words ++ codes "off" ∷ []) text rest
-            (ends ∙ ap (λ (x : List ℕ). x ++ 10 ∷ rest) line) behind.lines;
+        lines = IsText-cons (codes "boot") (map command_line remaining.words ++ codes "off" ∷ []) text rest
+            (ends ∙ ap (λ (x : List ℕ). x ++ 10 ∷ rest) line) remaining.lines;
       }
       | inr last ↦
-          absurd (rest_some behind.words (subst (λ (x : List ℕ). IsText (map command_line behind.words ++ codes "off" ∷ []) x) last.1 behind.lines))
+          absurd (rest_some remaining.words (subst (λ (x : List ℕ). IsText (map command_line remaining.words ++ codes "off" ∷ []) x) last.1 remaining.lines))
     ]
 
--- the first line of a script, and what stands behind it
+-- the first line of a script, and what stands after it
 pub IsFirstScript-head : (text first rest : List ℕ) (orders : List (List ℕ)) → SplitsLine text first rest → IsFirstScript text orders
     → (first ≡ codes "boot") × IsRest rest orders
 IsFirstScript-head text first rest orders splits is =
@@ -313,33 +313,33 @@ IsFirstScript-head text first rest orders splits is =
       },
     )
 
--- what stands behind the first line of a script begins with a line that says something
+-- what stands after the first line of a script begins with a line that says something
 pub IsRest-says : (text first rest : List ℕ) (orders : List (List ℕ)) → SplitsLine text first rest → IsRest text orders
     → (said : Line) × Says first said
 IsRest-says text first rest orders splits is =
     elim (IsRest-turn text first rest orders splits is) [
       | over line none empty ↦ (line_said.Off, line)
-      | next word order more line hex e behind ↦ (line_said.Command order, (word, line, hex))
+      | next word order more line hex e remaining ↦ (line_said.Command order, (word, line, hex))
     ]
 
--- behind the last line stands nothing
+-- after the last line stands nothing
 pub IsRest-over : (text first rest : List ℕ) (orders : List (List ℕ)) → SplitsLine text first rest → first ≡ codes "off" → IsRest text orders
     → rest ≡ []
 IsRest-over text first rest orders splits off is =
     elim (IsRest-turn text first rest orders splits is) [
       | over line none empty ↦ none
-      | next word order more line hex e behind ↦ absurd (off_command word (sym off ∙ line))
+      | next word order more line hex e remaining ↦ absurd (off_command word (sym off ∙ line))
     ]
 
--- behind the line of an order stand the other orders
+-- after the line of an order stand the other orders
 pub IsRest-next : (text first rest word order : List ℕ) (orders : List (List ℕ)) → SplitsLine text first rest → first ≡ command_line word
     → IsHex word order → IsRest text orders → (more : List (List ℕ)) × (orders ≡ order ∷ more) × IsRest rest more
 IsRest-next text first rest word order orders splits command hex is =
     elim (IsRest-turn text first rest orders splits is) [
       | over line none empty ↦ absurd (off_command word (sym line ∙ command))
-      | next other found more line found_hex e behind ↦
+      | next other found more line found_hex e remaining ↦
           let same = order_same first other word found order line command found_hex hex in
-          (more, e ∙ ap (λ (x : List ℕ). x ∷ more) same, behind)
+          (more, e ∙ ap (λ (x : List ℕ). x ∷ more) same, remaining)
     ]
 
 -- a test has one answer

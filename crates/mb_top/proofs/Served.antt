@@ -6,7 +6,7 @@ use Rattle.mb_model.specs.declared.event.Event.{Event}
 use Rattle.mb_model.specs.declared.event.Event.TheVariants as event
 use Rattle.mb_model.specs.declared.event.Answered.{Answered}
 use Rattle.mb_model.specs.declared.reply.Reply.{Reply}
-use Rattle.mb_model.specs.FirstPath.{StandsFor, FirstStep, FirstRun, Steps, StepsBetween}
+use Rattle.mb_model.specs.FirstPath.{HoldsFirstState, FirstStep, FirstRun, Steps, StepsBetween}
 use Rattle.mb_model.specs.Board.{Memory, Ledger, IsLoaded}
 use Rattle.mb_top.specs.declared.serve.Device.{Device}
 use Rattle.mb_top.specs.Serving.{Knows, IsServable, powered}
@@ -20,10 +20,10 @@ pub record Serves (events : List Event) (start : List ℕ) (known : Device) (pow
   pub knows : Knows known power memory.flash
   pub servable : IsServable power ledger.waiting
   pub served : map (λ a. a.event) ledger.answered ++ ledger.waiting ≡ events
-  pub stands : (state : FirstState) × StandsFor memory.flash state
-  pub run : (first : FirstState) → StandsFor start first → (last : FirstState) × StandsFor memory.flash last × FirstRun first ledger.answered last
+  pub stands : (state : FirstState) × HoldsFirstState memory.flash state
+  pub run : (first : FirstState) → HoldsFirstState start first → (last : FirstState) × HoldsFirstState memory.flash last × FirstRun first ledger.answered last
 
--- the events behind one are served with the power that it leaves
+-- the events after one are served with the power that it leaves
 servable-rest : (e : Event) (rest : List Event) (power : Bool) → IsServable power (e ∷ rest) → IsServable (powered e) rest
 servable-rest event.Boot rest power h = h.1
 servable-rest event.Off rest power h = h.1
@@ -47,16 +47,16 @@ run-more (answer ∷ answered) one first mid last run step =
 
 -- what is asked of an answer: a step from the memory that stands
 pub step_from_standing : (memory taken stepped : Memory) (ledger out kept : Ledger) (e : Event) (rest : List Event) (reply : Reply)
-    → ((state : FirstState) × StandsFor memory.flash state) → ledger.standing ≡ memory → out ≡ record ledger { waiting = rest; out = Some e } → taken ≡ memory → kept ≡ out
+    → ((state : FirstState) × HoldsFirstState memory.flash state) → ledger.standing ≡ memory → out ≡ record ledger { waiting = rest; out = Some e } → taken ≡ memory → kept ≡ out
     → Steps taken.flash e reply stepped.flash → StepsBetween kept.standing.flash e reply stepped.flash
 step_from_standing memory taken stepped ledger out kept e rest reply stands standing is_out is_taken is_kept steps =
     let stood : taken ≡ kept.standing = is_taken ∙ sym (ap (λ l. l.standing) (is_kept ∙ is_out) ∙ standing) in
-    let before : StandsFor taken.flash stands.0 = subst (λ m. StandsFor m.flash stands.0) (sym is_taken) stands.1 in
+    let before : HoldsFirstState taken.flash stands.0 = subst (λ m. HoldsFirstState m.flash stands.0) (sym is_taken) stands.1 in
     let next = steps stands.0 before in
     record {
       old = stands.0;
       new = next.0;
-      was = subst (λ m. StandsFor m.flash stands.0) stood before;
+      was = subst (λ m. HoldsFirstState m.flash stands.0) stood before;
       is = next.1;
       step = next.2;
     }

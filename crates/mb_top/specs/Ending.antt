@@ -1,43 +1,107 @@
--- How the parts of a command end, before the line of its status is printed.
-use Rattle.std.specs.Prelude.{◌≡◌, ℕ, List, ◌++◌, codes, Result, Ok, Err}
+-- What carries out a part of a command, before the line of its status is printed.
+use Rattle.std.specs.Prelude.{◌≡◌, ℕ, Bool, false, List, [], ◌++◌, codes, Result, Ok, Err}
+use Rattle.mb_model.specs.declared.event.Answered.{Answered}
 use Rattle.mb_model.specs.declared.role.Role.{Role}
-use Rattle.mb_model.specs.Outside.{Outside, AfterPrint, HoldsTooMuch, ReadFails}
-use Rattle.mb_model.specs.Commands.{PrintsLine}
-use Rattle.mb_model.specs.FirstCommand.{role_word}
+use Rattle.mb_model.specs.declared.role.Place.{Place}
+use Rattle.mb_model.specs.Outside.{Outside, HoldsTooMuch, read_once, FailsToRead}
+use Rattle.mb_model.specs.Board.{Memory, Ledger, Final}
+use Rattle.mb_model.specs.Commands.{Input, Command, Past, Ended, SaysLine, HasRead, CommandEnds, at_first, input_line}
+use Rattle.mb_model.specs.Commands.{role_word, place_words}
+use Rattle.mb_model.specs.Top.{Ends}
 use Rattle.mb_top.specs.declared.end.End.{End}
 use Rattle.mb_top.specs.declared.end.End.TheVariants as end
+use Rattle.mb_top.specs.declared.end.Refusal.{Refusal}
+use Rattle.mb_top.specs.declared.end.Refusal.TheVariants as refusal
+
+-- the line of a refusal
+abbrev pub refusal_line : Refusal → List ℕ
+refusal_line refusal.Spent = codes "spent"
+refusal_line refusal.NotCountersignable = codes "not countersignable"
 
 -- the exit status of an end
 abbrev pub end_status : End → ℕ
 end_status end.Words = 2
 end_status (end.TooLong role) = 3
-end_status (end.Form role) = 3
-end_status (end.Length role) = 3
+end_status (end.Faulty role place) = 3
 end_status (end.NotRead role) = 4
 end_status (end.NotWritten role) = 5
 end_status end.NotPrinted = 5
 end_status end.NoMemory = 6
+end_status (end.Refused why) = 7
 
 -- the line of an end
 abbrev pub end_line : End → List ℕ
 end_line end.Words = codes "words"
-end_line (end.TooLong role) = codes "input " ++ role_word role ++ codes " too long"
-end_line (end.Form role) = codes "input " ++ role_word role ++ codes " form"
-end_line (end.Length role) = codes "input " ++ role_word role ++ codes " length"
+end_line (end.TooLong role) = input_line role (codes "too long")
+end_line (end.Faulty role place) = input_line role (place_words place)
 end_line (end.NotRead role) = codes "read failed " ++ role_word role
 end_line (end.NotWritten role) = codes "write failed " ++ role_word role
 end_line end.NotPrinted = codes "write failed output"
 end_line end.NoMemory = codes "no memory"
+end_line (end.Refused why) = refusal_line why
 
--- Where a part of a command leads to, whose ends are these: it is done, or it will have ended so, once the line of its end
--- is printed, or a part of that where a write fault rises.
-abbrev pub Leads : (Outside → ℕ → Type 0) → Result (Unit {0}) End → Outside → Type 0
-Leads EndsSo (Ok u) now = EndsSo now 0
-Leads EndsSo (Err why) now = (after : Outside) → AfterPrint now after → PrintsLine now after (end_line why) → EndsSo after (end_status why)
+-- what a board shows that has this memory, power and ledger
+abbrev pub shown_by : Memory → Bool → Ledger → Final
+shown_by memory power ledger = record { memory = memory; power = power; armed = ledger.armed }
 
--- a read of an input ends so
-abbrev pub ReadEnds : Outside → Outside → Role → List ℕ → End → Type 0
-ReadEnds before after role name (end.TooLong other) = (other ≡ role) × HoldsTooMuch before name
-ReadEnds before after role name (end.NotRead other) = (other ≡ role) × ReadFails before after name
-ReadEnds before after role name end.NoMemory = Unit {0}
-ReadEnds before after role name _ = ⊥
+-- an end by its parts
+abbrev pub ended_at : Outside → List Answered → Final → Outside → ℕ → Ended
+ended_at before answered final after status =
+    record { before = before; after = after; answered = answered; final = final; status = status }
+
+-- A part is done and has ended so, or it will have ended so, once the line of its end is printed.
+abbrev pub EndsOncePrinted : (Outside → ℕ → Type 0) → Result (Unit {0}) End → Outside → Type 0
+EndsOncePrinted EndsSo (Ok u) now = EndsSo now 0
+EndsOncePrinted EndsSo (Err why) now =
+    (after : Outside) → SaysLine (end_line why) now after → EndsSo after (end_status why)
+
+-- The rest of a command is carried out after its past, with these events answered and this on the board in the end.
+unfoldable pub CarriesOutRest :
+    Command → Past → List Answered → Final → Outside → Result (Unit {0}) End → Outside → Type 0
+CarriesOutRest command past answered final before result now =
+    EndsOncePrinted (λ after status. CommandEnds command past (ended_at before answered final after status)) result now
+
+-- the same of a command that leaves the board alone, from any past on
+abbrev pub CarriesOutAfter : Command → Outside → Result (Unit {0}) End → Outside → Type 0
+CarriesOutAfter command before result now =
+    (past : Past) (final : Final) → CarriesOutRest command past past.answered final before result now
+
+-- and from its beginning on
+abbrev pub CarriesOut : Command → Outside → Result (Unit {0}) End → Outside → Type 0
+CarriesOut command before result now = (final : Final) → CarriesOutRest command at_first [] final before result now
+
+-- what the words ask for is carried out
+abbrev pub CarriesOutWords :
+    List (List ℕ) → List Answered → Final → Outside → Result (Unit {0}) End → Outside → Type 0
+CarriesOutWords words answered final before result now =
+    EndsOncePrinted (λ after status. Ends words (ended_at before answered final after status)) result now
+
+-- ---- inputs
+
+-- the input was read, and its bytes stand for this value
+pub record HasInput {A : Type 0} (input : Input A) (before now : Outside) (value : A) : Type 0 where
+  pub bytes : List ℕ
+  pub read : HasRead before input.name bytes
+  pub is : input.Is bytes value
+  pub now_is : now ≡ read_once before
+
+-- the input was read and is at fault
+pub record HasFault {A : Type 0} (input : Input A) (before now : Outside) (role : Role) (place : Place) : Type 0 where
+  pub role_is : role ≡ input.role
+  pub bytes : List ℕ
+  pub read : HasRead before input.name bytes
+  pub fault : input.FaultyAt bytes place
+  pub now_is : now ≡ read_once before
+
+-- the file of an input could not be had
+abbrev pub ReadStops : Role → List ℕ → Outside → Outside → End → Type 0
+ReadStops role name before now (end.TooLong other) =
+    (other ≡ role) × HoldsTooMuch before name × (now ≡ read_once before)
+ReadStops role name before now (end.NotRead other) = (other ≡ role) × FailsToRead name before now
+ReadStops role name before now end.NoMemory = now ≡ read_once before
+ReadStops role name before now _ = ⊥
+
+-- a command stops at an input
+abbrev pub StopsAt : {A : Type 0} → Input A → Outside → Outside → End → Type 0
+StopsAt input before now (end.Faulty role place) = HasFault input before now role place
+StopsAt input before now other = ReadStops input.role input.name before now other

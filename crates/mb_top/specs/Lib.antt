@@ -4,4 +4,6 @@ pub mod Serving
 pub mod Words
 pub mod Ending
 pub mod Outputs
-pub mod Running
+pub mod FirstInputs
+pub mod Program
+pub mod Signing

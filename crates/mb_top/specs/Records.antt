@@ -8,25 +8,25 @@ use Rattle.mb_model.specs.Key.{key_bytes}
 use Rattle.mb_model.specs.FirstPath.{IsFirstKey, ownership_bytes, erased}
 use Rattle.mb_model.specs.LayerFormat.{trust_byte}
 
--- a key of the first path, and the bytes behind it
+-- a key of the first path, and the bytes after it
 pub record BeginsKey (bytes : List ℕ) (key : PublicKey) (rest : List ℕ) : Type 0 where
   pub allowed : IsFirstKey key
   pub whole : bytes ≡ key_bytes key ++ rest
 
--- a trust, and the bytes behind it
+-- a trust, and the bytes after it
 abbrev pub BeginsTrust : List ℕ → Trust → List ℕ → Type 0
 BeginsTrust bytes trust rest = bytes ≡ trust_byte trust ∷ rest
 
--- the owner and trust of layer 2 or none, and the bytes behind them
+-- the owner and trust of layer 2 or none, and the bytes after them
 pub record BeginsOwnership (bytes : List ℕ) (two : Option Ownership) (rest : List ℕ) : Type 0 where
   pub allowed : IfSome two (λ held. IsFirstKey held.owner)
   pub whole : bytes ≡ ownership_bytes two ++ rest
 
--- what stands behind the body of an order: its signature behind the length of it, and that it has no countersignatures
+-- what stands after the body of an order: its signature after the length of it, and that it has no countersignatures
 pub record IsSignaturePart (bytes signature : List ℕ) : Type 0 where
   pub fits : length signature ≤ 9324
   pub whole : bytes ≡ to_be_bytes w16 (length signature) ++ (signature ++ 0 ∷ [])
 
--- a sector holds these bytes first, and behind them erased flash
+-- a sector holds these bytes first, and after them erased flash
 abbrev pub IsFilled : List ℕ → List ℕ → Type 0
 IsFilled bytes sector = sector ≡ bytes ++ erased (length sector - length bytes)

@@ -1,21 +1,24 @@
 //! The commands by their words.
 
-ghost use Rattle.std.specs.Prelude.{◌≡◌, ◌⊎◌, ℕ, List, Option, [], map, None, Some, false, string_bytes};
-ghost use Rattle.mb_model.specs.FirstCommand.{Names, IsRun, HasInputs, IsFaultless};
-ghost use Rattle.mb_model.specs.Commands.{HasInputsFor};
-ghost use Rattle.mb_model.specs.Keygen.{KeygenNames, IsKeygen, keygen};
-ghost use Rattle.mb_model.specs.Top.{Ends};
-ghost use Rattle.mb_top.specs.Ending.{Leads};
+ghost use Rattle.std.specs.Prelude.{◌≡◌, ◌<◌, ◌⊎◌, ℕ, List, Option, [], map, None, Some, false, string_bytes};
+ghost use Rattle.mb_model.specs.Commands.{HasInputsFor, ComesToRefusal, IsFaultless};
+ghost use Rattle.mb_model.specs.Top.{Request as Asked, IsRequest, command_of, Ends};
+ghost use Rattle.mb_top.specs.Ending.{CarriesOutWords, shown_by};
 
 use crate::end::End;
 use crate::keygen::keygen;
+use crate::output::stop;
 use crate::run::run;
-use crate::words::{Command, command_in};
+use crate::sign::{countersign, sign};
+use crate::words::{Request, request_in};
 use mb_board::Board;
 use mb_host::Host;
+use mb_lms::Steps;
 use std::alloc::Global;
+use std::marker::Brand;
+use std::sync::ledger::{Blank, Ledger};
 
-/// Does what the words say, up to the line of its status.
+/// Does what the words say, up to the line of its status. The hashes of keys and signatures are counted from here on.
 fn command<H: Host, B: Board>(
     alloc: Global,
     words: &[String],
@@ -25,13 +28,37 @@ fn command<H: Host, B: Board>(
     requires off { B.power board.old ≡ false }
     requires none_out { (B.ledger board.old).out ≡ None }
     requires none_answered { (B.ledger board.old).answered ≡ [] }
-    ensures { Leads
-        (λ after status. Ends (map string_bytes words.now) (H.outside host.old) after (B.ledger board.new).answered (B.memory board.new) status)
-        result (H.outside host.new) }
+    ensures { CarriesOutWords (map string_bytes words.now) (B.ledger board.new).answered
+        (shown_by (B.memory board.new) (B.power board.new) (B.ledger board.new))
+        (H.outside host.old) result (H.outside host.new) }
 {
-    match command_in(words) {
-        Some(Command::Run(names)) => run(alloc, &names, host, board),
-        Some(Command::Keygen(names)) => keygen(alloc, &names, host),
+    counted_command::<H, B, Brand>(alloc, words, host, board, Blank::new(1))
+}
+
+/// The same, with a count over this ledger.
+fn counted_command<H: Host, B: Board, L: Ledger>(
+    alloc: Global,
+    words: &[String],
+    host: &mut H,
+    board: &mut B,
+    blank: Blank,
+) -> Result<(), End>
+    requires name { blank.name ≡ L.name }
+    requires parts { blank.parts ≡ L.parts }
+    requires some { 0 < blank.parts }
+    requires off { B.power board.old ≡ false }
+    requires none_out { (B.ledger board.old).out ≡ None }
+    requires none_answered { (B.ledger board.old).answered ≡ [] }
+    ensures { CarriesOutWords (map string_bytes words.now) (B.ledger board.new).answered
+        (shown_by (B.memory board.new) (B.power board.new) (B.ledger board.new))
+        (H.outside host.old) result (H.outside host.new) }
+{
+    let mut steps = Steps::<L>::begin(alloc, blank);
+    match request_in(words) {
+        Some(Request::Run(names)) => run(alloc, &names, host, board),
+        Some(Request::Keygen(names)) => keygen(alloc, &names, host, &mut steps),
+        Some(Request::Sign(names)) => sign(alloc, &names, host, &mut steps),
+        Some(Request::Countersign(names)) => countersign(alloc, &names, host, &mut steps),
         None => Err(End::Words),
     }
 }
@@ -42,18 +69,20 @@ pub fn top<H: Host, B: Board>(alloc: Global, words: &[String], host: &mut H, boa
     requires none_out { (B.ledger board.old).out ≡ None }
     requires none_waiting { (B.ledger board.old).waiting ≡ [] }
     requires none_answered { (B.ledger board.old).answered ≡ [] }
-    ensures ends { Ends (map string_bytes words.now) (H.outside host.old) (H.outside host.new) (B.ledger board.new).answered (B.memory board.new) result }
-    ensures run_complete { (names : Names) → IsRun (map string_bytes words.now) names → HasInputs (H.outside host.old) names
-        → IsFaultless (H.outside host.old) (H.outside host.new) → (result ≡ 0) ⊎ (result ≡ 6) }
-    ensures keygen_complete { (names : KeygenNames) → IsKeygen (map string_bytes words.now) names
-        → (files : List ℕ → Option (List ℕ)) → (H.outside host.old).files ≡ Some files → HasInputsFor (keygen names) files
-        → IsFaultless (H.outside host.old) (H.outside host.new) → (result ≡ 0) ⊎ (result ≡ 6) }
+    ensures ends { Ends (map string_bytes words.now) (record {
+      before = H.outside host.old;
+      after = H.outside host.new;
+      answered = (B.ledger board.new).answered;
+      final = shown_by (B.memory board.new) (B.power board.new) (B.ledger board.new);
+      status = result;
+    }) }
+    ensures complete { (asked : Asked) → IsRequest (map string_bytes words.now) asked
+        → (files : List ℕ → Option (List ℕ)) → (H.outside host.old).files ≡ Some files → HasInputsFor (command_of asked) files
+        → IsFaultless (H.outside host.old) (H.outside host.new)
+        → (result ≡ 0) ⊎ (result ≡ 6) ⊎ ((result ≡ 7) × ComesToRefusal (command_of asked) files) }
 {
     match command(alloc, words, host, board) {
         Ok(()) => 0,
-        Err(end) => {
-            let _ = host.print(end.line().as_str().as_bytes());
-            end.status()
-        }
+        Err(end) => stop(host, end),
     }
 }

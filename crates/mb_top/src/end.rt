@@ -1,15 +1,27 @@
 //! How a command ends, when it is not done.
 
-ghost use Rattle.std.specs.Prelude.{◌≡◌, ◌≤◌, ◌++◌, length};
+ghost use Rattle.std.specs.Prelude.{◌≡◌, ◌≤◌, ◌++◌, length, codes, decimal};
 ghost use Rattle.mb_model.specs.Texts.{ended};
-ghost use Rattle.mb_model.specs.FirstCommand.{role_word};
-ghost use Rattle.mb_top.specs.Ending.{end_line, end_status};
+ghost use Rattle.mb_model.specs.Commands.{role_word, place_words};
+ghost use Rattle.mb_top.specs.Ending.{refusal_line, end_line, end_status};
 
 use arrayvec::ArrayString;
-use mb_model::Role;
+use mb_model::{Place, Role};
 
 /// The line of a status, with its LF.
-pub type Line = ArrayString<64>;
+pub type Line = ArrayString<96>;
+
+/// The words for the place where an input is at fault.
+type PlaceWords = ArrayString<20>;
+
+/// Why a command is refused whose inputs are in their forms.
+#[derive(Clone, Copy, Debug, PartialEq, Eq)]
+pub enum Refusal {
+    /// The key has no index left.
+    Spent,
+    /// The order is no load, or the layer cannot countersign it, or has done so.
+    NotCountersignable,
+}
 
 /// Why a command is not done.
 #[derive(Clone, Copy, Debug, PartialEq, Eq)]
@@ -19,17 +31,17 @@ pub enum End {
     /// An input is longer than a file may be.
     TooLong(Role),
     /// An input is not in its form.
-    Form(Role),
-    /// An input has too few bytes.
-    Length(Role),
+    Faulty(Role, Place),
     /// An input could not be read.
     NotRead(Role),
     /// An output could not be written.
     NotWritten(Role),
     /// The text could not be printed.
     NotPrinted,
-    /// Memory was wanted and not found.
+    /// An allocation failed.
     NoMemory,
+    /// The command is refused.
+    Refused(Refusal),
 }
 
 impl End {
@@ -39,10 +51,11 @@ impl End {
     {
         match self {
             End::Words => 2,
-            End::TooLong(_) | End::Form(_) | End::Length(_) => 3,
+            End::TooLong(_) | End::Faulty(..) => 3,
             End::NotRead(_) => 4,
             End::NotWritten(_) | End::NotPrinted => 5,
             End::NoMemory => 6,
+            End::Refused(_) => 7,
         }
     }
 
@@ -51,15 +64,28 @@ impl End {
         ensures { result.bytes ≡ ended (end_line self) }
     {
         match self {
-            End::Words => line_of("words", "", ""),
-            End::TooLong(role) => line_of("input ", role_word(role), " too long"),
-            End::Form(role) => line_of("input ", role_word(role), " form"),
-            End::Length(role) => line_of("input ", role_word(role), " length"),
-            End::NotRead(role) => line_of("read failed ", role_word(role), ""),
-            End::NotWritten(role) => line_of("write failed ", role_word(role), ""),
-            End::NotPrinted => line_of("write failed output", "", ""),
-            End::NoMemory => line_of("no memory", "", ""),
+            End::Words => line_of("words", "", "", ""),
+            End::TooLong(role) => line_of("input ", role_word(role), " ", "too long"),
+            End::Faulty(role, place) => {
+                line_of("input ", role_word(role), " ", place_words(place).as_str())
+            }
+            End::NotRead(role) => line_of("read failed ", role_word(role), "", ""),
+            End::NotWritten(role) => line_of("write failed ", role_word(role), "", ""),
+            End::NotPrinted => line_of("write failed output", "", "", ""),
+            End::NoMemory => line_of("no memory", "", "", ""),
+            End::Refused(why) => line_of(refusal_line(why), "", "", ""),
         }
+    }
+}
+
+/// The line of a refusal.
+fn refusal_line(why: Refusal) -> &'static str
+    ensures line { result.now ≡ refusal_line why }
+    ensures short { length result.now ≤ 20 }
+{
+    match why {
+        Refusal::Spent => "spent",
+        Refusal::NotCountersignable => "not countersignable",
     }
 }
 
@@ -72,22 +98,72 @@ fn role_word(role: Role) -> &'static str
         Role::Image => "image",
         Role::Script => "script",
         Role::Noise => "noise",
+        Role::Root => "root",
+        Role::Chain => "chain",
+        Role::Statement => "statement",
+        Role::Owner => "owner",
+        Role::Code => "code",
         Role::Key => "key",
         Role::Public => "public",
+        Role::Draft => "draft",
+        Role::Order => "order",
+        Role::Out => "out",
     }
 }
 
-/// A line of three parts, each of at most 20 bytes.
-fn line_of(first: &str, second: &str, third: &str) -> Line
+/// The words for the place where an input is at fault.
+fn place_words(place: Place) -> PlaceWords
+    ensures words { result.bytes ≡ place_words place }
+    ensures short { length result.bytes ≤ 20 }
+{
+    match place {
+        Place::Length => words_of("length"),
+        Place::At(offset) => with_number("at ", offset),
+        Place::Line(number) => with_number("line ", number),
+        Place::Root => words_of("root"),
+        Place::Public => words_of("public"),
+        Place::Region(number) => with_number("region ", u32::from(number)),
+        Place::State => words_of("state"),
+        Place::Form => words_of("form"),
+    }
+}
+
+/// The words themselves.
+fn words_of(words: &str) -> PlaceWords
+    requires { length words.now ≤ 7 }
+    ensures words { result.bytes ≡ words.now }
+    ensures short { length result.bytes ≤ 7 }
+{
+    let mut text = ArrayString::new();
+    text.push_str(words);
+    text
+}
+
+/// The words, and then a number.
+fn with_number(words: &str, number: u32) -> PlaceWords
+    requires { length words.now ≤ 7 }
+    ensures words { result.bytes ≡ words.now ++ decimal number }
+    ensures short { length result.bytes ≤ 20 }
+{
+    let mut digits = itoa::Buffer::new();
+    let mut text = words_of(words);
+    text.push_str(digits.format(number));
+    text
+}
+
+/// A line of four parts, each of at most 20 bytes.
+fn line_of(first: &str, second: &str, third: &str, fourth: &str) -> Line
     requires first { length first.now ≤ 20 }
     requires second { length second.now ≤ 20 }
     requires third { length third.now ≤ 20 }
-    ensures { result.bytes ≡ ended (first.now ++ second.now ++ third.now) }
+    requires fourth { length fourth.now ≤ 20 }
+    ensures { result.bytes ≡ ended (first.now ++ second.now ++ third.now ++ fourth.now) }
 {
     let mut line = ArrayString::new();
     line.push_str(first);
     line.push_str(second);
     line.push_str(third);
+    line.push_str(fourth);
     line.push_str("\n");
     line
 }

@@ -1,19 +1,16 @@
-//! The inputs of a command: read one after another, each checked before the next.
+//! The inputs of commands: read one after another, each checked before the next.
 
-ghost use Rattle.std.specs.Prelude.{◌≡◌, ◌≢◌, ◌↔◌, ◌≤◌, ℕ, List, [], length, IfOk, IfErr, IsTrue, OnOk, None, false, vec_len};
-ghost use Rattle.mb_model.specs.declared.first.FirstState.{FirstState};
-ghost use Rattle.mb_model.specs.FirstPath.{IsSectorOf};
-ghost use Rattle.mb_model.specs.FirstTexts.{IsFirstScript, IsFirstNoise, script_events};
-ghost use Rattle.mb_model.specs.Outside.{AfterRead, Holds};
-ghost use Rattle.mb_model.specs.FirstCommand.{IsFirstImage, HasScript};
-ghost use Rattle.mb_top.specs.Ending.{ReadEnds};
-ghost use Rattle.mb_top.specs.Running.{InputEnds};
+ghost use Rattle.std.specs.Prelude.{◌≡◌, IfOk, IfErr, OnOk};
+ghost use Rattle.mb_model.specs.Outside.{read_once};
+ghost use Rattle.mb_model.specs.Commands.{HasRead};
+ghost use Rattle.mb_model.specs.OrderFormat.{order_format};
+ghost use Rattle.mb_model.specs.Inputs.{key_noise_input, key_input, draft_input, order_input};
+ghost use Rattle.mb_top.specs.Ending.{HasInput, ReadStops, StopsAt};
 
 use crate::end::End;
-use crate::script::{ScriptEnd, make_events, read_script};
-use crate::sector::read_sector;
 use mb_host::{Host, HostEnd};
-use mb_model::{Bytes, Events, IMAGE_LENGTH, Role, SECTOR_LENGTH};
+use mb_model::{Keyfile, Order, Place, Role};
+use mb_officer::{DraftEnd, OrderLineEnd, read_draft, read_keyfile, read_order_line};
 use std::alloc::Global;
 
 /// The bytes of an input.
@@ -23,10 +20,9 @@ pub fn read_input<H: Host>(
     role: Role,
     name: &str,
 ) -> Result<Vec<u8>, End>
-    ensures after { AfterRead (H.outside host.old) (H.outside host.new) }
-    ensures whole { IfOk result (λ bytes. Holds (H.outside host.old) name.now bytes.items) }
-    ensures short { IfOk result (λ bytes. vec_len bytes ≤ 4194304) }
-    ensures err { IfErr result (ReadEnds (H.outside host.old) (H.outside host.new) role name.now) }
+    ensures read { IfOk result (λ bytes. HasRead (H.outside host.old) name.now bytes.items) }
+    ensures counted { OnOk result (H.outside host.new ≡ read_once (H.outside host.old)) }
+    ensures err { IfErr result (ReadStops role name.now (H.outside host.old) (H.outside host.new)) }
 {
     match host.read(alloc, name) {
         Ok(bytes) => Ok(bytes),
@@ -36,66 +32,54 @@ pub fn read_input<H: Host>(
     }
 }
 
-/// Whether the bytes are an image.
-fn is_image(image: &[u8]) -> bool
-    ensures { IsTrue result ↔ ((state : FirstState) × IsFirstImage image.now state) }
+/// The noise of which an officer's key is made.
+pub fn read_key_noise<H: Host>(alloc: Global, host: &mut H, name: &str) -> Result<[u8; 32], End>
+    ensures read { IfOk result (HasInput (key_noise_input name.now) (H.outside host.old) (H.outside host.new)) }
+    ensures err { IfErr result (StopsAt (key_noise_input name.now) (H.outside host.old) (H.outside host.new)) }
 {
-    if image.len() != IMAGE_LENGTH {
-        return false;
-    }
-    let (sector, _rest) = image.split_at(SECTOR_LENGTH);
-    read_sector(sector).is_some()
-}
-
-/// The image.
-pub fn read_image<H: Host>(alloc: Global, host: &mut H, name: &str) -> Result<Vec<u8>, End>
-    ensures after { AfterRead (H.outside host.old) (H.outside host.new) }
-    ensures whole { IfOk result (λ image. Holds (H.outside host.old) name.now image.items) }
-    ensures form { IfOk result (λ image. (state : FirstState) × IsFirstImage image.items state) }
-    ensures err { IfErr result (InputEnds (H.outside host.old) (H.outside host.new) Role.Image name.now
-        (λ image. (state : FirstState) × IsFirstImage image state)) }
-{
-    let image = read_input(alloc, host, Role::Image, name)?;
-    if is_image(&image) {
-        Ok(image)
-    } else {
-        Err(End::Form(Role::Image))
+    let bytes = read_input(alloc, host, Role::Noise, name)?;
+    match bytes.first_chunk::<32>() {
+        Some(noise) => Ok(*noise),
+        None => Err(End::Faulty(Role::Noise, Place::Length)),
     }
 }
 
-/// The orders of the script.
-pub fn read_orders<H: Host>(alloc: Global, host: &mut H, name: &str) -> Result<Vec<Bytes>, End>
-    ensures after { AfterRead (H.outside host.old) (H.outside host.new) }
-    ensures form { IfOk result (λ orders. (script : List ℕ) × Holds (H.outside host.old) name.now script × IsFirstScript script orders.items) }
-    ensures err { IfErr result (InputEnds (H.outside host.old) (H.outside host.new) Role.Script name.now
-        (λ script. (orders : List (List ℕ)) × IsFirstScript script orders)) }
+/// The file of an officer's key.
+pub fn read_key<H: Host>(alloc: Global, host: &mut H, name: &str) -> Result<Keyfile, End>
+    ensures read { IfOk result (HasInput (key_input name.now) (H.outside host.old) (H.outside host.new)) }
+    ensures err { IfErr result (StopsAt (key_input name.now) (H.outside host.old) (H.outside host.new)) }
 {
-    let script = read_input(alloc, host, Role::Script, name)?;
-    match read_script(alloc, &script) {
-        Ok(orders) => Ok(orders),
-        Err(ScriptEnd::Form) => Err(End::Form(Role::Script)),
-        Err(ScriptEnd::NoMemory) => Err(End::NoMemory),
+    let bytes = read_input(alloc, host, Role::Key, name)?;
+    match read_keyfile(&bytes) {
+        Ok(key) => Ok(key),
+        Err(bad) => Err(End::Faulty(Role::Key, Place::At(bad.at))),
     }
 }
 
-/// The events of the orders, with their noise.
-pub fn read_events<H: Host>(
-    alloc: Global,
-    host: &mut H,
-    name: &str,
-    orders: Vec<Bytes>,
-) -> Result<Events, End>
-    ensures after { AfterRead (H.outside host.old) (H.outside host.new) }
-    ensures form { IfOk result (λ events. (noise : List ℕ) × Holds (H.outside host.old) name.now noise
-        × IsFirstNoise orders.items noise × (events ≡ script_events orders.items noise)) }
-    ensures err { IfErr result (InputEnds (H.outside host.old) (H.outside host.new) Role.Noise name.now (IsFirstNoise orders.items)) }
+/// The order of a draft.
+pub fn read_draft_file<H: Host>(alloc: Global, host: &mut H, name: &str) -> Result<Order, End>
+    ensures read { IfOk result (HasInput (draft_input name.now) (H.outside host.old) (H.outside host.new)) }
+    ensures spelled { IfOk result (λ order. order_format.Allowed order) }
+    ensures err { IfErr result (StopsAt (draft_input name.now) (H.outside host.old) (H.outside host.new)) }
 {
-    let noise = read_input(alloc, host, Role::Noise, name)?;
-    if noise.len() / 32 < orders.len() {
-        return Err(End::Form(Role::Noise));
+    let text = read_input(alloc, host, Role::Draft, name)?;
+    match read_draft(alloc, &text) {
+        Ok(order) => Ok(order),
+        Err(DraftEnd::BadLine { line }) => Err(End::Faulty(Role::Draft, Place::Line(line))),
+        Err(DraftEnd::NoMemory) => Err(End::NoMemory),
     }
-    match make_events(alloc, orders, &noise) {
-        Ok(events) => Ok(events),
-        Err(_) => Err(End::NoMemory),
+}
+
+/// The order of an order line.
+pub fn read_order_file<H: Host>(alloc: Global, host: &mut H, name: &str) -> Result<Order, End>
+    ensures read { IfOk result (HasInput (order_input name.now) (H.outside host.old) (H.outside host.new)) }
+    ensures spelled { IfOk result (λ order. order_format.Allowed order) }
+    ensures err { IfErr result (StopsAt (order_input name.now) (H.outside host.old) (H.outside host.new)) }
+{
+    let text = read_input(alloc, host, Role::Order, name)?;
+    match read_order_line(alloc, &text) {
+        Ok(order) => Ok(order),
+        Err(OrderLineEnd::BadLine { line }) => Err(End::Faulty(Role::Order, Place::Line(line))),
+        Err(OrderLineEnd::NoMemory) => Err(End::NoMemory),
     }
 }

@@ -2,7 +2,7 @@
 
 ghost use Rattle.std.specs.Prelude.{◌≡◌, ℕ, List, MatchOption};
 ghost use Rattle.mb_model.specs.FirstPath as model;
-ghost use Rattle.mb_model.specs.FirstPath.{Spells, body_bytes};
+ghost use Rattle.mb_model.specs.FirstPath.{SpellsFirst, body_bytes};
 ghost use Rattle.mb_top.specs.Records.{IsSignaturePart};
 
 use crate::sector::{split_key, split_trust};
@@ -26,8 +26,8 @@ pub struct FirstOrder<'a> {
 
 /// The order that the bytes spell, or None exactly where they spell none. Takes no memory.
 pub fn read_order(text: &[u8]) -> Option<FirstOrder<'_>>
-    ensures { MatchOption result ((order : model.FirstOrder) → Spells text.now order → ⊥)
-        (λ found. let order : model.FirstOrder = record { owner = found.owner; trust = found.trust; signature = found.signature.now } in Spells text.now order × (found.body.now ≡ body_bytes order)) }
+    ensures { MatchOption result ((order : model.FirstOrder) → SpellsFirst text.now order → ⊥)
+        (λ found. let order : model.FirstOrder = record { owner = found.owner; trust = found.trust; signature = found.signature.now } in SpellsFirst text.now order × (found.body.now ≡ body_bytes order)) }
 {
     let rest = text.strip_prefix(&[1, 2, 0])?;
     let (owner, rest) = split_key(rest)?;
@@ -42,7 +42,7 @@ pub fn read_order(text: &[u8]) -> Option<FirstOrder<'_>>
     })
 }
 
-/// The signature in what stands behind the body of an order.
+/// The signature in what stands after the body of an order.
 fn read_signature(bytes: &[u8]) -> Option<&[u8]>
     ensures { MatchOption result ((signature : List ℕ) → IsSignaturePart bytes.now signature → ⊥) (λ found. IsSignaturePart bytes.now found.now) }
 {

@@ -1,9 +1,10 @@
-//! The outputs of a command, written one after another, and the text that is printed behind them.
+//! The outputs of a command, written one after another, and the text that is printed after them.
 
-ghost use Rattle.std.specs.Prelude.{map, IfErr, OnOk};
-ghost use Rattle.mb_model.specs.Commands.{write, CommandEnds};
-ghost use Rattle.mb_top.specs.Ending.{Leads};
-ghost use Rattle.mb_top.specs.Outputs.{output_of, HasWrittenAll, WriteStops};
+ghost use Rattle.std.specs.Prelude.{◌≡◌, map, IfErr, OnOk};
+ghost use Rattle.mb_model.specs.Outside.{Writes, FailsToWrite};
+ghost use Rattle.mb_model.specs.Commands.{print, SaysLine};
+ghost use Rattle.mb_top.specs.Ending.{CarriesOutAfter, end_line, end_status};
+ghost use Rattle.mb_top.specs.Outputs.{output_of, writes};
 
 use crate::end::End;
 use mb_host::Host;
@@ -17,27 +18,43 @@ pub struct Output<'n, 'b> {
     pub bytes: &'b [u8],
 }
 
-/// Writes the outputs in their order, and then prints the text.
+/// Writes the outputs in their order, and then prints the text. Takes no memory.
 pub fn finish<H: Host>(host: &mut H, outputs: &[Output<'_, '_>], text: &[u8]) -> Result<(), End>
-    ensures { Leads (CommandEnds (write (map output_of outputs.now) text.now) (H.outside host.old)) result (H.outside host.new) }
+    ensures { CarriesOutAfter (writes (map output_of outputs.now) (print text.now)) (H.outside host.old) result (H.outside host.new) }
 {
-    write_outputs(host, outputs)?;
+    let Some((output, rest)) = outputs.split_first() else {
+        return print_text(host, text);
+    };
+    write_output(host, output)?;
+    finish(host, rest, text)
+}
+
+/// Prints the line of an end, and answers its exit status. Where the line cannot be printed the status stays.
+pub fn stop<H: Host>(host: &mut H, end: End) -> u8
+    ensures says { SaysLine (end_line end) (H.outside host.old) (H.outside host.new) }
+    ensures status { result ≡ end_status end }
+{
+    let _ = host.print(end.line().as_str().as_bytes());
+    end.status()
+}
+
+/// Writes an output.
+fn write_output<H: Host>(host: &mut H, output: &Output<'_, '_>) -> Result<(), End>
+    ensures ok { OnOk result (Writes output.now.name.now output.now.bytes.now (H.outside host.old) (H.outside host.new)) }
+    ensures err { IfErr result (λ why. (why ≡ End.NotWritten output.now.role) × FailsToWrite output.now.name.now (H.outside host.old) (H.outside host.new)) }
+{
+    match host.write(output.name, output.bytes) {
+        Ok(()) => Ok(()),
+        Err(_) => Err(End::NotWritten(output.role)),
+    }
+}
+
+/// Prints the text.
+fn print_text<H: Host>(host: &mut H, text: &[u8]) -> Result<(), End>
+    ensures { CarriesOutAfter (print text.now) (H.outside host.old) result (H.outside host.new) }
+{
     match host.print(text) {
         Ok(()) => Ok(()),
         Err(_) => Err(End::NotPrinted),
     }
-}
-
-/// Writes the outputs in their order, up to the first that fails.
-fn write_outputs<H: Host>(host: &mut H, outputs: &[Output<'_, '_>]) -> Result<(), End>
-    ensures ok { OnOk result (HasWrittenAll (map output_of outputs.now) (H.outside host.old) (H.outside host.new)) }
-    ensures err { IfErr result (WriteStops (map output_of outputs.now) (H.outside host.old) (H.outside host.new)) }
-{
-    for output in outputs {
-        match host.write(output.name, output.bytes) {
-            Ok(()) => {}
-            Err(_) => return Err(End::NotWritten(output.role)),
-        }
-    }
-    Ok(())
 }

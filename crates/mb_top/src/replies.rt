@@ -3,7 +3,7 @@
 ghost use Rattle.std.specs.Prelude.{◌≡◌, ◌++◌, ◌∷◌, [], IfOk, OnOk};
 ghost use Rattle.std.specs.String.{string_bytes};
 ghost use Rattle.mb_model.specs.Texts.{ended};
-ghost use Rattle.mb_model.specs.FirstTexts.{refusal, reply_line, printed_lines};
+ghost use Rattle.mb_model.specs.FirstTexts.{refusal, first_reply_line, printed_lines};
 
 use mb_model::{Answered, NoMemory, Reply};
 use std::alloc::Global;
@@ -13,7 +13,7 @@ use std::fmt::Write;
 pub fn write_replies(alloc: Global, answered: &[Answered]) -> Result<Vec<u8>, NoMemory>
     ensures { IfOk result (λ text. text.items ≡ printed_lines answered.now) }
 {
-    // Want of memory is the only error: a test shows that the call can succeed.
+    // A failed allocation is the only error: a test shows that the call can succeed.
     let mut text = String::new(alloc);
     for one in answered {
         write_line(&mut text, &one.reply)?;
@@ -23,7 +23,7 @@ pub fn write_replies(alloc: Global, answered: &[Answered]) -> Result<Vec<u8>, No
 
 /// Adds the line of a reply and its LF.
 fn write_line(text: &mut String, reply: &Reply) -> Result<(), NoMemory>
-    ensures { OnOk result (string_bytes text.new ≡ string_bytes text.old ++ ended (reply_line reply.now)) }
+    ensures { OnOk result (string_bytes text.new ≡ string_bytes text.old ++ ended (first_reply_line reply.now)) }
 {
     write_reply(text, reply)?;
     text.push('\n')?;
@@ -32,7 +32,7 @@ fn write_line(text: &mut String, reply: &Reply) -> Result<(), NoMemory>
 
 /// Adds the line of a reply without its LF. A reply that the first path does not give has an empty line.
 fn write_reply(text: &mut String, reply: &Reply) -> Result<(), NoMemory>
-    ensures { OnOk result (string_bytes text.new ≡ string_bytes text.old ++ reply_line reply.now) }
+    ensures { OnOk result (string_bytes text.new ≡ string_bytes text.old ++ first_reply_line reply.now) }
 {
     match reply {
         Reply::Booted => text.push_str("booted")?,

@@ -17,7 +17,7 @@ const ORDER_LIMIT: usize = 65_534;
 pub enum ScriptEnd {
     /// It is not in its form.
     Form,
-    /// Memory was wanted and not found.
+    /// An allocation failed.
     NoMemory,
 }
 
@@ -41,7 +41,7 @@ impl<T: Drop> From<AllocFailed<T>> for ScriptEnd {
     }
 }
 
-/// What a line behind the first says.
+/// What a line after the first says.
 #[derive(Drop)]
 enum Line {
     /// Power goes off.
@@ -64,7 +64,7 @@ pub fn read_script(alloc: Global, text: &[u8]) -> Result<Vec<Bytes>, ScriptEnd>
     }
 }
 
-/// The orders of what stands behind a script's first line.
+/// The orders of what stands after a script's first line.
 fn read_orders(alloc: Global, text: &[u8]) -> Result<Vec<Bytes>, ScriptEnd>
     ensures ok { IfOk result (λ orders. IsRest text.now orders.items × (length orders.items ≤ 65534)) }
     ensures form { IsErrOf result ScriptEnd.Form → (orders : List (List ℕ)) → IsRest text.now orders → length orders ≤ 65534 → ⊥ }
@@ -72,10 +72,10 @@ fn read_orders(alloc: Global, text: &[u8]) -> Result<Vec<Bytes>, ScriptEnd>
     let mut orders = Vec::new(alloc);
     let mut rest = text;
     loop {
-        let (line, behind) = split_line(rest);
+        let (line, remaining) = split_line(rest);
         match read_line(alloc, line)? {
             Line::Off => {
-                if behind.is_empty() {
+                if remaining.is_empty() {
                     return Ok(orders);
                 }
                 return Err(ScriptEnd::Form);
@@ -85,13 +85,13 @@ fn read_orders(alloc: Global, text: &[u8]) -> Result<Vec<Bytes>, ScriptEnd>
                     return Err(ScriptEnd::Form);
                 }
                 orders.push(order)?;
-                rest = behind;
+                rest = remaining;
             }
         }
     }
 }
 
-/// The first line without its LF, and what stands behind that.
+/// The first line without its LF, and what stands after that.
 fn split_line(text: &[u8]) -> (&[u8], &[u8])
     ensures { SplitsLine text.now result.0.now result.1.now }
 {
@@ -101,7 +101,7 @@ fn split_line(text: &[u8]) -> (&[u8], &[u8])
     }
 }
 
-/// What a line behind the first says.
+/// What a line after the first says.
 fn read_line(alloc: Global, line: &[u8]) -> Result<Line, ScriptEnd>
     ensures ok { IfOk result (λ said. Says line.now said) }
     ensures form { IsErrOf result ScriptEnd.Form → (said : Line) → Says line.now said → ⊥ }
@@ -138,19 +138,19 @@ pub fn make_events(alloc: Global, orders: Vec<Bytes>, noise: &[u8]) -> Result<Ev
     requires { IsFirstNoise orders.items noise.now }
     ensures { IfOk result (λ events. events ≡ script_events orders.items noise.now) }
 {
-    // Want of memory is the only error: a test shows that the call can succeed.
+    // A failed allocation is the only error: a test shows that the call can succeed.
     let mut events = Events::new(alloc);
     events.push(Event::Boot)?;
     let mut left = noise;
     for order in orders {
-        let (draw, behind) = left.split_at(32);
+        let (draw, remaining) = left.split_at(32);
         let mut copied = [0; 32];
         copied.copy_from_slice(draw);
         events.push(Event::Command {
             text: order,
             draw: copied,
         })?;
-        left = behind;
+        left = remaining;
     }
     events.push(Event::Off)?;
     Ok(events)

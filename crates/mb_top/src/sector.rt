@@ -42,7 +42,7 @@ fn is_erased(bytes: &[u8]) -> bool
     bytes.iter().all(|byte| *byte == ERASED)
 }
 
-/// The owner and trust of layer 2, or none, that stand first in the bytes, and what stands behind.
+/// The owner and trust of layer 2, or none, that stand first in the bytes, and what stands after.
 fn split_ownership(bytes: &[u8]) -> Option<(Option<Ownership>, &[u8])>
     ensures { MatchOption result ((two : Option Ownership) (rest : List ℕ) → BeginsOwnership bytes.now two rest → ⊥) (λ found. BeginsOwnership bytes.now found.0 found.1.now) }
 {
@@ -58,7 +58,7 @@ fn split_ownership(bytes: &[u8]) -> Option<(Option<Ownership>, &[u8])>
     }
 }
 
-/// The key of types 5 and 3 that stands first in the bytes, and what stands behind.
+/// The key of types 5 and 3 that stands first in the bytes, and what stands after.
 pub fn split_key(bytes: &[u8]) -> Option<(PublicKey, &[u8])>
     ensures { MatchOption result ((key : PublicKey) (rest : List ℕ) → BeginsKey bytes.now key rest → ⊥) (λ found. BeginsKey bytes.now found.0 found.1.now) }
 {
@@ -70,7 +70,7 @@ pub fn split_key(bytes: &[u8]) -> Option<(PublicKey, &[u8])>
     }
 }
 
-/// The trust that stands first in the bytes, and what stands behind.
+/// The trust that stands first in the bytes, and what stands after.
 pub fn split_trust(bytes: &[u8]) -> Option<(Trust, &[u8])>
     ensures { MatchOption result ((trust : Trust) (rest : List ℕ) → BeginsTrust bytes.now trust rest → ⊥) (λ found. BeginsTrust bytes.now found.0 found.1.now) }
 {
@@ -95,7 +95,7 @@ pub fn write_sector(state: &FirstState, sector: &mut [u8; 4096])
     write_ownership(&state.two, sector);
 }
 
-/// Writes the owner and trust of layer 2, or none, behind the owner of layer 1.
+/// Writes the owner and trust of layer 2, or none, after the owner of layer 1.
 fn write_ownership(two: &Option<Ownership>, sector: &mut [u8])
     requires size { length sector.old ≡ 4096 }
     requires allowed { IfSome two.now (λ held. IsFirstKey held.owner) }

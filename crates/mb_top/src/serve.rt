@@ -1,7 +1,7 @@
 //! The device of the first path: from one event to the next.
 
 ghost use Rattle.std.specs.Prelude.{◌≡◌, ◌≤◌, ◌++◌, ℕ, [], length, map, true, false, None, is_some};
-ghost use Rattle.mb_model.specs.FirstPath.{StandsFor, IsFirstState, FirstRun, Answers, Steps};
+ghost use Rattle.mb_model.specs.FirstPath.{HoldsFirstState, IsFirstState, FirstRun, Answers, Steps};
 ghost use Rattle.mb_model.specs.Board.{IsLoaded, loaded};
 ghost use Rattle.mb_model.specs.declared.first.FirstState.{FirstState};
 ghost use Rattle.mb_top.specs.Serving.{IsServable, Knows, IsReady, powered};
@@ -24,8 +24,8 @@ enum Device {
 fn boot<B: Board>(board: &mut B) -> FirstState
     requires off { B.power board.old ≡ false }
     requires sized { 4096 ≤ length (B.memory board.old).flash }
-    requires stands { (state : FirstState) × StandsFor (B.memory board.old).flash state }
-    ensures state { StandsFor (B.memory board.old).flash result }
+    requires stands { (state : FirstState) × HoldsFirstState (B.memory board.old).flash state }
+    ensures state { HoldsFirstState (B.memory board.old).flash result }
     ensures power { B.power board.new ≡ true }
     ensures memory { B.memory board.new ≡ B.memory board.old }
     ensures ledger { B.ledger board.new ≡ B.ledger board.old }
@@ -45,7 +45,7 @@ fn store<B: Board>(board: &mut B, state: &FirstState)
     requires sized { 4096 ≤ length (B.memory board.old).flash }
     requires unarmed { (B.ledger board.old).armed ≡ false }
     requires allowed { IsFirstState state.now }
-    ensures stands { StandsFor (B.memory board.new).flash state.now }
+    ensures stands { HoldsFirstState (B.memory board.new).flash state.now }
     ensures length { length (B.memory board.new).flash ≡ length (B.memory board.old).flash }
     ensures others { (B.memory board.new).bbram ≡ (B.memory board.old).bbram }
     ensures power { B.power board.new ≡ true }
@@ -64,13 +64,13 @@ fn store<B: Board>(board: &mut B, state: &FirstState)
 }
 
 /// Answers an order.
-fn command<B: Board>(board: &mut B, state: &mut FirstState, text: &[u8]) -> Reply
+fn serve_order<B: Board>(board: &mut B, state: &mut FirstState, text: &[u8]) -> Reply
     requires on { B.power board.old ≡ true }
     requires sized { 4096 ≤ length (B.memory board.old).flash }
     requires unarmed { (B.ledger board.old).armed ≡ false }
-    requires stands { StandsFor (B.memory board.old).flash state.old }
+    requires stands { HoldsFirstState (B.memory board.old).flash state.old }
     ensures answer { Answers state.old text.now result state.new }
-    ensures stands { StandsFor (B.memory board.new).flash state.new }
+    ensures stands { HoldsFirstState (B.memory board.new).flash state.new }
     ensures length { length (B.memory board.new).flash ≡ length (B.memory board.old).flash }
     ensures others { (B.memory board.new).bbram ≡ (B.memory board.old).bbram }
     ensures power { B.power board.new ≡ true }
@@ -116,7 +116,7 @@ fn step<B: Board>(board: &mut B, device: &mut Device, event: &Event) -> Reply
             Reply::Off
         }
         Event::Command { text, .. } => match device {
-            Device::On(state) => command(board, state, text.as_slice()),
+            Device::On(state) => serve_order(board, state, text.as_slice()),
             Device::Off => unreachable!(),
         },
         _ => unreachable!(),
@@ -128,11 +128,11 @@ pub fn serve<B: Board>(board: &mut B)
     requires off { B.power board.old ≡ false }
     requires fresh { B.ledger board.old ≡ loaded (B.memory board.old) (B.ledger board.old).waiting }
     requires loaded { IsLoaded (B.memory board.old) }
-    requires stands { (state : FirstState) × StandsFor (B.memory board.old).flash state }
+    requires stands { (state : FirstState) × HoldsFirstState (B.memory board.old).flash state }
     requires servable { IsServable false (B.ledger board.old).waiting }
     ensures events { map (λ a. a.event) (B.ledger board.new).answered ≡ (B.ledger board.old).waiting }
-    ensures run { (first : FirstState) → StandsFor (B.memory board.old).flash first → (last : FirstState)
-        × StandsFor (B.memory board.new).flash last × FirstRun first (B.ledger board.new).answered last }
+    ensures run { (first : FirstState) → HoldsFirstState (B.memory board.old).flash first → (last : FirstState)
+        × HoldsFirstState (B.memory board.new).flash last × FirstRun first (B.ledger board.new).answered last }
     ensures loaded { IsLoaded (B.memory board.new) }
 {
     let mut device = Device::Off;

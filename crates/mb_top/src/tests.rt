@@ -1,146 +1,115 @@
-//! Scripts, orders and sectors that another program made, and broken ones.
-
-use crate::order::read_order;
-use crate::replies::write_replies;
-use crate::script::{ScriptEnd, make_events, read_script};
-use crate::sector::{read_sector, write_sector};
-use hex::FromHex;
-use mb_model::{Answered, Event, Reply, Trust};
-use std::test::Fail;
+//! The program over a host in memory: what it makes, by values of an independent program, and what a host shows of it.
 
 mod keys;
 mod once;
 mod runs;
+mod sign;
 mod statuses;
 
-/// The first bytes of an image whose layer 2 has no owner; what stands behind them in its first sector is erased.
-const SECTOR: &str =
-    "0012d71d7255b6325df7487678010fc9db0000000500000003028c20423da199b2086baca3700a4bef\
-    21c2a633d102f5f5b69c16ef675e8c310801820d9c31df7bcec85287cedeb80700";
+use crate::commands::top;
+use mb_board::SimBoard;
+use mb_host::MemoryHost;
+use mb_model::{Bytes, Calls, File, Files, NoMemory};
+use sha2::{Digest, Sha256};
+use std::alloc::Global;
+use std::process::Abort;
+use std::test::Fail;
 
-#[test]
-fn reads_scripts(rt: HostRuntime) -> Result<(), Fail> {
-    for text in [
-        "boot\ncommand 0aF0\ncommand -\noff\n",
-        "boot\ncommand 0AF0\ncommand -\noff",
-    ] {
-        assert!(rt; text.len() < 100);
-        let orders = read_script(rt.alloc(), text.as_bytes())?;
-        assert_eq!(rt; orders.len(), 2);
-        assert_eq!(rt; orders[0].as_slice(), [0x0A, 0xF0].as_slice());
-        assert_eq!(rt; orders[1].as_slice().len(), 0);
-        let events = make_events(rt.alloc(), orders, &[7; 64])?;
-        assert_eq!(rt; events.as_slice().len(), 4);
-    }
+/// Adds a file of this name.
+fn add(files: &mut Files, alloc: Global, name: &str, bytes: &[u8]) -> Result<(), NoMemory> {
+    files.push(File {
+        name: Bytes::copy(alloc, name.as_bytes())?,
+        bytes: Bytes::copy(alloc, bytes)?,
+    })
+}
+
+/// Adds a file of this name, whose bytes are given in hexadecimal.
+fn add_hex(files: &mut Files, alloc: Global, name: &str, bytes: &str) -> Result<(), Fail> {
+    let bytes = hex::decode(alloc, bytes)?;
+    add(files, alloc, name, &bytes)?;
     Ok(())
 }
 
-#[test]
-fn refuses_scripts(rt: HostRuntime) {
-    for text in [
-        "",
-        "\n",
-        "boot",
-        "boot\n\noff\n",
-        "boot\n# note\noff\n",
-        "off\n",
-        "command 00\noff\n",
-        "boot\nboot\noff\n",
-        "boot\ncommand 00\n",
-        "boot\noff\nboot\n",
-        "boot\noff\n\n",
-        "boot\ncommand\noff\n",
-        "boot\ncommand \noff\n",
-        "boot\ncommand 0\noff\n",
-        "boot\ncommand 0g\noff\n",
-        "boot\ncommand  00\noff\n",
-        "boot\ncommand 00 \noff\n",
-        "boot\r\noff\r\n",
-        " boot\noff\n",
-        "boot\noff \n",
-    ] {
-        assert!(rt; text.len() < 100);
-        let end = read_script(rt.alloc(), text.as_bytes()).err();
-        assert_eq!(rt; end, Some(ScriptEnd::Form), "{text:?}");
-    }
+/// A host with these files, whose calls of these numbers fail.
+fn host_of(alloc: Global, files: Files, failing: &[u64]) -> Result<MemoryHost, NoMemory> {
+    let failing = Calls::from_vec(Vec::from_slice(alloc, failing)?);
+    MemoryHost::new(alloc, files, failing)
 }
 
-#[test]
-fn reads_an_order(rt: HostRuntime) -> Result<(), Fail> {
-    let text = hex::decode(rt.alloc(), once::ORDER)?;
-    let order = read_order(&text).ok_or("no order")?;
-    assert_eq!(rt; order.trust, Trust::Countersigned);
-    assert_eq!(rt; order.body.len(), 60);
-    assert_eq!(rt; order.signature.len(), 2_348);
+/// The words of a text, which a space separates. A word may be empty.
+fn words_of(alloc: Global, text: &str) -> Result<Vec<String>, NoMemory> {
+    let mut words = Vec::new(alloc);
+    for word in text.split(' ') {
+        words.push(String::from_str(alloc, word)?)?;
+    }
+    Ok(words)
+}
+
+/// What the words answer, over a board on which nothing was loaded.
+fn status_of(alloc: Global, host: &mut MemoryHost, words: &str) -> Result<u8, NoMemory> {
+    let words = words_of(alloc, words)?;
+    Ok(top(alloc, &words, host, &mut SimBoard::new(alloc)))
+}
+
+/// The words end with this status and print these lines.
+fn ends(
+    rt: &(impl Abort + AllocGlobal),
+    host: &mut MemoryHost,
+    words: &str,
+    status: u8,
+    lines: &str,
+) -> Result<(), Fail> {
+    let seen = host.printed().len();
+    let ended = status_of(rt.alloc(), host, words)?;
+    assert_eq!(rt; ended, status, "{words}");
+    prints(rt, host, seen, lines);
     Ok(())
 }
 
-#[test]
-fn refuses_orders(rt: HostRuntime) -> Result<(), Fail> {
-    let mut text = hex::decode(rt.alloc(), once::ORDER)?;
-    assert_eq!(rt; text.len(), 2_411);
-    // The kind, the layer, the number of targets, the owner's types, the trust, the length and the end.
-    for (at, byte) in [
-        (0, 2),
-        (1, 3),
-        (2, 1),
-        (6, 6),
-        (10, 4),
-        (59, 3),
-        (60, 8),
-        (61, 0x2B),
-        (2_410, 1),
-    ] {
-        assert!(rt; at < text.len());
-        let right = text[at];
-        text[at] = byte;
-        assert!(rt; read_order(&text).is_none(), "{byte} at {at}");
-        text[at] = right;
-    }
-    text.push(0)?;
-    assert!(rt; read_order(&text).is_none(), "one byte more");
-    text.truncate(2_410);
-    assert!(rt; read_order(&text).is_none(), "one byte less");
+/// These lines were printed after so many bytes.
+fn prints(rt: &impl Abort, host: &MemoryHost, seen: usize, lines: &str) {
+    let printed = host.printed().get(seen..);
+    assert_eq!(rt; printed, Some(lines.as_bytes()));
+}
+
+/// The host was called so many times.
+fn was_called(rt: &impl Abort, host: &MemoryHost, reads: u64, writes: u64, prints: u64) {
+    let calls = [host.reads(), host.writes(), host.prints()];
+    assert_eq!(rt; calls, [reads, writes, prints]);
+}
+
+/// The content of the file of this name.
+fn content<'a>(host: &'a MemoryHost, name: &str) -> Result<&'a [u8], Fail> {
+    Ok(host.file(name).ok_or("no such file")?)
+}
+
+/// The file of this name has these bytes, given in hexadecimal.
+fn file_is(
+    rt: &(impl Abort + AllocGlobal),
+    host: &MemoryHost,
+    name: &str,
+    bytes: &str,
+) -> Result<(), Fail> {
+    let found = hex::encode(rt.alloc(), content(host, name)?)?;
+    assert_eq!(rt; found.as_str(), bytes, "{name}");
     Ok(())
 }
 
-#[test]
-fn reads_and_writes_a_sector(rt: HostRuntime) -> Result<(), Fail> {
-    let bytes = <[u8; 74]>::from_hex(SECTOR)?;
-    let mut sector = [0xFF; 4096];
-    sector[..74].copy_from_slice(&bytes);
-    let mut written = [0; 4096];
-    if let Some(state) = read_sector(&sector) {
-        assert_eq!(rt; state.two, None);
-        write_sector(&state, &mut written);
-    }
-    assert_eq!(rt; written.as_slice(), sector.as_slice());
+/// The bytes have this hash, given in hexadecimal.
+fn hash_is(rt: &(impl Abort + AllocGlobal), bytes: &[u8], hash: &str) -> Result<(), Fail> {
+    let mut hasher = Sha256::new();
+    hasher.update(bytes);
+    let found = hex::encode(rt.alloc(), hasher.finalize())?;
+    assert_eq!(rt; found.as_str(), hash);
     Ok(())
 }
 
-#[test]
-fn writes_replies(rt: HostRuntime) -> Result<(), Fail> {
-    let mut answered = Vec::new(rt.alloc());
-    for reply in [
-        Reply::Booted,
-        Reply::Done {
-            number: 1,
-            length: 2,
-        },
-        Reply::Refused(10),
-        Reply::Refused(12),
-        Reply::Refused(13),
-        Reply::NoMemory,
-        Reply::Off,
-    ] {
-        answered.push(Answered {
-            event: Event::Boot,
-            reply,
-        })?;
-    }
-    let text = write_replies(rt.alloc(), &answered)?;
-    let lines =
-        "booted\ndone 1 2\nrefused 10 text\nrefused 12 state\nrefused 13 signature\nno memory\noff\n";
-    assert_eq!(rt; text.as_slice(), lines.as_bytes());
-    Ok(())
+/// The file of this name has this hash, given in hexadecimal.
+fn file_has_hash(
+    rt: &(impl Abort + AllocGlobal),
+    host: &MemoryHost,
+    name: &str,
+    hash: &str,
+) -> Result<(), Fail> {
+    hash_is(rt, content(host, name)?, hash)
 }

@@ -1,9 +1,9 @@
-//! Which command the words are.
+//! Which request the words are.
 
-ghost use Rattle.std.specs.Prelude.{◌≡◌, ◌≢◌, ◌↔◌, IsTrue, codes, List, [], map, MatchOption, string_bytes};
-ghost use Rattle.mb_model.specs.FirstCommand.{Names, IsRun};
-ghost use Rattle.mb_model.specs.Keygen.{KeygenNames as KeygenFiles, IsKeygen};
-ghost use Rattle.mb_top.specs.Words.{run_files, keygen_files, IsCommand, IsNoCommand};
+ghost use Rattle.std.specs.Prelude.{◌≡◌, ◌≢◌, ◌↔◌, ◌∷◌, ℕ, IsTrue, codes, List, [], map, MatchOption, string_bytes};
+ghost use Rattle.mb_model.specs.Top.{Request as Asked, countersigns, IsRequest};
+ghost use Rattle.mb_model.specs.Sign.{CountersignNames as CountersignFiles};
+ghost use Rattle.mb_top.specs.Words.{IsThree, IsLayerWord, countersign_files, asked_by};
 
 /// The names of the files of `run`.
 #[derive(Clone, Copy, Debug)]
@@ -21,28 +21,76 @@ pub struct KeygenNames<'a> {
     pub public: &'a str,
 }
 
-/// A command and what its words say.
+/// The names of the files of `sign`.
 #[derive(Clone, Copy, Debug)]
-pub enum Command<'a> {
-    Run(RunNames<'a>),
-    Keygen(KeygenNames<'a>),
+pub struct SignNames<'a> {
+    pub key: &'a str,
+    pub draft: &'a str,
+    pub out: &'a str,
 }
 
-/// The command that the words are, or None where they are none.
-pub fn command_in(words: &[String]) -> Option<Command<'_>>
-    ensures { MatchOption result (IsNoCommand (map string_bytes words.now)) (λ command. IsCommand (map string_bytes words.now) command) }
+/// The names of the files of `countersign`, and the layer whose owner countersigns.
+#[derive(Clone, Copy, Debug)]
+pub struct CountersignNames<'a> {
+    pub key: &'a str,
+    /// 2 or 3.
+    pub layer: u8,
+    pub order: &'a str,
+    pub out: &'a str,
+}
+
+/// A command and what its words name.
+#[derive(Clone, Copy, Debug)]
+pub enum Request<'a> {
+    Run(RunNames<'a>),
+    Keygen(KeygenNames<'a>),
+    Sign(SignNames<'a>),
+    Countersign(CountersignNames<'a>),
+}
+
+/// Three names, in their order.
+#[derive(Clone, Copy, Debug)]
+struct Three<'a> {
+    first: &'a str,
+    second: &'a str,
+    third: &'a str,
+}
+
+/// The request that the words are, or None where they are none.
+pub fn request_in(words: &[String]) -> Option<Request<'_>>
+    ensures { MatchOption result
+        ((asked : Asked) → IsRequest (map string_bytes words.now) asked → ⊥)
+        (λ request. IsRequest (map string_bytes words.now) (asked_by request)) }
 {
-    if let Some(names) = run_in(words) {
-        return Some(Command::Run(names));
+    if let Some(names) = three_in(words, "run") {
+        return Some(Request::Run(RunNames {
+            image: names.first,
+            script: names.second,
+            noise: names.third,
+        }));
     }
-    if let Some(names) = keygen_in(words) {
-        return Some(Command::Keygen(names));
+    if let Some(names) = three_in(words, "keygen") {
+        return Some(Request::Keygen(KeygenNames {
+            noise: names.first,
+            key: names.second,
+            public: names.third,
+        }));
     }
-    None
+    if let Some(names) = three_in(words, "sign") {
+        return Some(Request::Sign(SignNames {
+            key: names.first,
+            draft: names.second,
+            out: names.third,
+        }));
+    }
+    match countersign_in(words) {
+        Some(names) => Some(Request::Countersign(names)),
+        None => None,
+    }
 }
 
 /// Whether a word is this one.
-fn is_word(word: &str, wanted: &str) -> bool
+pub fn is_word(word: &str, wanted: &str) -> bool
     ensures { IsTrue result ↔ (word.now ≡ wanted.now) }
 {
     word == wanted
@@ -55,40 +103,57 @@ fn are_given(first: &str, second: &str, third: &str) -> bool
     !first.is_empty() && !second.is_empty() && !third.is_empty()
 }
 
-/// The names in the words of `run`, or None where the words are another command or none.
-fn run_in(words: &[String]) -> Option<RunNames<'_>>
+/// The three names after this command, or None where the words are anything else.
+fn three_in<'a>(words: &'a [String], wanted: &str) -> Option<Three<'a>>
     ensures { MatchOption result
-        ((names : Names) → IsRun (map string_bytes words.now) names → ⊥)
-        (λ found. IsRun (map string_bytes words.now) (run_files found)) }
+        ((first second third : List ℕ) → IsThree (map string_bytes words.now) wanted.now first second third → ⊥)
+        (λ names. IsThree (map string_bytes words.now) wanted.now names.first.now names.second.now names.third.now) }
 {
-    let [command, image, script, noise] = words else {
+    let [command, first, second, third] = words else {
         return None;
     };
-    if is_word(command, "run") && are_given(image, script, noise) {
-        Some(RunNames {
-            image: image.as_str(),
-            script: script.as_str(),
-            noise: noise.as_str(),
+    if is_word(command, wanted) && are_given(first, second, third) {
+        Some(Three {
+            first: first.as_str(),
+            second: second.as_str(),
+            third: third.as_str(),
         })
     } else {
         None
     }
 }
 
-/// The names in the words of `keygen`, or None where the words are another command or none.
-fn keygen_in(words: &[String]) -> Option<KeygenNames<'_>>
-    ensures { MatchOption result
-        ((names : KeygenFiles) → IsKeygen (map string_bytes words.now) names → ⊥)
-        (λ found. IsKeygen (map string_bytes words.now) (keygen_files found)) }
+/// The layer that the word names, 2 or 3, or None where it names neither.
+fn layer_in(word: &str) -> Option<u8>
+    ensures { MatchOption result ((layer : ℕ) → IsLayerWord word.now layer → ⊥) (IsLayerWord word.now) }
 {
-    let [command, noise, key, public] = words else {
+    if is_word(word, "2") {
+        Some(2)
+    } else if is_word(word, "3") {
+        Some(3)
+    } else {
+        None
+    }
+}
+
+/// The names in the words of `countersign`, or None where the words are anything else.
+fn countersign_in(words: &[String]) -> Option<CountersignNames<'_>>
+    ensures { MatchOption result
+        ((names : CountersignFiles) → IsRequest (map string_bytes words.now) (countersigns names) → ⊥)
+        (λ found. IsRequest (map string_bytes words.now) (countersigns (countersign_files found))) }
+{
+    let [command, key, layer, order, out] = words else {
         return None;
     };
-    if is_word(command, "keygen") && are_given(noise, key, public) {
-        Some(KeygenNames {
-            noise: noise.as_str(),
+    let Some(layer) = layer_in(layer) else {
+        return None;
+    };
+    if is_word(command, "countersign") && are_given(key, order, out) {
+        Some(CountersignNames {
             key: key.as_str(),
-            public: public.as_str(),
+            layer,
+            order: order.as_str(),
+            out: out.as_str(),
         })
     } else {
         None

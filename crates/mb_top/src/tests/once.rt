@@ -1,7 +1,15 @@
-//! An order that another program made and signed.
+//! An order that an independent program made and signed.
+
+use std::alloc::Global;
+use std::test::Fail;
+
+/// The order.
+pub fn order(alloc: Global) -> Result<Vec<u8>, Fail> {
+    Ok(hex::decode(alloc, ORDER)?)
+}
 
 /// It establishes an owner of layer 2 with the trust countersigned.
-pub const ORDER: &str =
+const ORDER: &str =
     "01020000000005000000035c6d009ae4672bd031a5dc7525cbaba82e56d8e64c6a43bb1c541dc444c381d61f0ad5bca66db1\
     d753e7a3bbdf84873c02092c0000000000000003bc0271fbb6c3417580f5a5b1030b1ccb9fe6d1edfa52050d6e07e78a00f6\
     e070cde055f89ca1bf1dfa61f4a31895e50af875d03fb224657da79fd7eb110ac95ec3531531f04235655c21742426cecfc8\

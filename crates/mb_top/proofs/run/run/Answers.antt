@@ -1,24 +1,24 @@
-use Rattle.std.proofs.Common.{sym, subst, false}
+use Rattle.std.proofs.Common.{refl, sym, subst}
 use Rattle.std.proofs.lemmas.Result.{err_from_is_err_and}
-use Rattle.mb_top.specs.Serving.{IsServable}
+use Rattle.mb_model.specs.FirstCommand.{run, read_script, IsFirstImage}
+use Rattle.mb_model.specs.Commands.{at_first}
 use Rattle.mb_top.specs.Words.{run_files}
-use Rattle.mb_top.proofs.Scripts.{servable_script}
-use Rattle.mb_top.proofs.Running.{has_served, load_leads, write_leads}
+use Rattle.mb_top.specs.FirstInputs.{image_input}
+use Rattle.mb_top.proofs.CommandLemmas.{input_carried_out, read_on}
 use Rattle.mb_top.proofs.run.run.Goals as goal
 
-pub serve-requires-clause-servable : goal.serve-requires-clause-servable
-serve-requires-clause-servable g c =
-    let loaded = c.in_ok-load.ensures.ok in
-    subst (λ l. IsServable false l.waiting) (sym loaded.fresh) (servable_script loaded.orders loaded.noise)
-
-pub returns-in_err-load : goal.returns-in_err-load
-returns-in_err-load g c =
+pub returns-in_err-image : goal.returns-in_err-image
+unfolding run
+returns-in_err-image g c =
     let p = err_from_is_err_and c.from_residual.result c.from_residual.ensures.1 in
     let outside = g.H.Host.outside in
-    rw (p.1, p.2) (load_leads (run_files c.args.names.now) (outside c.args.host.now) (outside c.load.new.host) _ _ c.load.ensures.after c.in_err-load.field-0.0 c.in_err-load.ensures.err)
+    rw (p.1, p.2) (input_carried_out (image_input c.args.names.now.image.now) _ at_first _ _ (outside c.args.host.now) (outside c.read_image.new.host) c.in_err-image.field-0.0 refl c.requires.none_answered c.in_err-image.ensures.err)
 
 pub returns : goal.returns
+unfolding run
 returns g c =
     let outside = g.H.Host.outside in
-    let served = has_served _ _ _ _ _ _ c.in_ok-load.ensures.ok c.serve.ensures.events c.serve.ensures.run c.serve.ensures.loaded in
-    write_leads _ _ (outside c.load.new.host) _ _ _ c.in_ok-load.ensures.after served c.write.result c.write.ensures.ok c.write.ensures.err
+    let held = c.in_ok-image.ensures.form in
+    let image : IsFirstImage c.deref.result.now held.0 = subst (λ i. IsFirstImage i held.0) (sym c.deref.ensures.value) held.1 in
+    read_on (image_input c.args.names.now.image.now) (read_script (run_files c.args.names.now)) at_first _ _ (outside c.args.host.now) (outside c.read_image.new.host) (outside c.run_image.new.host) held.0
+    c.run_image.result (c.in_ok-image.ensures.read held.0 held.1) (c.run_image.ensures held.0 image)

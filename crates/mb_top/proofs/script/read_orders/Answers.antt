@@ -40,9 +40,9 @@ pub loop-orders-preserved : goal.loop-orders-preserved
 loop-orders-preserved c =
     let command = rw c.in-Command.is at c.in_ok-read_line.ensures.ok in
     let pushed = c.in_ok-push-in-Command.ensures.items in record {
-      forward = λ more behind.
+      forward = λ more remaining.
           let longer = c.loop-orders.invariant.forward (c.in-Command.order ∷ more)
-          (IsRest-cons _ _ _ command.0 c.in-Command.order more c.split_line.ensures command.1 command.2 behind) in
+          (IsRest-cons _ _ _ command.0 c.in-Command.order more c.split_line.ensures command.1 command.2 remaining) in
           subst (λ (x : List (List ℕ)). IsRest c.args.text.now x) (move_one c.loop-orders.orders.items _ more c.in-Command.order pushed) longer;
       backward = λ all is.
           let more = c.loop-orders.invariant.backward all is in

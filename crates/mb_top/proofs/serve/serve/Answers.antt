@@ -1,5 +1,5 @@
 use Rattle.std.proofs.Common.{◌∙◌, subst, sym}
-use Rattle.mb_model.specs.FirstPath.{StandsFor, FirstRun}
+use Rattle.mb_model.specs.FirstPath.{HoldsFirstState, FirstRun}
 use Rattle.mb_top.specs.Serving.{Knows}
 use Rattle.mb_top.proofs.Served.{step_from_standing, serves_more}
 use Rattle.mb_top.proofs.serve.serve.Goals as goal
@@ -28,4 +28,4 @@ pub returns-clause-run : goal.returns-clause-run
 returns-clause-run g c =
     λ first stands.
     let done = c.events.invariant.run first stands in
-    (done.0, subst (λ m. StandsFor m.flash done.0) (sym c.take.ensures.memory) done.1, subst (λ l. FirstRun first l.answered done.0) (sym c.in_default.ensures.none.1) done.2)
+    (done.0, subst (λ m. HoldsFirstState m.flash done.0) (sym c.take.ensures.memory) done.1, subst (λ l. FirstRun first l.answered done.0) (sym c.in_default.ensures.none.1) done.2)

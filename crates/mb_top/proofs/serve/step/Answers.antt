@@ -5,6 +5,6 @@ use Rattle.mb_top.proofs.serve.step.Goals as goal
 
 pub returns-in-On-clause-step : goal.returns-in-On-clause-step
 returns-in-On-clause-step g c =
-    steps-answer _ _ c.in-Command.draw c.in-On.state c.command.new.state c.command.result _ _ c.in-Command.is
-    (stands-ready _ _ _ _ _ _ _ c.in-Command.is c.in-On.is c.requires.ready) c.command.ensures.stands
-    (subst (λ t. Answers c.in-On.state t c.command.result c.command.new.state) c.as_slice.ensures c.command.ensures.answer)
+    steps-answer _ _ c.in-Command.draw c.in-On.state c.serve_order.new.state c.serve_order.result _ _ c.in-Command.is
+    (stands-ready _ _ _ _ _ _ _ c.in-Command.is c.in-On.is c.requires.ready) c.serve_order.ensures.stands
+    (subst (λ t. Answers c.in-On.state t c.serve_order.result c.serve_order.new.state) c.as_slice.ensures c.serve_order.ensures.answer)

@@ -1,0 +1,33 @@
+use Rattle.std.proofs.Common.{map, string_bytes, subst, sym}
+use Rattle.mb_model.specs.Top.{IsRequest}
+use Rattle.mb_top.specs.Words.{asked_by}
+use Rattle.mb_top.proofs.Requests.{request_carried_out, alone_carried_out}
+use Rattle.mb_top.proofs.commands.counted_command.Goals as goal
+
+pub returns-in-Some-Run : goal.returns-in-Some-Run
+returns-in-Some-Run g c =
+    let words = map string_bytes c.args.words.now in
+    let outside = g.H.Host.outside in
+    let asked = subst (λ r. IsRequest words (asked_by r)) c.in-Some-Run.field-0-is c.in-Some-Run.ensures in
+    request_carried_out words _ _ _ (outside c.args.host.now) (outside c.run.new.host) c.run.result asked c.run.ensures
+
+pub returns-in-Some-Keygen : goal.returns-in-Some-Keygen
+returns-in-Some-Keygen g c =
+    let words = map string_bytes c.args.words.now in
+    let outside = g.H.Host.outside in
+    let asked = subst (λ r. IsRequest words (asked_by r)) c.in-Some-Keygen.field-0-is c.in-Some-Keygen.ensures in
+    alone_carried_out words _ _ _ (outside c.args.host.now) (outside c.keygen.new.host) c.keygen.result asked c.requires.none_answered c.keygen.ensures
+
+pub returns-in-Some-Sign : goal.returns-in-Some-Sign
+returns-in-Some-Sign g c =
+    let words = map string_bytes c.args.words.now in
+    let outside = g.H.Host.outside in
+    let asked = subst (λ r. IsRequest words (asked_by r)) c.in-Some-Sign.field-0-is c.in-Some-Sign.ensures in
+    alone_carried_out words _ _ _ (outside c.args.host.now) (outside c.sign.new.host) c.sign.result asked c.requires.none_answered c.sign.ensures
+
+pub returns-in-Some-Countersign : goal.returns-in-Some-Countersign
+returns-in-Some-Countersign g c =
+    let words = map string_bytes c.args.words.now in
+    let outside = g.H.Host.outside in
+    let asked = subst (λ r. IsRequest words (asked_by r)) c.in-Some-Countersign.field-0-is c.in-Some-Countersign.ensures in
+    alone_carried_out words _ _ _ (outside c.args.host.now) (outside c.countersign.new.host) c.countersign.result asked c.requires.none_answered c.countersign.ensures

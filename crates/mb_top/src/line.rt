@@ -1,0 +1,115 @@
+//! What the program does with its command line.
+
+ghost use Rattle.std.specs.Prelude.{◌≡◌, ◌↔◌, ◌∷◌, [], map, IfOk, IfErr, IsTrue, None, false, string_bytes};
+ghost use Rattle.mb_model.specs.Board.{Final};
+ghost use Rattle.mb_model.specs.Commands.{PrintEnds, Stops, at_first};
+ghost use Rattle.mb_top.specs.Ending.{ended_at, end_line, end_status, shown_by};
+ghost use Rattle.mb_top.specs.Program.{ProgramEnds, end_without};
+
+use crate::commands::top;
+use crate::end::End;
+use crate::output::stop;
+use crate::words::is_word;
+use mb_board::Board;
+use mb_host::Host;
+use std::alloc::Global;
+
+/// What `--help` prints.
+pub const USAGE: &[u8] = b"miniboot serves a simulated secure coprocessor.
+
+usage:
+  miniboot run IMAGE SCRIPT NOISE    serves the script on the image, writes the new image over it,
+                                     and prints a line for each reply
+  miniboot keygen NOISE KEY PUBLIC   makes an officer's key from the noise, writes its file and its
+                                     public key, and prints the public key's hash
+  miniboot sign KEY DRAFT OUT        signs the order of the draft, writes the key with its index used
+                                     and the order as a line, and prints the index
+  miniboot countersign KEY LAYER ORDER OUT
+                                     adds the countersignature of a layer's owner to an order line
+  miniboot --help                    prints this text
+  miniboot --version                 prints the version
+
+status: 0 done, 2 the words are no command, 3 an input is not in its form,
+        4 an input could not be read, 5 an output could not be written, 6 no memory,
+        7 the command is refused
+";
+
+/// What `--version` prints.
+pub const VERSION: &[u8] = b"miniboot 0.1.0\n";
+
+/// Why the words of the command line could not be had.
+#[derive(Clone, Copy, Debug, PartialEq, Eq)]
+pub enum NoWords {
+    /// A word is not text, so the words are no command.
+    NotText,
+    /// An allocation failed.
+    NoMemory,
+}
+
+/// Does what the words of the command line say, without the program's name, and answers the exit status. The one word
+/// `--help` or `--version` is answered here, and all other words by `top`.
+pub fn program<H: Host, B: Board>(
+    alloc: Global,
+    words: Result<Vec<String>, NoWords>,
+    host: &mut H,
+    board: &mut B,
+) -> u8
+    requires off { B.power board.old ≡ false }
+    requires none_out { (B.ledger board.old).out ≡ None }
+    requires none_waiting { (B.ledger board.old).waiting ≡ [] }
+    requires none_answered { (B.ledger board.old).answered ≡ [] }
+    ensures words { IfOk words (λ words. ProgramEnds USAGE.now VERSION.now (map string_bytes words.items)
+        (ended_at (H.outside host.old) (B.ledger board.new).answered
+        (shown_by (B.memory board.new) (B.power board.new) (B.ledger board.new))
+        (H.outside host.new) result)) }
+    ensures none { IfErr words (λ why. Stops (end_line (end_without why)) (end_status (end_without why)) at_first
+        (ended_at (H.outside host.old) (B.ledger board.new).answered
+        (shown_by (B.memory board.new) (B.power board.new) (B.ledger board.new))
+        (H.outside host.new) result)) }
+{
+    match words {
+        Ok(words) => answer(alloc, &words, host, board),
+        Err(NoWords::NotText) => stop(host, End::Words),
+        Err(NoWords::NoMemory) => stop(host, End::NoMemory),
+    }
+}
+
+/// Answers `--help` and `--version`, and hands all other words to `top`.
+fn answer<H: Host, B: Board>(alloc: Global, words: &[String], host: &mut H, board: &mut B) -> u8
+    requires off { B.power board.old ≡ false }
+    requires none_out { (B.ledger board.old).out ≡ None }
+    requires none_waiting { (B.ledger board.old).waiting ≡ [] }
+    requires none_answered { (B.ledger board.old).answered ≡ [] }
+    ensures { ProgramEnds USAGE.now VERSION.now (map string_bytes words.now)
+        (ended_at (H.outside host.old) (B.ledger board.new).answered
+        (shown_by (B.memory board.new) (B.power board.new) (B.ledger board.new))
+        (H.outside host.new) result) }
+{
+    if is_one_word(words, "--help") {
+        tell(host, USAGE)
+    } else if is_one_word(words, "--version") {
+        tell(host, VERSION)
+    } else {
+        top(alloc, words, host, board)
+    }
+}
+
+/// Whether the words are this one alone.
+fn is_one_word(words: &[String], wanted: &str) -> bool
+    ensures { IsTrue result ↔ (map string_bytes words.now ≡ wanted.now ∷ []) }
+{
+    let [word] = words else {
+        return false;
+    };
+    is_word(word, wanted)
+}
+
+/// Prints a text, and answers the exit status.
+fn tell<H: Host>(host: &mut H, text: &[u8]) -> u8
+    ensures { (final : Final) → PrintEnds text.now at_first (ended_at (H.outside host.old) [] final (H.outside host.new) result) }
+{
+    match host.print(text) {
+        Ok(()) => 0,
+        Err(_) => stop(host, End::NotPrinted),
+    }
+}

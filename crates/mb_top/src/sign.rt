@@ -1,0 +1,159 @@
+//! The commands `sign` and `countersign`.
+
+ghost use Rattle.std.specs.Prelude.{◌≡◌, ◌≤◌, IfOk, IsTrue, string_bytes};
+ghost use Rattle.mb_model.specs.declared.tools.Keyfile.{Keyfile};
+ghost use Rattle.mb_model.specs.Layers.{is_upper};
+ghost use Rattle.mb_model.specs.OrderFormat.{order_format};
+ghost use Rattle.mb_model.specs.SignedOrders.{used_once, signed_order};
+ghost use Rattle.mb_model.specs.Sign.{sign, sign_by, sign_draft, countersign, countersign_order, countersign_by, use_index, index_text};
+ghost use Rattle.mb_top.specs.Words.{sign_files, countersign_files};
+ghost use Rattle.mb_top.specs.Ending.{CarriesOut};
+ghost use Rattle.mb_top.specs.Signing.{end_of};
+
+use crate::end::{End, Refusal};
+use crate::input::{read_draft_file, read_key, read_order_file};
+use crate::output::{Output, finish};
+use crate::words::{CountersignNames, SignNames};
+use mb_host::Host;
+use mb_lms::Steps;
+use mb_model::{Keyfile, NoMemory, Order, Role};
+use mb_officer::{
+    SignEnd, countersign as add_countersignature, sign_order, write_keyfile, write_order_line,
+};
+use std::alloc::Global;
+use std::sync::ledger::Ledger;
+
+/// The names of the files that are written.
+#[derive(Clone, Copy, Debug)]
+struct OutputNames<'a> {
+    key: &'a str,
+    out: &'a str,
+}
+
+/// Signs the order of a draft by an officer's key: writes the key with its index used, then the order's line, and prints
+/// the index.
+pub fn sign<H: Host, L: Ledger>(
+    alloc: Global,
+    names: &SignNames<'_>,
+    host: &mut H,
+    steps: &mut Steps<L>,
+) -> Result<(), End>
+    ensures { CarriesOut (sign (sign_files names.now)) (H.outside host.old) result (H.outside host.new) }
+{
+    let key = read_key(alloc, host, names.key)?;
+    sign_draft(alloc, names, key, host, steps)
+}
+
+/// Signs the order of the draft by this key.
+fn sign_draft<H: Host, L: Ledger>(
+    alloc: Global,
+    names: &SignNames<'_>,
+    mut key: Keyfile,
+    host: &mut H,
+    steps: &mut Steps<L>,
+) -> Result<(), End>
+    requires { key.next ≤ 32 }
+    ensures { CarriesOut (sign_draft (sign_files names.now) key) (H.outside host.old) result (H.outside host.new) }
+{
+    let mut order = read_draft_file(alloc, host, names.draft)?;
+    let outputs = OutputNames {
+        key: names.key,
+        out: names.out,
+    };
+    match sign_order(alloc, &mut key, &mut order, steps) {
+        Ok(index) => write_signed(alloc, outputs, &key, &order, index, host),
+        Err(end) => Err(end_of(end)),
+    }
+}
+
+/// Countersigns the order of an order line by an officer's key, as the owner of a layer: writes the key with its index
+/// used, then the order's line, and prints the index.
+pub fn countersign<H: Host, L: Ledger>(
+    alloc: Global,
+    names: &CountersignNames<'_>,
+    host: &mut H,
+    steps: &mut Steps<L>,
+) -> Result<(), End>
+    requires { IsTrue (is_upper names.now.layer) }
+    ensures { CarriesOut (countersign (countersign_files names.now)) (H.outside host.old) result (H.outside host.new) }
+{
+    let key = read_key(alloc, host, names.key)?;
+    countersign_order(alloc, names, key, host, steps)
+}
+
+/// Countersigns the order of the line by this key.
+fn countersign_order<H: Host, L: Ledger>(
+    alloc: Global,
+    names: &CountersignNames<'_>,
+    mut key: Keyfile,
+    host: &mut H,
+    steps: &mut Steps<L>,
+) -> Result<(), End>
+    requires layer { IsTrue (is_upper names.now.layer) }
+    requires next { key.next ≤ 32 }
+    ensures { CarriesOut (countersign_order (countersign_files names.now) key) (H.outside host.old) result (H.outside host.new) }
+{
+    let mut order = read_order_file(alloc, host, names.order)?;
+    let outputs = OutputNames {
+        key: names.key,
+        out: names.out,
+    };
+    match add_countersignature(alloc, &mut key, names.layer, &mut order, steps) {
+        Ok(index) => write_signed(alloc, outputs, &key, &order, index, host),
+        Err(end) => Err(end_of(end)),
+    }
+}
+
+/// How the command ends where the order was not signed.
+fn end_of(end: SignEnd) -> End
+    ensures { result ≡ end_of end }
+{
+    match end {
+        SignEnd::Spent => End::Refused(Refusal::Spent),
+        SignEnd::NotCountersignable => End::Refused(Refusal::NotCountersignable),
+        SignEnd::NoMemory => End::NoMemory,
+    }
+}
+
+/// Writes a key of which an index has been used, and the order that was signed with it, and prints the index.
+fn write_signed<H: Host>(
+    alloc: Global,
+    names: OutputNames<'_>,
+    key: &Keyfile,
+    order: &Order,
+    index: u32,
+    host: &mut H,
+) -> Result<(), End>
+    requires next { key.now.next ≤ 32 }
+    requires spelled { order_format.Allowed order.now }
+    ensures { (before : Keyfile) → key.now ≡ used_once before → index ≡ before.next
+        → CarriesOut (use_index names.entry.key.now names.entry.out.now before order.now) (H.outside host.old) result (H.outside host.new) }
+{
+    let Ok(line) = write_order_line(alloc, order) else {
+        return Err(End::NoMemory);
+    };
+    let Ok(text) = index_text(alloc, index) else {
+        return Err(End::NoMemory);
+    };
+    let file = write_keyfile(key);
+    let outputs = [
+        Output {
+            role: Role::Key,
+            name: names.key,
+            bytes: &file,
+        },
+        Output {
+            role: Role::Out,
+            name: names.out,
+            bytes: &line,
+        },
+    ];
+    finish(host, &outputs, text.as_bytes())
+}
+
+/// The line that tells an index.
+fn index_text(alloc: Global, index: u32) -> Result<String, NoMemory>
+    ensures { IfOk result (λ text. string_bytes text ≡ index_text index) }
+{
+    Ok(format!(in alloc; "index {index}\n")?)
+}
