@@ -1,0 +1,5 @@
+pub mod Commits
+pub mod InForce
+pub mod CommitLaws
+pub mod Storable
+pub mod StorableLaws
