@@ -1,0 +1,9 @@
+pub mod OfficerLemmas
+pub mod KeptByRuns
+pub mod GrowthLemmas
+pub mod IndexLemmas
+pub mod BirthLemmas
+pub mod SignedSteps
+pub mod KeyLemmas
+pub mod SpentLemmas
+pub mod StatementLemmas

@@ -1,0 +1,40 @@
+-- Laws of the chain that a device hands out. Is each key that was born in a device accepted?
+use Rattle.std.specs.Prelude.{◌≡◌, ℕ, List, ◌∷◌, ◌++◌, None}
+use Rattle.mb_format.specs.Format.{Spells}
+use Rattle.mb_model.specs.declared.key.PublicKey.{PublicKey}
+use Rattle.mb_model.specs.declared.order.KeyKind.{KeyKind}
+use Rattle.mb_model.specs.declared.entry.Chain.{Chain}
+use Rattle.mb_model.specs.declared.entry.Entry.{Entry}
+use Rattle.mb_model.specs.declared.entry.Entry.TheVariants.{NewKey}
+use Rattle.mb_model.specs.declared.entry.SignedEntry.{SignedEntry}
+use Rattle.mb_model.specs.declared.state.State.{State}
+use Rattle.mb_model.specs.Merkle.{Verifies}
+use Rattle.mb_model.specs.Log.{entries_of}
+use Rattle.mb_model.specs.ChainFormat.{chain_format}
+use Rattle.mb_model.specs.SignedTexts.{entry_text}
+use Rattle.mb_model.specs.Valid.{IsValidState}
+use Rattle.mb_model.specs.Acceptance.{AreGood, report_of, Accepts}
+
+-- the maker signed the birth
+abbrev pub IsBornOf : PublicKey → List SignedEntry → Type 0
+IsBornOf maker log =
+    (birth : SignedEntry) (rest : List SignedEntry) → log ≡ birth ∷ rest
+    → Verifies maker (entry_text birth.entry) birth.signature
+
+-- then each entry of the device's log follows, as a verifier looks at it
+abbrev pub LogsAreGood : Type 0
+LogsAreGood =
+    (maker : PublicKey) (state : State) → IsValidState state → IsBornOf maker state.log → AreGood maker state.log
+
+-- the chain of a log without a statement
+abbrev pub bare_chain : List SignedEntry → Chain
+bare_chain log = record { entries = log; statement = None }
+
+-- and the chain of the log is accepted for each key of a region that was born in it
+abbrev pub BornKeysAreAccepted : Type 0
+BornKeysAreAccepted =
+    (maker : PublicKey) (state : State) (bytes : List ℕ) (before : List Entry) (position number n L : ℕ)
+    (kind : KeyKind) (key : PublicKey) (later : List Entry)
+    → IsValidState state → IsBornOf maker state.log → Spells chain_format bytes (bare_chain state.log)
+    → entries_of state.log ≡ before ++ NewKey position number n L kind key ∷ later
+    → Accepts maker bytes n (report_of (bare_chain state.log) n (record { layer = L; kind = kind; key = key }))

@@ -1,0 +1,96 @@
+-- Laws of statements. Is what a key once stated accepted with a later chain?
+use Rattle.std.specs.Prelude.{◌≡◌, ℕ, ◌<◌, nat_lt, Bool, false, not, List, [], ◌∷◌, take_while, All, Contains, Some}
+use Rattle.mb_format.specs.Format.{Spells}
+use Rattle.mb_model.specs.declared.key.PublicKey.{PublicKey}
+use Rattle.mb_model.specs.declared.entry.Chain.{Chain}
+use Rattle.mb_model.specs.declared.entry.Entry.{Entry}
+use Rattle.mb_model.specs.declared.entry.Entry.TheVariants.{Birth, Change, NewKey, Succession}
+use Rattle.mb_model.specs.declared.entry.SignedEntry.{SignedEntry}
+use Rattle.mb_model.specs.declared.entry.Statement.{Statement}
+use Rattle.mb_model.specs.declared.event.Answered.{Answered}
+use Rattle.mb_model.specs.declared.event.Event.{Event}
+use Rattle.mb_model.specs.declared.region.RegionKey.{RegionKey}
+use Rattle.mb_model.specs.declared.reply.Reply.TheVariants as reply
+use Rattle.mb_model.specs.declared.state.State.{State}
+use Rattle.mb_model.specs.Signing.{public_of}
+use Rattle.mb_model.specs.ChainFormat.{statement_format, chain_format}
+use Rattle.mb_model.specs.OrderStep.{region_of}
+use Rattle.mb_model.specs.LayerEvents.{statement_of}
+use Rattle.mb_model.specs.Machine.{World, Step, Run}
+use Rattle.mb_model.specs.Valid.{Valid}
+use Rattle.mb_model.specs.Acceptance.{KeyEntry, report_of, Accepts}
+use Rattle.mb_run_laws.specs.BirthLaws.{IsBornOf}
+use Rattle.mb_run_laws.specs.RunLaws.{worlds_of}
+
+-- ---- statements
+
+-- In this state a key of the region of layer L, with the number n, states a message at its next index.
+pub record IsStatedIn (state : State) (L : ℕ) (key : RegionKey) (n index : ℕ) (statement : List ℕ) : Type 0 where
+  pub message : List ℕ
+  pub within : Contains (region_of state L).keys key
+  pub number_is : key.number ≡ n
+  pub index_is : key.uses ≡ index
+  pub left : key.uses < 32
+  pub statement_is : statement ≡ statement_format.spelling (statement_of state key message)
+
+-- Where an event is answered by a statement, a key of the state before has stated it.
+abbrev pub StatementsAreOfKeys : Type 0
+StatementsAreOfKeys =
+    (world : World) (event : Event) (n index : ℕ) (statement : List ℕ) (next : World)
+    → Step world event (reply.Signed n index statement) next
+    → (state : State) × (world.state ≡ Some state)
+    × (L : ℕ) × (key : RegionKey) × IsStatedIn state L key n index statement
+
+-- ---- the chain with a statement
+
+-- the entry is a change with a number above this one
+abbrev pub is_change_above : ℕ → Entry → Bool
+is_change_above n (Birth serial key layers) = false
+is_change_above n (Change position number kind layer cosigned layers kept next) = nat_lt n number
+is_change_above n (NewKey position number key_number layer kind key) = false
+is_change_above n (Succession position key) = false
+
+-- The entries that stand in a chain with a statement of the configuration number n: the birth, and those after it up to
+-- the first change with a higher number.
+abbrev pub cut_at : ℕ → List SignedEntry → List SignedEntry
+cut_at n [] = []
+cut_at n (birth ∷ rest) = birth ∷ take_while (λ signed. not (is_change_above n signed.entry)) rest
+
+-- the chain of a log to which a statement is attached
+abbrev pub stated_chain : List SignedEntry → Statement → Chain
+stated_chain log statement = record { entries = cut_at statement.number log; statement = Some statement }
+
+-- what the log tells of a key of layer L
+abbrev pub entry_of : ℕ → RegionKey → KeyEntry
+entry_of L key = record { layer = L; kind = key.kind; key = public_of key.seed }
+
+-- What a key that is there and has an index left states, attached to the log of the state then, or of a later live one
+-- of a run, is accepted for the key, where the maker signed the device's birth.
+abbrev pub StatementsAreAccepted : Type 0
+StatementsAreAccepted =
+    (maker : PublicKey) (world : World) (answered : List Answered) (next : World) (state later : State)
+    (L : ℕ) (key : RegionKey) (message bytes : List ℕ)
+    → Valid world.state → world.state ≡ Some state → Contains (region_of state L).keys key → key.uses < 32
+    → Run world answered next → next.state ≡ Some later → IsBornOf maker later.log
+    → Spells chain_format bytes (stated_chain later.log (statement_of state key message))
+    → Accepts maker bytes key.number
+    (report_of (stated_chain later.log (statement_of state key message)) key.number (entry_of L key))
+
+-- Bytes that spell the log with this statement attached to it are accepted for the key with the number n.
+pub record StaysAccepted (maker : PublicKey) (log : List SignedEntry) (n : ℕ) (bytes : List ℕ) : Type 0 where
+  pub statement : Statement
+  pub made : KeyEntry
+  pub is : bytes ≡ statement_format.spelling statement
+  pub accepted : (chain : List ℕ)
+      → Spells chain_format chain (stated_chain log statement)
+      → Accepts maker chain n (report_of (stated_chain log statement) n made)
+
+-- So what an event was answered by, in a valid state, is accepted with the log of each later live state of a run.
+abbrev pub AnswersStayAccepted : Type 0
+AnswersStayAccepted =
+    (maker : PublicKey) (world : World) (event : Event) (n index : ℕ) (bytes : List ℕ) (mid : World)
+    (answered : List Answered) (next : World) (run : Run mid answered next)
+    → Valid world.state → Step world event (reply.Signed n index bytes) mid
+    → All
+    (λ w. (later : State) → w.state ≡ Some later → IsBornOf maker later.log → StaysAccepted maker later.log n bytes)
+    (worlds_of mid answered next run)
