@@ -1,15 +1,16 @@
 #!/usr/bin/env bash
-# Builds the proved program, makes the keys of two officers, and shows their files and the hashes by which they are known.
-# Fails where that is not what expected.txt says. The noise is known here, so that another program can make the same
-# keys; an officer takes 32 bytes that nobody can guess, as `head -c 32 /dev/urandom` gives them. Works from any current
-# folder; beside the build in crates/*/out/ it writes in a temporary folder alone, which it removes.
+# Builds the proved program, makes the keys of two officers, signs and countersigns two orders with them, and serves one
+# on a device. Shows what was made, and fails where that is not what expected.txt says, which another program made
+# (peers/two_officers.py). The noise is known here, so that it can make the same keys; an officer takes 32 bytes that
+# nobody can guess, as `head -c 32 /dev/urandom` gives them. run.sh [PROGRAM] tries a program that is built. Works from
+# any current folder; beside the build in crates/*/out/ it writes in a temporary folder alone, which it removes.
 set -euo pipefail
 export LC_ALL=C
 
 here=$(cd "$(dirname "${BASH_SOURCE[0]}")" && pwd)
 crate=$(cd "$here/../../crates/miniboot" && pwd)
 
-for tool in rt od tr; do
+for tool in od tr sed cut sha256sum; do
     if ! command -v "$tool" >/dev/null; then
         echo "$tool is needed, and is not on the PATH" >&2
         exit 1
@@ -18,28 +19,67 @@ done
 
 work=$(mktemp -d)
 trap 'rm -rf "$work"' EXIT
-# shellcheck source=../build.sh
-. "$here/../build.sh"
+if [ $# -gt 0 ]; then
+    program=$(realpath "$1")
+else
+    # shellcheck source=../build.sh
+    . "$here/../build.sh"
+    build
+    program=$crate/out/miniboot
+fi
 
-# The bytes of a file in hexadecimal.
+# The bytes of standard input in hexadecimal.
 hex() {
-    od -An -v -tx1 "$1" | tr -d ' \n'
+    od -An -v -tx1 | tr -d ' \n'
+}
+
+# The bytes of a file from an offset on, so many, in hexadecimal.
+part() {
+    head -c "$(($2 + $3))" "$1" | tail -c "$3" | hex
+}
+
+# Runs the program with these words; what it prints is in `printed`.
+miniboot() {
+    "$program" "$@" >printed || {
+        status=$?
+        cat printed
+        echo "miniboot $1 ended with status $status" >&2
+        return 1
+    }
 }
 
 # Makes an officer's key of the noise in a file of the officer's name, and shows what was made.
 make_key() {
-    "$crate/out/miniboot" keygen "$1.noise" "$1.key" "$1.public" >"$1.printed" || {
-        status=$?
-        cat "$1.printed"
-        echo "the program ended with status $status" >&2
-        return 1
-    }
-    echo "$1: $(cat "$1.printed")"
-    echo "  key file    $(hex "$1.key")"
-    echo "  public key  $(hex "$1.public")"
+    miniboot keygen "$1.noise" "$1.key" "$1.public"
+    echo "$1: $(cat printed)"
+    echo "  key file    $(hex <"$1.key")"
+    echo "  public key  $(hex <"$1.public")"
 }
 
-build
+# Shows a draft, and the body of its order, which has so many bytes.
+show_draft() {
+    sed 's/^/  /' "$1.draft"
+    echo "  body        $(cut -c "9-$((8 + 2 * $2))" "$1.order")"
+}
+
+# Shows what was printed, the order that was written, and the key that was written before it.
+show_order() {
+    local line
+    line=$(cat "$1")
+    echo "  printed     $(cat printed)"
+    echo "  order       $(((${#line} - 8) / 2)) bytes"
+    echo "  line        SHA-256 $(sha256sum <"$1" | cut -d ' ' -f 1)"
+    echo "  key file    $(hex <"$2.key")"
+}
+
+# A new device: its serial, the owner of layer 1, and no owner of layer 2. What all other bytes are does not matter.
+make_image() {
+    head -c 17 /dev/zero
+    cat "$1"
+    head -c 1 /dev/zero
+    head -c "$((1077248 - 74))" /dev/zero | tr '\0' '\377'
+}
+
 cd "$work"
 head -c 32 /dev/zero >first.noise
 for number in $(seq 0 31); do
@@ -48,6 +88,29 @@ done >second.noise
 {
     make_key first
     make_key second
+
+    echo "The first, who owns layer 1, signs the order that makes the second the owner of layer 2:"
+    printf 'order establish 2\nowner %s\ntrust countersigned\n' "$(hex <second.public)" >establish.draft
+    miniboot sign first.key establish.draft establish.order
+    show_draft establish 60
+    show_order establish.order first
+
+    echo "A device of the first's serves it:"
+    make_image first.public >image
+    { echo boot; cat establish.order; echo off; } >script
+    miniboot run image script first.noise
+    sed 's/^/  /' printed
+    echo "  layer 2     $(part image 73 58)"
+
+    echo "The first signs a load of layer 1:"
+    printf 'order load 1\ntarget length 2\nversion 2\ntrust countersigned\ncode 616263\n' >load.draft
+    miniboot sign first.key load.draft load.order
+    show_draft load 20
+    show_order load.order first
+
+    echo "The second countersigns it as the owner of layer 2:"
+    miniboot countersign second.key 2 load.order both.order
+    show_order both.order second
 } >shown
 cat shown
 if ! cmp -s shown "$here/expected.txt"; then

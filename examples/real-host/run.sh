@@ -1,0 +1,145 @@
+#!/usr/bin/env bash
+# Tries the program on files and an output that fail, and compares its lines and statuses: run.sh [PROGRAM]. With no
+# PROGRAM it proves and builds the program first. Works from any current folder; beside that build it writes in a
+# temporary folder alone, which it removes. It needs Linux, for /dev/full.
+set -euo pipefail
+export LC_ALL=C
+
+here=$(cd "$(dirname "${BASH_SOURCE[0]}")" && pwd)
+crate=$(cd "$here/../../crates/miniboot" && pwd)
+
+work=$(mktemp -d)
+trap 'rm -rf "$work"' EXIT
+if [ $# -gt 0 ]; then
+    program=$(realpath "$1")
+else
+    # shellcheck source=../build.sh
+    . "$here/../build.sh"
+    build
+    program=$crate/out/miniboot
+fi
+cd "$work"
+
+passed=0
+failed=0
+
+# Counts a comparison by its name.
+compare() {
+    local name=$1 found=$2 wanted=$3
+    if [ "$found" = "$wanted" ]; then
+        passed=$((passed + 1))
+    else
+        failed=$((failed + 1))
+        printf '%s: found "%s", wanted "%s"\n' "$name" "$found" "$wanted"
+    fi
+}
+
+# Runs the program with these words, and compares its status and what it printed.
+try() {
+    local name=$1 status=$2 line=$3 found=0
+    shift 3
+    "$program" "$@" >printed || found=$?
+    compare "$name, status" "$found" "$status"
+    compare "$name, line" "$(cat printed)" "$line"
+}
+
+# Whether the key of 32 bytes of zeros and its public key are there. The public key's hash is the one that was printed.
+compare_key() {
+    local name=$1
+    compare "$name, key" "$(cmp key first-key && echo same)" same
+    compare "$name, public" "$(cmp public first-public && echo same)" same
+    rm -f key public
+}
+
+mkdir folder
+head -c 31 /dev/zero >short
+head -c 32 /dev/zero >noise
+head -c 4194304 /dev/zero >longest
+head -c 4194305 /dev/zero >too-long
+
+# What the key is that the noise gives. The hash is compared with another program's of the public key's file.
+status=0
+"$program" keygen noise first-key first-public >printed || status=$?
+compare 'a key, status' "$status" 0
+owner="owner $(sha256sum <first-public | cut -d ' ' -f 1)"
+compare 'a key, line' "$(cat printed)" "$owner"
+
+# Inputs. No output is made where an input is refused.
+try 'the longest noise' 0 "$owner" keygen longest key public
+compare_key 'the longest noise'
+try 'noise that is too long' 3 'input noise too long' keygen too-long key public
+try 'noise that is too short' 3 'input noise length' keygen short key public
+try 'no file of the name' 4 'read failed noise' keygen none key public
+try 'a folder as the noise' 4 'read failed noise' keygen folder key public
+compare 'no output' "$(ls -d key public 2>/dev/null || true)" ''
+
+# Outputs, of which those before the one that fails are written.
+try 'a full device as the key' 5 'write failed key' keygen noise /dev/full public
+try 'a folder as the key' 5 'write failed key' keygen noise folder public
+try 'no folder for the key' 5 'write failed key' keygen noise none/key public
+compare 'no public key' "$(ls -d public 2>/dev/null || true)" ''
+try 'a full device as the public key' 5 'write failed public' keygen noise key /dev/full
+compare 'the key before it' "$(cmp key first-key && echo same)" same
+rm -f key
+
+# Signing. The key is written with its index used before the order, and stays so where the order cannot be written.
+next_of() {
+    od -An -v -tx1 -j 52 "$1" | tr -d ' \n'
+}
+printf 'order surrender 2\n' >surrender
+printf 'order load 1\nversion 1\ntrust never\ncode -\n' >load
+printf 'order surrender 2\norder surrender 2\n' >two-orders
+head -c 55 first-key >short-key
+{ head -c 52 first-key; printf '\0\0\0\40'; } >spent-key
+cp first-key key
+try 'a short key' 3 'input key at 52' sign short-key surrender order
+try 'no key of the name' 4 'read failed key' sign none surrender order
+try 'no draft of the name' 4 'read failed draft' sign key none order
+try 'a draft that is too long' 3 'input draft too long' sign key too-long order
+try 'two orders in a draft' 3 'input draft line 2' sign key two-orders order
+try 'a spent key' 7 'spent' sign spent-key surrender order
+compare 'no order, and the key as before' "$(ls -d order 2>/dev/null || true)$(next_of key)" 00000000
+try 'an order' 0 'index 0' sign key surrender order
+compare 'one index is used' "$(next_of key)" 00000001
+try 'a full device as the order' 5 'write failed out' sign key load /dev/full
+compare 'another index is used' "$(next_of key)" 00000002
+try 'a folder as the order' 5 'write failed out' sign key load folder
+compare 'and another' "$(next_of key)" 00000003
+try 'a load' 0 'index 3' sign key load load-order
+
+# Countersigning.
+try 'a draft as the order' 3 'input order line 1' countersign key 2 load both
+cat load-order load-order >two-lines
+try 'two orders' 3 'input order line 2' countersign key 2 two-lines both
+try 'no order of the name' 4 'read failed order' countersign key 2 none both
+try 'a layer that is none' 2 'words' countersign key 1 load-order both
+try 'an order that takes none' 7 'not countersignable' countersign key 2 order both
+try 'a spent key beside' 7 'spent' countersign spent-key 2 load-order both
+compare 'no order, and the key as it was' "$(ls -d both 2>/dev/null || true)$(next_of key)" 00000004
+try 'a countersignature' 0 'index 4' countersign key 2 load-order both
+try 'the same layer again' 7 'not countersignable' countersign key 2 both again
+try 'over the order itself' 0 'index 5' countersign key 3 both both
+compare 'the last index' "$(next_of key)" 00000006
+rm -f key
+
+# Standard output that takes nothing, and one that is closed. The outputs are written before the line.
+status=0
+"$program" keygen noise key public >/dev/full || status=$?
+compare 'a full standard output, status' "$status" 5
+compare_key 'a full standard output'
+status=0
+"$program" keygen noise key public >&- || status=$?
+compare 'a closed standard output, status' "$status" 5
+compare_key 'a closed standard output'
+status=0
+"$program" --version >/dev/full || status=$?
+compare 'the version to a full device, status' "$status" 5
+cp first-key key
+rm -f order
+status=0
+"$program" sign key surrender order >/dev/full || status=$?
+compare 'an index to a full device, status' "$status" 5
+compare 'the key and the order before it' "$(next_of key)$(wc -l <order)" 000000011
+
+echo "$passed passed, $failed failed"
+[ "$failed" -eq 0 ]

@@ -1,0 +1,142 @@
+import java.io.IOException;
+import java.nio.file.Files;
+import java.nio.file.Path;
+import java.util.Arrays;
+import java.util.HexFormat;
+import java.util.List;
+import org.bouncycastle.pqc.crypto.lms.LMOtsParameters;
+import org.bouncycastle.pqc.crypto.lms.LMSPrivateKeyParameters;
+import org.bouncycastle.pqc.crypto.lms.LMSPublicKeyParameters;
+import org.bouncycastle.pqc.crypto.lms.LMSSigner;
+import org.bouncycastle.pqc.crypto.lms.LMSigParameters;
+
+/**
+ * The keys and orders of miniboot, by the LMS of Bouncy Castle.
+ *
+ * <pre>
+ * Peer public KEY                       prints the public key of a key file
+ * Peer verify ORDER SPAN PUBLIC [LAYER PUBLIC]..   whether the order's signatures are of these keys
+ * Peer sign KEY BODY                    prints the line of the order with this body, signed at the key's next index
+ * Peer signatures FILE                  verifies lines KEY TEXT SIGNATURE, each also with a bit turned
+ * </pre>
+ *
+ * KEY, PUBLIC and ORDER are files; BODY stands in hexadecimal; SPAN is the length of the order's body.
+ */
+public final class Peer {
+    private static final HexFormat HEX = HexFormat.of();
+
+    public static void main(String[] words) throws IOException {
+        boolean right = switch (words[0]) {
+            case "public" -> printPublic(Path.of(words[1]));
+            case "verify" -> verifyOrder(words);
+            case "sign" -> printOrder(Path.of(words[1]), HEX.parseHex(words[2]));
+            case "signatures" -> verifyAll(Path.of(words[1]));
+            default -> throw new IllegalArgumentException(words[0]);
+        };
+        System.exit(right ? 0 : 1);
+    }
+
+    /** The private key of a key file: MBK1, an identifier, a seed and the next index. */
+    private static LMSPrivateKeyParameters privateKey(Path path) throws IOException {
+        byte[] file = Files.readAllBytes(path);
+        if (file.length != 56 || !new String(file, 0, 4).equals("MBK1")) {
+            throw new IOException("no key file");
+        }
+        return new LMSPrivateKeyParameters(
+                LMSigParameters.lms_sha256_n32_h5,
+                LMOtsParameters.sha256_n32_w4,
+                file[55],
+                Arrays.copyOfRange(file, 4, 20),
+                32,
+                Arrays.copyOfRange(file, 20, 52));
+    }
+
+    private static boolean printPublic(Path path) throws IOException {
+        System.out.println(HEX.formatHex(privateKey(path).getPublicKey().getEncoded()));
+        return true;
+    }
+
+    private static boolean printOrder(Path path, byte[] body) throws IOException {
+        LMSSigner signer = new LMSSigner();
+        signer.init(true, privateKey(path));
+        byte[] signature = signer.generateSignature(join(new byte[] {1}, body));
+        byte[] length = {(byte) (signature.length >> 8), (byte) signature.length};
+        byte[] order = join(body, length, signature, new byte[] {0});
+        System.out.println("command " + HEX.formatHex(order));
+        return true;
+    }
+
+    /** The signature of the owner in charge is of 1 and the body, those of others of 2, their layer and the body. */
+    private static boolean verifyOrder(String[] words) throws IOException {
+        String line = Files.readString(Path.of(words[1])).strip();
+        byte[] order = HEX.parseHex(line.substring("command ".length()));
+        int at = Integer.parseInt(words[2]);
+        byte[] body = Arrays.copyOf(order, at);
+        boolean right = verifies(Path.of(words[3]), join(new byte[] {1}, body), piece(order, at));
+        at += 2 + number(order, at);
+        int count = order[at];
+        at += 1;
+        if (count != (words.length - 4) / 2) {
+            throw new IOException(count + " countersignatures");
+        }
+        for (int i = 0; i < count; i += 1) {
+            byte layer = Byte.parseByte(words[4 + 2 * i]);
+            boolean named = order[at] == layer;
+            byte[] text = join(new byte[] {2, layer}, body);
+            right &= named && verifies(Path.of(words[5 + 2 * i]), text, piece(order, at + 1));
+            at += 3 + number(order, at + 1);
+        }
+        return right && at == order.length;
+    }
+
+    private static boolean verifyAll(Path path) throws IOException {
+        List<String> lines = Files.readAllLines(path);
+        boolean right = !lines.isEmpty();
+        for (String line : lines) {
+            String[] parts = line.split(" ");
+            byte[] text = parts[1].equals("-") ? new byte[0] : HEX.parseHex(parts[1]);
+            byte[] signature = HEX.parseHex(parts[2]);
+            byte[] key = HEX.parseHex(parts[0]);
+            boolean verifies = verifies(key, text, signature);
+            signature[signature.length - 1] ^= 1;
+            if (!verifies || verifies(key, text, signature)) {
+                System.out.println("types " + key[3] + " and " + key[7] + ": " + verifies);
+                right = false;
+            }
+        }
+        return right;
+    }
+
+    private static boolean verifies(Path path, byte[] text, byte[] signature) throws IOException {
+        byte[] key = Files.readAllBytes(path);
+        if (key.length != 56) {
+            throw new IOException("a public key of " + key.length + " bytes");
+        }
+        return verifies(key, text, signature);
+    }
+
+    private static boolean verifies(byte[] key, byte[] text, byte[] signature) throws IOException {
+        LMSSigner verifier = new LMSSigner();
+        verifier.init(false, LMSPublicKeyParameters.getInstance(key));
+        return verifier.verifySignature(text, signature);
+    }
+
+    private static int number(byte[] bytes, int at) {
+        return (bytes[at] & 0xFF) << 8 | bytes[at + 1] & 0xFF;
+    }
+
+    /** The bytes after a length of two bytes, as many as it says. */
+    private static byte[] piece(byte[] bytes, int at) {
+        return Arrays.copyOfRange(bytes, at + 2, at + 2 + number(bytes, at));
+    }
+
+    private static byte[] join(byte[]... parts) {
+        byte[] all = new byte[0];
+        for (byte[] part : parts) {
+            int length = all.length;
+            all = Arrays.copyOf(all, length + part.length);
+            System.arraycopy(part, 0, all, length, part.length);
+        }
+        return all;
+    }
+}

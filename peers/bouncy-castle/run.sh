@@ -1,0 +1,174 @@
+#!/usr/bin/env bash
+# Compares the built program's keys and signed orders with the LMS of Bouncy Castle, and has the program serve an order
+# that Bouncy Castle signed: run.sh [PROGRAM]. With no PROGRAM it takes the one that is built, and proves and builds it
+# first where there is none. It skips with a message where Java or the library (Debian's libbcprov-java) is missing; JAR
+# may name the library. It is no part of the gate, and writes in a temporary folder alone, which it removes.
+set -euo pipefail
+export LC_ALL=C
+
+here=$(cd "$(dirname "${BASH_SOURCE[0]}")" && pwd)
+top=$(cd "$here/../.." && pwd)
+crate=$top/crates/miniboot
+jar=${JAR:-/usr/share/java/bcprov.jar}
+
+for tool in java javac; do
+    if ! command -v "$tool" >/dev/null; then
+        echo "skipped: $tool is not there"
+        exit 0
+    fi
+done
+if [ ! -r "$jar" ]; then
+    echo "skipped: $jar is not there (apt-get install libbcprov-java)"
+    exit 0
+fi
+
+work=$(mktemp -d)
+trap 'rm -rf "$work"' EXIT
+program=$(realpath -m "${1:-$crate/out/miniboot}")
+if [ ! -x "$program" ]; then
+    # shellcheck source=../../examples/build.sh
+    . "$top/examples/build.sh"
+    build
+fi
+javac -d "$work" -cp "$jar" "$here/Peer.java"
+cd "$work"
+
+passed=0
+failed=0
+
+# Counts a comparison by its name.
+compare() {
+    local name=$1 found=$2 wanted=$3
+    if [ "$found" = "$wanted" ]; then
+        passed=$((passed + 1))
+    else
+        failed=$((failed + 1))
+        printf '%s: found "%s", wanted "%s"\n' "$name" "$found" "$wanted"
+    fi
+}
+
+peer() {
+    java -cp "$jar:$work" Peer "$@"
+}
+
+# Whether Bouncy Castle finds each signature of an order to be of its key: verified ORDER SPAN PUBLIC [LAYER PUBLIC]..
+verified() {
+    if peer verify "$@" 2>said; then echo yes; else echo no; fi
+}
+
+miniboot() {
+    "$program" "$@" >printed || compare "miniboot $*, status" "$?" 0
+}
+
+# The bytes of standard input in hexadecimal.
+hex() {
+    od -An -v -tx1 | tr -d ' \n'
+}
+
+# The bytes of a file from an offset on, so many.
+part() {
+    head -c "$(($2 + $3))" "$1" | tail -c "$3"
+}
+
+# The body of an order's line, which has so many bytes, in hexadecimal.
+body() {
+    cut -c "9-$((8 + 2 * $2))" "$1"
+}
+
+# What the program answers to an order on a device whose layer 1 is the first officer's.
+serve() {
+    { part "$crate/data/image" 0 17; cat first.public; tail -c +74 "$crate/data/image"; } >image
+    { echo boot; cat "$1"; echo off; } >script
+    miniboot run image script first.noise
+    sed -n 2p printed
+}
+
+# Signatures of other programs, one for each pair of types, and the first order.
+if command -v python3 >/dev/null; then
+    python3 -B "$top/peers/compare.py" --signatures >signatures
+    compare 'pairs of types' "$(wc -l <signatures)" 20
+    compare 'their signatures' "$(peer signatures signatures && echo verify)" verify
+else
+    echo "python3 is not there: the signatures in the tests were not verified"
+fi
+sed -n 2p "$crate/data/script" >order
+part "$crate/data/image" 17 56 >owner
+compare 'the first order' "$(verified order 60 owner)" yes
+
+# Three keys.
+head -c 32 /dev/zero >first.noise
+head -c 32 /dev/zero | tr '\0' '\1' >second.noise
+for number in $(seq 0 31); do
+    printf "\\x$(printf '%02x' "$number")"
+done >third.noise
+for officer in first second third; do
+    miniboot keygen "$officer.noise" "$officer.key" "$officer.public"
+    compare "the $officer public key" "$(hex <"$officer.public")" "$(peer public "$officer.key")"
+done
+
+# Signs the order of the draft on standard input by the first's next index; Bouncy Castle signs the same by the same.
+signs() {
+    local name=$1 span=$2
+    cat >draft
+    cp first.key before.key
+    miniboot sign first.key draft "$name"
+    compare "$name, by its key" "$(verified "$name" "$span" first.public)" yes
+    compare "$name, by another key" "$(verified "$name" "$span" second.public)" no
+    peer sign before.key "$(body "$name" "$span")" >same
+    compare "$name, signed by both" "$(cmp same "$name" && echo same)" same
+}
+# Whether examples/two-officers expects this line of an order.
+expected() {
+    grep -c "line        SHA-256 $(sha256sum <"$1" | cut -d ' ' -f 1)" "$top/examples/two-officers/expected.txt" || true
+}
+signs establish 60 <<DRAFT
+order establish 2
+owner $(hex <third.public)
+trust countersigned
+DRAFT
+signs load 20 <<'DRAFT'
+order load 1
+target length 2
+version 2
+trust countersigned
+code 616263
+DRAFT
+compare 'the orders of the example' "$(expected establish)$(expected load)" 11
+signs surrender 8 <<'DRAFT'
+order surrender 2
+target length 7
+DRAFT
+signs newkey 4 <<'DRAFT'
+order newkey 3 configuration
+DRAFT
+signs emergency 17 <<'DRAFT'
+order emergency 3
+target length 3
+version 1
+trust always
+code -
+DRAFT
+compare "the first key's next index" "$(part first.key 52 4 | hex)" 00000005
+
+# Countersignatures of layers 2 and 3. The first of them is the example's too.
+miniboot countersign third.key 2 load one
+miniboot countersign second.key 3 one two
+compare "the example's countersigned order" "$(expected one)" 1
+compare 'one countersignature' "$(verified one 20 first.public 2 third.public)" yes
+compare 'two countersignatures' "$(verified two 20 first.public 2 third.public 3 second.public)" yes
+compare 'two of other keys' "$(verified two 20 first.public 2 second.public 3 third.public)" no
+
+# An order that Bouncy Castle alone has signed, and the same with the last bit of its path turned. The key file keeps its
+# next index: nothing signs with it afterwards.
+compare "the program's order is served" "$(serve establish)" 'done 1 2'
+peer sign first.key "$(body establish 60)" >foreign
+compare 'it is another signature' "$(cmp -s foreign establish && echo same)" ''
+compare "Bouncy Castle's order is served" "$(serve foreign)" 'done 1 2'
+compare 'the owner of layer 2' "$(part image 73 58 | hex)" "01$(hex <third.public)02"
+word=$(cat foreign)
+printf '%s%x00\n' "${word:0:-3}" "$((16#${word: -3:1} ^ 1))" >turned
+compare 'a turned bit, by Bouncy Castle' "$(verified turned 60 first.public)" no
+compare 'a turned bit, by the program' "$(serve turned)" 'refused 13 signature'
+
+echo "$passed agree, $failed differ"
+[ "$failed" -eq 0 ]

@@ -1,0 +1,80 @@
+#!/usr/bin/env python3
+"""Computes the outside values of the repository's tests, stored run and examples anew, and compares them.
+
+    compare.py [ROOT]              prints a line for each source and each value that differs, then `N agree, M differ`
+    compare.py --signatures [ROOT] prints the signatures of other programs as lines KEY TEXT SIGNATURE (`-`: no text)
+
+ROOT is the top of the repository, the folder above this one where it is not given. The values are read out of the
+sources themselves, so that none stands twice. A source of which nothing is read counts as one that differs. Words of 32
+bytes and more in the tests that no reader here has looked at are counted on a line of their own.
+"""
+
+import pathlib
+import sys
+
+import readers
+import top_readers
+from sources import Source
+
+HERE = pathlib.Path(__file__).resolve().parent
+
+READERS = {
+    "peers/rfc8554.txt": readers.standard,
+    "crates/mb_lms/src/tests.rt": readers.lms_keys,
+    "crates/mb_lms/src/tests/h5.rt": readers.lms_signatures,
+    "crates/mb_lms/src/tests/h10.rt": readers.lms_signatures,
+    "crates/mb_lms/src/tests/h15.rt": readers.lms_signatures,
+    "crates/mb_lms/src/tests/h20.rt": readers.lms_signatures,
+    "crates/mb_lms/src/tests/h25.rt": readers.lms_signatures,
+    "crates/mb_signer/src/tests.rt": readers.signer,
+    "crates/mb_command/src/tests.rt": readers.commands_orders,
+    "crates/mb_officer/src/tests.rt": readers.key_files,
+    "crates/mb_officer/src/tests/orders.rt": readers.officers_orders,
+    "crates/mb_top/src/tests/keys.rt": top_readers.keys,
+    "crates/mb_top/src/tests/once.rt": top_readers.once,
+    "crates/mb_top/src/tests/runs.rt": top_readers.runs,
+    "crates/mb_top/src/tests/sign.rt": top_readers.signed_orders,
+    "crates/mb_top/src/tests/sign/device.rt": top_readers.device,
+    "examples/first-order/expected.txt": readers.first_order,
+    "examples/two-officers/expected.txt": readers.officers,
+}
+
+
+def read(root, name):
+    """The source after its reader, which has to find something."""
+    source = Source(root, name)
+    READERS[name](source)
+    if source.agree + source.differ == 0:
+        source.compare("values that are read", 0, "some")
+    return source
+
+
+def unseen(root, sources):
+    """The tests with words that no reader has looked at, and how many."""
+    for path in sorted(root.glob("crates/*/src/**/*tests*/**/*.rt")) + sorted(root.glob("crates/*/src/**/tests.rt")):
+        name = str(path.relative_to(root))
+        words = sources.get(name, Source(root, name)).unseen()
+        if words:
+            yield f"{name}: {len(words)} words that nothing here has looked at"
+
+
+def main(words):
+    asked = words[:1] == ["--signatures"]
+    root = pathlib.Path(words[-1]) if len(words) > asked else HERE.parent
+    if asked:
+        for name in (name for name, reader in READERS.items() if reader is readers.lms_signatures):
+            for row in readers.signatures(Source(root, name)):
+                print(*(part.hex() or "-" for part in row))
+        return 0
+    sources = {name: read(root, name) for name in READERS if (root / name).exists()}
+    for source in sources.values():
+        print(f"{source.name}: {source.agree} agree, {source.differ} differ")
+    for line in unseen(root, sources):
+        print(line)
+    agree, differ = (sum(getattr(source, of) for source in sources.values()) for of in ("agree", "differ"))
+    print(f"{agree} agree, {differ} differ")
+    return 1 if differ else 0
+
+
+if __name__ == "__main__":
+    sys.exit(main(sys.argv[1:]))

@@ -1,0 +1,99 @@
+"""What is computed anew of the tests of the lower crates and of the examples."""
+
+import re
+
+import two_officers
+from lms import PrivateKey, sha256
+from officer import Officer, body, countersigned_text, order, signed_text
+from sources import HEX, line_of, unhex, verifies
+
+
+def signatures(source):
+    rows = source.rows(rf"key:\s*{HEX},\s*text:\s*{HEX},\s*signature:\s*{HEX}")
+    return [unhex(*row) for row in rows]
+
+
+def lms_signatures(source):
+    for key, text, signature in signatures(source):
+        verifies(source, f"signature of types {key[3]} and {key[7]}", key, text, signature)
+
+
+def lms_keys(source):
+    for key, owner in source.rows(rf"\(\s*{HEX},\s*{HEX},?\s*\)"):
+        source.compare("hash of a public key", sha256(*unhex(key)).hex(), owner)
+
+
+def signer(source):
+    for identifier, seed, key in source.rows(rf"expect_public\([^()]*\(\),\s*{HEX},\s*{HEX},\s*{HEX}"):
+        source.compare("public key", PrivateKey(*unhex(identifier, seed)).public().hex(), key)
+    ((identifier, seed),) = source.rows(rf"IDENTIFIER: &str = {HEX};.*?SEED: &str = {HEX};")
+    key = PrivateKey(*unhex(identifier, seed))
+    for index, text, wanted in source.rows(rf"expect_signature\(\s*&rt,\s*alloc,\s*(\d+),\s*{HEX},\s*{HEX}"):
+        found = sha256(key.sign(int(index), *unhex(text))).hex()
+        source.compare(f"signature {index} of {len(text) // 2} bytes", found, wanted)
+
+
+def key_files(source):
+    for noise, wanted in source.rows(rf"makes\(\s*&rt,\s*{HEX},\s*{HEX}"):
+        source.compare("key file", Officer(*unhex(noise)).key_file().hex(), wanted)
+
+
+def officers_orders(source):
+    ((by, beside),) = source.rows(rf"fn signer\(\).*?{HEX}.*?fn countersigner\(\).*?{HEX}")
+    for test in source.text.split("#[test]")[1:]:
+        name = re.search(r"fn (\w+)", test)[1]
+        drafted = re.search(rf'drafted\([^"]*b"(.*?)",\s*{HEX}', test, re.DOTALL)
+        hashes = re.findall(r'signs\([^"]*"([0-9a-f]{64})"', test)
+        if not drafted or not hashes:
+            continue
+        source.seen.update([drafted[2], *hashes])
+        text = body(line_of(drafted[1]))
+        source.compare(f"{name}, body", text.hex(), drafted[2])
+        signature = Officer(*unhex(by)).sign(signed_text(text))
+        source.compare(f"{name}, signed", sha256(order(text, signature)).hex(), hashes[0])
+        if len(hashes) > 1:
+            by_three = Officer(*unhex(beside)).sign(countersigned_text(3, text))
+            found = sha256(order(text, signature, [(3, by_three)])).hex()
+            source.compare(f"{name}, countersigned", found, hashes[1])
+
+
+def commands_orders(source):
+    """Bodies of orders, against drafts that say the same."""
+    drafts = {
+        "LOAD_OF_ONE": "order load 1\ntarget length 5\ntarget serial 000102030405060708090a0b0c0d0e0f\n"
+        "version 2\ntrust countersigned\ncode -",
+        "EMERGENCY": f"order emergency 2\ntarget owner 1 {'11' * 32}\ntarget code 3 {'22' * 32}\n"
+        "version 4294967295\ntrust always\ncode 00ff",
+        "ESTABLISH": f"order establish 3\nowner 0000000900000001{'33' * 16}{'44' * 32}\ntrust never",
+    }
+    for name, draft in drafts.items():
+        ((wanted,),) = source.rows(rf"const {name}: &str = {HEX}")
+        source.compare(f"body {name}", body(draft).hex(), wanted)
+
+
+def first_order(source):
+    """The owner in the image signed the order of the script, which names the owner that the example shows."""
+    data = source.root / "crates/miniboot/data"
+    owner = (data / "image").read_bytes()[17:73]
+    word = re.search("^command ([0-9a-f]*)$", (data / "script").read_text(), re.MULTILINE)[1]
+    text = bytes.fromhex(word)
+    verifies(source, "the order of crates/miniboot/data", owner, b"\1" + text[:60], text[62:-1])
+    shown = "".join(re.search(r"new  ([0-9a-f]+)\n\s+([0-9a-f]+)", source.text).groups())
+    source.compare("owner and trust of layer 2", "01" + text[3:60].hex(), shown)
+
+
+def officers(source):
+    """The example's expected lines are of two_officers.py: this says that both still say the same."""
+    wanted, found = source.text.splitlines(), list(two_officers.shown())
+    values = [(here, there) for here, there in zip(found, wanted) if re.search("[0-9a-f]{32}", there)]
+    for here, there in values:
+        source.compare("line", here, there)
+    if found != wanted:
+        source.compare("all lines", found, wanted)
+
+
+def standard(source):
+    """The two keys of RFC 8554, Appendix F, test case 2, from their seeds."""
+    for tree, chains, identifier, seed, root in source.rows(r"(\d+) (\d+) ([0-9a-f]+) ([0-9a-f]+) ([0-9a-f]+)\n"):
+        key = PrivateKey(*unhex(identifier, seed), int(tree), int(chains))
+        source.compare(f"root of types {tree} and {chains}", key.public()[24:].hex(), root)
