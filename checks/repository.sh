@@ -25,9 +25,18 @@ handles='has to be the one line: Handles allowed: none.'
 [ "$(cat HANDLES 2>/dev/null)" = 'Handles allowed: none.' ] && handles=
 check 'HANDLES' "$handles"
 
+wide=$(find crates -path '*/specs/*.antt' -not -path '*/out/*' -exec env LC_ALL=C.UTF-8 grep -nHE '^.{121,}' {} + |
+    cut -d: -f1,2)
+check 'definitions over 120 columns' "$wide"
+
 image='has to have 1077248 bytes'
 [ -n "$(find crates/miniboot/data/image -size 1077248c 2>/dev/null)" ] && image=
 check 'crates/miniboot/data/image' "$image"
+
+# Every other call hashes on the count of its caller.
+begun=$(grep -rlE 'Blank::new|Steps(::<[^>]*>)?::begin\(' crates --include='*.rt' |
+    grep -Ev '^crates/[a-z0-9_]+/out/|^crates/mb_top/src/|^crates/[a-z0-9_]+/src/tests(\.rt$|/)')
+check 'begins a count of hashes, outside mb_top and tests' "$begun"
 
 if command -v git >/dev/null; then
     check 'tracked, though rt makes it' "$(git ls-files | grep -E '^crates/[^/]+/out/')"

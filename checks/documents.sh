@@ -1,0 +1,171 @@
+#!/usr/bin/env bash
+# What the documents say of the tree. Each link in README.md, docs/ and peers/ leads to a file that is there, and to a heading
+# where it names one; each path in backquotes that begins in a folder of the repository is there; each row of
+# docs/proved.md names public calls of its section's crate, and clauses that these calls have; and the table of crates in
+# docs/architecture.md has a row for each crate and for nothing else. Prints a line for each that is wrong, and nothing
+# where none is.
+set -u
+cd "$(dirname "$0")/.." || exit 2
+
+python3 - <<'PYTHON'
+import pathlib
+import re
+import sys
+
+LINK = re.compile(r"(?<!!)\[[^\]]*\]\(([^)\s]+)\)")
+PATH = re.compile(r"`((?:crates|docs|checks|examples|bench|peers|\.ci)/[A-Za-z0-9_./-]+)`")
+HEADER = re.compile(r"^(?:pub )?(?:unsafe )?(impl|trait)\b(.*)")
+CALL = re.compile(r"^\s*(pub )?(?:const )?fn ([a-z_0-9]+)")
+CLAUSE = re.compile(r"^\s*ensures (?:([a-z_0-9]+) )?\{")
+UNNAMED = "its one clause"
+
+wrong = []
+
+
+def report(path, number, what):
+    wrong.append(f"{path}:{number}: {what}")
+
+
+# ---- links and paths
+
+def anchors_of(text):
+    """The anchors of the headings, as a page shows them."""
+    found = set()
+    for line in text.splitlines():
+        if line.startswith("#"):
+            title = re.sub(r"[^\w\s-]", "", line.lstrip("#").strip().lower())
+            found.add(re.sub(r"\s", "-", title))
+    return found
+
+
+def check_links(path):
+    for number, line in enumerate(path.read_text().splitlines(), 1):
+        for target in LINK.findall(line):
+            if re.match(r"[a-z]+:", target):
+                continue
+            name, _, anchor = target.partition("#")
+            file = path.parent / name if name else path
+            if not file.exists():
+                report(path, number, f"no file for the link {target}")
+            elif anchor and anchor not in anchors_of(file.read_text()):
+                report(path, number, f"no heading for the link {target}")
+        for name in PATH.findall(line):
+            if "/out/" not in name and "NAME" not in name and not pathlib.Path(name).exists():
+                report(path, number, f"no file {name}")
+
+
+# ---- public calls and their clauses
+
+def type_of(kind, rest):
+    """The type that an impl is for, or the name of a trait."""
+    rest = re.sub(r"<[^<>]*(?:<[^<>]*>[^<>]*)*>", "", rest)
+    names = re.findall(r"\w+", rest.split("{")[0].split(":")[0].split("where")[0])
+    if kind == "impl" and "for" in names:
+        return None
+    return names[0] if names else None
+
+
+def contract_from(lines, at):
+    """The lines from that of a call up to its body."""
+    depth = 0
+    for end in range(at, len(lines)):
+        line = lines[end]
+        if depth == 0 and line.strip() in ("{", "{}"):
+            return lines[at:end]
+        depth += sum(line.count(c) for c in "{([") - sum(line.count(c) for c in "})]")
+        if depth == 0 and line.rstrip().endswith(";"):
+            return lines[at:end + 1]
+        if depth == 1 and line.rstrip().endswith("{") and not re.search(r"\b(ensures|requires)\b", line):
+            return lines[at:end]
+    return lines[at:]
+
+
+def calls_of(crate):
+    """The public calls of a crate, by name and by type and name, with their clauses."""
+    calls = {}
+    exported = set(re.findall(r"\w+", (crate / "src/lib.rt").read_text())) if (crate / "src/lib.rt").exists() else set()
+    for path in sorted((crate / "src").rglob("*.rt")):
+        if "tests" in path.parts or path.name == "tests.rt":
+            continue
+        lines = path.read_text().splitlines()
+        owner, in_trait = None, False
+        for at, line in enumerate(lines):
+            if line.startswith("}"):
+                owner, in_trait = None, False
+            header = HEADER.match(line)
+            if header:
+                owner, in_trait = type_of(*header.groups()), header[1] == "trait"
+            call = CALL.match(line)
+            if not call or not (call[1] or in_trait) or (owner or call[2]) not in exported:
+                continue
+            clauses = [CLAUSE.match(part) for part in contract_from(lines, at)]
+            name = f"{owner}::{call[2]}" if owner else call[2]
+            calls.setdefault(name, set()).update(c[1] or UNNAMED for c in clauses if c)
+    return calls
+
+
+def cells_of(line):
+    return [cell.strip() for cell in re.split(r"(?<!\\)\|", line.strip().strip("|"))]
+
+
+def check_proved(path):
+    calls, crate, is_table_of_calls = None, None, False
+    for number, line in enumerate(path.read_text().splitlines(), 1):
+        if line.startswith("## "):
+            named = re.findall(r"`(\w+)`", line)
+            crate = named[0] if named else None
+            calls = None
+            if crate and not pathlib.Path("crates", crate).is_dir():
+                report(path, number, f"no crate {crate}")
+            elif crate:
+                calls = calls_of(pathlib.Path("crates", crate))
+        elif not line.startswith("|"):
+            is_table_of_calls = False
+        elif cells_of(line)[0] == "call":
+            is_table_of_calls = True
+        elif is_table_of_calls and "---" not in line:
+            cells = cells_of(line)
+            if calls is None:
+                report(path, number, "no crate is named in the heading above")
+                continue
+            names = re.findall(r"`([\w:]+)`", cells[0])
+            clauses = re.findall(r"`(\w+)`", cells[1]) if len(cells) > 1 else []
+            for name in names:
+                if name not in calls:
+                    report(path, number, f"{crate} has no public call {name}")
+                    continue
+                wanted = clauses or ([UNNAMED] if UNNAMED in cells[1] else [])
+                for clause in wanted:
+                    if clause not in calls[name]:
+                        report(path, number, f"{name} of {crate} has no clause {clause}")
+                if not wanted:
+                    report(path, number, f"no clause of {name} is named")
+
+
+# ---- the table of crates
+
+def check_crates(path):
+    crates = {p.name for p in pathlib.Path("crates").iterdir() if (p / "src").is_dir()}
+    inside, rows = False, {}
+    for number, line in enumerate(path.read_text().splitlines(), 1):
+        if line.startswith("## "):
+            inside = line == "## The crates"
+        elif inside and line.startswith("|") and "---" not in line:
+            name = cells_of(line)[0].strip("`")
+            if name != "crate":
+                rows[name] = number
+    for name, number in rows.items():
+        if name not in crates:
+            report(path, number, f"no crate {name}")
+    for name in sorted(crates - set(rows)):
+        report(path, 1, f"no row for the crate {name}")
+
+
+documents = [pathlib.Path("README.md"), *sorted(pathlib.Path("docs").glob("*.md")), *sorted(pathlib.Path("peers").glob("*.md"))]
+for document in documents:
+    check_links(document)
+check_proved(pathlib.Path("docs/proved.md"))
+check_crates(pathlib.Path("docs/architecture.md"))
+print("\n".join(wrong), end="\n" if wrong else "")
+sys.exit(1 if wrong else 0)
+PYTHON

@@ -1,0 +1,47 @@
+#!/usr/bin/env bash
+# One name for one thing: no two files of the model's specs/ may define the same name, be it a function, a record, a data
+# type or a constructor; the fields of records do not count. Prints a line for each name that two define, with the
+# files, and nothing where there is none.
+set -u
+cd "$(dirname "$0")/.." || exit 2
+
+python3 - crates/mb_model/specs <<'PYTHON'
+import pathlib
+import re
+import sys
+
+TYPE = re.compile(r"(?:pub )?(record|data) ([^\s:({]+)")
+FUNCTION = re.compile(r"(?:unfoldable |abbrev )?(?:pub )?([^\s:({]+) :(?!:)")
+CONSTRUCTORS = re.compile(r"  ((?:[^\s:(){}-]\S*\s)+):")
+
+
+def names_of(text):
+    names = set()
+    inside = None
+    for line in text.splitlines():
+        begins = TYPE.match(line)
+        if begins:
+            inside = begins[1]
+            names.add(begins[2])
+            continue
+        if line and not line.startswith((" ", "--")):
+            inside = None
+            defines = FUNCTION.match(line)
+            if defines:
+                names.add(defines[1])
+        elif inside == "data":
+            makes = CONSTRUCTORS.match(line)
+            if makes:
+                names.update(makes[1].split())
+    return names
+
+
+files = {}
+for path in sorted(pathlib.Path(sys.argv[1]).glob("*.antt")):
+    for name in names_of(path.read_text()):
+        files.setdefault(name, []).append(path.stem)
+doubles = {name: where for name, where in files.items() if len(where) > 1}
+for name in sorted(doubles):
+    print(f"{name}: {', '.join(doubles[name])}")
+sys.exit(1 if doubles else 0)
+PYTHON
