@@ -1,3 +1,9 @@
+pub mod RuleExampleProofs
+pub mod LifeProof
+pub mod FormatExampleProofs
+pub mod TextExampleProofs
+pub mod WorkloadExampleProofs
+pub mod DigitProofs
 pub mod RecordProofs
 pub mod StepProofs
 pub mod LayerProofs

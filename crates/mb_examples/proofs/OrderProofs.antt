@@ -23,7 +23,7 @@ use Rattle.mb_model.specs.OrderFormat.{target_format, body_format, sized_signatu
 use Rattle.mb_model.specs.Refusals.{Refusal, refusal_number, wrong_target, wrong_state, wrong_signature}
 use Rattle.mb_model.specs.OrderStep.{TargetHoldsIn, MayBeGiven, IsCountersigned, LogHasRoom, RegionHasRoom, Fails, signed_by, succeeded, changed, keyed, obeyed, spells_none, fails_check, is_obeyed}
 use Rattle.mb_model.proofs.OrderFormatLaws.{order_exact}
-use Rattle.mb_laws.specs.Examples.{officer, seven}
+use Rattle.mb_examples.specs.RuleExamples.{officer, seven}
 use Rattle.mb_examples.specs.Device.{alive}
 use Rattle.mb_examples.specs.OrderExamples.{plain, surrender_two, establish_two, elsewhere, load_of, key_for_three, empty_by, RefusesOrder, RefusedOrders, with_eight_keys, LaterRefusals, Obeys, ObeyedOrders, LeavingExamples, key_nearly_used, nearly_full, grown, SuccessionExamples}
 use Rattle.mb_examples.proofs.RecordProofs.{byte_test, are_bytes, spells, fails}

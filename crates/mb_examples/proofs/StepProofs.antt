@@ -13,8 +13,8 @@ use Rattle.mb_model.specs.Refusals.{Refusal, wrong_layer, refusal_number, powere
 use Rattle.mb_model.specs.OrderStep.{region_of}
 use Rattle.mb_model.specs.LayerEvents.{Outcome, has_name, value_reply, put_event, get_event, drop_event, sign_event}
 use Rattle.mb_model.specs.Machine.{off, dead, World, Told, awake_in, status_of, status_event, go_event, region_event, CommandStep, Machine, may_want_memory, may_be_cut, Step, answered, lacks_memory, loses_power}
-use Rattle.mb_laws.specs.RefusalLaws.{BringsBytes}
-use Rattle.mb_laws.proofs.RefusalLemmas.{machine_is_whole, machine_is_function}
+use Rattle.mb_lemmas.specs.RefusalLaws.{BringsBytes}
+use Rattle.mb_lemmas.proofs.RefusalLemmas.{machine_is_whole, machine_is_function}
 use Rattle.mb_examples.specs.Device.{world_at, dead_world}
 use Rattle.mb_examples.specs.StepExamples.{BootExamples, AlwaysExamples, RefusesOthers, SleepingExamples, AwakeExamples, GoExamples, NeverStops, StopExamples, StopsBetween, NeverWantsMemory, MemoryExamples}
 

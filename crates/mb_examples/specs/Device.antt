@@ -14,7 +14,7 @@ use Rattle.mb_model.specs.declared.region.RegionKey.{RegionKey}
 use Rattle.mb_model.specs.declared.region.Region.{Region}
 use Rattle.mb_model.specs.declared.state.State.{State}
 use Rattle.mb_model.specs.Machine.{Phase, World}
-use Rattle.mb_laws.specs.Examples.{life, running, three_runs}
+use Rattle.mb_examples.specs.RuleExamples.{life, running, three_runs}
 
 -- entries, each with this signature
 abbrev pub signed_with : List ℕ → List Entry → List SignedEntry

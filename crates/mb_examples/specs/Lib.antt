@@ -1,3 +1,8 @@
+pub mod RuleExamples
+pub mod FormatExamples
+pub mod TextExamples
+pub mod WorkloadExamples
+pub mod SigningExamples
 pub mod RecordValues
 pub mod RecordExamples
 pub mod Device

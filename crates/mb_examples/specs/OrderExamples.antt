@@ -25,7 +25,8 @@ use Rattle.mb_model.specs.Regions.{empty_region}
 use Rattle.mb_model.specs.OrderFormat.{order_format}
 use Rattle.mb_model.specs.OrderStep.{IsSigned, IsCountersigned, Fails, Passes, OrderStep}
 use Rattle.mb_model.specs.OrderStep.{needs_succession, entries_needed, next_key, obeyed}
-use Rattle.mb_laws.specs.Examples.{officer, bare, running, nobody, by_two, by_both, layers_with, at_birth, seven}
+use Rattle.mb_examples.specs.RuleExamples.{officer, bare, running, nobody, by_two}
+use Rattle.mb_examples.specs.RuleExamples.{by_both, layers_with, at_birth, seven}
 use Rattle.mb_examples.specs.Device.{signed_with, seed_of, key_one, with_keys, secrets_of_two, key_of_three}
 use Rattle.mb_examples.specs.Device.{eight_keys, with_regions, alive}
 

@@ -26,7 +26,7 @@ use Rattle.mb_model.specs.declared.order.Act.TheVariants as act
 use Rattle.mb_model.specs.declared.order.Target.TheVariants.{Serial, Length, Owner, Code}
 use Rattle.mb_model.specs.OrderFormat.{Body}
 use Rattle.mb_model.specs.Layers.{unowned}
-use Rattle.mb_laws.specs.Examples.{layers_with, by_two, by_three, by_both}
+use Rattle.mb_examples.specs.RuleExamples.{layers_with, by_two, by_three, by_both}
 
 -- the bytes that hexadecimal digits say
 abbrev decoded : Result (List ℕ) FromHexError → List ℕ

@@ -16,7 +16,7 @@ use Rattle.mb_model.specs.SignedTexts.{order_text}
 use Rattle.mb_model.specs.OrderFormat.{order_body}
 use Rattle.mb_model.specs.Merkle.{Verifies}
 use Rattle.mb_model.specs.OrderStep.{OrderStep, obeyed}
-use Rattle.mb_laws.specs.Examples.{officer, running, at_birth}
+use Rattle.mb_examples.specs.RuleExamples.{officer, running, at_birth}
 use Rattle.mb_examples.specs.Device.{signed_with, seed_of}
 use Rattle.mb_examples.specs.RecordValues.{bytes_of}
 

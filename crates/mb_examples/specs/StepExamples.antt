@@ -10,7 +10,7 @@ use Rattle.mb_model.specs.declared.reply.Standing.TheVariants as stands
 use Rattle.mb_model.specs.declared.state.State.{State}
 use Rattle.mb_model.specs.OrderStep.{OrderStep}
 use Rattle.mb_model.specs.Machine.{Phase, off, dead, ratchet, World, Machine, Step, status_of}
-use Rattle.mb_laws.specs.RefusalLaws.{BringsBytes}
+use Rattle.mb_lemmas.specs.RefusalLaws.{BringsBytes}
 use Rattle.mb_examples.specs.Device.{alive, two_doubted, three_doubted, world_at, dead_world}
 
 -- an event is refused with this number, and nothing changes

@@ -1,16 +1,27 @@
 //! The definitions at work: worked examples that the checker computes.
 //!
 //! This crate owns no type and does nothing when it runs, and no crate stands on it. Each example stands on a function
-//! with an empty body. It stands on `mb_model`, whose definitions it tries, on `mb_laws`, on `mb_format`, and on the
+//! with an empty body. It stands on `mb_model`, whose definitions it tries, on `mb_lemmas`, on `mb_format`, and on the
 //! kit's crates whose functions these use.
 #![tactic(auto)]
 
 mod events;
+mod formats;
 mod orders;
 mod records;
+mod rules;
+mod signing;
+mod texts;
 
 pub use events::{
     layer_examples, memory_examples, phase_examples, power_examples, stopped_examples,
 };
+pub use formats::{failing_examples, spelling_examples};
 pub use orders::{obeyed_orders, refused_orders, succession_examples, verified_orders};
 pub use records::{failing_records, records_are_spelled};
+pub use rules::{
+    admission_examples, authority_examples, change_examples, condition_examples, life_examples,
+    standing_examples, target_examples,
+};
+pub use signing::digit_examples;
+pub use texts::{text_examples, workload_examples};

@@ -1,18 +1,57 @@
--- Texts are clear where the lines of the grammar stand for at most one value.
-use Rattle.std.proofs.Common.{◌≡◌, ℕ, List, subst}
-use Rattle.mb_model.specs.Lines.{FailsAtLine}
+-- Texts are clear where the lines of the grammar stand for at most one value, and some lines stand for one.
+use Rattle.std.proofs.Common.{◌≡◌, ℕ, ◌+◌, ◌<◌, suc, zero, List, [], ◌∷◌, ◌++◌, length, refl, sym, ap, subst, ◌∙◌, arith, append_assoc, rules, lit≤}
+use Rattle.std.specs.Prelude.{replicate, codes}
+use Rattle.mb_format.specs.Combinators.{number_bytes}
+use Rattle.std.proofs.lemmas.List.{append-nil, length-replicate}
+use Rattle.mb_format.specs.Format.{IsBytes, Spells}
+use Rattle.mb_model.specs.declared.entry.Statement.{Statement}
+use Rattle.mb_model.specs.Lines.{IsBeginning, FailsAtLine, bad_line, ends_early, Reads, TextFailsAtLine, hex_word}
 use Rattle.mb_model.specs.Script.{IsScript}
 use Rattle.mb_model.specs.Drafts.{IsDraft}
+use Rattle.mb_model.specs.ChainFormat.{statement_format}
 use Rattle.mb_model.specs.OrderLines.{IsOrderLine, IsStatementLine}
 use Rattle.mb_laws.specs.TextLaws.{IsClearText}
-use Rattle.mb_laws.proofs.LineLemmas.{HasLines-same, FailsAtLine-same, FailsAtLine-none}
-use Rattle.mb_laws.proofs.EventLemmas.{IsScript-same}
-use Rattle.mb_laws.proofs.DraftLemmas.{IsDraft-same}
-use Rattle.mb_laws.proofs.OrderLineLemmas.{IsOrderLine-same, IsStatementLine-same}
+use Rattle.mb_lemmas.specs.SampleOrder.{surrender, surrender_line}
+use Rattle.mb_lemmas.proofs.LineLemmas.{HasLines-same, HasLines-always, FailsAtLine-same, FailsAtLine-none}
+use Rattle.mb_lemmas.proofs.EventLemmas.{IsScript-same}
+use Rattle.mb_lemmas.proofs.DraftLemmas.{IsDraft-same, surrender_draft}
+use Rattle.mb_lemmas.proofs.OrderLineLemmas.{IsOrderLine-same, IsStatementLine-same, surrender_is}
+use Rattle.mb_laws.proofs.SaidLemmas.{hex_word-read}
+
+-- ---- a text stands for something or has a first wrong line
+
+-- Where no line of a text is the first that is wrong, and some text begins with these lines of it, some text begins with
+-- all of them. Neither of the two is shown, only that it can't be otherwise.
+grows : {A : Type 0} (Grammar : List (List ℕ) → A → Type 0) (lines before rest : List (List ℕ)) → lines ≡ before ++ rest
+    → ((n : ℕ) → FailsAtLine Grammar lines n → ⊥)
+    → ((IsBeginning Grammar before → ⊥) → ⊥) → (IsBeginning Grammar lines → ⊥) → ⊥
+grows {A} Grammar lines before [] split right begins none =
+    begins (λ b. none (subst (λ (x : List (List ℕ)). IsBeginning Grammar x) (sym (split ∙ append-nil before)) b))
+grows {A} Grammar lines before (line ∷ rest) split right begins none =
+    grows Grammar lines (before ++ line ∷ []) rest (split ∙ sym (append_assoc before (line ∷ []) rest)) right
+    (λ bad. begins (λ good. right (length before + 1) (bad_line (record {
+      before = before;
+      line = line;
+      later = rest;
+      split = split;
+      good = good;
+      bad = bad;
+      number = refl;
+    })))) none
+
+-- the lines of a grammar of which some lines are one
+settled : {A : Type 0} (Grammar : List (List ℕ) → A → Type 0) (lines : List (List ℕ)) → IsBeginning Grammar []
+    → ((value : A) → Grammar lines value → ⊥) → ((n : ℕ) → FailsAtLine Grammar lines n → ⊥) → ⊥
+settled {A} Grammar lines first none right =
+    grows Grammar lines [] lines refl right (λ no. no first)
+    (λ good. right (length lines + 1) (ends_early (record { good = good; unfinished = none; number = refl })))
+
+-- ---- clear texts
 
 pub clear : {A : Type 0} (Grammar : List (List ℕ) → A → Type 0)
-    → ((lines : List (List ℕ)) (a b : A) → Grammar lines a → Grammar lines b → a ≡ b) → IsClearText Grammar
-clear {A} Grammar one = record {
+    → ((lines : List (List ℕ)) (a b : A) → Grammar lines a → Grammar lines b → a ≡ b)
+    → (some : List (List ℕ)) (value : A) → Grammar some value → IsClearText Grammar
+clear {A} Grammar one some value stands = record {
   one_value = λ text a b ra rb.
       let same = HasLines-same text ra.lines rb.lines ra.has rb.has in
       one rb.lines a b (subst (λ (x : List (List ℕ)). Grammar x a) same ra.stands) rb.stands;
@@ -22,16 +61,59 @@ clear {A} Grammar one = record {
   never_both = λ text a n ra fn.
       let same = HasLines-same text ra.lines fn.lines ra.has fn.has in
       FailsAtLine-none Grammar fn.lines a n (subst (λ (x : List (List ℕ)). Grammar x a) same ra.stands) fn.fails;
+  never_neither = λ text none right.
+      let has = HasLines-always text in
+      settled Grammar has.0 (record { more = some; value = value; stands = stands })
+      (λ a is. none a (record { lines = has.0; has = has.1; stands = is }))
+      (λ n fails. right n (record { lines = has.0; has = has.1; fails = fails }));
+}
+
+-- ---- some lines of each grammar
+
+no_events : IsScript [] []
+no_events = record { said = search (rules); most = search (rules) }
+
+-- a statement of nothing, with a signature of these bytes
+abbrev with_signature : List ℕ → Statement
+with_signature signature = record { number = 0; message = []; signature = signature }
+
+-- zeros are bytes, and so are bytes after five of them
+IsBytes-zeros : (n : ℕ) → IsBytes (replicate n 0)
+IsBytes-zeros zero i = lit≤ tt
+IsBytes-zeros (suc n) zero = lit≤ tt
+IsBytes-zeros (suc n) (suc i) = IsBytes-zeros n i
+
+IsBytes-five : (bytes : List ℕ) → IsBytes bytes → IsBytes (0 ∷ 0 ∷ 0 ∷ 0 ∷ 0 ∷ bytes)
+IsBytes-five bytes are zero = lit≤ tt
+IsBytes-five bytes are (suc zero) = lit≤ tt
+IsBytes-five bytes are (suc (suc zero)) = lit≤ tt
+IsBytes-five bytes are (suc (suc (suc zero))) = lit≤ tt
+IsBytes-five bytes are (suc (suc (suc (suc zero)))) = lit≤ tt
+IsBytes-five bytes are (suc (suc (suc (suc (suc i))))) = are i
+
+spelled_with : (signature : List ℕ) → length signature ≡ 2348
+    → Spells statement_format (0 ∷ 0 ∷ 0 ∷ 0 ∷ 0 ∷ signature) (with_signature signature)
+unfolding statement_format number_bytes
+spelled_with signature sized = record { allowed = (lit≤ tt, (((lit≤ tt, lit≤ tt), refl), sized)); whole = refl }
+
+some_statement : IsStatementLine (hex_word (0 ∷ 0 ∷ 0 ∷ 0 ∷ 0 ∷ replicate 2348 0) ∷ []) (with_signature (replicate 2348 0))
+some_statement = record {
+  line = hex_word (0 ∷ 0 ∷ 0 ∷ 0 ∷ 0 ∷ replicate 2348 0);
+  bytes = 0 ∷ 0 ∷ 0 ∷ 0 ∷ 0 ∷ replicate 2348 0;
+  one = refl;
+  worded = hex_word-read (0 ∷ 0 ∷ 0 ∷ 0 ∷ 0 ∷ replicate 2348 0)
+      (IsBytes-five (replicate 2348 0) (IsBytes-zeros 2348));
+  spelled = spelled_with (replicate 2348 0) (length-replicate {A = ℕ} 2348 0);
 }
 
 pub scripts : IsClearText IsScript
-scripts = clear IsScript IsScript-same
+scripts = clear IsScript IsScript-same [] [] no_events
 
 pub drafts : IsClearText IsDraft
-drafts = clear IsDraft IsDraft-same
+drafts = clear IsDraft IsDraft-same (codes "order surrender 2" ∷ codes "target length 7" ∷ []) surrender surrender_draft
 
 pub order_lines : IsClearText IsOrderLine
-order_lines = clear IsOrderLine IsOrderLine-same
+order_lines = clear IsOrderLine IsOrderLine-same (surrender_line ∷ []) surrender surrender_is
 
 pub statement_lines : IsClearText IsStatementLine
-statement_lines = clear IsStatementLine IsStatementLine-same
+statement_lines = clear IsStatementLine IsStatementLine-same (hex_word (0 ∷ 0 ∷ 0 ∷ 0 ∷ 0 ∷ replicate 2348 0) ∷ []) (with_signature (replicate 2348 0)) some_statement

@@ -16,8 +16,8 @@ use Rattle.mb_model.specs.Lines.{hex_word}
 use Rattle.mb_model.specs.Refusals.{Refusal, powered_off, wrong_phase, zeroised, wrong_layer, region_full, no_such_key, key_spent, bad_text, wrong_target, wrong_state, wrong_signature, wrong_countersignature, log_full, keys_full, refused}
 use Rattle.mb_model.specs.Replies.{HasLine, standing_word, refusal_words, reply_line}
 use Rattle.mb_laws.specs.TextLaws.{IsInRange}
-use Rattle.mb_laws.proofs.LineLemmas.{Without, isnt, first_same}
-use Rattle.mb_laws.proofs.WordLemmas.{number_front, limited_fits, IsHex-same}
+use Rattle.mb_lemmas.proofs.LineLemmas.{Without, isnt, first_same}
+use Rattle.mb_lemmas.proofs.WordLemmas.{number_front, limited_fits, IsHex-same}
 use Rattle.mb_laws.proofs.SaidLemmas.{hex_word-read}
 
 -- ---- words

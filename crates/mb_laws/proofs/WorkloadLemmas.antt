@@ -6,7 +6,7 @@ use Rattle.std.specs.Int.{w32, to_be_bytes}
 use Rattle.rand_core.specs.Steps.{first_words}
 use Rattle.mb_model.specs.Workload.{generated, DrawnBytes, DrawnSized, RoundDraws, DrawnRound, Draws, DrawnInOrder}
 use Rattle.mb_model.proofs.KeyLemmas.{same_parts}
-use Rattle.mb_laws.proofs.LineLemmas.{cons_same}
+use Rattle.mb_lemmas.proofs.LineLemmas.{cons_same}
 
 -- ---- the words of the generator
 

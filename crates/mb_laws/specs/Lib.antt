@@ -1,15 +1,5 @@
-pub mod Examples
-pub mod FormatExamples
 pub mod LayerLaws
-pub mod AliveLaws
-pub mod ReaderLaws
-pub mod RegionLaws
-pub mod SigningLaws
-pub mod SigningExamples
 pub mod StepLaws
 pub mod TextLaws
-pub mod TextExamples
-pub mod WorkloadExamples
 pub mod MeaningLaws
 pub mod ChainLaws
-pub mod RefusalLaws

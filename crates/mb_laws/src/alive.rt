@@ -1,6 +1,6 @@
 //! Laws of the keys that are alive by a log, and of the configurations in which they lived, entry by entry.
 
-ghost use Rattle.mb_laws.specs.AliveLaws.{NoKeyAtFirst, AliveAfterOneMore, LivingKeysAreListed, ListedKeysLive, AliveNumbersIncrease, AliveNumbersAreBelowTheNext, HighNumbersAreUnmade, UnmadeKeysHaveNoLives, LivesOfANewKey, LivesAfterOneMore, AliveKeysLiveNow};
+ghost use Rattle.mb_lemmas.specs.AliveLaws.{NoKeyAtFirst, AliveAfterOneMore, LivingKeysAreListed, ListedKeysLive, AliveNumbersIncrease, AliveNumbersAreBelowTheNext, HighNumbersAreUnmade, UnmadeKeysHaveNoLives, LivesOfANewKey, LivesAfterOneMore, AliveKeysLiveNow};
 
 /// The keys that are alive by a log, as its entries come: none at first, and then those that the entry does not end,
 /// with the one that it makes after them.

@@ -3,39 +3,8 @@
 ghost use Rattle.std.specs.Prelude.{◌≤◌, List, length, ◌≢◌, [], ℕ};
 ghost use Rattle.mb_model.specs.Layers.{IsLayers};
 ghost use Rattle.mb_model.specs.Log.{number_of, layers_of, used, made, RuledLog};
-ghost use Rattle.mb_laws.specs.Examples.{AuthorityExamples, TargetExamples, StandingExamples, AdmissionExamples, ConditionExamples, AfterExamples, life, LogExamples, LifeExamples};
 ghost use Rattle.mb_laws.specs.LayerLaws.{RunnableLayersAreReliable, ReliableLayersRun, OrdersPlaceWhatEntriesShow, EntriesShowWhatOrdersPlace, LayersStayLayers, UnreliableRegionsAreEmpty, LastLayersCount, LastDeviceCounts, UsedAfterTheLast, ChangesKeepRightly, NewKeysKeepRightly, OtherEntriesKeepRightly, NowIsAdmitted};
 ghost use Rattle.mb_model.specs.declared.entry.Entry.{Entry};
-
-/// Which changes a layer admits, by its trust and by who countersigned.
-pub fn admission_examples()
-    ensures { AdmissionExamples }
-{}
-
-/// Who has to sign an order of each kind.
-pub fn authority_examples()
-    ensures { AuthorityExamples }
-{}
-
-/// Which targets hold.
-pub fn target_examples()
-    ensures { (serial : List ℕ) → TargetExamples serial }
-{}
-
-/// How layers stand.
-pub fn standing_examples()
-    ensures { StandingExamples }
-{}
-
-/// When an order of each kind may be given.
-pub fn condition_examples()
-    ensures { ConditionExamples }
-{}
-
-/// What each kind of change leaves of the layers.
-pub fn change_examples()
-    ensures { AfterExamples }
-{}
 
 /// A layer may run exactly where it and all beneath it are reliable.
 pub fn runs_over_reliable()
@@ -88,11 +57,4 @@ pub fn regions_stay_kept_rightly()
     ensures new_key { NewKeysKeepRightly }
     ensures other { OtherEntriesKeepRightly }
     ensures now { NowIsAdmitted }
-{}
-
-/// What the entries of a device's life say together, and the configurations in which its keys lived.
-pub fn life_examples()
-    ensures log { LogExamples }
-    ensures ruled { RuledLog life }
-    ensures lives { LifeExamples }
 {}

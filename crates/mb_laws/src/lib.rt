@@ -1,13 +1,13 @@
-//! What the definitions of the machine give: worked examples that the checker computes, and laws with long proofs.
+//! What the definitions of the machine give: laws of layers, logs, keys, regions, memories, chains and texts.
 //!
-//! This crate owns no type and does nothing when it runs. Each law stands on a function with an empty body, and its
-//! lemmas, in proofs/, may be cited above. It stands on `mb_model`, whose definitions it speaks of, on `mb_format`,
-//! and on the kit's crates whose functions these use.
+//! This crate owns no type and does nothing when it runs, and no crate stands on it, so that a new law proves no other
+//! crate anew. Each law stands on a function with an empty body. It stands on `mb_model`, whose definitions it speaks of,
+//! on `mb_lemmas`, which has the lemmas that other crates cite too, on `mb_format`, and on the kit's crates whose
+//! functions these use.
 #![tactic(auto)]
 
 mod alive;
 mod chains;
-mod formats;
 mod inputs;
 mod laws;
 mod meaning;
@@ -25,13 +25,11 @@ pub use alive::{
 pub use chains::{
     accepted_chains_obey_the_rules, chains_have_one_verdict, honest_chains_tell_of_their_device,
 };
-pub use formats::{failing_examples, spelling_examples};
 pub use inputs::inputs_are_clear;
 pub use laws::{
-    admission_examples, authority_examples, change_examples, condition_examples,
-    layers_stay_layers, life_examples, orders_and_entries_agree, regions_stay_kept_rightly,
-    ruled_logs_are_bounded, ruled_logs_have_layers, runs_over_reliable, standing_examples,
-    target_examples, the_last_counts, unreliable_regions_are_empty,
+    layers_stay_layers, orders_and_entries_agree, regions_stay_kept_rightly,
+    ruled_logs_are_bounded, ruled_logs_have_layers, runs_over_reliable, the_last_counts,
+    unreliable_regions_are_empty,
 };
 pub use meaning::{
     clean_memories_stand_for_it, factory_memories_begin_so, images_are_clear, one_meaning,
@@ -44,12 +42,11 @@ pub use regions::{
     valid_states_have_valid_regions,
 };
 pub use signing::{
-    digit_examples, keys_are_sized, nodes_are_leaves_or_inner, signatures_bear_their_index,
-    signatures_verify,
+    keys_are_sized, nodes_are_leaves_or_inner, signatures_bear_their_index, signatures_verify,
 };
 pub use steps::{orders_append_their_entry, states_stay_valid};
 pub use texts::{
     drafts_are_clear, draws_in_turn, events_are_bounded, one_workload, order_lines_are_clear,
-    refusals_have_words, replies_differ, script_events, scripts_are_clear, text_examples,
-    texts_have_lines, words_are_read_back, workload_examples,
+    refusals_have_words, replies_differ, script_events, scripts_are_clear, texts_have_lines,
+    words_are_read_back,
 };

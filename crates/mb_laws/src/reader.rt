@@ -1,6 +1,6 @@
 //! Laws of what a log says of one key, entry by entry, as a reader meets them.
 
-ghost use Rattle.mb_laws.specs.ReaderLaws.{NoLivesUnmade, FirstSight, FirstLife, FirstAlive, StaysMade, StaysAlive, LivesOn, MadeKeysStandInTheLog, FlaggedKeysLive, LivingKeysAreFlagged};
+ghost use Rattle.mb_lemmas.specs.ReaderLaws.{NoLivesUnmade, FirstSight, FirstLife, FirstAlive, StaysMade, StaysAlive, LivesOn, MadeKeysStandInTheLog, FlaggedKeysLive, LivingKeysAreFlagged};
 
 /// What a log says of one key, until an entry makes it: nothing; and then what this entry says, and its first
 /// configuration.

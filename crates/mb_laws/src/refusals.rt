@@ -1,6 +1,6 @@
 //! Laws of the machine's answers.
 
-ghost use Rattle.mb_laws.specs.RefusalLaws.{RefusalsLeave, NoMemoryLeaves, MachineIsWhole, OneFailure, PassesFailNothing, PassesOrFails, OneOrderStep, MachineIsFunction, MachineAnswers, PhasesStayPhases};
+ghost use Rattle.mb_lemmas.specs.RefusalLaws.{RefusalsLeave, NoMemoryLeaves, MachineIsWhole, OneFailure, PassesFailNothing, PassesOrFails, OneOrderStep, MachineIsFunction, MachineAnswers, PhasesStayPhases};
 
 /// A refused event leaves the state, and the phase but where a dead device is booted. One for which no memory is found
 /// leaves all, and the machine's own answer is never that.

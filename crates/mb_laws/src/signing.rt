@@ -5,8 +5,7 @@ ghost use Rattle.mb_model.specs.declared.key.KeySeed.{KeySeed};
 ghost use Rattle.mb_model.specs.Key.{IsSized};
 ghost use Rattle.mb_model.specs.Signing.{public_of, signature_of};
 ghost use Rattle.mb_model.specs.Born.{born_key, officer_key};
-ghost use Rattle.mb_laws.specs.SigningLaws.{SignaturesVerify, SignaturesBearTheirIndex, LeavesAreOfOneTimeKeys, InnerNodesHashTwo, IsSizedSeed};
-ghost use Rattle.mb_laws.specs.SigningExamples.{DigitExamples, ChecksumExamples};
+ghost use Rattle.mb_lemmas.specs.SigningLaws.{SignaturesVerify, SignaturesBearTheirIndex, LeavesAreOfOneTimeKeys, InnerNodesHashTwo, IsSizedSeed};
 
 /// What a key's seed signs at an index of its tree verifies under its public key.
 pub fn signatures_verify()
@@ -32,10 +31,4 @@ pub fn keys_are_sized()
     ensures born { (draw serial : List ℕ) (n : ℕ) → IsSizedSeed (born_key draw serial n) }
     ensures officer { (noise : List ℕ) → IsSizedSeed (officer_key noise) }
     ensures public { (key : KeySeed) → length key.identifier ≡ 16 → IsSized (public_of key) }
-{}
-
-/// The digits of two bytes, and the checksums of a hash of zeros and of a hash of ones.
-pub fn digit_examples()
-    ensures digits { DigitExamples }
-    ensures checksums { ChecksumExamples }
 {}

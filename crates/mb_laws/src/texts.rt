@@ -4,8 +4,6 @@ ghost use Rattle.mb_model.specs.Script.{IsScript};
 ghost use Rattle.mb_model.specs.Drafts.{IsDraft};
 ghost use Rattle.mb_model.specs.OrderLines.{IsOrderLine, IsStatementLine};
 ghost use Rattle.mb_laws.specs.TextLaws.{IsClearText, SomeLines, OneListOfLines, WordsAreReadBack, ScriptsGiveScriptEvents, ScriptEventsAreSaid, DrawsKeepScriptEvents, DrawsInTurn, DrawsKeepCount, TooManyEvents, SecondOrderLine, SecondStatementLine, FirstOrderLine, RepliesDiffer, RefusalsHaveWords, OneWorkload};
-ghost use Rattle.mb_laws.specs.TextExamples.{LineExamples, ScriptExamples, DrawExamples, ReplyExamples, DraftExamples, OrderLineExamples, ListingExamples};
-ghost use Rattle.mb_laws.specs.WorkloadExamples.{WorkloadExamples};
 
 /// Each text has one list of lines.
 pub fn texts_have_lines()
@@ -66,23 +64,7 @@ pub fn draws_in_turn()
     ensures count { DrawsKeepCount }
 {}
 
-/// Which lines texts have, what some scripts and drafts stand for and where they fail, and lines that are printed.
-pub fn text_examples()
-    ensures lines { LineExamples }
-    ensures scripts { ScriptExamples }
-    ensures draws { DrawExamples }
-    ensures replies { ReplyExamples }
-    ensures drafts { DraftExamples }
-    ensures orders { OrderLineExamples }
-    ensures listings { ListingExamples }
-{}
-
 /// What is drawn for a workload, its number and the number of its rounds say.
 pub fn one_workload()
     ensures { OneWorkload }
-{}
-
-/// What comes out of the generator: its first words, who signs how often, and how many events there are.
-pub fn workload_examples()
-    ensures { WorkloadExamples }
 {}

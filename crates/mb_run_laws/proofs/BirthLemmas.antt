@@ -14,11 +14,11 @@ use Rattle.mb_model.specs.Log.{entries_of, made, RuledLog}
 use Rattle.mb_model.specs.ChainFormat.{chain_format}
 use Rattle.mb_model.specs.Valid.{EachFollows, IsValidState}
 use Rattle.mb_model.specs.Acceptance.{IsGood, AreGood, KeyEntry, key_in, key_of, report_of, Accepts}
-use Rattle.mb_laws.specs.AliveLaws.{makes, IsUnmade}
-use Rattle.mb_laws.proofs.LogLemmas.{made-push, last_of-split}
-use Rattle.mb_laws.proofs.AliveLemmas.{later_is_unmade}
-use Rattle.mb_laws.proofs.ValidStates.{valid_is_ruled}
-use Rattle.mb_laws.proofs.ReaderLemmas.{makes_none}
+use Rattle.mb_lemmas.specs.AliveLaws.{makes, IsUnmade}
+use Rattle.mb_lemmas.proofs.LogLemmas.{made-push, last_of-split}
+use Rattle.mb_lemmas.proofs.AliveLemmas.{later_is_unmade}
+use Rattle.mb_lemmas.proofs.ValidStates.{valid_is_ruled}
+use Rattle.mb_lemmas.proofs.ReaderLemmas.{makes_none}
 use Rattle.mb_run_laws.specs.BirthLaws.{IsBornOf, bare_chain}
 
 -- ---- entries

@@ -12,8 +12,8 @@ use Rattle.mb_model.specs.Merkle.{leaf_number}
 use Rattle.mb_model.specs.Log.{entries_of, device_in, last_of, device_of, used}
 use Rattle.mb_model.specs.SignedTexts.{entry_text, IsSignedBy}
 use Rattle.mb_model.specs.Valid.{IsValidState}
-use Rattle.mb_laws.proofs.LogLemmas.{used-split}
-use Rattle.mb_laws.proofs.ReaderLemmas.{none_of_two}
+use Rattle.mb_lemmas.proofs.LogLemmas.{used-split}
+use Rattle.mb_lemmas.proofs.ReaderLemmas.{none_of_two}
 use Rattle.mb_run_laws.specs.IndexLaws.{NamesDevice, HasInCharge}
 
 -- the entry of a signed one

@@ -18,10 +18,10 @@ use Rattle.mb_model.specs.Regions.{empty_region}
 use Rattle.mb_model.specs.Signing.{public_of}
 use Rattle.mb_model.specs.OrderStep.{region_of}
 use Rattle.mb_model.specs.Valid.{IsValidState}
-use Rattle.mb_laws.proofs.Splits.{two_splits}
-use Rattle.mb_laws.proofs.FateLemmas.{keys_increase}
-use Rattle.mb_laws.proofs.FatedStates.{region_key_lives}
-use Rattle.mb_laws.proofs.ValidStates.{valid_is_ruled, region_is_valid}
+use Rattle.mb_lemmas.proofs.Splits.{two_splits}
+use Rattle.mb_lemmas.proofs.FateLemmas.{keys_increase}
+use Rattle.mb_lemmas.proofs.FatedStates.{region_key_lives}
+use Rattle.mb_lemmas.proofs.ValidStates.{valid_is_ruled, region_is_valid}
 
 -- ---- keys of the log
 

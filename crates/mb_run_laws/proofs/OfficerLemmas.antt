@@ -23,7 +23,7 @@ use Rattle.mb_format.specs.Format.{Spells}
 use Rattle.mb_model.specs.SignedTexts.{order_text, countersigned_text, IsSignedBy}
 use Rattle.mb_model.specs.SignedOrders.{signed_order, countersignature_of, countersigned_order}
 use Rattle.mb_model.specs.Signing.{public_of, signature_of}
-use Rattle.mb_laws.proofs.SignatureLemmas.{signature_verifies}
+use Rattle.mb_lemmas.proofs.SignatureLemmas.{signature_verifies}
 use Rattle.mb_run_laws.specs.OfficerLaws.{HasCharge, OwnsLayer, IsRightlySigned, IsRightlyCountersigned, PassesTheRest}
 
 -- what the key of an owner signs is signed by the owner

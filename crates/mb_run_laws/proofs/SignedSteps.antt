@@ -16,7 +16,7 @@ use Rattle.mb_model.specs.LayerEvents.{Outcome, on_region, has_name, has_number,
 use Rattle.mb_model.specs.Listing.{is_signed}
 use Rattle.mb_model.specs.ChainFormat.{statement_format}
 use Rattle.mb_model.specs.Machine.{Phase, off, dead, ratchet, World, Told, boot_event, awake_in, status_of, status_event, go_event, region_event, CommandStep, Machine, Step, answered, lacks_memory, loses_power}
-use Rattle.mb_laws.proofs.RefusalLemmas.{awake_state}
+use Rattle.mb_lemmas.proofs.RefusalLemmas.{awake_state}
 use Rattle.mb_run_laws.proofs.KeptByRuns.{with_one_use}
 
 -- a key of a region signs this in a state

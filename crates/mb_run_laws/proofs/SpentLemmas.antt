@@ -27,11 +27,11 @@ use Rattle.mb_model.specs.OrderStep.{region_of, needs_succession, log_with, next
 use Rattle.mb_model.specs.LayerEvents.{has_number, with_use}
 use Rattle.mb_model.specs.Machine.{World, Step, Run}
 use Rattle.mb_model.specs.Valid.{IsValidState, Valid}
-use Rattle.mb_laws.proofs.LogLemmas.{made-push}
-use Rattle.mb_laws.proofs.RegionLemmas.{at_upper}
-use Rattle.mb_laws.proofs.ValidLogs.{entries_of-signed}
-use Rattle.mb_laws.proofs.ValidSteps.{step_valid}
-use Rattle.mb_laws.proofs.ValidRegions.{used_if}
+use Rattle.mb_lemmas.proofs.LogLemmas.{made-push}
+use Rattle.mb_lemmas.proofs.RegionLemmas.{at_upper}
+use Rattle.mb_lemmas.proofs.ValidLogs.{entries_of-signed}
+use Rattle.mb_lemmas.proofs.ValidSteps.{step_valid}
+use Rattle.mb_lemmas.proofs.ValidRegions.{used_if}
 use Rattle.mb_run_laws.specs.RunLaws.{IsSignedAt}
 use Rattle.mb_run_laws.proofs.KeptByRuns.{with_secrets, with_one_use, IsKept, step_kept}
 use Rattle.mb_run_laws.proofs.KeyLemmas.{one_in, upper_of, key_born, one_region, numbers_increase}

@@ -28,11 +28,11 @@ use Rattle.mb_model.specs.LayerEvents.{statement_of}
 use Rattle.mb_model.specs.Machine.{World, Step, Run}
 use Rattle.mb_model.specs.Valid.{IsValidState, Valid}
 use Rattle.mb_model.specs.Acceptance.{AreGood, KeyEntry, key_of, IsCurrent, report_of, Accepts}
-use Rattle.mb_laws.proofs.LogLemmas.{last_of-more, RuledLog-front, number_of-append, number-le}
-use Rattle.mb_laws.proofs.ValidStates.{valid_is_ruled}
-use Rattle.mb_laws.proofs.ValidSteps.{run_valid}
-use Rattle.mb_laws.proofs.ReaderLemmas.{living_is_flagged, not_true}
-use Rattle.mb_laws.proofs.SignatureLemmas.{signature_verifies}
+use Rattle.mb_lemmas.proofs.LogLemmas.{last_of-more, RuledLog-front, number_of-append, number-le}
+use Rattle.mb_lemmas.proofs.ValidStates.{valid_is_ruled}
+use Rattle.mb_lemmas.proofs.ValidSteps.{run_valid}
+use Rattle.mb_lemmas.proofs.ReaderLemmas.{living_is_flagged, not_true}
+use Rattle.mb_lemmas.proofs.SignatureLemmas.{signature_verifies}
 use Rattle.mb_run_laws.specs.RunLaws.{BeginsWith, worlds_of}
 use Rattle.mb_run_laws.specs.BirthLaws.{IsBornOf}
 use Rattle.mb_run_laws.specs.StatementLaws.{IsStatedIn, is_change_above, cut_at, stated_chain, entry_of, StaysAccepted}

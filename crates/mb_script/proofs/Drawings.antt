@@ -7,7 +7,7 @@ use Rattle.mb_model.specs.Pieces.{part}
 use Rattle.mb_model.specs.declared.event.Event.{Event}
 use Rattle.mb_model.specs.declared.event.Event.TheVariants as event
 use Rattle.mb_model.specs.Script.{with_before, is_command, commands_in, drawn_event, drawn_events}
-use Rattle.mb_laws.proofs.DrawLemmas.{drawn-push, drawn-length}
+use Rattle.mb_lemmas.proofs.DrawLemmas.{drawn-push, drawn-length}
 
 -- The events before a place have their draws, and the noise after these is left.
 pub record IsDrawing (noise : List ℕ) (old now : List Event) (left : List ℕ) (at : ℕ) : Type 0 where

@@ -26,14 +26,15 @@ use Rattle.mb_model.specs.Memory.{AreSized}
 use Rattle.mb_model.specs.StoredLog.{AreCounted, HasIndex, signed_for, completed}
 use Rattle.mb_model.specs.Meaning.{Contents, HoldsContents, fated, fate_of_two, fate_of_three, meant, HasMeaning, is_dead, is_live, StandsFor}
 use Rattle.mb_model.specs.Valid.{IsValidState}
-use Rattle.mb_laws.specs.RegionLaws.{AreFated}
-use Rattle.mb_laws.proofs.FateLemmas.{fated_twice}
-use Rattle.mb_laws.proofs.FatedStates.{changed_is_fated, keyed_is_fated}
-use Rattle.mb_laws.proofs.OwnEntries.{appends_own}
-use Rattle.mb_laws.proofs.ValidStates.{valid_is_ruled}
-use Rattle.mb_laws.proofs.ValidOrders.{succeeded_valid}
-use Rattle.mb_laws.proofs.ValidSteps.{order_step_valid, obeyed_valid}
-use Rattle.mb_storing.specs.Commits.{own_fate, fate_for, gives_way, outgoing_key, outgoing_with, succession_entry, new_entries, pending_for, root_for, committed, two_done, three_done, both_done, IsUnderWay, not_begun, only_two, only_three, has_both}
+use Rattle.mb_lemmas.specs.RegionLaws.{AreFated}
+use Rattle.mb_lemmas.proofs.FateLemmas.{fated_twice}
+use Rattle.mb_lemmas.proofs.FatedStates.{changed_is_fated, keyed_is_fated}
+use Rattle.mb_lemmas.proofs.OwnEntries.{appends_own}
+use Rattle.mb_lemmas.proofs.ValidStates.{valid_is_ruled}
+use Rattle.mb_lemmas.proofs.ValidOrders.{succeeded_valid}
+use Rattle.mb_lemmas.proofs.ValidSteps.{order_step_valid, obeyed_valid}
+use Rattle.mb_model.specs.Work.{own_fate, fate_for, gives_way, outgoing_key, outgoing_with, succession_entry, new_entries, pending_for}
+use Rattle.mb_storing.specs.Commits.{root_for, committed, two_done, three_done, both_done, IsUnderWay, not_begun, only_two, only_three, has_both}
 
 -- ---- contents that mean a state
 

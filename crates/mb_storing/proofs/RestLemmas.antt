@@ -16,9 +16,10 @@ use Rattle.mb_model.specs.Memory.{AreSized, current, HoldsRecord}
 use Rattle.mb_model.specs.StoredLog.{unsigned_by, AreCounted, signed_for, outgoing_of, completed}
 use Rattle.mb_model.specs.Meaning.{Contents, HoldsContents, fated, fate_of_two, fate_of_three, meant, StandsFor}
 use Rattle.mb_model.specs.Clean.{root_of, IsCleanFor}
-use Rattle.mb_laws.proofs.FateLemmas.{kept_as_before}
-use Rattle.mb_laws.proofs.MeaningLemmas.{one_root_in, contents_of}
-use Rattle.mb_storing.specs.Commits.{new_entries, root_for, committed, both_done, at_rest}
+use Rattle.mb_lemmas.proofs.FateLemmas.{kept_as_before}
+use Rattle.mb_lemmas.proofs.MeaningLemmas.{one_root_in, contents_of}
+use Rattle.mb_model.specs.Work.{new_entries}
+use Rattle.mb_storing.specs.Commits.{root_for, committed, both_done, at_rest}
 use Rattle.mb_storing.specs.InForce.{AgreeBesides}
 use Rattle.mb_storing.proofs.CommitLemmas.{meant_is, stands_for_meant, live_contents}
 use Rattle.mb_storing.proofs.FrameLemmas.{root_replaced}

@@ -31,9 +31,9 @@ use Rattle.mb_model.specs.EntryFormat.{entry_format, signed_entry_format}
 use Rattle.mb_model.specs.RootFormat.{region_key_format}
 use Rattle.mb_model.specs.OrderFormat.{act_by, body_format, order_format}
 use Rattle.mb_model.specs.OrderStep.{region_of, with_region, change_by, needs_succession, RegionHasRoom, Passes, signed_by, log_with, succeeded, device_after, cosigned_by, named_next, changed_layers, change_entry, changed, key_made, key_entry, keyed, ready_for, carried_out, obeyed}
-use Rattle.mb_laws.proofs.LogLemmas.{number_of-le-length, made-le-length}
+use Rattle.mb_lemmas.proofs.LogLemmas.{number_of-le-length, made-le-length}
 use Rattle.mb_storing.specs.Storable.{IsStorableRegion, IsStorableState}
-use Rattle.mb_storing.specs.Commits.{succession_entry}
+use Rattle.mb_model.specs.Work.{succession_entry}
 use Rattle.mb_storing.proofs.CommitLemmas.{kept_ready, succeeded_layers}
 use Rattle.mb_storing.proofs.StorableFormats.{small_number, some_allowed, none_allowed, born_seed_allowed, born_public_allowed, region_key_allowed, layer_of-allowed, after_allowed, placed_allowed, codes_after_allowed, change_allowed, new_key_allowed, succession_allowed, signed_allowed}
 

@@ -39,13 +39,14 @@ use Rattle.mb_model.specs.Fates.{change_fate}
 use Rattle.mb_model.specs.Clean.{root_of}
 use Rattle.mb_model.specs.Valid.{IsValidState}
 use Rattle.mb_model.proofs.FormatBounds.{root_short, region_short, public_short}
-use Rattle.mb_laws.proofs.LogLemmas.{used-bound}
-use Rattle.mb_laws.proofs.Splits.{All-split}
-use Rattle.mb_laws.proofs.OwnEntries.{appends_own}
-use Rattle.mb_laws.proofs.ValidStates.{valid_is_ruled}
-use Rattle.mb_laws.proofs.ValidLogs.{named_is_some}
-use Rattle.mb_laws.proofs.ValidSteps.{obeyed_valid}
-use Rattle.mb_storing.specs.Commits.{own_fate, gives_way, outgoing_with, succession_entry, new_entries, pending_for, root_for}
+use Rattle.mb_lemmas.proofs.LogLemmas.{used-bound}
+use Rattle.mb_lemmas.proofs.Splits.{All-split}
+use Rattle.mb_lemmas.proofs.OwnEntries.{appends_own}
+use Rattle.mb_lemmas.proofs.ValidStates.{valid_is_ruled}
+use Rattle.mb_lemmas.proofs.ValidLogs.{named_is_some}
+use Rattle.mb_lemmas.proofs.ValidSteps.{obeyed_valid}
+use Rattle.mb_model.specs.Work.{own_fate, gives_way, outgoing_with, succession_entry, new_entries, pending_for}
+use Rattle.mb_storing.specs.Commits.{root_for}
 use Rattle.mb_storing.specs.Storable.{IsStorableRegion, IsStorableState, HasRegionRecord}
 use Rattle.mb_storing.proofs.StorableFormats.{keep_allowed, signed_entry, some_allowed, none_allowed, born_public_allowed, succession_allowed}
 use Rattle.mb_storing.proofs.StorableOrders.{small_length, key_made_allowed, ready_by_storable, obeyed_storable}

@@ -25,11 +25,11 @@ use Rattle.mb_model.specs.LayerEvents.{Outcome, has_name, with_secret, has_numbe
 use Rattle.mb_model.specs.Machine.{Phase, off, dead, ratchet, World, Told, boot_event, awake, awake_in, status_event, go_event, region_event, CommandStep, Machine, Step, answered, lacks_memory, loses_power, Run}
 use Rattle.mb_model.specs.Script.{IsName, FitsMessage, IsScriptEvent}
 use Rattle.mb_model.specs.Valid.{IsValidState, Valid}
-use Rattle.mb_laws.proofs.FateLemmas.{keys_increase, pairs_head, pairs_tail}
-use Rattle.mb_laws.proofs.ValidStates.{valid_is_ruled, region_is_valid}
-use Rattle.mb_laws.proofs.ValidSteps.{step_valid}
-use Rattle.mb_laws.proofs.ValidRegions.{used_if}
-use Rattle.mb_laws.proofs.RefusalLemmas.{awake_state}
+use Rattle.mb_lemmas.proofs.FateLemmas.{keys_increase, pairs_head, pairs_tail}
+use Rattle.mb_lemmas.proofs.ValidStates.{valid_is_ruled, region_is_valid}
+use Rattle.mb_lemmas.proofs.ValidSteps.{step_valid}
+use Rattle.mb_lemmas.proofs.ValidRegions.{used_if}
+use Rattle.mb_lemmas.proofs.RefusalLemmas.{awake_state}
 use Rattle.mb_storing.specs.Storable.{IsStorableRegion, IsStorableState, Storable}
 use Rattle.mb_storing.proofs.StorableFormats.{used_key_allowed, secret_allowed}
 use Rattle.mb_storing.proofs.StorableOrders.{number_small, region_of-storable, with_region_storable, obeyed_storable}

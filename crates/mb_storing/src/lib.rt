@@ -2,7 +2,7 @@
 //! stored at all.
 //!
 //! This crate owns no type and does nothing when it runs. Each law stands on a function with an empty body, and its
-//! definitions and lemmas may be cited above. It stands on `mb_model`, whose definitions it speaks of, on `mb_laws` and
+//! definitions and lemmas may be cited above. It stands on `mb_model`, whose definitions it speaks of, on `mb_lemmas` and
 //! `mb_format`, whose lemmas it cites, and on the kit's crates whose functions these use.
 #![tactic(auto)]
 

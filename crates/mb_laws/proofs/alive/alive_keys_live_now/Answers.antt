@@ -1,4 +1,4 @@
-use Rattle.mb_laws.proofs.PresentLemmas as lemmas
+use Rattle.mb_lemmas.proofs.PresentLemmas as lemmas
 use Rattle.mb_laws.proofs.alive.alive_keys_live_now.Goals as goal
 
 pub returns : goal.returns

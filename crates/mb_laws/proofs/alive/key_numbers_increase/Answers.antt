@@ -1,4 +1,4 @@
-use Rattle.mb_laws.proofs.AliveLemmas as lemmas
+use Rattle.mb_lemmas.proofs.AliveLemmas as lemmas
 use Rattle.mb_laws.proofs.alive.key_numbers_increase.Goals as goal
 
 pub returns : goal.returns

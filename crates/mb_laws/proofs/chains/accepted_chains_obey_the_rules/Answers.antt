@@ -1,4 +1,4 @@
-use Rattle.mb_laws.proofs.ChainLemmas as lemmas
+use Rattle.mb_lemmas.proofs.ChainLemmas as lemmas
 use Rattle.mb_laws.proofs.chains.accepted_chains_obey_the_rules.Goals as goal
 
 pub returns : goal.returns

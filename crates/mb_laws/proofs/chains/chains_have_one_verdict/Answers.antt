@@ -1,4 +1,4 @@
-use Rattle.mb_laws.proofs.ChainLemmas as lemmas
+use Rattle.mb_lemmas.proofs.ChainLemmas as lemmas
 use Rattle.mb_laws.proofs.chains.chains_have_one_verdict.Goals as goal
 
 pub returns : goal.returns

@@ -1,4 +1,4 @@
-use Rattle.mb_laws.proofs.RuleLemmas as lemmas
+use Rattle.mb_lemmas.proofs.RuleLemmas as lemmas
 use Rattle.mb_laws.proofs.laws.layers_stay_layers.Goals as goal
 
 pub returns : goal.returns

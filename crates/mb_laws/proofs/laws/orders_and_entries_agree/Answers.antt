@@ -1,4 +1,4 @@
-use Rattle.mb_laws.proofs.RuleLemmas as lemmas
+use Rattle.mb_lemmas.proofs.RuleLemmas as lemmas
 use Rattle.mb_laws.proofs.laws.orders_and_entries_agree.Goals as goal
 
 pub returns : goal.returns

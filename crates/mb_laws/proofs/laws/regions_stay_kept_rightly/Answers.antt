@@ -1,4 +1,4 @@
-use Rattle.mb_laws.proofs.RegionLemmas as lemmas
+use Rattle.mb_lemmas.proofs.RegionLemmas as lemmas
 use Rattle.mb_laws.proofs.laws.regions_stay_kept_rightly.Goals as goal
 
 pub returns : goal.returns

@@ -1,4 +1,4 @@
-use Rattle.mb_laws.proofs.LogLemmas as lemmas
+use Rattle.mb_lemmas.proofs.LogLemmas as lemmas
 use Rattle.mb_laws.proofs.laws.ruled_logs_are_bounded.Goals as goal
 
 pub returns : goal.returns

@@ -1,4 +1,4 @@
-use Rattle.mb_laws.proofs.LogLemmas as lemmas
+use Rattle.mb_lemmas.proofs.LogLemmas as lemmas
 use Rattle.mb_laws.proofs.laws.the_last_counts.Goals as goal
 
 pub returns : goal.returns

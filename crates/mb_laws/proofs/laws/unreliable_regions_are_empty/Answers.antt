@@ -1,4 +1,4 @@
-use Rattle.mb_laws.proofs.RegionLemmas as lemmas
+use Rattle.mb_lemmas.proofs.RegionLemmas as lemmas
 use Rattle.mb_laws.proofs.laws.unreliable_regions_are_empty.Goals as goal
 
 pub returns : goal.returns

@@ -1,4 +1,4 @@
-use Rattle.mb_laws.proofs.FaultLemmas as lemmas
+use Rattle.mb_lemmas.proofs.FaultLemmas as lemmas
 use Rattle.mb_laws.proofs.meaning.clean_memories_stand_for_it.Goals as goal
 
 pub returns : goal.returns

@@ -1,4 +1,4 @@
-use Rattle.mb_laws.proofs.FactoryLemmas as lemmas
+use Rattle.mb_lemmas.proofs.FactoryLemmas as lemmas
 use Rattle.mb_laws.proofs.meaning.factory_memories_begin_so.Goals as goal
 
 pub returns : goal.returns

@@ -1,4 +1,4 @@
-use Rattle.mb_laws.proofs.MeaningLemmas as lemmas
+use Rattle.mb_lemmas.proofs.MeaningLemmas as lemmas
 use Rattle.mb_laws.proofs.meaning.one_meaning.Goals as goal
 
 pub returns : goal.returns

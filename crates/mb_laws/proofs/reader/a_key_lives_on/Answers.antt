@@ -1,4 +1,4 @@
-use Rattle.mb_laws.proofs.ReaderLemmas as lemmas
+use Rattle.mb_lemmas.proofs.ReaderLemmas as lemmas
 use Rattle.mb_laws.proofs.reader.a_key_lives_on.Goals as goal
 
 pub returns : goal.returns

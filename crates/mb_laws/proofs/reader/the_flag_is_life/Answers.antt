@@ -1,4 +1,4 @@
-use Rattle.mb_laws.proofs.ReaderLemmas as lemmas
+use Rattle.mb_lemmas.proofs.ReaderLemmas as lemmas
 use Rattle.mb_laws.proofs.reader.the_flag_is_life.Goals as goal
 
 pub returns : goal.returns

@@ -1,4 +1,4 @@
-use Rattle.mb_laws.proofs.OrderLemmas as lemmas
+use Rattle.mb_lemmas.proofs.OrderLemmas as lemmas
 use Rattle.mb_laws.proofs.refusals.orders_fail_one_check.Goals as goal
 
 pub returns : goal.returns

@@ -1,4 +1,4 @@
-use Rattle.mb_laws.proofs.RefusalLemmas as lemmas
+use Rattle.mb_lemmas.proofs.RefusalLemmas as lemmas
 use Rattle.mb_laws.proofs.refusals.refusals_leave_all.Goals as goal
 
 pub returns : goal.returns

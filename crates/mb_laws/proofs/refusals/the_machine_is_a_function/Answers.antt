@@ -1,4 +1,4 @@
-use Rattle.mb_laws.proofs.RefusalLemmas as lemmas
+use Rattle.mb_lemmas.proofs.RefusalLemmas as lemmas
 use Rattle.mb_laws.proofs.refusals.the_machine_is_a_function.Goals as goal
 
 pub returns : goal.returns

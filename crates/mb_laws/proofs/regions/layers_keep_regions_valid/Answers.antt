@@ -1,4 +1,4 @@
-use Rattle.mb_laws.proofs.ValidRegions as lemmas
+use Rattle.mb_lemmas.proofs.ValidRegions as lemmas
 use Rattle.mb_laws.proofs.regions.layers_keep_regions_valid.Goals as goal
 
 pub returns : goal.returns

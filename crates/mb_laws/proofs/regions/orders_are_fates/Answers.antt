@@ -1,4 +1,4 @@
-use Rattle.mb_laws.proofs.FatedStates as lemmas
+use Rattle.mb_lemmas.proofs.FatedStates as lemmas
 use Rattle.mb_laws.proofs.regions.orders_are_fates.Goals as goal
 
 pub returns : goal.returns

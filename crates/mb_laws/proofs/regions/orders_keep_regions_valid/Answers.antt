@@ -1,4 +1,4 @@
-use Rattle.mb_laws.proofs.ValidStates as lemmas
+use Rattle.mb_lemmas.proofs.ValidStates as lemmas
 use Rattle.mb_laws.proofs.regions.orders_keep_regions_valid.Goals as goal
 
 pub returns : goal.returns

@@ -1,4 +1,4 @@
-use Rattle.mb_laws.proofs.FatedStates as lemmas
+use Rattle.mb_lemmas.proofs.FatedStates as lemmas
 use Rattle.mb_laws.proofs.regions.region_keys_are_alive.Goals as goal
 
 pub returns : goal.returns

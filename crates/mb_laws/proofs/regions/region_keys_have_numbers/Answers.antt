@@ -1,4 +1,4 @@
-use Rattle.mb_laws.proofs.FateLemmas as lemmas
+use Rattle.mb_lemmas.proofs.FateLemmas as lemmas
 use Rattle.mb_laws.proofs.regions.region_keys_have_numbers.Goals as goal
 
 pub returns : goal.returns

@@ -1,4 +1,4 @@
-use Rattle.mb_laws.proofs.ValidRegions as lemmas
+use Rattle.mb_lemmas.proofs.ValidRegions as lemmas
 use Rattle.mb_laws.proofs.regions.regions_stay_valid.Goals as goal
 
 pub returns : goal.returns

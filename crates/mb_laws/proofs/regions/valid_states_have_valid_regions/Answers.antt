@@ -1,4 +1,4 @@
-use Rattle.mb_laws.proofs.ValidStates as lemmas
+use Rattle.mb_lemmas.proofs.ValidStates as lemmas
 use Rattle.mb_laws.proofs.regions.valid_states_have_valid_regions.Goals as goal
 
 pub returns : goal.returns

@@ -1,4 +1,4 @@
-use Rattle.mb_laws.proofs.SignatureLemmas as lemmas
+use Rattle.mb_lemmas.proofs.SignatureLemmas as lemmas
 use Rattle.mb_laws.proofs.signing.signatures_verify.Goals as goal
 
 pub returns : goal.returns

@@ -1,4 +1,4 @@
-use Rattle.mb_laws.proofs.OwnEntries as lemmas
+use Rattle.mb_lemmas.proofs.OwnEntries as lemmas
 use Rattle.mb_laws.proofs.steps.orders_append_their_entry.Goals as goal
 
 pub returns : goal.returns

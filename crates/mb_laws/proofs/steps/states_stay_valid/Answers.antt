@@ -1,4 +1,4 @@
-use Rattle.mb_laws.proofs.ValidSteps as lemmas
+use Rattle.mb_lemmas.proofs.ValidSteps as lemmas
 use Rattle.mb_laws.proofs.steps.states_stay_valid.Goals as goal
 
 pub returns-clause-step : goal.returns-clause-step

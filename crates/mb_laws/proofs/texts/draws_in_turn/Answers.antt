@@ -1,4 +1,4 @@
-use Rattle.mb_laws.proofs.DrawLemmas as lemmas
+use Rattle.mb_lemmas.proofs.DrawLemmas as lemmas
 use Rattle.mb_laws.proofs.texts.draws_in_turn.Goals as goal
 
 pub returns : goal.returns

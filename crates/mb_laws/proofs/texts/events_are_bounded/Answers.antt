@@ -1,4 +1,4 @@
-use Rattle.mb_laws.proofs.EventLemmas as lemmas
+use Rattle.mb_lemmas.proofs.EventLemmas as lemmas
 use Rattle.mb_laws.proofs.texts.events_are_bounded.Goals as goal
 
 pub returns : goal.returns

@@ -1,5 +1,5 @@
 use Rattle.mb_laws.proofs.ClearTexts as proof
-use Rattle.mb_laws.proofs.OrderLineLemmas as lemmas
+use Rattle.mb_lemmas.proofs.OrderLineLemmas as lemmas
 use Rattle.mb_laws.proofs.texts.order_lines_are_clear.Goals as goal
 
 pub returns : goal.returns

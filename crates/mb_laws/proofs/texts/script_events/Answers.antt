@@ -1,4 +1,4 @@
-use Rattle.mb_laws.proofs.DrawLemmas as draws
+use Rattle.mb_lemmas.proofs.DrawLemmas as draws
 use Rattle.mb_laws.proofs.SaidLemmas as lemmas
 use Rattle.mb_laws.proofs.texts.script_events.Goals as goal
 

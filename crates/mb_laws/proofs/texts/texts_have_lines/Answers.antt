@@ -1,4 +1,4 @@
-use Rattle.mb_laws.proofs.LineLemmas as lemmas
+use Rattle.mb_lemmas.proofs.LineLemmas as lemmas
 use Rattle.mb_laws.proofs.texts.texts_have_lines.Goals as goal
 
 pub returns : goal.returns

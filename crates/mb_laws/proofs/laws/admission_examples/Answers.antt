@@ -1,5 +1,0 @@
-use Rattle.mb_laws.proofs.ExampleProofs as lemmas
-use Rattle.mb_laws.proofs.laws.admission_examples.Goals as goal
-
-pub returns : goal.returns
-returns c = lemmas.admission

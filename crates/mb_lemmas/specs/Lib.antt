@@ -1,0 +1,6 @@
+pub mod AliveLaws
+pub mod ReaderLaws
+pub mod RegionLaws
+pub mod SigningLaws
+pub mod RefusalLaws
+pub mod SampleOrder
