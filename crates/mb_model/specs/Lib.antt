@@ -13,6 +13,7 @@ pub mod FirstCommand
 pub mod Inputs
 pub mod Keygen
 pub mod Sign
+pub mod FactoryCommand
 pub mod Top
 pub mod Layers
 pub mod Rules
@@ -33,6 +34,7 @@ pub mod OrderStep
 pub mod LayerEvents
 pub mod Machine
 pub mod Fates
+pub mod Work
 pub mod Valid
 pub mod Memory
 pub mod StoredLog

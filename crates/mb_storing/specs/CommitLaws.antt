@@ -19,7 +19,8 @@ use Rattle.mb_model.specs.StoredLog.{AreCounted, HasIndex}
 use Rattle.mb_model.specs.Flash.{flash_area, HoldsPublic}
 use Rattle.mb_model.specs.Meaning.{HoldsRegion, Contents, HoldsContents, meant, StandsFor}
 use Rattle.mb_model.specs.Clean.{root_of, IsCleanFor}
-use Rattle.mb_storing.specs.Commits.{new_entries, root_for, committed, two_done, three_done, both_done, IsUnderWay}
+use Rattle.mb_model.specs.Work.{new_entries}
+use Rattle.mb_storing.specs.Commits.{root_for, committed, two_done, three_done, both_done, IsUnderWay}
 use Rattle.mb_storing.specs.Commits.{at_rest}
 use Rattle.mb_storing.specs.InForce.{AgreeInForce, AgreeBesides}
 

@@ -21,7 +21,8 @@ use Rattle.mb_model.specs.Meaning.{StandsFor}
 use Rattle.mb_model.specs.Clean.{root_of}
 use Rattle.mb_model.specs.Factory.{state_at_birth}
 use Rattle.mb_model.specs.Script.{IsScriptEvent}
-use Rattle.mb_storing.specs.Commits.{new_entries, root_for}
+use Rattle.mb_model.specs.Work.{new_entries}
+use Rattle.mb_storing.specs.Commits.{root_for}
 use Rattle.mb_storing.specs.Storable.{IsStorableRegion, IsStorableState, Storable, HasRegionRecord}
 
 -- a valid state for which a memory stands can be stored
