@@ -7,7 +7,7 @@ use crate::layer::{Layers, Pair};
 use crate::order::{ChangeKind, KeyKind};
 
 /// An entry of the log.
-#[derive(Clone, Copy, Debug, PartialEq, Eq)]
+#[derive(Clone, Copy, PartialEq, Eq)]
 pub enum Entry {
     /// The device was made: its serial, its first device key, and its layers.
     Birth {
@@ -58,7 +58,7 @@ pub enum Entry {
 pub type Entries = Items<Entry>;
 
 /// An entry and the signature of a device key, or of the factory at the birth (RFC 8554, section 5.4).
-#[derive(Clone, Copy, Debug, PartialEq, Eq)]
+#[derive(Clone, Copy, PartialEq, Eq)]
 pub struct SignedEntry {
     pub entry: Entry,
     pub signature: [u8; 2348],
@@ -68,7 +68,7 @@ pub struct SignedEntry {
 pub type Log = Items<SignedEntry>;
 
 /// An entry as it is stored, where its signature may be missing yet.
-#[derive(Clone, Copy, Debug, PartialEq, Eq)]
+#[derive(Clone, Copy, PartialEq, Eq)]
 pub struct PublicEntry {
     pub entry: Entry,
     pub signature: Option<[u8; 2348]>,

@@ -10,7 +10,7 @@ use std::alloc::Global;
 
 /// What a power loss leaves of the write that it falls in: the first `keep` bytes are written, and each byte after
 /// them is one of the first `fill_length` bytes of `fill` (1 to 16), repeated in order.
-#[derive(Clone, Copy, Debug, PartialEq, Eq)]
+#[derive(Clone, Copy, PartialEq, Eq)]
 pub struct Tear {
     pub keep: u32,
     pub fill: [u8; 16],

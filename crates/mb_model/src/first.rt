@@ -3,14 +3,14 @@
 use crate::key::{PublicKey, Trust};
 
 /// Who owns a layer, and what the layer trusts.
-#[derive(Clone, Copy, Debug, PartialEq, Eq)]
+#[derive(Clone, Copy, PartialEq, Eq)]
 pub struct Ownership {
     pub owner: PublicKey,
     pub trust: Trust,
 }
 
 /// What a device of the first path knows.
-#[derive(Clone, Copy, Debug, PartialEq, Eq)]
+#[derive(Clone, Copy, PartialEq, Eq)]
 pub struct FirstState {
     /// The device's serial.
     pub serial: [u8; 16],

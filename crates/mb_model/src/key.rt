@@ -2,7 +2,7 @@
 
 /// The height of a tree of one-time keys, 5 to 25, which gives 2^5 to 2^25 of them: the LMS types 5 to 9 (RFC 8554,
 /// section 5.1).
-#[derive(Clone, Copy, Debug, PartialEq, Eq)]
+#[derive(Clone, Copy, PartialEq, Eq)]
 pub enum Tree {
     H5,
     H10,
@@ -12,7 +12,7 @@ pub enum Tree {
 }
 
 /// How many bits one chain of a one-time key signs, 1 to 8: the LM-OTS types 1 to 4 (RFC 8554, section 4.1).
-#[derive(Clone, Copy, Debug, PartialEq, Eq)]
+#[derive(Clone, Copy, PartialEq, Eq)]
 pub enum Chains {
     W1,
     W2,
@@ -21,7 +21,7 @@ pub enum Chains {
 }
 
 /// A public key of LMS (RFC 8554, section 5.3).
-#[derive(Clone, Copy, Debug, PartialEq, Eq)]
+#[derive(Clone, Copy, PartialEq, Eq)]
 pub struct PublicKey {
     /// The tree's height.
     pub tree: Tree,
@@ -34,7 +34,7 @@ pub struct PublicKey {
 }
 
 /// A private key of LMS of types 5 and 3, from which each of its values is derived (RFC 8554, appendix A).
-#[derive(Clone, Copy, Debug, PartialEq, Eq)]
+#[derive(Clone, Copy, PartialEq, Eq)]
 pub struct KeySeed {
     /// The identifier I of the key pair.
     pub identifier: [u8; 16],
@@ -43,7 +43,7 @@ pub struct KeySeed {
 }
 
 /// When a layer keeps its secrets over a change beneath it.
-#[derive(Clone, Copy, Debug, PartialEq, Eq)]
+#[derive(Clone, Copy, PartialEq, Eq)]
 pub enum Trust {
     /// At each load.
     Always,

@@ -3,7 +3,7 @@
 use crate::key::{PublicKey, Trust};
 
 /// The name of a layer's code.
-#[derive(Clone, Copy, Debug, PartialEq, Eq)]
+#[derive(Clone, Copy, PartialEq, Eq)]
 pub struct CodeName {
     /// SHA-256 of the code's bytes.
     pub hash: [u8; 32],
@@ -12,7 +12,7 @@ pub struct CodeName {
 }
 
 /// A layer. One without an owner has no code, is not reliable, and trusts never.
-#[derive(Clone, Copy, Debug, PartialEq, Eq)]
+#[derive(Clone, Copy, PartialEq, Eq)]
 pub struct Layer {
     /// The public key of its owner.
     pub owner: Option<PublicKey>,
@@ -25,7 +25,7 @@ pub struct Layer {
 }
 
 /// The layers of a device that can change. Layer 1 always has an owner and is reliable.
-#[derive(Clone, Copy, Debug, PartialEq, Eq)]
+#[derive(Clone, Copy, PartialEq, Eq)]
 pub struct Layers {
     pub one: Layer,
     pub two: Layer,
@@ -33,7 +33,7 @@ pub struct Layers {
 }
 
 /// Some of layers 2 and 3, or of their regions.
-#[derive(Clone, Copy, Debug, PartialEq, Eq)]
+#[derive(Clone, Copy, PartialEq, Eq)]
 pub struct Pair {
     pub two: bool,
     pub three: bool,

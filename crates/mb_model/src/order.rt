@@ -5,7 +5,7 @@ use crate::items::Items;
 use crate::key::{PublicKey, Trust};
 
 /// How long a key of a region lives.
-#[derive(Clone, Copy, Debug, PartialEq, Eq)]
+#[derive(Clone, Copy, PartialEq, Eq)]
 pub enum KeyKind {
     /// Until a change that the region is not kept over.
     Epoch,
@@ -14,7 +14,7 @@ pub enum KeyKind {
 }
 
 /// What an order demands of the device: where it does not hold, the order is refused.
-#[derive(Clone, Copy, Debug, PartialEq, Eq)]
+#[derive(Clone, Copy, PartialEq, Eq)]
 pub enum Target {
     /// The device has this serial.
     Serial([u8; 16]),
@@ -30,7 +30,7 @@ pub enum Target {
 pub type Targets = Items<Target>;
 
 /// The kinds of orders: what an order does, without what it carries.
-#[derive(Clone, Copy, Debug, PartialEq, Eq)]
+#[derive(Clone, Copy, PartialEq, Eq)]
 pub enum OrderKind {
     Establish,
     Surrender,
@@ -90,7 +90,7 @@ pub struct Order {
 }
 
 /// The kinds of orders that change a layer.
-#[derive(Clone, Copy, Debug, PartialEq, Eq)]
+#[derive(Clone, Copy, PartialEq, Eq)]
 pub enum ChangeKind {
     Establish,
     Surrender,

@@ -20,7 +20,7 @@ pub struct Secret {
 pub type Secrets = Items<Secret>;
 
 /// A key of a region.
-#[derive(Clone, Copy, Debug, PartialEq, Eq)]
+#[derive(Clone, Copy, PartialEq, Eq)]
 pub struct RegionKey {
     /// Its number in the row of all keys of the device.
     pub number: u32,

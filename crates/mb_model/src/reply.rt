@@ -3,7 +3,7 @@
 use crate::bytes::Bytes;
 
 /// How a layer stands.
-#[derive(Clone, Copy, Debug, PartialEq, Eq)]
+#[derive(Clone, Copy, PartialEq, Eq)]
 pub enum Standing {
     /// It has no owner.
     Unowned,

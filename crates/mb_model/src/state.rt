@@ -36,7 +36,7 @@ pub struct State {
 }
 
 /// What of a state an order is judged by.
-#[derive(Clone, Copy, Debug, PartialEq, Eq)]
+#[derive(Clone, Copy, PartialEq, Eq)]
 pub struct View {
     /// The device's serial.
     pub serial: [u8; 16],
@@ -58,7 +58,7 @@ pub struct View {
 }
 
 /// What an order makes true, for which its entry will stand.
-#[derive(Clone, Copy, Debug, PartialEq, Eq)]
+#[derive(Clone, Copy, PartialEq, Eq)]
 pub enum Fact {
     /// A layer is changed.
     Change {
@@ -96,7 +96,7 @@ pub struct Bodies {
 }
 
 /// Whether an entry may follow those before it.
-#[derive(Clone, Copy, Debug, PartialEq, Eq)]
+#[derive(Clone, Copy, PartialEq, Eq)]
 pub enum Follow {
     Yes,
     /// It has a wrong position, or its signature a wrong index.
@@ -106,7 +106,7 @@ pub enum Follow {
 }
 
 /// A configuration in which a key lived.
-#[derive(Clone, Copy, Debug, PartialEq, Eq)]
+#[derive(Clone, Copy, PartialEq, Eq)]
 pub struct Configuration {
     /// The configuration number.
     pub number: u32,

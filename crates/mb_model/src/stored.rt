@@ -6,7 +6,7 @@ use crate::region::RegionKey;
 use crate::state::Codes;
 
 /// A device key that gives way, as long as what it signs last is not signed yet.
-#[derive(Clone, Copy, Debug, PartialEq, Eq)]
+#[derive(Clone, Copy, PartialEq, Eq)]
 pub struct Outgoing {
     pub seed: KeySeed,
     /// How many of its indices are used, 1 to 32, with that of the entry that is not signed yet.
@@ -14,7 +14,7 @@ pub struct Outgoing {
 }
 
 /// What is still to be done to a region.
-#[derive(Clone, Copy, Debug, PartialEq, Eq)]
+#[derive(Clone, Copy, PartialEq, Eq)]
 pub enum Fate {
     /// It stays.
     Keep,
@@ -27,7 +27,7 @@ pub enum Fate {
 }
 
 /// The work that an order has left to be done.
-#[derive(Clone, Copy, Debug, PartialEq, Eq)]
+#[derive(Clone, Copy, PartialEq, Eq)]
 pub struct Pending {
     /// How many entries at the log's end are not signed yet, 1 or 2.
     pub unsigned: u8,
@@ -40,7 +40,7 @@ pub struct Pending {
 }
 
 /// The root record of the battery-backed memory.
-#[derive(Clone, Copy, Debug, PartialEq, Eq)]
+#[derive(Clone, Copy, PartialEq, Eq)]
 pub struct Root {
     /// The area of the flash in force: 0 for the first, 1 for the second.
     pub area: u8,

@@ -4,7 +4,7 @@ use crate::bytes::Bytes;
 use crate::key::KeySeed;
 
 /// An officer's key.
-#[derive(Clone, Copy, Debug, PartialEq, Eq)]
+#[derive(Clone, Copy, PartialEq, Eq)]
 pub struct Keyfile {
     pub seed: KeySeed,
     /// The next index that signs, 0 to 32: none is left at 32.
