@@ -1,18 +1,17 @@
 //! Keys and signatures that another program made.
 
 use super::*;
-use crate::parameters::height;
+use crate::parameters::{chain_count, chains_type, height, tree_type};
+use crate::signature::{begun_text, has_form, root_from};
 use hex::FromHex;
 use mb_model::{Chains, PublicKey, Tree};
+use sha2::Digest;
 use std::alloc::Global;
 use std::process::Abort;
 use std::test::Fail;
 
-mod h10;
-mod h15;
-mod h20;
-mod h25;
-mod h5;
+mod heights;
+mod widths;
 
 /// A key, a text and a signature of the text under the key, in hexadecimal.
 pub struct Vector {
@@ -110,6 +109,58 @@ fn keys_are_spelled(rt: HostRuntime) -> Result<(), Fail> {
     Ok(())
 }
 
+/// Bytes in the form of a signature of these types: leaf 3, the types, and any other bytes.
+fn any_signature(alloc: Global, tree: Tree, chains: Chains) -> Result<Vec<u8>, Fail> {
+    let path_at = 44 + 32 * usize::from(chain_count(chains));
+    let mut sig = Vec::new(alloc);
+    sig.extend_from_slice(&3u32.to_be_bytes())?;
+    sig.extend_from_slice(&chains_type(chains).to_be_bytes())?;
+    for at in 8..path_at - 4 {
+        sig.push((at % 251) as u8)?;
+    }
+    sig.extend_from_slice(&tree_type(tree).to_be_bytes())?;
+    for at in 0..32 * height(tree) {
+        sig.push((at % 241) as u8)?;
+    }
+    Ok(sig)
+}
+
+/// A signature of these types verifies under the root to which it leads. It does not with a leaf beyond the tree, without
+/// a node of the path, or with a byte more.
+fn expect_pair(rt: &impl Abort, alloc: Global, tree: Tree, chains: Chains) -> Result<(), Fail> {
+    let mut key = PublicKey {
+        tree,
+        chains,
+        identifier: [7; 16],
+        root: [0; 32],
+    };
+    let mut sig = any_signature(alloc, tree, chains)?;
+    assert!(rt; has_form(&key, &sig));
+    let mut text = begun_text(&key, &sig);
+    text.update(b"text");
+    key.root = root_from(&key, &text.finalize(), &sig);
+    assert!(rt; verifies(&key, b"text", &sig));
+    assert!(rt; sig.len() > 32);
+    assert!(rt; !verifies(&key, b"text", &sig[..sig.len() - 32]));
+    sig.push(0)?;
+    assert!(rt; !verifies(&key, b"text", &sig));
+    sig.pop();
+    let leaves: u32 = 1 << height(tree);
+    sig[..4].copy_from_slice(&leaves.to_be_bytes());
+    assert!(rt; !verifies(&key, b"text", &sig));
+    Ok(())
+}
+
+#[test]
+fn all_pairs_of_types(rt: HostRuntime) -> Result<(), Fail> {
+    for tree in [Tree::H5, Tree::H10, Tree::H15, Tree::H20, Tree::H25] {
+        for chains in [Chains::W1, Chains::W2, Chains::W4, Chains::W8] {
+            expect_pair(&rt, rt.alloc(), tree, chains)?;
+        }
+    }
+    Ok(())
+}
+
 #[test]
 fn types_are_those_of_the_tables(rt: HostRuntime) {
     let trees = [
@@ -131,8 +182,8 @@ fn types_are_those_of_the_tables(rt: HostRuntime) {
             bytes[3] = tree_type;
             bytes[7] = chains_type;
             let key = parse_key(&bytes);
-            assert_eq!(rt; key.map(|key| key.tree), Some(tree));
-            assert_eq!(rt; key.map(|key| key.chains), Some(chains));
+            assert!(rt; key.map(|key| key.tree) == Some(tree));
+            assert!(rt; key.map(|key| key.chains) == Some(chains));
         }
     }
     for (high, tree_type, chains_type) in [
@@ -146,6 +197,6 @@ fn types_are_those_of_the_tables(rt: HostRuntime) {
         bytes[0] = high;
         bytes[3] = tree_type;
         bytes[7] = chains_type;
-        assert_eq!(rt; parse_key(&bytes), None);
+        assert!(rt; parse_key(&bytes).is_none());
     }
 }

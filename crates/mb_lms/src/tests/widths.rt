@@ -1,4 +1,4 @@
-//! Signatures under keys of height 5, of the widths 1, 2, 4 and 8.
+//! Signatures of the widths 1, 2, 4 and 8 under keys of height 5.
 
 use super::{Vector, expect_signatures};
 use std::test::Fail;
