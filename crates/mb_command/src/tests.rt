@@ -3,7 +3,7 @@
 
 mod limits;
 
-use crate::{OrderEnd, body_length, read_order, write_order};
+use crate::{OrderEnd, body_length, read_order, signed_part, write_order};
 use mb_model::{Act, Bytes, Items, Order, Target};
 use std::alloc::Global;
 use std::test::Fail;
@@ -13,13 +13,18 @@ const UNSIGNED: &str = "000000";
 
 /// Whether the body and the signatures are read as an order, are written again, and the body is what is signed.
 fn goes_both_ways(alloc: Global, body: &str, signatures: &str) -> Result<bool, Fail> {
-    let mut bytes = hex::decode(alloc, body)?;
-    let signed = bytes.len();
+    let body = hex::decode(alloc, body)?;
+    let mut bytes = Vec::from_slice(alloc, &body)?;
     bytes.extend_from_slice(&hex::decode(alloc, signatures)?)?;
     let order = read_order(alloc, &bytes)?;
     let mut out = Vec::new(alloc);
     write_order(&order, &mut out)?;
-    Ok(out.as_slice() == bytes.as_slice() && body_length(&order) as usize == signed)
+    let part = signed_part(alloc, &order)?;
+    Ok(
+        out.as_slice() == bytes.as_slice()
+            && part.as_slice() == body.as_slice()
+            && body_length(&order) as usize == body.len(),
+    )
 }
 
 /// The place at which the bytes in hexadecimal fail.
