@@ -3,7 +3,7 @@
 //!
 //! This crate owns the rights to sign, each of which serves one signature; the tree of a key, which may be kept; and
 //! signing. It stands on `mb_lms`, by whose counted hash alone it hashes, on `mb_model`, and on the laws of
-//! a key's tree in `mb_laws`. Each call that hashes does so on the count of its caller, and begins none. No call takes
+//! a key's tree in `mb_lemmas`. Each call that hashes does so on the count of its caller, and begins none. No call takes
 //! memory.
 #![tactic(auto)]
 
@@ -13,7 +13,7 @@ mod signing;
 mod tree;
 mod uses;
 
-pub use signing::{public, sign, sign_kept};
+pub use signing::{public, public_kept, sign, sign_kept};
 pub use tree::KeptTree;
 pub use uses::{OneUse, Uses, take_index};
 

@@ -35,12 +35,19 @@ const TREE_TYPE_AT: usize = 2184;
 const PATH_AT: usize = 2188;
 
 /// The public key that belongs to the seed, in as many steps as its tree takes (RFC 8554, section 5.3).
-#[tactic(auto, unfolding(mb_model::specs::Signing::public_of))]
 pub fn public<L: Ledger>(seed: &KeySeed, steps: &mut Steps<L>) -> PublicKey
     ensures key { result ≡ public_of seed.now }
     ensures counted { steps.new ≡ steps.old + 34399 }
 {
-    let tree = KeptTree::build(seed, steps);
+    public_kept(&KeptTree::build(seed, steps), seed)
+}
+
+/// The public key that belongs to the seed, by the key's tree, in no step (RFC 8554, section 5.3).
+#[tactic(auto, unfolding(mb_model::specs::Signing::public_of))]
+pub fn public_kept(tree: &KeptTree, seed: &KeySeed) -> PublicKey
+    requires { IsTreeOf seed.now tree.now }
+    ensures { result ≡ public_of seed.now }
+{
     PublicKey {
         tree: Tree::H5,
         chains: Chains::W4,
