@@ -1,0 +1,5 @@
+pub mod Added
+pub mod Allowed
+pub mod Fronts
+pub mod KeyLives
+pub mod Pushes

@@ -1,0 +1,4 @@
+pub mod Additions
+pub mod Figures
+pub mod Following
+pub mod KeyLife

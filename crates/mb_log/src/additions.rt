@@ -1,0 +1,292 @@
+//! What an order adds to a device: the entries that it appends, and the keys that it makes.
+
+ghost use Rattle.std.specs.Prelude.{◌≡◌, ◌+◌, ◌<◌, ◌≤◌, [], ◌∷◌, ◌++◌, IfOk, OnErr, vec_len, vec_capacity, if◌then◌else◌};
+ghost use Rattle.mb_model.specs.declared.order.Order.{Order};
+ghost use Rattle.mb_model.specs.declared.state.State.{State};
+ghost use Rattle.mb_model.specs.Signing.{public_of};
+ghost use Rattle.mb_model.specs.Work.{view_of, fact_of, bodies_for};
+ghost use Rattle.mb_log.specs.Additions.{needed_with, names_next, HasRoom, next_by, ready_by, first_by, next_public, entry_by, device_by, uses_by, key_by, outgoing_by};
+
+use crate::keys::born;
+use mb_authority::renews;
+use mb_lms::Steps;
+use mb_model::{
+    Bodies, Entries, Entry, Fact, KeyKind, KeySeed, NoMemory, Outgoing, PublicKey, RegionKey, View,
+};
+use mb_signer::public;
+use std::alloc::Global;
+use std::sync::ledger::Ledger;
+
+/// The most entries that an order appends.
+const MOST: usize = 2;
+
+/// The last index of a device key, which signs only an entry that names the next.
+pub(crate) const LAST_INDEX: u32 = 31;
+
+/// How many entries an order appends, with `uses` indices of the device key used, where its own entry names the next
+/// device key or not: two where the last index is left for an entry that names none, else one.
+pub fn needed(uses: u32, names_next: bool) -> u32
+    ensures { result ≡ needed_with uses names_next }
+{
+    if uses == LAST_INDEX && !names_next {
+        2
+    } else {
+        1
+    }
+}
+
+/// What the fact adds to a device, whose keys are made of the draw, in at most 68,798 steps: those of two public keys.
+///
+/// Errors: `NoMemory`, before any step.
+pub fn bodies<L: Ledger>(
+    alloc: Global,
+    view: &View,
+    fact: &Fact,
+    draw: &[u8; 32],
+    steps: &mut Steps<L>,
+) -> Result<Bodies, NoMemory>
+    requires uses { view.now.uses ≤ 31 }
+    requires room { HasRoom view.now fact.now }
+    requires number { view.now.number ≤ 128 }
+    requires keys_made { view.now.keys_made ≤ 128 }
+    ensures bodies { (state : State) (order : Order) → view.now ≡ view_of state → fact.now ≡ fact_of state order order.act → IfOk result (λ bodies. bodies ≡ bodies_for state order draw.now) }
+    ensures cost { steps.new ≤ steps.old + 68798 }
+    ensures unhashed { OnErr result (steps.new ≡ steps.old) }
+{
+    let mut entries = Vec::with_capacity(alloc, MOST)?;
+    let next_named = names_next(fact);
+    let ready = make_ready(view, next_named, draw, &mut entries, steps);
+    let own = own_addition(&ready, fact, draw, steps);
+    put(&mut entries, own.entry);
+    Ok(Bodies {
+        entries: Entries::from_vec(entries),
+        device: own.device,
+        uses: own.uses,
+        outgoing: outgoing(view, next_named),
+        key: own.key,
+    })
+}
+
+/// Whether the fact makes the next device key: it is an ordinary load of layer 1.
+fn names_next(fact: &Fact) -> bool
+    ensures { result ≡ names_next fact.now }
+{
+    match fact {
+        Fact::Change { kind, layer, .. } => renews(Some(*kind), *layer),
+        Fact::NewKey { .. } => false,
+    }
+}
+
+/// Adds an entry to a list that has room for it.
+fn put(entries: &mut Vec<Entry>, entry: Entry)
+    requires { vec_len entries.old < vec_capacity entries.old }
+    ensures items { entries.new.items ≡ entries.old.items ++ entry ∷ [] }
+    ensures len { vec_len entries.new ≡ vec_len entries.old + 1 }
+    ensures capacity { vec_capacity entries.old ≤ vec_capacity entries.new }
+{
+    let Ok(()) = entries.push(entry) else {
+        unreachable!();
+    };
+}
+
+/// The figures with which the device key has an index for the fact's own entry: those after a succession, where one is
+/// needed, whose entry is put into the list.
+fn make_ready<L: Ledger>(
+    view: &View,
+    names_next: bool,
+    draw: &[u8; 32],
+    entries: &mut Vec<Entry>,
+    steps: &mut Steps<L>,
+) -> View
+    requires empty { vec_len entries.old ≡ 0 }
+    requires capacity { MOST ≤ vec_capacity entries.old }
+    requires length { view.now.length + needed_with view.now.uses names_next ≤ 128 }
+    requires keys_made { view.now.keys_made ≤ 128 }
+    ensures ready { result ≡ ready_by view.now names_next draw.now }
+    ensures entries { entries.new.items ≡ entries.old.items ++ first_by view.now names_next draw.now }
+    ensures room { vec_len entries.new < vec_capacity entries.new }
+    ensures cost { steps.new ≤ steps.old + 34399 }
+{
+    if needed(view.uses, names_next) == 1 {
+        return *view;
+    }
+    let next = make_key(view, draw, steps);
+    let succession = Entry::Succession {
+        position: view.length,
+        key: next.public,
+    };
+    put(entries, succession);
+    View {
+        length: view.length + 1,
+        keys_made: view.keys_made + 1,
+        device: next.seed,
+        uses: 0,
+        ..*view
+    }
+}
+
+/// A key and its public key.
+#[derive(Drop)]
+struct MadeKey {
+    seed: KeySeed,
+    public: PublicKey,
+}
+
+/// The key that the device makes next.
+fn make_key<L: Ledger>(view: &View, draw: &[u8; 32], steps: &mut Steps<L>) -> MadeKey
+    ensures seed { result.seed ≡ next_by view.now draw.now }
+    ensures public { result.public ≡ public_of (next_by view.now draw.now) }
+    ensures counted { steps.new ≡ steps.old + 34399 }
+{
+    let seed = born(draw, &view.serial, view.keys_made);
+    MadeKey {
+        seed,
+        public: public(&seed, steps),
+    }
+}
+
+/// The device key after a change.
+#[derive(Drop)]
+struct DeviceKey {
+    /// The next key, where the change names one.
+    named: Option<PublicKey>,
+    seed: KeySeed,
+    /// How many of its indices are used.
+    uses: u32,
+}
+
+/// The device key after a change, which names the next one or not.
+fn device_after<L: Ledger>(
+    names_next: bool,
+    view: &View,
+    draw: &[u8; 32],
+    steps: &mut Steps<L>,
+) -> DeviceKey
+    requires { view.now.uses ≤ 31 }
+    ensures named { result.named ≡ next_public names_next view.now draw.now }
+    ensures seed { result.seed ≡ (if names_next then next_by view.now draw.now else view.now.device) }
+    ensures uses { result.uses ≡ (if names_next then 0 else view.now.uses + 1) }
+    ensures cost { steps.new ≤ steps.old + 34399 }
+{
+    if !names_next {
+        return DeviceKey {
+            named: None,
+            seed: view.device,
+            uses: view.uses + 1,
+        };
+    }
+    let next = make_key(view, draw, steps);
+    DeviceKey {
+        named: Some(next.public),
+        seed: next.seed,
+        uses: 0,
+    }
+}
+
+/// What the fact's own entry comes to.
+#[derive(Drop)]
+struct Addition {
+    entry: Entry,
+    /// The device key afterwards.
+    device: KeySeed,
+    /// How many of its indices are used.
+    uses: u32,
+    /// The new key of a region.
+    key: Option<RegionKey>,
+}
+
+/// The fact's own entry with the keys after it, where the device key has an index for it.
+fn own_addition<L: Ledger>(
+    view: &View,
+    fact: &Fact,
+    draw: &[u8; 32],
+    steps: &mut Steps<L>,
+) -> Addition
+    requires uses { view.now.uses ≤ 31 }
+    requires number { view.now.number ≤ 128 }
+    ensures entry { result.entry ≡ entry_by view.now fact.now draw.now }
+    ensures device { result.device ≡ device_by view.now fact.now draw.now }
+    ensures uses { result.uses ≡ uses_by view.now fact.now }
+    ensures key { result.key ≡ key_by view.now fact.now draw.now }
+    ensures cost { steps.new ≤ steps.old + 34399 }
+{
+    match *fact {
+        Fact::Change {
+            kind,
+            layer,
+            cosigned,
+            layers,
+            kept,
+        } => {
+            let device = device_after(renews(Some(kind), layer), view, draw, steps);
+            let entry = Entry::Change {
+                position: view.length,
+                number: view.number + 1,
+                kind,
+                layer,
+                cosigned,
+                layers,
+                kept,
+                next: device.named,
+            };
+            Addition {
+                entry,
+                device: device.seed,
+                uses: device.uses,
+                key: None,
+            }
+        }
+        Fact::NewKey { layer, kind } => key_addition(view, layer, kind, draw, steps),
+    }
+}
+
+/// The entry of a key that is made in a region, and the key.
+fn key_addition<L: Ledger>(
+    view: &View,
+    layer: u8,
+    kind: KeyKind,
+    draw: &[u8; 32],
+    steps: &mut Steps<L>,
+) -> Addition
+    requires { view.now.uses ≤ 31 }
+    ensures entry { result.entry ≡ entry_by view.now (Fact.NewKey layer kind) draw.now }
+    ensures device { result.device ≡ view.now.device }
+    ensures uses { result.uses ≡ view.now.uses + 1 }
+    ensures key { result.key ≡ key_by view.now (Fact.NewKey layer kind) draw.now }
+    ensures cost { steps.new ≤ steps.old + 34399 }
+{
+    let made = make_key(view, draw, steps);
+    Addition {
+        entry: Entry::NewKey {
+            position: view.length,
+            number: view.number,
+            key_number: view.keys_made,
+            layer,
+            kind,
+            key: made.public,
+        },
+        device: view.device,
+        uses: view.uses + 1,
+        key: Some(RegionKey {
+            number: view.keys_made,
+            kind,
+            seed: made.seed,
+            uses: 0,
+        }),
+    }
+}
+
+/// The device key that gives way, by a succession or by the fact's own entry.
+fn outgoing(view: &View, names_next: bool) -> Option<Outgoing>
+    requires { view.now.uses ≤ 31 }
+    ensures { result ≡ outgoing_by view.now names_next }
+{
+    if names_next || needed(view.uses, names_next) == 2 {
+        Some(Outgoing {
+            seed: view.device,
+            uses: view.uses + 1,
+        })
+    } else {
+        None
+    }
+}

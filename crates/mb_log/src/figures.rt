@@ -1,0 +1,137 @@
+//! What a list of entries says together.
+
+ghost use Rattle.std.specs.Prelude.{◌≡◌, ℕ, ◌+◌, ◌-◌, ◌^◌, ◌<◌, ◌≤◌, List, [], ◌∷◌, ◌++◌, length};
+ghost use Rattle.mb_model.specs.declared.entry.Entry.{Entry};
+ghost use Rattle.mb_model.specs.Layers.{unowned, unowned_layers};
+ghost use Rattle.mb_model.specs.Log.{entries_of, is_change, layers_in, device_in, keys_in};
+ghost use Rattle.mb_log.specs.Figures.{figures_of};
+
+use mb_model::{Entry, Layer, Layers, PublicKey, SignedEntry, Trust};
+
+/// What the entries of a list say together: all by which the next entry is judged.
+#[derive(Clone, Copy)]
+pub struct Figures {
+    /// How many entries there are.
+    pub length: u32,
+    /// The configuration number: how many of them are changes.
+    pub number: u32,
+    /// The layers of the last birth or change.
+    pub layers: Layers,
+    /// The device key that is named last.
+    pub device: Option<PublicKey>,
+    /// How many entries stand after the one that names it.
+    pub uses: u32,
+    /// How many keys the entries name.
+    pub keys_made: u32,
+}
+
+impl Figures {
+    /// Those of no entries.
+    #[tactic(auto, using(crate::proofs::Pushes::figures_nil))]
+    pub fn none() -> Figures
+        ensures { result ≡ figures_of [] }
+    {
+        Figures {
+            length: 0,
+            number: 0,
+            layers: unowned_layers(),
+            device: None,
+            uses: 0,
+            keys_made: 0,
+        }
+    }
+
+    /// Those of the entries of a log.
+    pub fn of(log: &[SignedEntry]) -> Figures
+        requires { length log.now ≤ 128 }
+        ensures { result ≡ figures_of (entries_of log.now) }
+    {
+        let mut figures = Figures::none();
+        for signed in log {
+            figures.add(&signed.entry);
+        }
+        figures
+    }
+
+    /// Those of the same entries and one more. A count stands still at the end of its type, which is past what any
+    /// list in memory reaches.
+    #[tactic(auto, using(crate::proofs::Pushes::figures_more))]
+    pub fn add(&mut self, entry: &Entry)
+        ensures { (before : List Entry) → length before < 2 ^ 32 - 1 → self.old ≡ figures_of before → self.new ≡ figures_of (before ++ entry.now ∷ []) }
+    {
+        let device = device_in(entry);
+        let uses = if device.is_some() {
+            0
+        } else {
+            self.uses.saturating_add(1)
+        };
+        *self = Figures {
+            length: self.length.saturating_add(1),
+            number: self.number.saturating_add(u32::from(is_change(entry))),
+            layers: layers_in(entry).unwrap_or(self.layers),
+            device: device.or(self.device),
+            uses,
+            keys_made: self.keys_made.saturating_add(keys_in(entry)),
+        };
+    }
+}
+
+/// A layer without an owner.
+pub(crate) fn unowned() -> Layer
+    ensures { result ≡ unowned }
+{
+    Layer {
+        owner: None,
+        code: None,
+        reliable: false,
+        trust: Trust::Never,
+    }
+}
+
+/// Layers without owners.
+fn unowned_layers() -> Layers
+    ensures { result ≡ unowned_layers }
+{
+    Layers {
+        one: unowned(),
+        two: unowned(),
+        three: unowned(),
+    }
+}
+
+fn is_change(entry: &Entry) -> bool
+    ensures { result ≡ is_change entry.now }
+{
+    matches!(entry, Entry::Change { .. })
+}
+
+/// The layers that an entry names.
+fn layers_in(entry: &Entry) -> Option<Layers>
+    ensures { result ≡ layers_in entry.now }
+{
+    match entry {
+        Entry::Birth { layers, .. } | Entry::Change { layers, .. } => Some(*layers),
+        Entry::NewKey { .. } | Entry::Succession { .. } => None,
+    }
+}
+
+/// The device key that an entry names.
+fn device_in(entry: &Entry) -> Option<PublicKey>
+    ensures { result ≡ device_in entry.now }
+{
+    match entry {
+        Entry::Birth { key, .. } | Entry::Succession { key, .. } => Some(*key),
+        Entry::Change { next, .. } => *next,
+        Entry::NewKey { .. } => None,
+    }
+}
+
+/// How many keys an entry names, 0 or 1.
+fn keys_in(entry: &Entry) -> u32
+    ensures { result ≡ keys_in entry.now }
+{
+    match entry {
+        Entry::Birth { .. } | Entry::NewKey { .. } | Entry::Succession { .. } => 1,
+        Entry::Change { next, .. } => u32::from(next.is_some()),
+    }
+}

@@ -1,0 +1,24 @@
+//! The log of a device: the entries that an order appends, whether an entry may follow those before it, and the
+//! configurations in which a key lived.
+//!
+//! This crate owns how many entries an order needs and which they are, how a device makes its keys of an event's draw,
+//! what a list of entries says together, the tests by which an entry follows, and what a list of entries says of one
+//! key. It stands on `mb_model`, which has the entries and the definitions, on `mb_signer`, which makes public keys, on
+//! `mb_lms`, which has the count of hashes, on `mb_authority`, which has the rules of layers, on the lemmas on logs in
+//! `mb_lemmas`, and on `sha2`.
+#![tactic(auto)]
+
+mod additions;
+mod figures;
+mod keys;
+mod life;
+mod rules;
+
+pub use additions::{bodies, needed};
+pub use figures::Figures;
+pub use keys::born;
+pub use life::{BornKey, Life, ends, lives};
+pub use rules::follows;
+
+#[cfg(test)]
+mod tests;

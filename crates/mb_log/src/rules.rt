@@ -1,0 +1,182 @@
+//! Whether an entry may follow those before it.
+
+ghost use Rattle.std.specs.Prelude.{◌≡◌, ◌↔◌, ◌≤◌, List, length, IsTrue};
+ghost use Rattle.mb_model.specs.declared.entry.Entry.{Entry};
+ghost use Rattle.mb_model.specs.Layers.{layer_of};
+ghost use Rattle.mb_model.specs.Rules.{CanPlace, after};
+ghost use Rattle.mb_model.specs.Log.{entries_of, StandsAt, AreFirst};
+ghost use Rattle.mb_log.specs.Figures.{figures_of};
+ghost use Rattle.mb_log.specs.Following.{Follows, IsAllowed, CountsRightly, MakesRightly, ChangesRightly, MayAllCosign};
+
+use crate::additions::LAST_INDEX;
+use crate::figures::{Figures, unowned};
+use mb_authority::{after, condition, kept_regions, layer_of, may_cosign, renews};
+use mb_model::{ChangeKind, Entry, Follow, Layer, Layers, Pair, PublicKey, SignedEntry};
+
+/// Whether the entry, whose signature has this index, may follow those before it: `Order` exactly where entries stand
+/// before it and it has a wrong position or index, else `Rules` exactly where it breaks the rules of the log.
+pub fn follows(before: &[SignedEntry], entry: &Entry, index: u32) -> Follow
+    requires { length before.now ≤ 128 }
+    ensures { Follows (entries_of before.now) entry.now index result }
+{
+    Figures::of(before).follows(entry, index)
+}
+
+impl Figures {
+    /// Whether the entry, whose signature has this index, may follow those with these figures: as `follows` of this
+    /// crate.
+    pub fn follows(&self, entry: &Entry, index: u32) -> Follow
+        ensures { (before : List Entry) → self.now ≡ figures_of before → Follows before entry.now index result }
+    {
+        if self.length > 0 && !self.is_next(entry, index) {
+            return Follow::Order;
+        }
+        if !self.allow(entry) {
+            return Follow::Rules;
+        }
+        Follow::Yes
+    }
+
+    /// Whether the entry stands in its place, and its signature has the next index.
+    fn is_next(&self, entry: &Entry, index: u32) -> bool
+        ensures { IsTrue result ↔ (StandsAt self.now.length entry.now × (index ≡ self.now.uses)) }
+    {
+        stands_at(self.length, entry) && index == self.uses
+    }
+
+    /// Whether by the rules the entry may stand here.
+    fn allow(&self, entry: &Entry) -> bool
+        ensures { IsTrue result ↔ IsAllowed self.now entry.now }
+    {
+        match entry {
+            Entry::Birth { layers, .. } => self.length == 0 && are_first(layers),
+            Entry::Change {
+                number,
+                kind,
+                layer,
+                cosigned,
+                layers,
+                kept,
+                next,
+                ..
+            } => {
+                self.length > 0
+                    && self.counts(*number, *kind, *layer, next)
+                    && changes(&self.layers, *kind, *layer, *cosigned, layers, *kept)
+            }
+            Entry::NewKey {
+                number,
+                key_number,
+                layer,
+                ..
+            } => self.length > 0 && self.makes(*number, *key_number, *layer),
+            Entry::Succession { .. } => self.length > 0 && self.uses == LAST_INDEX,
+        }
+    }
+
+    /// Whether a change tells its number, and names the next device key exactly where it has to.
+    fn counts(&self, number: u32, kind: ChangeKind, layer: u8, next: &Option<PublicKey>) -> bool
+        ensures { IsTrue result ↔ CountsRightly self.now.number self.now.uses number kind layer next.now }
+    {
+        number.checked_sub(1) == Some(self.number)
+            && next.is_some() == renews(Some(kind), layer)
+            && (self.uses != LAST_INDEX || next.is_some())
+    }
+
+    /// Whether a new key of the layer tells its numbers, and may be made.
+    fn makes(&self, number: u32, key_number: u32, layer: u8) -> bool
+        ensures { IsTrue result ↔ MakesRightly self.now number key_number layer }
+    {
+        number == self.number
+            && key_number == self.keys_made
+            && self.uses != LAST_INDEX
+            && condition(&self.layers, None, layer)
+    }
+}
+
+/// Whether the entry says that this many stand before it; a birth does not say.
+fn stands_at(length: u32, entry: &Entry) -> bool
+    ensures { IsTrue result ↔ StandsAt length entry.now }
+{
+    match entry {
+        Entry::Birth { .. } => true,
+        Entry::Change { position, .. }
+        | Entry::NewKey { position, .. }
+        | Entry::Succession { position, .. } => *position == length,
+    }
+}
+
+/// Whether layers may be those at a birth.
+fn are_first(layers: &Layers) -> bool
+    ensures { IsTrue result ↔ AreFirst layers.now }
+{
+    layers.one.owner.is_some()
+        && layers.one.reliable
+        && layers.two == unowned()
+        && layers.three == unowned()
+}
+
+/// Whether a change leaves these layers and keeps these regions by the rules, where the layers stood so before.
+fn changes(
+    old: &Layers,
+    kind: ChangeKind,
+    layer: u8,
+    cosigned: Pair,
+    new: &Layers,
+    kept: Pair,
+) -> bool
+    ensures { IsTrue result ↔ ChangesRightly old.now kind layer cosigned new.now kept }
+{
+    condition(old, Some(kind), layer)
+        && can_place(kind, &layer_of(old, layer), &layer_of(new, layer))
+        && leaves(old, kind, layer, cosigned, new)
+        && kept == kept_regions(old, kind, layer, cosigned)
+        && may_all_cosign(old, kind, layer, cosigned)
+}
+
+/// Whether the layers follow from what the change puts at its own layer.
+fn leaves(old: &Layers, kind: ChangeKind, layer: u8, cosigned: Pair, new: &Layers) -> bool
+    ensures { IsTrue result ↔ (new.now ≡ after old.now kind layer cosigned (layer_of new.now layer)) }
+{
+    is_same(
+        new,
+        &after(old, kind, layer, cosigned, &layer_of(new, layer)),
+    )
+}
+
+/// Whether all layers are the same.
+fn is_same(a: &Layers, b: &Layers) -> bool
+    ensures { IsTrue result ↔ (a.now ≡ b.now) }
+{
+    is_same_layer(&a.one, &b.one)
+        && is_same_layer(&a.two, &b.two)
+        && is_same_layer(&a.three, &b.three)
+}
+
+/// Whether the layers are the same.
+fn is_same_layer(a: &Layer, b: &Layer) -> bool
+    ensures { IsTrue result ↔ (a.now ≡ b.now) }
+{
+    a.owner == b.owner && a.code == b.code && a.reliable == b.reliable && a.trust == b.trust
+}
+
+/// Whether each owner that countersigned the change may do so.
+fn may_all_cosign(layers: &Layers, kind: ChangeKind, layer: u8, cosigned: Pair) -> bool
+    ensures { IsTrue result ↔ MayAllCosign layers.now kind layer cosigned }
+{
+    (!cosigned.two || may_cosign(layers, kind, layer, 2))
+        && (!cosigned.three || may_cosign(layers, kind, layer, 3))
+}
+
+/// Whether a change of the kind can put the new layer in place of the old.
+fn can_place(kind: ChangeKind, old: &Layer, new: &Layer) -> bool
+    ensures { IsTrue result ↔ CanPlace kind old.now new.now }
+{
+    match kind {
+        ChangeKind::Establish => new.owner.is_some() && new.code.is_none() && !new.reliable,
+        ChangeKind::Surrender => *new == unowned(),
+        ChangeKind::Load | ChangeKind::Emergency => {
+            new.owner == old.owner && new.code.is_some() && new.reliable
+        }
+    }
+}
