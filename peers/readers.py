@@ -3,9 +3,14 @@
 import re
 
 import two_officers
-from lms import PrivateKey, sha256
+from lms import PrivateKey, sha256, u16
 from officer import Officer, body, countersigned_text, order, signed_text
 from sources import HEX, line_of, unhex, verifies
+
+
+def sized(signature):
+    """A signature after its length."""
+    return u16(len(signature)) + signature
 
 
 def signatures(source):
@@ -69,6 +74,30 @@ def commands_orders(source):
     for name, draft in drafts.items():
         ((wanted,),) = source.rows(rf"const {name}: &str = {HEX}")
         source.compare(f"body {name}", body(draft).hex(), wanted)
+
+
+def judged_orders(source):
+    """The keys of three owners, of types 5 and 4, their orders, and what they signed of them."""
+    load = "order load {}\nversion 2\ntrust always\ncode 616263"
+    owners = [PrivateKey(bytes([n]) * 16, bytes([n]) * 32, 5, 4) for n in (1, 2, 3)]
+    for name, owner in zip(("ONE", "TWO", "THREE"), owners):
+        source.compare(f"public key {name}", owner.public().hex(), source.constant(name))
+    texts = {
+        "LOAD_ONE": body(load.format(1)),
+        "LOAD_TWO": body(load.format(2)),
+        "NEW_KEY": body("order newkey 3 epoch"),
+        "ESTABLISH_AT_SEVEN": body(f"order establish 2\ntarget length 7\nowner {owners[1].public().hex()}\ntrust always"),
+    }
+    for name, text in texts.items():
+        source.compare(f"body {name}", text.hex(), source.constant(name))
+    signed = {
+        "LOAD_ONE_BY_ONE": sized(owners[0].sign(0, signed_text(texts["LOAD_ONE"]))),
+        "LOAD_ONE_BY_THREE": bytes([1, 3]) + sized(owners[2].sign(1, countersigned_text(3, texts["LOAD_ONE"]))),
+        "LOAD_TWO_BY_TWO": sized(owners[1].sign(0, signed_text(texts["LOAD_TWO"]))),
+        "NEW_KEY_BY_THREE": sized(owners[2].sign(0, signed_text(texts["NEW_KEY"]))),
+    }
+    for name, word in signed.items():
+        source.compare(f"signature {name}", word.hex(), source.constant(name))
 
 
 def first_order(source):

@@ -1,0 +1,149 @@
+//! What an order comes to that passes every check.
+
+ghost use Rattle.std.specs.Prelude.{◌≡◌, ◌+◌, ◌≤◌, ◌==◌, IfOk, OnErr};
+ghost use Rattle.std.specs.List.{list_any};
+ghost use Rattle.mb_model.specs.declared.state.State.{State};
+ghost use Rattle.mb_model.specs.OrderStep.{cosigned_by};
+ghost use Rattle.mb_model.specs.Fates.{change_fate};
+ghost use Rattle.mb_model.specs.Work.{view_of};
+ghost use Rattle.mb_orders.specs.ByFigures.{LogHasRoomBy, change_fact_by, fact_by, layers_by, fate_by};
+ghost use Rattle.mb_orders.specs.Judging.{plan_of};
+
+use mb_authority::{admits, after, kept_regions, layer_of, placed};
+use mb_lms::Steps;
+use mb_log::bodies;
+use mb_model::{
+    Act, Bodies, ChangeKind, Fact, Fate, Layers, NoMemory, Order, Pair, RegionKey, View,
+};
+use std::alloc::Global;
+use std::sync::ledger::Ledger;
+
+/// What an order comes to.
+#[derive(Drop)]
+pub struct Plan {
+    /// The layers afterwards.
+    pub layers: Layers,
+    /// The entries that are appended, and the keys that are made.
+    pub bodies: Bodies,
+    /// What becomes of region 2.
+    pub two: Fate,
+    /// What becomes of region 3.
+    pub three: Fate,
+}
+
+/// Whether the owner of the layer countersigned the order.
+fn is_cosigned(order: &Order, layer: u8) -> bool
+    ensures { result ≡ list_any (λ by. by.layer == layer) order.now.countersignatures }
+{
+    let countersignatures = order.countersignatures.as_slice();
+    countersignatures.iter().any(|by| by.layer == layer)
+}
+
+/// The layers above whose owners countersigned the order.
+fn cosigned_by(order: &Order) -> Pair
+    ensures { result ≡ cosigned_by order.now }
+{
+    Pair {
+        two: is_cosigned(order, 2),
+        three: is_cosigned(order, 3),
+    }
+}
+
+/// What the order makes true, which makes a change of the kind.
+fn change_fact(layers: &Layers, kind: ChangeKind, order: &Order) -> Fact
+    ensures { result ≡ change_fact_by layers.now kind order.now }
+{
+    let cosigned = cosigned_by(order);
+    let new = placed(&layer_of(layers, order.layer), &order.act);
+    Fact::Change {
+        kind,
+        layer: order.layer,
+        cosigned,
+        layers: after(layers, kind, order.layer, cosigned, &new),
+        kept: kept_regions(layers, kind, order.layer, cosigned),
+    }
+}
+
+/// What the order makes true.
+fn fact_of(layers: &Layers, order: &Order) -> Fact
+    ensures { result ≡ fact_by layers.now order.now order.now.act }
+{
+    match &order.act {
+        Act::Establish { .. } => change_fact(layers, ChangeKind::Establish, order),
+        Act::Surrender => change_fact(layers, ChangeKind::Surrender, order),
+        Act::Load(_) => change_fact(layers, ChangeKind::Load, order),
+        Act::Emergency(_) => change_fact(layers, ChangeKind::Emergency, order),
+        Act::NewKey { kind } => Fact::NewKey {
+            layer: order.layer,
+            kind: *kind,
+        },
+    }
+}
+
+/// The layers after what an order makes true.
+fn layers_after(layers: &Layers, fact: &Fact) -> Layers
+    ensures { result ≡ layers_by layers.now fact.now }
+{
+    match fact {
+        Fact::Change { layers, .. } => *layers,
+        Fact::NewKey { .. } => *layers,
+    }
+}
+
+/// What a change of the kind at `layer` does to a region. The layers are those before the change.
+fn change_fate(layers: &Layers, kind: ChangeKind, layer: u8, cosigned: Pair, region: u8) -> Fate
+    ensures { result ≡ change_fate layers.now kind layer cosigned region }
+{
+    if region < layer {
+        Fate::Keep
+    } else if admits(layers, kind, layer, cosigned, region) {
+        Fate::DropConfiguration
+    } else {
+        Fate::Empty
+    }
+}
+
+/// What becomes of a region by what an order makes true, with the key that the order makes.
+fn fate_of(layers: &Layers, fact: &Fact, key: Option<RegionKey>, region: u8) -> Fate
+    ensures { result ≡ fate_by layers.now fact.now key region }
+{
+    match (fact, key) {
+        (
+            Fact::Change {
+                kind,
+                layer,
+                cosigned,
+                ..
+            },
+            _,
+        ) => change_fate(layers, *kind, *layer, *cosigned, region),
+        (Fact::NewKey { layer, .. }, Some(key)) if region == *layer => Fate::AddKey(key),
+        (Fact::NewKey { .. }, _) => Fate::Keep,
+    }
+}
+
+/// What the order comes to, which passes every check, with a draw of which its keys are made.
+pub fn make_plan<L: Ledger>(
+    alloc: Global,
+    view: &View,
+    order: &Order,
+    draw: &[u8; 32],
+    steps: &mut Steps<L>,
+) -> Result<Plan, NoMemory>
+    requires uses { view.now.uses ≤ 31 }
+    requires number { view.now.number ≤ 128 }
+    requires keys_made { view.now.keys_made ≤ 128 }
+    requires room { LogHasRoomBy view.now order.now }
+    ensures planned { (state : State) → view.now ≡ view_of state → IfOk result (λ plan. plan ≡ plan_of state order.now draw.now) }
+    ensures cost { steps.new ≤ steps.old + 68798 }
+    ensures unhashed { OnErr result (steps.new ≡ steps.old) }
+{
+    let fact = fact_of(&view.layers, order);
+    let bodies = bodies(alloc, view, &fact, draw, steps)?;
+    Ok(Plan {
+        layers: layers_after(&view.layers, &fact),
+        two: fate_of(&view.layers, &fact, bodies.key, 2),
+        three: fate_of(&view.layers, &fact, bodies.key, 3),
+        bodies,
+    })
+}

@@ -1,0 +1,43 @@
+//! Whether the log and a region have room for what an order adds.
+
+ghost use Rattle.std.specs.Prelude.{◌≡◌, ◌↔◌, IsTrue};
+ghost use Rattle.mb_orders.specs.ByFigures.{keys_in, LogHasRoomBy, RegionHasRoomBy};
+
+use mb_authority::{change_by, renews};
+use mb_log::needed;
+use mb_model::{Act, Order, View};
+
+/// The most entries of a log.
+const LOG_LIMIT: u32 = 128;
+
+/// The most keys of a region.
+const KEY_LIMIT: u32 = 8;
+
+/// Whether the log has room for the order's entries.
+pub fn log_has_room(view: &View, order: &Order) -> bool
+    ensures { IsTrue result ↔ LogHasRoomBy view.now order.now }
+{
+    let renews = renews(change_by(order), order.layer);
+    view.length <= LOG_LIMIT - needed(view.uses, renews)
+}
+
+/// How many keys the layer's region has; only layers 2 and 3 have one.
+fn keys_in(view: &View, layer: u8) -> u32
+    ensures { result ≡ keys_in view.now layer }
+{
+    match layer {
+        2 => view.keys_two,
+        3 => view.keys_three,
+        _ => 0,
+    }
+}
+
+/// Whether the region has room for a key, where the order makes one.
+pub fn region_has_room(view: &View, order: &Order) -> bool
+    ensures { IsTrue result ↔ RegionHasRoomBy view.now order.now.layer order.now.act }
+{
+    match &order.act {
+        Act::NewKey { .. } => keys_in(view, order.layer) < KEY_LIMIT,
+        Act::Establish { .. } | Act::Surrender | Act::Load(_) | Act::Emergency(_) => true,
+    }
+}
