@@ -1,0 +1,9 @@
+pub mod Areas
+pub mod Completing
+pub mod Entries
+pub mod LayerBytes
+pub mod RegionParts
+pub mod Rows
+pub mod Sizes
+pub mod Walking
+pub mod Written

@@ -1,0 +1,24 @@
+use Rattle.std.proofs.Common.{map}
+use Rattle.std.proofs.lemmas.Result.{err_from_is_err_and}
+use Rattle.mb_model.specs.Flash.{with_signature}
+use Rattle.mb_bytes.proofs.Putting.{writing_goes_on, writing_stops, writing_ends}
+use Rattle.mb_layout.proofs.Entries.{mapped_item, mapped_below, mapped_end}
+use Rattle.mb_layout.proofs.public.put_signed_entries.Goals as goal
+
+pub returns-in_err-put_signed : goal.returns-in_err-put_signed
+returns-in_err-put_signed c =
+    let p = err_from_is_err_and c.from_residual.result c.from_residual.ensures.1 in
+    let list = c.args.entries.now in
+    let i = c.loop-entry.entry-index in
+    let lt = c.loop-entry-test.true in
+    rw p.1 (writing_stops _ (mapped_below with_signature list i lt) (mapped_item with_signature list i _ lt) c.loop-entry.invariant c.in_err-put_signed.ensures)
+
+pub loop-entry-preserved : goal.loop-entry-preserved
+loop-entry-preserved c =
+    let list = c.args.entries.now in
+    let i = c.loop-entry.entry-index in
+    let lt = c.loop-entry-test.true in
+    writing_goes_on _ (mapped_below with_signature list i lt) (mapped_item with_signature list i _ lt) c.loop-entry.invariant c.in_ok-put_signed.ensures
+
+pub returns : goal.returns
+returns c = writing_ends (mapped_end with_signature c.args.entries.now c.loop-entry.entry-index c.loop-entry-test.false) c.loop-entry.invariant

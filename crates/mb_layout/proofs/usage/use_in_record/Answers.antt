@@ -1,0 +1,29 @@
+use Rattle.std.proofs.Common.{◌≡◌, sym, ap, ◌∙◌, find, arith}
+use Rattle.mb_model.specs.LayerEvents.{has_number, with_use}
+use Rattle.mb_layout.specs.Edits.{used}
+use Rattle.mb_layout.proofs.RegionParts.{uses_fit}
+use Rattle.mb_layout.proofs.usage.use_in_record.Goals as goal
+
+pub returns-then-key-ge-INDICES-clause-used : goal.returns-then-key-ge-INDICES-clause-used
+returns-then-key-ge-INDICES-clause-used c = λ region h. (
+    let stands = c.in-Some.ensures region h in
+    record {
+      key = c.in-Some-key_of.key;
+      found = ap (find (has_number c.args.number)) (sym (c.as_slice.ensures.keys ∙ stands.keys)) ∙ sym c.in-Some-key_of.ensures;
+      spent = omega arith;
+    })
+
+pub returns-clause-used : goal.returns-clause-used
+returns-clause-used c = λ region h. (
+    let stands = c.in-Some.ensures region h in
+    let same = c.as_slice-2.ensures.keys ∙ stands.keys in
+    let fit = rw (← same) at (uses_fit region h) in
+    record {
+      found = ap (find (has_number c.args.number)) (sym (c.as_slice.ensures.keys ∙ stands.keys)) ∙ sym c.in-Some-key_of.ensures;
+      left = omega arith;
+      stored = λ can. c.store.ensures (used c.args.number region) (record {
+        secrets = stands.secrets;
+        least = stands.least;
+        keys = c.used_keys.ensures fit ∙ ap (with_use c.args.number) same;
+      }) can;
+    })

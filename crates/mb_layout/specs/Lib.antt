@@ -1,0 +1,9 @@
+pub mod Bounds
+pub mod Edits
+pub mod Ends
+pub mod Found
+pub mod LastEntries
+pub mod Parts
+pub mod StoredRegion
+pub mod Uncopied
+pub mod Walks

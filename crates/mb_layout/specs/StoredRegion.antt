@@ -1,0 +1,28 @@
+-- A region whose keys alone were decoded. For which region does it stand?
+use Rattle.std.specs.Prelude.{◌≡◌, ℕ, List, Option, Some, None, Result, Ok, Err}
+use Rattle.mb_model.specs.declared.tools.BadRecord.{BadRecord}
+use Rattle.mb_model.specs.declared.region.Region.{Region}
+use Rattle.mb_model.specs.RegionFormat.{least_keys, secrets_format, region_format, SpellsRegion}
+use Rattle.mb_layout.specs.declared.stored.StoredRegion.{StoredRegion}
+
+-- its bytes spell the secrets of the region, and its keys are those of the region
+pub record IsStoredAs (stored : StoredRegion) (region : Region) : Type 0 where
+  pub secrets : stored.secrets.now ≡ secrets_format.spelling region.secrets
+  pub least : stored.least ≡ least_keys region.secrets
+  pub keys : stored.keys ≡ region.keys
+
+-- a record was read from the beginning, and this is the region in it
+pub record IsWalked (bytes : List ℕ) (stored : StoredRegion) : Type 0 where
+  pub region : Region
+  pub after : ℕ
+  pub reads : region_format.reads bytes 0 ≡ Ok (region, after)
+  pub stands : IsStoredAs stored region
+
+abbrev pub Walks : List ℕ → Result StoredRegion BadRecord → Type 0
+Walks bytes (Ok stored) = IsWalked bytes stored
+Walks bytes (Err bad) = region_format.reads bytes 0 ≡ Err bad.at
+
+-- it stands for the region for which the bytes stand; where it is none, they stand for none
+abbrev pub TakesApart : List ℕ → Option StoredRegion → Type 0
+TakesApart bytes (Some stored) = (region : Region) → SpellsRegion bytes region → IsStoredAs stored region
+TakesApart bytes None = (region : Region) → SpellsRegion bytes region → ⊥

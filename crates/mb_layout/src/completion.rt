@@ -1,0 +1,81 @@
+//! The last signatures of a stored public record, without memory.
+
+ghost use Rattle.std.specs.Prelude.{◌≤◌, ◌*◌, ◌+◌, [], ◌∷◌, length, vec_len, vec_capacity};
+ghost use Rattle.mb_layout.specs.Edits.{IsCompleted};
+ghost use Rattle.mb_layout.specs.LastEntries.{FindsLast};
+
+use crate::public::{ENTRIES, public_entry_at, put_signed, stored_codes_at};
+use crate::root::version_at;
+use mb_bytes::{Cursor, u16_between};
+use mb_model::BadRecord;
+
+/// A cursor before the last entries of the public record that the bytes spell, where it has as many.
+fn before_last(bytes: &[u8], last: u16) -> Result<Cursor<'_>, BadRecord>
+    requires { length bytes.now ≤ 4194304 }
+    ensures { FindsLast bytes.now last result }
+{
+    let mut cursor = Cursor::new(bytes);
+    version_at(&mut cursor)?;
+    stored_codes_at(&mut cursor)?;
+    let at = cursor.offset();
+    let count = u16_between(&mut cursor, 1, ENTRIES)?;
+    if count < last {
+        return Err(BadRecord { at });
+    }
+    for _i in 0..count - last {
+        public_entry_at(&mut cursor)?;
+    }
+    Ok(cursor)
+}
+
+fn complete_one(bytes: &mut Vec<u8>, signature: &[u8; 2348])
+    requires room { vec_len bytes.old + 2348 ≤ vec_capacity bytes.old }
+    requires short { vec_len bytes.old ≤ 4194304 }
+    ensures { IsCompleted (signature.now ∷ []) bytes.old.items bytes.new.items }
+{
+    let Ok(mut cursor) = before_last(bytes.as_slice(), 1) else {
+        return;
+    };
+    let place = cursor.offset() as usize;
+    let Ok(stored) = public_entry_at(&mut cursor) else {
+        return;
+    };
+    bytes.truncate(place);
+    let _ = put_signed(bytes, &stored.entry, signature);
+}
+
+fn complete_two(bytes: &mut Vec<u8>, first: &[u8; 2348], second: &[u8; 2348])
+    requires room { vec_len bytes.old + 4696 ≤ vec_capacity bytes.old }
+    requires short { vec_len bytes.old ≤ 4194304 }
+    ensures { IsCompleted (first.now ∷ second.now ∷ []) bytes.old.items bytes.new.items }
+{
+    let Ok(mut cursor) = before_last(bytes.as_slice(), 2) else {
+        return;
+    };
+    let place = cursor.offset() as usize;
+    let Ok(one) = public_entry_at(&mut cursor) else {
+        return;
+    };
+    let Ok(two) = public_entry_at(&mut cursor) else {
+        return;
+    };
+    bytes.truncate(place);
+    let _ = put_signed(bytes, &one.entry, first);
+    let _ = put_signed(bytes, &two.entry, second);
+}
+
+/// Completes the public record in place: its unsigned entries, which are the last ones and as many as there are
+/// signatures, at most two, are signed with them in order. Nothing is said where the bytes are no public record with so
+/// many unsigned entries. There is room for the signatures.
+pub fn complete_record(bytes: &mut Vec<u8>, signatures: &[[u8; 2348]])
+    requires room { vec_len bytes.old + 2348 * length signatures.now ≤ vec_capacity bytes.old }
+    requires short { vec_len bytes.old ≤ 4194304 }
+    requires count { length signatures.now ≤ 2 }
+    ensures { IsCompleted signatures.now bytes.old.items bytes.new.items }
+{
+    match signatures {
+        [one] => complete_one(bytes, one),
+        [first, second] => complete_two(bytes, first, second),
+        _ => {}
+    }
+}

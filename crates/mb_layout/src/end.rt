@@ -1,0 +1,46 @@
+//! Why no record was read.
+
+ghost use Rattle.std.specs.Prelude.{◌≡◌};
+
+use mb_bytes::Short;
+use mb_model::{BadRecord, NoMemory};
+
+/// Why no record was read.
+#[derive(Clone, Copy, Debug, PartialEq, Eq)]
+pub enum LayoutEnd {
+    /// The bytes spell no such record.
+    Bad(BadRecord),
+    /// An allocation failed. No clause of a reader says when, so one that always answers this is proved too: the tests
+    /// read records where there is enough.
+    NoMemory,
+}
+
+impl From<Short> for LayoutEnd {
+    ghost use Rattle.mb_layout.specs.declared.end.LayoutEnd.TheVariants.{Bad};
+
+    ghost from_gives = { λ short e. e ≡ Bad (record { at = short.at }) };
+
+    fn from(short: Short) -> LayoutEnd {
+        LayoutEnd::Bad(BadRecord { at: short.at })
+    }
+}
+
+impl From<BadRecord> for LayoutEnd {
+    ghost use Rattle.mb_layout.specs.declared.end.LayoutEnd.TheVariants.{Bad};
+
+    ghost from_gives = { λ bad e. e ≡ Bad bad };
+
+    fn from(bad: BadRecord) -> LayoutEnd {
+        LayoutEnd::Bad(bad)
+    }
+}
+
+impl From<NoMemory> for LayoutEnd {
+    ghost use Rattle.mb_layout.specs.declared.end.LayoutEnd.TheVariants.{NoMemory};
+
+    ghost from_gives = { λ _ e. e ≡ NoMemory };
+
+    fn from(_error: NoMemory) -> LayoutEnd {
+        LayoutEnd::NoMemory
+    }
+}

@@ -1,0 +1,331 @@
+//! Entries of the log as bytes.
+
+ghost use Rattle.std.specs.Prelude.{◌≡◌};
+ghost use Rattle.std.specs.Int.{w8};
+ghost use Rattle.mb_format.specs.Combinators.{table, optional};
+ghost use Rattle.mb_model.specs.KeyFormat.{public_key_format};
+ghost use Rattle.mb_model.specs.EntryFormat.{change_rows, change_byte, pair_byte, pair_format, birth_format, change_format, new_key_format, succession_format, entry_format};
+ghost use Rattle.mb_bytes.specs.Reads.{bad_at, Reads, ReadsExactly};
+ghost use Rattle.mb_bytes.specs.Puts.{Puts, Writes};
+ghost use Rattle.mb_layout.specs.Parts.{kept_bytes, changed_bytes, made_key_bytes};
+
+use crate::layer::{layers_at, put_layers};
+use crate::records::{Record, read_record, write_record};
+use mb_bytes::{
+    Cursor, flag_at, key_kind_at, public_key_at, put_flag, put_key_kind, put_public_key, put_slice,
+    put_u8, put_u32, u8_between,
+};
+use mb_model::{BadRecord, ChangeKind, Entry, KeyKind, Layers, NoMemory, Pair, PublicKey};
+
+fn change_kind_at(cursor: &mut Cursor<'_>) -> Result<ChangeKind, BadRecord>
+    ensures { Reads bad_at (table w8 change_rows change_byte) cursor.old result cursor.new }
+{
+    let at = cursor.offset();
+    match cursor.take_u8()? {
+        1 => Ok(ChangeKind::Establish),
+        2 => Ok(ChangeKind::Surrender),
+        3 => Ok(ChangeKind::Load),
+        4 => Ok(ChangeKind::Emergency),
+        _ => Err(BadRecord { at }),
+    }
+}
+
+#[tactic(auto, unfolding(mb_model::specs::EntryFormat::pair_format))]
+fn pair_at(cursor: &mut Cursor<'_>) -> Result<Pair, BadRecord>
+    ensures { Reads bad_at pair_format cursor.old result cursor.new }
+{
+    let at = cursor.offset();
+    match cursor.take_u8()? {
+        0 => Ok(Pair {
+            two: false,
+            three: false,
+        }),
+        1 => Ok(Pair {
+            two: true,
+            three: false,
+        }),
+        2 => Ok(Pair {
+            two: false,
+            three: true,
+        }),
+        3 => Ok(Pair {
+            two: true,
+            three: true,
+        }),
+        _ => Err(BadRecord { at }),
+    }
+}
+
+fn next_key_at(cursor: &mut Cursor<'_>) -> Result<Option<PublicKey>, BadRecord>
+    ensures { Reads bad_at (optional public_key_format) cursor.old result cursor.new }
+{
+    if flag_at(cursor)? {
+        Ok(Some(public_key_at(cursor)?))
+    } else {
+        Ok(None)
+    }
+}
+
+#[tactic(auto, unfolding(mb_model::specs::EntryFormat::birth_format))]
+fn birth_at(cursor: &mut Cursor<'_>) -> Result<Entry, BadRecord>
+    ensures { Reads bad_at birth_format cursor.old result cursor.new }
+{
+    let serial = cursor.take_array()?;
+    let key = public_key_at(cursor)?;
+    let layers = layers_at(cursor)?;
+    Ok(Entry::Birth {
+        serial,
+        key,
+        layers,
+    })
+}
+
+#[tactic(auto, unfolding(mb_model::specs::EntryFormat::change_format))]
+fn change_at(cursor: &mut Cursor<'_>) -> Result<Entry, BadRecord>
+    ensures { Reads bad_at change_format cursor.old result cursor.new }
+{
+    let position = cursor.take_u32()?;
+    let number = cursor.take_u32()?;
+    let kind = change_kind_at(cursor)?;
+    let layer = u8_between(cursor, 1, 3)?;
+    let cosigned = pair_at(cursor)?;
+    let kept = pair_at(cursor)?;
+    let layers = layers_at(cursor)?;
+    let next = next_key_at(cursor)?;
+    Ok(Entry::Change {
+        position,
+        number,
+        kind,
+        layer,
+        cosigned,
+        layers,
+        kept,
+        next,
+    })
+}
+
+#[tactic(auto, unfolding(mb_model::specs::EntryFormat::new_key_format))]
+fn new_key_at(cursor: &mut Cursor<'_>) -> Result<Entry, BadRecord>
+    ensures { Reads bad_at new_key_format cursor.old result cursor.new }
+{
+    let position = cursor.take_u32()?;
+    let number = cursor.take_u32()?;
+    let key_number = cursor.take_u32()?;
+    let layer = u8_between(cursor, 2, 3)?;
+    let kind = key_kind_at(cursor)?;
+    let key = public_key_at(cursor)?;
+    Ok(Entry::NewKey {
+        position,
+        number,
+        key_number,
+        layer,
+        kind,
+        key,
+    })
+}
+
+#[tactic(auto, unfolding(mb_model::specs::EntryFormat::succession_format))]
+fn succession_at(cursor: &mut Cursor<'_>) -> Result<Entry, BadRecord>
+    ensures { Reads bad_at succession_format cursor.old result cursor.new }
+{
+    let position = cursor.take_u32()?;
+    let key = public_key_at(cursor)?;
+    Ok(Entry::Succession { position, key })
+}
+
+/// An entry after a byte for which of the four it is.
+#[tactic(auto, unfolding(mb_model::specs::EntryFormat::entry_format))]
+pub fn entry_at(cursor: &mut Cursor<'_>) -> Result<Entry, BadRecord>
+    ensures { Reads bad_at entry_format cursor.old result cursor.new }
+{
+    let at = cursor.offset();
+    match cursor.take_u8()? {
+        0 => birth_at(cursor),
+        1 => change_at(cursor),
+        2 => new_key_at(cursor),
+        3 => succession_at(cursor),
+        _ => Err(BadRecord { at }),
+    }
+}
+
+fn change_number(kind: ChangeKind) -> u8
+    ensures { result ≡ change_byte kind }
+{
+    match kind {
+        ChangeKind::Establish => 1,
+        ChangeKind::Surrender => 2,
+        ChangeKind::Load => 3,
+        ChangeKind::Emergency => 4,
+    }
+}
+
+fn pair_number(pair: Pair) -> u8
+    ensures { result ≡ pair_byte pair }
+{
+    match (pair.two, pair.three) {
+        (false, false) => 0,
+        (true, false) => 1,
+        (false, true) => 2,
+        (true, true) => 3,
+    }
+}
+
+fn put_next_key(out: &mut Vec<u8>, next: &Option<PublicKey>) -> Result<(), NoMemory>
+    ensures { Puts ((optional public_key_format).spelling next.now) out.old result out.new }
+{
+    match next {
+        Some(key) => {
+            put_flag(out, true)?;
+            put_public_key(out, key)
+        }
+        None => put_flag(out, false),
+    }
+}
+
+#[tactic(auto, unfolding(mb_model::specs::EntryFormat::pair_format))]
+fn put_pair(out: &mut Vec<u8>, pair: Pair) -> Result<(), NoMemory>
+    ensures { Puts (pair_format.spelling pair) out.old result out.new }
+{
+    put_u8(out, pair_number(pair))
+}
+
+fn put_kept(
+    out: &mut Vec<u8>,
+    kept: Pair,
+    layers: &Layers,
+    next: &Option<PublicKey>,
+) -> Result<(), NoMemory>
+    ensures { Puts (kept_bytes kept layers.now next.now) out.old result out.new }
+{
+    put_pair(out, kept)?;
+    put_layers(out, layers)?;
+    put_next_key(out, next)
+}
+
+fn put_changed(
+    out: &mut Vec<u8>,
+    kind: ChangeKind,
+    layer: u8,
+    cosigned: Pair,
+    kept: Pair,
+    layers: &Layers,
+    next: &Option<PublicKey>,
+) -> Result<(), NoMemory>
+    ensures { Puts (changed_bytes kind layer cosigned kept layers.now next.now) out.old result out.new }
+{
+    put_u8(out, change_number(kind))?;
+    put_u8(out, layer)?;
+    put_pair(out, cosigned)?;
+    put_kept(out, kept, layers, next)
+}
+
+fn put_made_key(
+    out: &mut Vec<u8>,
+    key_number: u32,
+    layer: u8,
+    kind: KeyKind,
+    key: &PublicKey,
+) -> Result<(), NoMemory>
+    ensures { Puts (made_key_bytes key_number layer kind key.now) out.old result out.new }
+{
+    put_u32(out, key_number)?;
+    put_u8(out, layer)?;
+    put_key_kind(out, kind)?;
+    put_public_key(out, key)
+}
+
+/// Appends an entry after a byte for which of the four it is.
+#[tactic(auto, unfolding(mb_model::specs::EntryFormat::birth_format, mb_model::specs::EntryFormat::change_format, mb_model::specs::EntryFormat::new_key_format, mb_model::specs::EntryFormat::succession_format, mb_model::specs::EntryFormat::entry_format))]
+pub fn put_entry(out: &mut Vec<u8>, entry: &Entry) -> Result<(), NoMemory>
+    ensures { Puts (entry_format.spelling entry.now) out.old result out.new }
+{
+    match entry {
+        Entry::Birth {
+            serial,
+            key,
+            layers,
+        } => {
+            put_u8(out, 0)?;
+            put_slice(out, serial)?;
+            put_public_key(out, key)?;
+            put_layers(out, layers)
+        }
+        Entry::Change {
+            position,
+            number,
+            kind,
+            layer,
+            cosigned,
+            layers,
+            kept,
+            next,
+        } => {
+            put_u8(out, 1)?;
+            put_u32(out, *position)?;
+            put_u32(out, *number)?;
+            put_changed(out, *kind, *layer, *cosigned, *kept, layers, next)
+        }
+        Entry::NewKey {
+            position,
+            number,
+            key_number,
+            layer,
+            kind,
+            key,
+        } => {
+            put_u8(out, 2)?;
+            put_u32(out, *position)?;
+            put_u32(out, *number)?;
+            put_made_key(out, *key_number, *layer, *kind, key)
+        }
+        Entry::Succession { position, key } => {
+            put_u8(out, 3)?;
+            put_u32(out, *position)?;
+            put_public_key(out, key)
+        }
+    }
+}
+
+impl Record for Entry {
+    ghost use Rattle.mb_model.specs.EntryFormat.{entry_format};
+    ghost use Rattle.mb_bytes.specs.Reads.{bad_at};
+    ghost use Rattle.mb_model.proofs.EntryFormatLaws.{entry_exact};
+
+    type Needs = ();
+
+    type End = BadRecord;
+
+    ghost format = { entry_format };
+
+    ghost points = { bad_at };
+
+    fn read_at(_needs: (), cursor: &mut Cursor<'_>) -> Result<Entry, BadRecord> {
+        entry_at(cursor)
+    }
+
+    fn bad(at: u32) -> BadRecord {
+        BadRecord { at }
+    }
+
+    fn put(&self, out: &mut Vec<u8>) -> Result<(), NoMemory> {
+        put_entry(out, self)
+    }
+
+    ghost exact = { entry_exact };
+}
+
+/// The entry that is spelled at the cursor's offset; the cursor then stands after it. Else the place of the first field
+/// that lacks bytes or is not allowed, and the cursor is unchanged.
+pub fn read_entry(c: &mut Cursor<'_>) -> Result<Entry, BadRecord>
+    ensures { ReadsExactly bad_at entry_format c.old result c.new }
+{
+    read_record((), c)
+}
+
+/// Appends the spelling of the entry, or leaves `out` as it was. Where the capacity of `out` holds it, the answer is Ok.
+pub fn write_entry(entry: &Entry, out: &mut Vec<u8>) -> Result<(), NoMemory>
+    requires { entry_format.Allowed entry.now }
+    ensures { Writes (entry_format.spelling entry.now) out.old result out.new }
+{
+    write_record(entry, out)
+}

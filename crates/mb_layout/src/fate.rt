@@ -1,0 +1,61 @@
+//! What becomes of a stored region, without memory.
+
+ghost use Rattle.std.specs.Prelude.{◌≡◌, ◌≤◌, length, vec_capacity};
+ghost use Rattle.mb_model.specs.declared.region.Region.{Region};
+ghost use Rattle.mb_model.specs.Meaning.{fated, fated_keys};
+ghost use Rattle.mb_layout.specs.StoredRegion.{IsStoredAs};
+ghost use Rattle.mb_layout.specs.Edits.{IsFated};
+
+use crate::row::{KeyRow, epoch_keys, has_key};
+use crate::stored::{StoredRegion, no_region, store, stored_region};
+use mb_model::{Fate, RegionKey};
+
+/// The keys with this one after the others, where none has its number and there is room.
+fn with_key(keys: KeyRow, key: &RegionKey) -> KeyRow
+    ensures { length (fated_keys (Fate.AddKey key.now) keys) ≤ 8 → result ≡ fated_keys (Fate.AddKey key.now) keys }
+{
+    if has_key(keys.as_slice(), key.number) {
+        return keys;
+    }
+    if keys.as_slice().len() >= 8 {
+        return keys;
+    }
+    let mut row = keys;
+    row.push(*key);
+    row
+}
+
+#[tactic(auto, unfolding(mb_model::specs::Meaning::fated))]
+fn fated_region<'a>(fate: &Fate, stored: StoredRegion<'a>) -> StoredRegion<'a>
+    ensures { (region : Region) → IsStoredAs stored.entry region → length (fated fate.now region).keys ≤ 8 → IsStoredAs result (fated fate.now region) }
+{
+    match fate {
+        Fate::Keep => stored,
+        Fate::Empty => no_region(),
+        Fate::DropConfiguration => StoredRegion {
+            secrets: stored.secrets,
+            least: stored.least,
+            keys: epoch_keys(stored.keys.as_slice()),
+        },
+        Fate::AddKey(key) => StoredRegion {
+            secrets: stored.secrets,
+            least: stored.least,
+            keys: with_key(stored.keys, key),
+        },
+    }
+}
+
+/// Replaces `out` by the record of the region for which the bytes stand, after its fate; by no bytes where it is then
+/// empty. Nothing is said where the bytes stand for no region, or the region afterwards can't be stored, as one with nine
+/// keys. `out` has room for any record of a region.
+pub fn fate_record(bytes: &[u8], fate: &Fate, out: &mut Vec<u8>)
+    requires room { 3091 ≤ vec_capacity out.old }
+    requires short { length bytes.now ≤ 4194304 }
+    ensures { IsFated fate.now bytes.now out.new.items }
+{
+    out.clear();
+    let Some(stored) = stored_region(bytes) else {
+        return;
+    };
+    store(&fated_region(fate, stored), out);
+}

@@ -1,0 +1,220 @@
+//! Regions as bytes.
+
+ghost use Rattle.std.specs.Prelude.{◌≡◌, ◌≤◌, ◌<◌, length, IfOk};
+ghost use Rattle.std.specs.List.{All};
+ghost use Rattle.std.specs.Int.{w8};
+ghost use Rattle.mb_format.specs.Combinators.{between, sized_that};
+ghost use Rattle.mb_model.specs.RegionFormat.{is_name, secret_format, secrets_format, least_keys, keys_format, region_format};
+ghost use Rattle.mb_bytes.specs.Reads.{bad_at, Reads, ReadsAs, ReadsExactly, ReadsWhole};
+ghost use Rattle.mb_bytes.specs.Puts.{Puts, Writes};
+ghost use Rattle.mb_layout.specs.Ends.{layout_at};
+ghost use Rattle.mb_layout.specs.Bounds.{SecretFits, RegionFits};
+ghost use Rattle.mb_layout.specs.Uncopied.{secret_in};
+
+use crate::end::LayoutEnd;
+use crate::records::{Record, read_record, whole_record, write_record};
+use crate::root::{put_region_key, region_key_at, version_at};
+use mb_bytes::{Cursor, bytes_after_u8, put_after_u8, put_slice, put_u8, put_u32, u8_between};
+use mb_model::{BadRecord, Bytes, Items, NoMemory, Region, RegionKey, RegionKeys, Secret, Secrets};
+use std::alloc::Global;
+
+/// The most secrets of a region.
+pub const SECRETS: u8 = 16;
+
+/// The most keys of a region.
+pub const KEYS: u8 = 8;
+
+/// A secret where it stands, not copied.
+#[derive(Clone, Copy)]
+pub struct StoredSecret<'a> {
+    pub name: &'a [u8],
+    pub value: &'a [u8],
+    pub born: u32,
+}
+
+fn is_name(name: &[u8]) -> bool
+    ensures { result ≡ is_name name.now }
+{
+    name.iter().all(|byte| (0x21..=0x7E).contains(byte))
+}
+
+/// A name of 1 to 32 bytes that print and are no space, after its length.
+fn name_at<'a>(cursor: &mut Cursor<'a>) -> Result<&'a [u8], BadRecord>
+    ensures { ReadsAs (λ slice. slice.now) bad_at (sized_that is_name (between w8 1 32)) cursor.old result cursor.new }
+{
+    let length = u8_between(cursor, 1, 32)?;
+    let at = cursor.offset();
+    let name = cursor.take_slice(length as u32)?;
+    if is_name(name) {
+        Ok(name)
+    } else {
+        Err(BadRecord { at })
+    }
+}
+
+/// A secret, not copied.
+#[tactic(auto, unfolding(mb_model::specs::RegionFormat::secret_format))]
+pub fn stored_secret_at<'a>(cursor: &mut Cursor<'a>) -> Result<StoredSecret<'a>, BadRecord>
+    ensures { ReadsAs secret_in bad_at secret_format cursor.old result cursor.new }
+{
+    let name = name_at(cursor)?;
+    let value = bytes_after_u8(cursor, 0, 128)?;
+    let born = cursor.take_u32()?;
+    Ok(StoredSecret { name, value, born })
+}
+
+fn secret_at(alloc: Global, cursor: &mut Cursor<'_>) -> Result<Secret, LayoutEnd>
+    ensures { Reads layout_at secret_format cursor.old result cursor.new }
+{
+    let stored = stored_secret_at(cursor)?;
+    Ok(Secret {
+        name: Bytes::copy(alloc, stored.name)?,
+        value: Bytes::copy(alloc, stored.value)?,
+        born: stored.born,
+    })
+}
+
+#[tactic(auto, unfolding(mb_model::specs::RegionFormat::secrets_format))]
+fn secrets_at(alloc: Global, cursor: &mut Cursor<'_>) -> Result<Secrets, LayoutEnd>
+    ensures { Reads layout_at secrets_format cursor.old result cursor.new }
+{
+    let count = u8_between(cursor, 0, SECRETS)?;
+    let mut secrets = Items::new(alloc);
+    for _i in 0..count {
+        secrets.push(secret_at(alloc, cursor)?)?;
+    }
+    Ok(secrets)
+}
+
+#[tactic(auto, unfolding(mb_model::specs::RegionFormat::keys_format))]
+fn keys_at(alloc: Global, cursor: &mut Cursor<'_>, least: u8) -> Result<RegionKeys, LayoutEnd>
+    ensures { Reads layout_at (keys_format least) cursor.old result cursor.new }
+{
+    let count = u8_between(cursor, least, KEYS)?;
+    let mut keys = Items::new(alloc);
+    for _i in 0..count {
+        keys.push(region_key_at(cursor)?)?;
+    }
+    Ok(keys)
+}
+
+/// The least number of keys beside these secrets: a region without any has no record.
+fn least_keys(secrets: &Secrets) -> u8
+    ensures { result ≡ least_keys secrets.now }
+{
+    if secrets.as_slice().is_empty() { 1 } else { 0 }
+}
+
+#[tactic(auto, unfolding(mb_model::specs::RegionFormat::region_format))]
+fn region_at(alloc: Global, cursor: &mut Cursor<'_>) -> Result<Region, LayoutEnd>
+    ensures { Reads layout_at region_format cursor.old result cursor.new }
+{
+    version_at(cursor)?;
+    let secrets = secrets_at(alloc, cursor)?;
+    let least = least_keys(&secrets);
+    let keys = keys_at(alloc, cursor, least)?;
+    Ok(Region { secrets, keys })
+}
+
+#[tactic(auto, unfolding(mb_model::specs::RegionFormat::secret_format))]
+fn put_secret(out: &mut Vec<u8>, secret: &Secret) -> Result<(), NoMemory>
+    requires { SecretFits secret.now }
+    ensures { Puts (secret_format.spelling secret.now) out.old result out.new }
+{
+    put_after_u8(out, secret.name.as_slice())?;
+    put_after_u8(out, secret.value.as_slice())?;
+    put_u32(out, secret.born)
+}
+
+#[tactic(auto, unfolding(mb_model::specs::RegionFormat::secrets_format))]
+fn put_secrets(out: &mut Vec<u8>, secrets: &Secrets) -> Result<(), NoMemory>
+    requires count { length secrets.now < 256 }
+    requires each { All SecretFits secrets.now }
+    ensures { Puts (secrets_format.spelling secrets.now) out.old result out.new }
+{
+    put_u8(out, secrets.as_slice().len() as u8)?;
+    for secret in secrets.as_slice() {
+        put_secret(out, secret)?;
+    }
+    Ok(())
+}
+
+/// Appends the number of the keys, in a byte, and the keys.
+#[tactic(auto, unfolding(mb_model::specs::RegionFormat::keys_format))]
+pub fn put_keys(out: &mut Vec<u8>, keys: &[RegionKey]) -> Result<(), NoMemory>
+    requires { length keys.now < 256 }
+    ensures { Puts ((keys_format 0).spelling keys.now) out.old result out.new }
+{
+    put_u8(out, keys.len() as u8)?;
+    for key in keys {
+        put_region_key(out, key)?;
+    }
+    Ok(())
+}
+
+#[tactic(auto, unfolding(mb_model::specs::RegionFormat::region_format))]
+fn put_region(out: &mut Vec<u8>, region: &Region) -> Result<(), NoMemory>
+    requires { RegionFits region.now }
+    ensures { Puts (region_format.spelling region.now) out.old result out.new }
+{
+    put_slice(out, &[1])?;
+    put_secrets(out, &region.secrets)?;
+    put_keys(out, region.keys.as_slice())
+}
+
+impl Record for Region {
+    ghost use Rattle.mb_model.specs.RegionFormat.{region_format};
+    ghost use Rattle.mb_layout.specs.Ends.{layout_at};
+    ghost use Rattle.mb_model.proofs.RecordFormatLaws.{region_exact};
+
+    type Needs = Global;
+
+    type End = LayoutEnd;
+
+    ghost format = { region_format };
+
+    ghost points = { layout_at };
+
+    fn read_at(needs: Global, cursor: &mut Cursor<'_>) -> Result<Region, LayoutEnd> {
+        region_at(needs, cursor)
+    }
+
+    fn bad(at: u32) -> LayoutEnd {
+        LayoutEnd::Bad(BadRecord { at })
+    }
+
+    #[tactic(auto, using(crate::proofs::Sizes::region_fits))]
+    fn put(&self, out: &mut Vec<u8>) -> Result<(), NoMemory> {
+        put_region(out, self)
+    }
+
+    ghost exact = { region_exact };
+}
+
+/// The region record that is spelled at the cursor's offset; the cursor then stands after it. Else `Bad` with the place
+/// of the first field that lacks bytes or is not allowed, or `NoMemory` where an allocation fails, and the cursor is
+/// unchanged.
+pub fn read_region(alloc: Global, c: &mut Cursor<'_>) -> Result<Region, LayoutEnd>
+    ensures { ReadsExactly layout_at region_format c.old result c.new }
+{
+    read_record(alloc, c)
+}
+
+/// The region record that the whole of the bytes spells; else `Bad` with the place of the first field that lacks bytes or
+/// is not allowed, or of the first byte after the last field, or `NoMemory` where an allocation fails. There are at most
+/// 4,194,304 bytes.
+pub fn region_of_bytes(alloc: Global, bytes: &[u8]) -> Result<Region, LayoutEnd>
+    requires { length bytes.now ≤ 4194304 }
+    ensures { ReadsWhole layout_at region_format bytes.now result }
+{
+    whole_record(alloc, bytes)
+}
+
+/// Appends the spelling of the region record, or leaves `out` as it was. Where the capacity of `out` holds it, the answer
+/// is Ok.
+pub fn write_region(region: &Region, out: &mut Vec<u8>) -> Result<(), NoMemory>
+    requires { region_format.Allowed region.now }
+    ensures { Writes (region_format.spelling region.now) out.old result out.new }
+{
+    write_record(region, out)
+}

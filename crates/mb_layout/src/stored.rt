@@ -1,0 +1,111 @@
+//! Stored regions, of which only the keys are decoded.
+
+ghost use Rattle.std.specs.Prelude.{◌≡◌, ◌≤◌, [], ◌∷◌, List, ◌++◌, length, vec_capacity};
+ghost use Rattle.mb_model.specs.declared.region.Region.{Region};
+ghost use Rattle.mb_model.specs.declared.region.Secret.{Secret};
+ghost use Rattle.mb_model.specs.RegionFormat.{least_keys, secrets_format, keys_format, SpellsRegion};
+ghost use Rattle.mb_bytes.specs.Puts.{Puts};
+ghost use Rattle.mb_layout.specs.Edits.{CanBeStored};
+ghost use Rattle.mb_layout.specs.Walks.{Passes};
+ghost use Rattle.mb_layout.specs.StoredRegion.{IsStoredAs, Walks, TakesApart};
+
+use crate::region::{SECRETS, put_keys, stored_secret_at};
+use crate::root::version_at;
+use crate::row::{KeyRow, key_row_at};
+use mb_bytes::{Cursor, put_slice, u8_between};
+use mb_model::{BadRecord, NoMemory, RegionKey};
+
+/// A stored region: its secrets as they stand, and its keys.
+#[derive(Drop)]
+pub struct StoredRegion<'a> {
+    /// The number of the secrets, in a byte, and the secrets.
+    pub secrets: &'a [u8],
+    /// The least number of keys beside these secrets: a region without any has no record.
+    pub least: u8,
+    pub keys: KeyRow,
+}
+
+/// Moves the cursor past the secrets, which are not copied, and tells how many they are.
+#[tactic(auto, unfolding(mb_model::specs::RegionFormat::secrets_format))]
+fn pass_secrets(cursor: &mut Cursor<'_>) -> Result<u8, BadRecord>
+    ensures { Passes secrets_format cursor.old result cursor.new }
+{
+    let count = u8_between(cursor, 0, SECRETS)?;
+    for _i in 0..count {
+        stored_secret_at(cursor)?;
+    }
+    Ok(count)
+}
+
+/// The least number of keys beside so many secrets.
+fn least_beside(count: u8) -> u8
+    ensures { (secrets : List Secret) → length secrets ≡ count → result ≡ least_keys secrets }
+{
+    if count == 0 { 1 } else { 0 }
+}
+
+fn walk(bytes: &[u8]) -> Result<StoredRegion<'_>, BadRecord>
+    requires { length bytes.now ≤ 4194304 }
+    ensures { Walks bytes.now result }
+{
+    let mut cursor = Cursor::new(bytes);
+    version_at(&mut cursor)?;
+    let start = cursor.offset() as usize;
+    let count = pass_secrets(&mut cursor)?;
+    let end = cursor.offset() as usize;
+    let least = least_beside(count);
+    let keys = key_row_at(&mut cursor, least)?;
+    let behind = bytes.split_at(start).1;
+    let secrets = behind.split_at(end - start).0;
+    Ok(StoredRegion {
+        secrets,
+        least,
+        keys,
+    })
+}
+
+/// The empty region.
+pub fn no_region() -> StoredRegion<'static>
+    ensures { IsStoredAs result (record { secrets = []; keys = [] }) }
+{
+    StoredRegion {
+        secrets: &[0],
+        least: 1,
+        keys: KeyRow::new(),
+    }
+}
+
+/// The region for which the bytes stand; `None` only where they stand for none.
+pub fn stored_region(bytes: &[u8]) -> Option<StoredRegion<'_>>
+    requires { length bytes.now ≤ 4194304 }
+    ensures { TakesApart bytes.now result }
+{
+    if bytes.is_empty() {
+        return Some(no_region());
+    }
+    match walk(bytes) {
+        Ok(stored) => Some(stored),
+        Err(_) => None,
+    }
+}
+
+fn put_stored(out: &mut Vec<u8>, secrets: &[u8], keys: &[RegionKey]) -> Result<(), NoMemory>
+    requires { length keys.now ≤ 8 }
+    ensures { Puts ((1 ∷ []) ++ (secrets.now ++ (keys_format 0).spelling keys.now)) out.old result out.new }
+{
+    put_slice(out, &[1])?;
+    put_slice(out, secrets)?;
+    put_keys(out, keys)
+}
+
+/// Replaces `out` by the record of the region, or by no bytes where it is empty.
+pub fn store(stored: &StoredRegion<'_>, out: &mut Vec<u8>)
+    requires { 3091 ≤ vec_capacity out.old }
+    ensures { (region : Region) → IsStoredAs stored.now region → CanBeStored region → SpellsRegion out.new.items region }
+{
+    out.clear();
+    if stored.keys.as_slice().len() < stored.least as usize {
+        return;
+    }
+    let _ = put_stored(out, stored.secrets, stored.keys.as_slice());
+}
