@@ -1,0 +1,9 @@
+pub mod Admission
+pub mod Areas
+pub mod EntryLists
+pub mod Following
+pub mod LogSteps
+pub mod Meanings
+pub mod Reading
+pub mod RegionSteps
+pub mod ValidParts

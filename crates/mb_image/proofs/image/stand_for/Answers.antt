@@ -1,0 +1,12 @@
+use Rattle.mb_image.specs.Stored.{contents_of}
+use Rattle.mb_image.proofs.Reading.{held_can_be_completed, matched}
+use Rattle.mb_image.proofs.Meanings.{live_image}
+use Rattle.mb_image.proofs.image.stand_for.Goals as goal
+
+pub sound_state-requires : goal.sound_state-requires
+sound_state-requires g c = held_can_be_completed c.in-Some.flash.now c.in-Some.bbram.now (contents_of c.in_ok-stored.stored) c.in_ok-stored.ensures.ok
+
+pub returns-in-Some-2-clause-stands : goal.returns-in-Some-2-clause-stands
+returns-in-Some-2-clause-stands g c =
+    let found = matched _ _ c.in_ok-state.field-0 c.in-Some-2.state c.in-Some-2.is c.in_ok-state.ensures.state in
+    live_image c.args.image.now c.in-Some.flash.now c.in-Some.bbram.now (contents_of c.in_ok-stored.stored) c.in-Some-2.state c.in-Some.ensures c.in_ok-stored.ensures.ok found.0 found.1

@@ -1,0 +1,8 @@
+use Rattle.std.proofs.Common.{◌≡◌, take}
+use Rattle.mb_model.specs.Log.{entries_of}
+use Rattle.mb_model.specs.Valid.{EachFollows}
+use Rattle.mb_log.specs.Figures.{figures_of}
+use Rattle.mb_image.proofs.log.figures_of.Given as goal
+
+abbrev pub invariant-loop-signed : goal.invariant-loop-signed
+invariant-loop-signed l = EachFollows (take l.signed-index l.log) × (l.figures ≡ figures_of (entries_of (take l.signed-index l.log)))

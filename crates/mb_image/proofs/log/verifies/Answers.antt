@@ -1,0 +1,14 @@
+use Rattle.std.proofs.Common.{◌∙◌}
+use Rattle.mb_image.proofs.Following.{first_is_verified, none_verifies, verified_by}
+use Rattle.mb_image.proofs.log.verifies.Goals as goal
+
+pub returns-then-figures-eq0 : goal.returns-then-figures-eq0
+returns-then-figures-eq0 c = λ before is. first_is_verified c.args.figures.now before c.args.signed.now is c.if-figures-eq0.true
+
+pub returns-in_default : goal.returns-in_default
+returns-in_default c = λ before is. none_verifies c.args.figures.now before c.args.signed.now is c.if-figures-eq0.false c.in_default.is
+
+pub returns : goal.returns
+returns c = λ before is.
+    verified_by c.args.figures.now before c.args.signed.now c.in-Some.key c.as_slice.result.now c.verify.result
+    is c.if-figures-eq0.false c.in-Some.is (c.as_slice.ensures ∙ c.in_ok-text.ensures) c.verify.ensures

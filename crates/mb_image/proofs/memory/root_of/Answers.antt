@@ -1,0 +1,9 @@
+use Rattle.std.proofs.Common.{subst}
+use Rattle.mb_model.specs.Memory.{IsBlank}
+use Rattle.mb_image.proofs.Reading.{root_found}
+use Rattle.mb_image.proofs.memory.root_of.Goals as goal
+
+pub returns : goal.returns
+returns c =
+    root_found c.args.bbram.now c.area_in_force.result.now c.root_in.result c.area_in_force.ensures c.if-bbram.false
+    (subst IsBlank c.spare.ensures (c.is_blank.ensures.0 c.if-not-is_blank.false)) c.root_in.ensures

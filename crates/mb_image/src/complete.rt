@@ -1,0 +1,154 @@
+//! The signatures that are still to be made.
+
+ghost use Rattle.std.specs.Prelude.{◌≡◌, ℕ, ◌+◌, ◌*◌, ◌≤◌, ◌++◌, length, map, All, Some, IfOk, OnOk, IfSome};
+ghost use Rattle.mb_model.specs.EntryFormat.{entry_format};
+ghost use Rattle.mb_model.specs.OrderStep.{signed_by};
+ghost use Rattle.mb_model.specs.StoredLog.{signed_for, outgoing_of, completed};
+ghost use Rattle.mb_signer.specs.Tree.{IsTreeOf};
+
+use crate::text::{ENTRY, spelling_of};
+use mb_lms::Steps;
+use mb_model::{Entry, KeySeed, Log, NoMemory, Outgoing, Root, SignedEntry};
+use mb_signer::{KeptTree, Uses, sign_kept, take_index};
+use std::alloc::Global;
+use std::sync::ledger::Ledger;
+
+/// The log for which the entries of a memory stand: the unsigned ones, of which there are at most two, get their
+/// signatures, by the outgoing key and by the device key, whose tree is given.
+#[tactic(auto, unfolding(mb_model::specs::StoredLog::completed))]
+pub(crate) fn completed<L: Ledger>(
+    alloc: Global,
+    root: &Root,
+    tree: &KeptTree,
+    signed: Log,
+    unsigned: &[Entry],
+    steps: &mut Steps<L>,
+) -> Result<Log, NoMemory>
+    requires tree { IsTreeOf root.now.device tree.now }
+    requires uses { root.now.uses ≤ 32 }
+    requires outgoing { IfSome (outgoing_of root.now.pending) (λ outgoing. outgoing.uses ≤ 32) }
+    requires spelled { All entry_format.Allowed unsigned.now }
+    ensures log { IfOk result (λ log. log ≡ completed root.now signed unsigned.now) }
+    ensures cost { steps.new ≤ steps.old + 34399 + 1074 * length unsigned.now }
+{
+    let mut log = signed;
+    match outgoing_of(root) {
+        None => {
+            let last = root.uses.saturating_sub(1);
+            push_signed(alloc, &mut log, &root.device, tree, last, unsigned, steps)?;
+        }
+        Some(outgoing) => {
+            push_handed_over(
+                alloc,
+                &mut log,
+                &outgoing,
+                &root.device,
+                tree,
+                unsigned,
+                steps,
+            )?;
+        }
+    }
+    Ok(log)
+}
+
+/// The device key that gives way.
+fn outgoing_of(root: &Root) -> Option<Outgoing>
+    ensures { result ≡ outgoing_of root.now.pending }
+{
+    match &root.pending {
+        None => None,
+        Some(pending) => pending.outgoing,
+    }
+}
+
+/// Adds the entries, of which the outgoing key signs the first, with the index that it used last, and the next key the
+/// others, with its first.
+fn push_handed_over<L: Ledger>(
+    alloc: Global,
+    log: &mut Log,
+    outgoing: &Outgoing,
+    device: &KeySeed,
+    tree: &KeptTree,
+    entries: &[Entry],
+    steps: &mut Steps<L>,
+) -> Result<(), NoMemory>
+    requires tree { IsTreeOf device.now tree.now }
+    requires uses { outgoing.now.uses ≤ 32 }
+    requires spelled { All entry_format.Allowed entries.now }
+    ensures log { (uses : ℕ) → OnOk result (log.new ≡ log.old ++ signed_for device.now uses (Some outgoing.now) entries.now) }
+    ensures cost { steps.new ≤ steps.old + 34399 + 1074 * length entries.now }
+{
+    if entries.is_empty() {
+        return Ok(());
+    }
+    let (first, others) = entries.split_at(1);
+    let last = outgoing.uses.saturating_sub(1);
+    let own = KeptTree::build(&outgoing.seed, steps);
+    push_signed(alloc, log, &outgoing.seed, &own, last, first, steps)?;
+    push_signed(alloc, log, device, tree, 0, others, steps)
+}
+
+/// Adds the entries, each signed by the key, whose tree is given, at the index.
+fn push_signed<L: Ledger>(
+    alloc: Global,
+    log: &mut Log,
+    key: &KeySeed,
+    tree: &KeptTree,
+    index: u32,
+    entries: &[Entry],
+    steps: &mut Steps<L>,
+) -> Result<(), NoMemory>
+    requires tree { IsTreeOf key.now tree.now }
+    requires index { index ≤ 31 }
+    requires spelled { All entry_format.Allowed entries.now }
+    ensures log { OnOk result (log.new ≡ log.old ++ map (signed_by key.now index) entries.now) }
+    ensures cost { steps.new ≤ steps.old + 1074 * length entries.now }
+{
+    for entry in entries {
+        log.push(signed_by(alloc, key, tree, index, entry, steps)?)?;
+    }
+    Ok(())
+}
+
+/// The entry signed by the key, whose tree is given, at the index.
+#[tactic(auto, unfolding(mb_model::specs::OrderStep::signed_by, mb_model::specs::SignedTexts::entry_text))]
+fn signed_by<L: Ledger>(
+    alloc: Global,
+    key: &KeySeed,
+    tree: &KeptTree,
+    index: u32,
+    entry: &Entry,
+    steps: &mut Steps<L>,
+) -> Result<SignedEntry, NoMemory>
+    requires tree { IsTreeOf key.now tree.now }
+    requires index { index ≤ 31 }
+    requires spelled { entry_format.Allowed entry.now }
+    ensures signed { IfOk result (λ signed. signed ≡ signed_by key.now index entry.now) }
+    ensures cost { steps.new ≤ steps.old + 1074 }
+{
+    let text = spelling_of(alloc, entry)?;
+    let mut uses = Uses::stored(index);
+    let Some(right) = take_index(&mut uses) else {
+        unreachable!();
+    };
+    let mut signature = no_signature();
+    sign_kept(
+        right,
+        tree,
+        key,
+        &[ENTRY],
+        text.as_slice(),
+        &mut signature,
+        steps,
+    );
+    Ok(SignedEntry {
+        entry: *entry,
+        signature,
+    })
+}
+
+/// Room for a signature.
+fn no_signature() -> [u8; 2348] {
+    [0; 2348]
+}

@@ -1,0 +1,75 @@
+//! For which state an image stands.
+
+ghost use Rattle.std.specs.Prelude.{◌≡◌, ◌+◌, ◌≤◌, IfOk, IfErr, IfSome};
+ghost use Rattle.mb_model.specs.Meaning.{IsWellFormed};
+ghost use Rattle.mb_model.specs.Faults.{HasFault};
+ghost use Rattle.mb_image.specs.Ends.{fault_of};
+
+use crate::memory::{is_blank, memories, root_of};
+use crate::sound::sound_state;
+use crate::stored::stored_in;
+use mb_lms::Steps;
+use mb_model::{NoMemory, State};
+use std::alloc::Global;
+use std::sync::ledger::Ledger;
+
+/// Why an image stands for no state. If several apply, the first in this list is returned; `NoMemory` may stand in
+/// place of any but `Length` and `Root`.
+#[derive(Clone, Copy, PartialEq, Eq)]
+pub enum ImageEnd {
+    /// It has not 1,077,248 bytes.
+    Length,
+    /// The battery-backed memory is neither all zero nor alive with a root in force.
+    Root,
+    /// The area of the flash that the root names begins with no public record, or not as many of its last entries are
+    /// unsigned as the root says.
+    Public,
+    /// The area in force of region 2 holds no region.
+    RegionTwo,
+    /// The area in force of region 3 holds no region.
+    RegionThree,
+    /// The device key has no index for what it has still to sign, or no device can have the state.
+    State,
+    /// An allocation failed.
+    NoMemory,
+}
+
+impl From<NoMemory> for ImageEnd {
+    ghost use Rattle.mb_image.specs.declared.image.ImageEnd.TheVariants as end;
+
+    ghost from_gives = { λ _ e. e ≡ end.NoMemory };
+
+    fn from(_error: NoMemory) -> ImageEnd {
+        ImageEnd::NoMemory
+    }
+}
+
+/// The state for which an image of any bytes stands, `None` being that of a dead device, or its first fault, in at most
+/// 621,330 steps: those of the public keys of the device and of sixteen keys of regions, each made once, and of the
+/// signatures that are still to be made.
+///
+/// Errors: those of `ImageEnd`.
+pub fn stand_for<L: Ledger>(
+    alloc: Global,
+    image: &[u8],
+    steps: &mut Steps<L>,
+) -> Result<Option<State>, ImageEnd>
+    ensures stands { IfOk result (λ state. IsWellFormed image.now state) }
+    ensures fault { IfErr result (λ end. IfSome (fault_of end) (λ fault. HasFault image.now fault)) }
+    ensures cost { steps.new ≤ steps.old + 621330 }
+{
+    let Some((flash, bbram)) = memories(image) else {
+        return Err(ImageEnd::Length);
+    };
+    if is_blank(bbram) {
+        return Ok(None);
+    }
+    let Some(root) = root_of(bbram) else {
+        return Err(ImageEnd::Root);
+    };
+    let stored = stored_in(alloc, flash, bbram, root)?;
+    match sound_state(alloc, stored, steps)? {
+        Some(state) => Ok(Some(state)),
+        None => Err(ImageEnd::State),
+    }
+}

@@ -1,0 +1,27 @@
+//! For which state an image stands, or its first fault.
+//!
+//! This crate owns the meaning of a device's memory as it lies: which areas are in force, the entries that are not
+//! signed yet and their signatures, what becomes of the regions, and whether a device can have the state that comes of
+//! it. It stands on `mb_layout`, which finds and reads the records, on `mb_log`, which judges entries by those before
+//! them, on `mb_signer`, which signs and makes public keys, on `mb_lms`, which verifies, on `mb_model`, which has the
+//! definitions, on the lemmas on logs, regions and memories in `mb_lemmas`, and on `sha2`.
+#![tactic(auto)]
+
+mod alive;
+mod codes;
+mod complete;
+mod entries;
+mod fates;
+mod image;
+mod log;
+mod memory;
+mod regions;
+mod sound;
+mod stored;
+mod text;
+mod validity;
+
+pub use image::{ImageEnd, stand_for};
+
+#[cfg(test)]
+mod tests;

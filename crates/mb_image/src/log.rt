@@ -1,0 +1,118 @@
+//! Whether each entry of a log follows from those before it.
+
+ghost use Rattle.std.specs.Prelude.{◌≡◌, ◌↔◌, ◌+◌, ◌-◌, ◌^◌, ◌<◌, List, length, All, IfOk, IsTrue, MatchOption, OnOk};
+ghost use Rattle.mb_model.specs.declared.entry.Entry.{Entry};
+ghost use Rattle.mb_model.specs.EntryFormat.{entry_format};
+ghost use Rattle.mb_model.specs.Log.{entries_of, layers_in, layers_of, serial_in, serial_of};
+ghost use Rattle.mb_model.specs.Layers.{unowned_layers};
+ghost use Rattle.mb_model.specs.Valid.{Follows, EachFollows};
+ghost use Rattle.mb_log.specs.Figures.{figures_of};
+ghost use Rattle.mb_image.specs.Verified.{IsVerified};
+
+use crate::text::{ENTRY, leaf_number, spelling_of};
+use mb_lms::verify;
+use mb_log::Figures;
+use mb_model::{Entry, Follow, Layer, Layers, NoMemory, SignedEntry, Trust};
+use std::alloc::Global;
+
+/// What the entries of a log say together, where each follows from those before it; else none.
+pub(crate) fn figures_of(alloc: Global, log: &[SignedEntry]) -> Result<Option<Figures>, NoMemory>
+    requires spelled { All (λ signed. entry_format.Allowed signed.entry) log.now }
+    requires short { length log.now < 2 ^ 32 - 1 }
+    ensures { IfOk result (λ figures. MatchOption figures (EachFollows log.now → ⊥) (λ f. EachFollows log.now × (f ≡ figures_of (entries_of log.now)))) }
+{
+    let mut figures = Figures::none();
+    for signed in log {
+        if !follows(alloc, &figures, signed)? {
+            return Ok(None);
+        }
+        figures.add(&signed.entry);
+    }
+    Ok(Some(figures))
+}
+
+/// Whether an entry follows from those before it, whose figures are given.
+fn follows(alloc: Global, figures: &Figures, signed: &SignedEntry) -> Result<bool, NoMemory>
+    requires { entry_format.Allowed signed.now.entry }
+    ensures { (before : List Entry) → figures.now ≡ figures_of before → IfOk result (λ yes. IsTrue yes ↔ Follows before signed.now) }
+{
+    match figures.follows(&signed.entry, leaf_number(&signed.signature)) {
+        Follow::Yes => verifies(alloc, figures, signed),
+        Follow::Order | Follow::Rules => Ok(false),
+    }
+}
+
+/// Whether an entry verifies under the device key that those before it name last; the first is not tried.
+fn verifies(alloc: Global, figures: &Figures, signed: &SignedEntry) -> Result<bool, NoMemory>
+    requires { entry_format.Allowed signed.now.entry }
+    ensures { (before : List Entry) → figures.now ≡ figures_of before → IfOk result (λ yes. IsTrue yes ↔ IsVerified before signed.now) }
+{
+    if figures.length == 0 {
+        return Ok(true);
+    }
+    let Some(key) = &figures.device else {
+        return Ok(false);
+    };
+    let text = spelling_of(alloc, &signed.entry)?;
+    Ok(verify(key, &[ENTRY], text.as_slice(), &signed.signature))
+}
+
+/// The serial that a birth of the log names.
+pub(crate) fn serial_of(log: &[SignedEntry]) -> Option<[u8; 16]>
+    ensures { result ≡ serial_of (entries_of log.now) }
+{
+    let mut serial = None;
+    for signed in log {
+        serial = serial_in(&signed.entry).or(serial);
+    }
+    serial
+}
+
+/// The serial that an entry names.
+fn serial_in(entry: &Entry) -> Option<[u8; 16]>
+    ensures { result ≡ serial_in entry.now }
+{
+    match entry {
+        Entry::Birth { serial, .. } => Some(*serial),
+        _ => None,
+    }
+}
+
+/// The layers of the last birth or change of the log.
+
+pub(crate) fn layers_of(log: &[SignedEntry]) -> Layers
+    ensures { result ≡ layers_of (entries_of log.now) }
+{
+    let mut layers = unowned_layers();
+    for signed in log {
+        layers = layers_in(&signed.entry).unwrap_or(layers);
+    }
+    layers
+}
+
+/// The layers that an entry names.
+fn layers_in(entry: &Entry) -> Option<Layers>
+    ensures { result ≡ layers_in entry.now }
+{
+    match entry {
+        Entry::Birth { layers, .. } | Entry::Change { layers, .. } => Some(*layers),
+        Entry::NewKey { .. } | Entry::Succession { .. } => None,
+    }
+}
+
+/// Layers without owners.
+pub(crate) fn unowned_layers() -> Layers
+    ensures { result ≡ unowned_layers }
+{
+    let unowned = Layer {
+        owner: None,
+        code: None,
+        reliable: false,
+        trust: Trust::Never,
+    };
+    Layers {
+        one: unowned,
+        two: unowned,
+        three: unowned,
+    }
+}

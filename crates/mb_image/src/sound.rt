@@ -1,0 +1,110 @@
+//! The state that stored contents mean.
+
+ghost use Rattle.std.specs.Prelude.{◌≡◌, ◌↔◌, ◌+◌, ◌≤◌, IfOk, IsTrue, MatchOption};
+ghost use Rattle.mb_model.specs.Log.{entries_of, layers_of};
+ghost use Rattle.mb_model.specs.StoredLog.{HasIndex};
+ghost use Rattle.mb_model.specs.Meaning.{meant, fate_of_two, fate_of_three};
+ghost use Rattle.mb_model.specs.Faults.{AreSound};
+ghost use Rattle.mb_signer.specs.Tree.{IsTreeOf};
+ghost use Rattle.mb_image.specs.Stored.{contents_of, CanBeCompleted};
+
+use crate::complete::completed;
+use crate::fates::fated;
+use crate::log::layers_of;
+use crate::stored::Stored;
+use crate::validity::is_valid;
+use mb_lms::Steps;
+use mb_model::{Fate, NoMemory, Pending, Root, State};
+use mb_signer::{KeptTree, public_kept};
+use std::alloc::Global;
+use std::sync::ledger::Ledger;
+
+/// The state that stored contents mean, with all pending work done; none where the device key has no index for what it
+/// has still to sign, or no device can have the state.
+pub(crate) fn sound_state<L: Ledger>(
+    alloc: Global,
+    stored: Stored,
+    steps: &mut Steps<L>,
+) -> Result<Option<State>, NoMemory>
+    requires { CanBeCompleted (contents_of stored) }
+    ensures state { IfOk result (λ state. MatchOption state (AreSound (contents_of stored) → ⊥) (λ s. AreSound (contents_of stored) × (s ≡ meant (contents_of stored)))) }
+    ensures cost { steps.new ≤ steps.old + 621330 }
+{
+    if !has_index(&stored.root) {
+        return Ok(None);
+    }
+    let tree = KeptTree::build(&stored.root.device, steps);
+    let device = public_kept(&tree, &stored.root.device);
+    let state = state_of(alloc, stored, &tree, steps)?;
+    if is_valid(alloc, &state, &device, steps)? {
+        Ok(Some(state))
+    } else {
+        Ok(None)
+    }
+}
+
+/// Whether the device key has an index for what it has still to sign.
+fn has_index(root: &Root) -> bool
+    ensures { IsTrue result ↔ HasIndex root.now root.now.pending }
+{
+    match &root.pending {
+        None => true,
+        Some(pending) => pending.outgoing.is_some() || root.uses != 0,
+    }
+}
+
+/// The state that stored contents mean, by the tree of the device key.
+#[tactic(auto, unfolding(mb_model::specs::Meaning::meant))]
+fn state_of<L: Ledger>(
+    alloc: Global,
+    stored: Stored,
+    tree: &KeptTree,
+    steps: &mut Steps<L>,
+) -> Result<State, NoMemory>
+    requires contents { CanBeCompleted (contents_of stored) }
+    requires tree { IsTreeOf stored.root.device tree.now }
+    ensures state { IfOk result (λ state. state ≡ meant (contents_of stored)) }
+    ensures cost { steps.new ≤ steps.old + 36547 }
+{
+    let Stored {
+        root,
+        codes,
+        signed,
+        unsigned,
+        two,
+        three,
+    } = stored;
+    let log = completed(alloc, &root, tree, signed, unsigned.as_slice(), steps)?;
+    let two = fated(alloc, &fate_of_two(&root.pending), two)?;
+    let three = fated(alloc, &fate_of_three(&root.pending), three)?;
+    Ok(State {
+        serial: root.serial,
+        layers: layers_of(log.as_slice()),
+        codes,
+        log,
+        device: root.device,
+        uses: root.uses,
+        two,
+        three,
+    })
+}
+
+/// What is to be done to region 2.
+fn fate_of_two(pending: &Option<Pending>) -> Fate
+    ensures { result ≡ fate_of_two pending.now }
+{
+    match pending {
+        None => Fate::Keep,
+        Some(pending) => pending.two,
+    }
+}
+
+/// What is to be done to region 3.
+fn fate_of_three(pending: &Option<Pending>) -> Fate
+    ensures { result ≡ fate_of_three pending.now }
+{
+    match pending {
+        None => Fate::Keep,
+        Some(pending) => pending.three,
+    }
+}

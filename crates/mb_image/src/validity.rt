@@ -1,0 +1,57 @@
+//! Whether a state is one that a device can have.
+
+ghost use Rattle.std.specs.Prelude.{◌≡◌, ◌↔◌, ◌+◌, ◌≤◌, ◌-◌, ◌^◌, ◌<◌, length, All, IfOk, IsTrue, Some};
+ghost use Rattle.mb_model.specs.EntryFormat.{entry_format};
+ghost use Rattle.mb_model.specs.Log.{entries_of, layers_of, device_of, serial_of, used};
+ghost use Rattle.mb_model.specs.Signing.{public_of};
+ghost use Rattle.mb_model.specs.Valid.{IsValidState};
+ghost use Rattle.mb_log.specs.Figures.{figures_of};
+
+use crate::codes::are_named;
+use crate::log::{figures_of, serial_of};
+use crate::regions::is_valid_region;
+use mb_lms::Steps;
+use mb_log::Figures;
+use mb_model::{NoMemory, PublicKey, SignedEntry, State};
+use std::alloc::Global;
+use std::sync::ledger::Ledger;
+
+/// Whether a state is one that a live device can have. Its layers are those of its log, and its device key's public key
+/// is given.
+pub(crate) fn is_valid<L: Ledger>(
+    alloc: Global,
+    state: &State,
+    device: &PublicKey,
+    steps: &mut Steps<L>,
+) -> Result<bool, NoMemory>
+    requires spelled { All (λ signed. entry_format.Allowed signed.entry) state.now.log }
+    requires short { length state.now.log < 2 ^ 32 - 1 }
+    requires layers { state.now.layers ≡ layers_of (entries_of state.now.log) }
+    requires device { device.now ≡ public_of state.now.device }
+    ensures valid { IfOk result (λ valid. IsTrue valid ↔ IsValidState state.now) }
+    ensures cost { steps.new ≤ steps.old + 550384 }
+{
+    let log = state.log.as_slice();
+    let Some(figures) = figures_of(alloc, log)? else {
+        return Ok(false);
+    };
+    if !is_device(log, &figures, state, device) || !are_named(&state.layers, &state.codes) {
+        return Ok(false);
+    }
+    if !is_valid_region(alloc, log, &figures, 2, &state.two, steps)? {
+        return Ok(false);
+    }
+    is_valid_region(alloc, log, &figures, 3, &state.three, steps)
+}
+
+/// Whether the serial is that of the birth, the device key the one that is named last, and its uses those that the log
+/// tells, whose figures are given.
+#[tactic(auto, unfolding(mb_log::specs::Figures::figures_of))]
+fn is_device(log: &[SignedEntry], figures: &Figures, state: &State, device: &PublicKey) -> bool
+    requires { figures.now ≡ figures_of (entries_of log.now) }
+    ensures { IsTrue result ↔ ((serial_of (entries_of log.now) ≡ Some state.now.serial) × (device_of (entries_of log.now) ≡ Some device.now) × (state.now.uses ≡ used (entries_of log.now))) }
+{
+    serial_of(log) == Some(state.serial)
+        && figures.device == Some(*device)
+        && state.uses == figures.uses
+}
