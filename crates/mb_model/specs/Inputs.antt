@@ -6,9 +6,10 @@ use Rattle.mb_model.specs.declared.role.Role.{Role}
 use Rattle.mb_model.specs.declared.role.Role.TheVariants as role
 use Rattle.mb_model.specs.declared.role.Place.{Place}
 use Rattle.mb_model.specs.declared.role.Place.TheVariants as fault
+use Rattle.mb_model.specs.declared.key.PublicKey.{PublicKey}
 use Rattle.mb_model.specs.declared.order.Order.{Order}
 use Rattle.mb_model.specs.declared.tools.Keyfile.{Keyfile}
-use Rattle.mb_model.specs.KeyFormat.{keyfile_format}
+use Rattle.mb_model.specs.KeyFormat.{public_key_format, keyfile_format}
 use Rattle.mb_model.specs.Lines.{Reads, TextFailsAtLine}
 use Rattle.mb_model.specs.Drafts.{IsDraft}
 use Rattle.mb_model.specs.OrderLines.{IsOrderLine}
@@ -50,6 +51,15 @@ leading_input role n name = record {
   FaultyAt = λ bytes place. (length bytes < n) × (place ≡ fault.Length);
 }
 
+-- any bytes, but no more than n of them
+abbrev pub bounded_input : Role → ℕ → List ℕ → Input (List ℕ)
+bounded_input role n name = record {
+  role = role;
+  name = name;
+  Is = λ bytes whole. (length bytes ≤ n) × (whole ≡ bytes);
+  FaultyAt = λ bytes place. (n < length bytes) × (place ≡ fault.Length);
+}
+
 -- ---- the inputs
 
 -- the noise of which an officer's key is made
@@ -59,6 +69,18 @@ key_noise_input name = leading_input role.Noise 32 name
 -- the file of an officer's key
 abbrev pub key_input : List ℕ → Input Keyfile
 key_input name = binary_input role.Key keyfile_format name
+
+-- the noise of which a device's first key and its serial are made
+abbrev pub birth_noise_input : List ℕ → Input (List ℕ)
+birth_noise_input name = leading_input role.Noise 48 name
+
+-- the public key of an owner
+abbrev pub owner_input : List ℕ → Input PublicKey
+owner_input name = binary_input role.Owner public_key_format name
+
+-- the code of a layer
+abbrev pub code_input : List ℕ → Input (List ℕ)
+code_input name = bounded_input role.Code 32768 name
 
 -- the draft of an order
 abbrev pub draft_input : List ℕ → Input Order

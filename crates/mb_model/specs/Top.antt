@@ -6,6 +6,7 @@ use Rattle.mb_model.specs.Commands.{Command, Ended, Stops, CommandEnds, at_first
 use Rattle.mb_model.specs.FirstCommand.{RunNames, run}
 use Rattle.mb_model.specs.Keygen.{KeygenNames, keygen}
 use Rattle.mb_model.specs.Sign.{SignNames, CountersignNames, sign, countersign}
+use Rattle.mb_model.specs.FactoryCommand.{FactoryNames, factory}
 
 -- a command and what its words name
 pub data Request : Type 0 where
@@ -13,6 +14,7 @@ pub data Request : Type 0 where
   makes_key : KeygenNames → Request
   signs : SignNames → Request
   countersigns : CountersignNames → Request
+  makes_device : FactoryNames → Request
 
 -- the words of a request, without the program's name
 abbrev pub words_of : Request → List (List ℕ)
@@ -21,6 +23,8 @@ words_of (makes_key names) = codes "keygen" ∷ names.noise ∷ names.key ∷ na
 words_of (signs names) = codes "sign" ∷ names.key ∷ names.draft ∷ names.out ∷ []
 words_of (countersigns names) =
     codes "countersign" ∷ names.key ∷ decimal names.layer ∷ names.order ∷ names.out ∷ []
+words_of (makes_device names) =
+    codes "factory" ∷ names.noise ∷ names.key ∷ names.owner ∷ names.code ∷ names.image ∷ []
 
 -- no name is empty, and the layer that countersigns is 2 or 3
 abbrev pub IsAllowed : Request → Type 0
@@ -29,6 +33,8 @@ IsAllowed (makes_key names) = (names.noise ≢ []) × (names.key ≢ []) × (nam
 IsAllowed (signs names) = (names.key ≢ []) × (names.draft ≢ []) × (names.out ≢ [])
 IsAllowed (countersigns names) =
     (names.key ≢ []) × (names.order ≢ []) × (names.out ≢ []) × IsTrue (is_upper names.layer)
+IsAllowed (makes_device names) =
+    (names.noise ≢ []) × (names.key ≢ []) × (names.owner ≢ []) × (names.code ≢ []) × (names.image ≢ [])
 
 -- the words are those of an allowed request
 pub record IsRequest (words : List (List ℕ)) (request : Request) : Type 0 where
@@ -41,6 +47,7 @@ command_of (runs names) = run names
 command_of (makes_key names) = keygen names
 command_of (signs names) = sign names
 command_of (countersigns names) = countersign names
+command_of (makes_device names) = factory names
 
 -- How the program ends.
 pub data Ends (words : List (List ℕ)) (e : Ended) : Type 0 where

@@ -15,9 +15,10 @@ use Rattle.mb_model.specs.Rules.{kind_of}
 use Rattle.mb_model.specs.OrderFormat.{order_byte, target_format, act_by, body_of, body_format, order_body, sized_signature_format, countersignatures_format, order_format}
 use Rattle.mb_model.specs.OrderLines.{IsOrderLine}
 use Rattle.mb_model.proofs.OrderFormatLaws.{order_exact}
-use Rattle.mb_laws.proofs.LineLemmas.{cons_same, HasLines-none, HasLines-nil, HasLines-always}
-use Rattle.mb_laws.proofs.WordLemmas.{IsHex-same}
-use Rattle.mb_laws.proofs.OrderLineLemmas.{order_first, order_second, examples}
+use Rattle.mb_lemmas.proofs.LineLemmas.{cons_same, HasLines-none, HasLines-nil, HasLines-always}
+use Rattle.mb_lemmas.proofs.WordLemmas.{IsHex-same}
+use Rattle.mb_lemmas.specs.SampleOrder.{surrender, surrender_line}
+use Rattle.mb_lemmas.proofs.OrderLineLemmas.{empty, order_one, order_first, order_second, surrender_is}
 use Rattle.mb_words.specs.declared.said.NotSaid.{NotSaid}
 use Rattle.mb_words.specs.declared.said.NotSaid.TheVariants as why
 use Rattle.mb_words.specs.Words.{Finds, SplitsLine}
@@ -39,7 +40,7 @@ pub no_line : (text : List ℕ) → text ≡ [] → TextFailsAtLine IsOrderLine 
 no_line text none = record {
   lines = [];
   has = subst (λ (x : List ℕ). HasLines x []) (sym none) HasLines-nil;
-  fails = examples.no_line;
+  fails = empty IsOrderLine order_one (surrender_line ∷ []) surrender surrender_is;
 }
 
 -- the first line is that of no order

@@ -14,7 +14,7 @@ use Rattle.mb_model.specs.Rules.{MayBeFor}
 use Rattle.mb_model.specs.Texts.{IsHex}
 use Rattle.mb_model.specs.Lines.{IsNumber, number_limit}
 use Rattle.mb_model.specs.Drafts.{kind_word, SaysTarget}
-use Rattle.mb_laws.proofs.WordLemmas.{number_front}
+use Rattle.mb_lemmas.proofs.WordLemmas.{number_front}
 
 -- ---- layers
 

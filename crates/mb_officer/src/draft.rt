@@ -42,7 +42,7 @@ pub(crate) enum Loading {
 }
 
 /// What a first line orders.
-#[derive(Clone, Copy, Debug, PartialEq, Eq)]
+#[derive(Clone, Copy, PartialEq, Eq)]
 pub(crate) enum Kind {
     Establish,
     Surrender,

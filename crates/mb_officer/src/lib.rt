@@ -1,25 +1,32 @@
-//! What officers' tools do with keys and orders.
+//! What officers' tools, and a maker's, do with keys, orders and new devices.
 //!
-//! This crate owns the file of an officer's key, read and written; the making of a key from noise; the drafts of
-//! orders, read line by line; the signing and countersigning of orders, each of which uses up one index of a key; and
-//! the line of an order, read and written. It stands on `mb_bytes`, by whose cursor it reads a key file, on
-//! `mb_command`, which reads and writes the bytes of an order, on `mb_signer`, which signs, on `mb_lms`, which reads a
-//! public key and has the count of hashes, on `mb_model`, which has the formats and what a draft or a line says, on
-//! `mb_words`, which reads lines word by word, on the laws of lines and words in `mb_laws`, and on `sha2` and `hex`.
+//! This crate owns the file of an officer's key, read and written; the making of a key from noise; the file of a public
+//! key, read; the drafts of orders, read line by line; the signing and countersigning of orders, each of which uses up
+//! one index of a key; the line of an order, read and written; and the image of a new device, whose birth a maker's key
+//! signs. It stands on `mb_bytes`, by whose cursor it reads keys, on `mb_command`, which reads and writes the bytes of
+//! an order, on `mb_layout`, which writes the records of a device, on `mb_log`, which makes a device's keys, on
+//! `mb_signer`, which signs, on `mb_lms`, which reads a public key and has the count of hashes, on `mb_model`, which has
+//! the formats and what a draft or a line says, on `mb_words`, which reads lines word by word, on the laws of lines,
+//! words and new devices in `mb_lemmas`, on those of what has a spelling in `mb_storing`, and on `sha2` and `hex`.
 #![tactic(auto)]
 
+mod birth;
 mod draft;
+mod image;
 mod keyfile;
 mod make;
 mod order_line;
+mod public_key;
 mod signing;
 mod words;
 
+pub use birth::factory;
 pub use draft::{DraftEnd, read_draft};
 pub use keyfile::{read_keyfile, write_keyfile};
 pub use make::make_key;
 pub use mb_model::{BadRecord, Keyfile};
 pub use order_line::{OrderLineEnd, read_order_line, write_order_line};
+pub use public_key::read_public_key;
 pub use signing::{SignEnd, countersign, sign_order};
 
 #[cfg(test)]

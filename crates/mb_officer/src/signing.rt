@@ -2,24 +2,18 @@
 
 ghost use Rattle.std.specs.Prelude.{◌≡◌, ◌≢◌, ◌↔◌, ◌+◌, ◌<◌, ◌≤◌, ◌++◌, ◌∷◌, [], List, length, All, IfOk, OnOk, OnErr, IsErrOf, IsTrue};
 ghost use Rattle.mb_model.specs.Layers.{is_upper};
-ghost use Rattle.mb_model.specs.OrderFormat.{order_body, order_format};
+ghost use Rattle.mb_model.specs.OrderFormat.{order_format};
 ghost use Rattle.mb_model.specs.Signing.{signature_of};
 ghost use Rattle.mb_model.specs.SignedOrders.{used_once, signed_order, countersigned_order, with_countersignature, IsCountersignable};
 ghost use Rattle.mb_model.specs.Rules.{kind_of, change_of, is_load};
 
 use crate::keyfile::NONE_LEFT;
-use mb_command::{body_length, write_order};
+use mb_command::{COUNTERSIGNATURE_HEAD, ORDER_HEAD, signed_part};
 use mb_lms::Steps;
 use mb_model::{Act, Bytes, Countersignature, Countersignatures, Keyfile, NoMemory, Order};
 use mb_signer::{Uses, sign, take_index};
 use std::alloc::Global;
 use std::sync::ledger::Ledger;
-
-/// What the text begins with that the owner in charge signs.
-const ORDER: u8 = 1;
-
-/// What the text begins with that the owner of a higher layer signs.
-const COUNTERSIGNATURE: u8 = 2;
 
 /// Why nothing was signed. Key and order are then as before.
 #[derive(Clone, Copy, Debug, PartialEq, Eq)]
@@ -64,9 +58,9 @@ pub fn sign_order<L: Ledger>(
     if k.next == NONE_LEFT {
         return Err(SignEnd::Spent);
     }
-    let body = body_of(alloc, order)?;
+    let body = signed_part(alloc, order)?;
     let room = signature_room(alloc)?;
-    order.signature = signature_at(k, &[ORDER], body.as_slice(), room, steps);
+    order.signature = signature_at(k, &[ORDER_HEAD], body.as_slice(), room, steps);
     Ok(use_up(k))
 }
 
@@ -98,14 +92,14 @@ pub fn countersign<L: Ledger>(
     if k.next == NONE_LEFT {
         return Err(SignEnd::Spent);
     }
-    let body = body_of(alloc, order)?;
+    let body = signed_part(alloc, order)?;
     let empty = Bytes::from_vec(Vec::new(alloc));
     let own_room = signature_room(alloc)?;
     order.countersignatures.push(Countersignature {
         layer,
         signature: empty,
     })?;
-    let head = [COUNTERSIGNATURE, layer];
+    let head = [COUNTERSIGNATURE_HEAD, layer];
     let signature = signature_at(k, &head, body.as_slice(), own_room, steps);
     put_in_place(
         &mut order.countersignatures,
@@ -115,7 +109,7 @@ pub fn countersign<L: Ledger>(
 }
 
 /// Uses up the key's next index, which is told.
-fn use_up(k: &mut Keyfile) -> u32
+pub(crate) fn use_up(k: &mut Keyfile) -> u32
     requires { k.old.next ≤ 31 }
     ensures index { result ≡ k.old.next }
     ensures used { k.new ≡ used_once k.old }
@@ -161,17 +155,6 @@ fn put_in_place(list: &mut Countersignatures, countersignature: Countersignature
     }
 }
 
-/// The body of the order, the part that its owners sign.
-fn body_of(alloc: Global, order: &Order) -> Result<Bytes, NoMemory>
-    requires { order_format.Allowed order.now }
-    ensures { IfOk result (λ body. body ≡ order_body order.now) }
-{
-    let mut spelling = Vec::new(alloc);
-    write_order(order, &mut spelling)?;
-    spelling.truncate(body_length(order) as usize);
-    Ok(Bytes::from_vec(spelling))
-}
-
 /// Room for a signature.
 fn signature_room(alloc: Global) -> Result<Vec<u8>, NoMemory>
     ensures { IfOk result (λ room. length room.items ≡ 2348) }
@@ -194,12 +177,27 @@ fn signature_at<L: Ledger>(
     ensures cost { steps.new ≤ steps.old + 35473 }
 {
     let mut room = room;
+    let signature = sign_next(k, head, body, steps);
+    room.copy_from_slice(&signature);
+    Bytes::from_vec(room)
+}
+
+/// The signature of the head and the body by the key, at its next index.
+pub(crate) fn sign_next<L: Ledger>(
+    k: &Keyfile,
+    head: &[u8],
+    body: &[u8],
+    steps: &mut Steps<L>,
+) -> [u8; 2348]
+    requires { k.now.next ≤ 31 }
+    ensures signature { result ≡ signature_of k.now.seed k.now.next (head.now ++ body.now) }
+    ensures cost { steps.new ≤ steps.old + 35473 }
+{
     let mut uses = Uses::stored(k.next);
     let Some(right) = take_index(&mut uses) else {
         unreachable!();
     };
     let mut signature = [0; 2348];
     sign(right, &k.seed, head, body, &mut signature, steps);
-    room.copy_from_slice(&signature);
-    Bytes::from_vec(room)
+    signature
 }

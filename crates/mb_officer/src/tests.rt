@@ -17,7 +17,7 @@ fn makes(rt: &impl Abort, noise: &str, file: &str) -> Result<(), Fail> {
     let key = make_key(&noise);
     assert_eq!(rt; key.next, 0);
     assert_eq!(rt; write_keyfile(&key), file);
-    assert_eq!(rt; read_keyfile(&file), Ok(key));
+    assert!(rt; read_keyfile(&file) == Ok(key));
     Ok(())
 }
 
@@ -69,19 +69,19 @@ fn read(rt: &impl Abort, file: &[u8; 57], length: usize) -> Result<Keyfile, BadR
 fn used_keys_are_read(rt: HostRuntime) {
     let mut key = make_key(&[0; 32]);
     key.next = 32;
-    assert_eq!(rt; read(&rt, &used(32), 56), Ok(key));
+    assert!(rt; read(&rt, &used(32), 56) == Ok(key));
 }
 
 #[test]
 fn broken_files_are_refused(rt: HostRuntime) {
     let mut file = used(32);
-    assert_eq!(rt; read(&rt, &file, 0), Err(BadRecord { at: 0 }));
-    assert_eq!(rt; read(&rt, &file, 3), Err(BadRecord { at: 0 }));
-    assert_eq!(rt; read(&rt, &file, 19), Err(BadRecord { at: 4 }));
-    assert_eq!(rt; read(&rt, &file, 51), Err(BadRecord { at: 20 }));
-    assert_eq!(rt; read(&rt, &file, 55), Err(BadRecord { at: 52 }));
-    assert_eq!(rt; read(&rt, &file, 57), Err(BadRecord { at: 56 }));
-    assert_eq!(rt; read(&rt, &used(33), 56), Err(BadRecord { at: 52 }));
+    assert_eq!(rt; read(&rt, &file, 0).err(), Some(BadRecord { at: 0 }));
+    assert_eq!(rt; read(&rt, &file, 3).err(), Some(BadRecord { at: 0 }));
+    assert_eq!(rt; read(&rt, &file, 19).err(), Some(BadRecord { at: 4 }));
+    assert_eq!(rt; read(&rt, &file, 51).err(), Some(BadRecord { at: 20 }));
+    assert_eq!(rt; read(&rt, &file, 55).err(), Some(BadRecord { at: 52 }));
+    assert_eq!(rt; read(&rt, &file, 57).err(), Some(BadRecord { at: 56 }));
+    assert_eq!(rt; read(&rt, &used(33), 56).err(), Some(BadRecord { at: 52 }));
     file[3] = b'2';
-    assert_eq!(rt; read(&rt, &file, 56), Err(BadRecord { at: 0 }));
+    assert_eq!(rt; read(&rt, &file, 56).err(), Some(BadRecord { at: 0 }));
 }

@@ -1,13 +1,12 @@
 -- What carries out a command, step by step, whichever command it is.
-use Rattle.std.proofs.Common.{◌≡◌, ℕ, ◌⊎◌, Bool, true, false, List, ◌++◌, codes, Result, Ok, Err, refl, sym, ap, subst, inl, inr}
+use Rattle.std.proofs.Common.{◌≡◌, ℕ, true, false, List, ◌++◌, codes, Result, Ok, Err, refl, subst, inl, inr}
 use Rattle.mb_model.specs.declared.event.Answered.{Answered}
-use Rattle.mb_model.specs.declared.role.Role.{Role}
-use Rattle.mb_model.specs.Outside.{Outside, HoldsTooMuch, read_once, FailsToRead, Writes, FailsToWrite, Prints, FailsToPrint}
+use Rattle.mb_model.specs.Outside.{Outside, read_once, Writes, FailsToWrite, Prints, FailsToPrint}
 use Rattle.mb_model.specs.Board.{Final}
-use Rattle.mb_model.specs.Commands.{Input, Output, Command, read, find, either, serve, write, print, refuse, Past, SaysLine, Stops, WantsMemory, HasRead, too_long, faulty, not_read, no_room, printed, not_printed, CommandEnds, input_line, role_word, place_words}
+use Rattle.mb_model.specs.Commands.{Input, Output, Command, read, find, either, serve, write, print, refuse, Past, SaysLine, Stops, WantsMemory, too_long, faulty, not_read, no_room, printed, not_printed, CommandEnds, input_line, role_word, place_words}
 use Rattle.mb_top.specs.declared.end.End.{End}
 use Rattle.mb_top.specs.declared.end.End.TheVariants as end
-use Rattle.mb_top.specs.Ending.{end_line, end_status, ended_at, EndsOncePrinted, CarriesOutRest, HasInput, HasFault, StopsAt}
+use Rattle.mb_top.specs.Ending.{end_line, end_status, ended_at, CarriesOutRest, HasInput, StopsAt}
 
 -- a command that has ended so far on, and stops with a line
 stopped : (line : List ℕ) (status : ℕ) (past : Past) (answered : List Answered) (final : Final) (before after : Outside)
@@ -65,6 +64,14 @@ pub goes_second : (If : Type 0) (first second : Command) (past : Past) (answered
 unfolding CarriesOutRest CommandEnds
 goes_second If first second past answered final before now (Ok u) never ends = inr (inl (never, ends))
 goes_second If first second past answered final before now (Err why) never carried = λ after says. inr (inl (never, carried after says))
+
+-- ---- a value that is made
+
+pub finds : {A : Type 0} (Is : A → Type 0) (rest : A → Command) (past : Past) (answered : List Answered) (final : Final) (before now : Outside) (value : A) (result : Result (Unit {0}) End)
+    → Is value → CarriesOutRest (rest value) past answered final before result now → CarriesOutRest (find Is rest) past answered final before result now
+unfolding CarriesOutRest CommandEnds
+finds Is rest past answered final before now value (Ok u) is ends = inl (value, is, ends)
+finds Is rest past answered final before now value (Err why) is carried = λ after says. inl (value, is, carried after says)
 
 -- ---- refusals and failed allocations
 

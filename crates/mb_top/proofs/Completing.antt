@@ -1,10 +1,10 @@
 -- A command whose inputs are there in their forms is done or refused, where no call of the host fails.
-use Rattle.std.proofs.Common.{◌≡◌, ◌≢◌, ℕ, ◌+◌, ◌<◌, ◌≤◌, ◌⊎◌, Bool, true, false, List, ◌++◌, codes, length, Option, Some, None, if◌then◌else◌, refl, sym, ◌∙◌, ap, subst, inl, inr, arith}
+use Rattle.std.proofs.Common.{◌≡◌, ℕ, ◌+◌, ◌<◌, ◌≤◌, ◌⊎◌, Bool, true, false, List, ◌++◌, codes, length, Option, Some, if◌then◌else◌, refl, sym, ◌∙◌, ap, subst, inl, inr, arith}
 use Rattle.std.proofs.Common.{nat_lt}
-use Rattle.std.proofs.lemmas.Bool.{ltb-false, ltb-true}
+use Rattle.std.proofs.lemmas.Bool.{ltb-false}
 use Rattle.mb_model.specs.declared.role.Place.{Place}
-use Rattle.mb_model.specs.Outside.{Outside, HasRisen, raised, count_limit, HoldsFile, HasNoFile, HoldsTooMuch, read_once, FailsToRead, by_fault, by_absence, Writes, FailsToWrite, Prints, FailsToPrint}
-use Rattle.mb_model.specs.Commands.{Input, Output, Command, read, find, either, serve, write, print, refuse, lack, Past, Ended, SaysLine, Stops, InputEnds, WriteEnds, PrintEnds, too_long, faulty, not_read, no_room, printed, not_printed, CommandEnds, IsFaultless, HasInputsFor, ComesToRefusal, onward, role_word}
+use Rattle.mb_model.specs.Outside.{Outside, HasRisen, raised, count_limit, by_fault, by_absence}
+use Rattle.mb_model.specs.Commands.{Input, Command, read, find, either, serve, write, print, refuse, lack, Past, Ended, SaysLine, InputEnds, too_long, faulty, not_read, no_room, printed, not_printed, CommandEnds, IsFaultless, HasInputsFor, ComesToRefusal, onward, role_word}
 
 -- ---- counts of faults
 

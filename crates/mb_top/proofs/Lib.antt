@@ -17,3 +17,4 @@ pub mod RunLemmas
 pub mod Requests
 pub mod SignLemmas
 pub mod LineLemmas
+pub mod FactoryLemmas

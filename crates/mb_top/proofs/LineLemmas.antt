@@ -1,5 +1,5 @@
 -- What the program comes to by its command line.
-use Rattle.std.proofs.Common.{◌≡◌, ℕ, true, false, List, [], ◌∷◌, codes, IsTrue, refl, sym, ◌∙◌, ap, subst}
+use Rattle.std.proofs.Common.{◌≡◌, ℕ, true, false, List, [], ◌∷◌, codes, IsTrue, refl, sym, subst}
 use Rattle.mb_model.specs.declared.event.Answered.{Answered}
 use Rattle.mb_model.specs.Outside.{Outside, Prints, FailsToPrint}
 use Rattle.mb_model.specs.Board.{Final}

@@ -1,5 +1,5 @@
 -- Outputs that are written one after another.
-use Rattle.std.proofs.Common.{◌≡◌, ℕ, List, [], ◌∷◌, length, map, true, arith, Result, Ok, Err, refl, sym, subst}
+use Rattle.std.proofs.Common.{◌≡◌, ℕ, List, [], ◌∷◌, length, map, true, arith, Result, Err, refl, sym, subst}
 use Rattle.mb_model.specs.Outside.{Outside, Writes, FailsToWrite}
 use Rattle.mb_model.specs.Commands.{print}
 use Rattle.mb_top.specs.declared.output.Output.{Output}

@@ -1,5 +1,5 @@
 -- From a command to what its words say; and that the words of a request are those of no other.
-use Rattle.std.proofs.Common.{◌≡◌, ℕ, ◌⊎◌, Bool, List, [], ◌∷◌, codes, Option, None, Some, Result, Ok, Err, if◌then◌else◌, IsTrue, refl, sym, ◌∙◌, ap, subst, inl, inr, arith}
+use Rattle.std.proofs.Common.{◌≡◌, ℕ, ◌⊎◌, List, [], ◌∷◌, codes, Option, None, Some, Result, Ok, Err, if◌then◌else◌, IsTrue, refl, sym, ◌∙◌, ap, subst, inl, inr, arith}
 use Rattle.std.specs.Fmt.{decimal}
 use Rattle.std.proofs.lemmas.Fmt.{decimal_digit}
 use Rattle.mb_format.specs.Combinators.{same_bytes}
@@ -8,10 +8,10 @@ use Rattle.mb_model.specs.Layers.{is_upper}
 use Rattle.mb_model.specs.Outside.{Outside}
 use Rattle.mb_model.specs.Board.{Final}
 use Rattle.mb_model.specs.Commands.{Ended, CommandEnds, HasInputsFor, IsFaultless, at_first}
-use Rattle.mb_model.specs.Top.{Request, runs, makes_key, signs, countersigns, words_of, IsRequest, command_of, Ends, no_command, did}
+use Rattle.mb_model.specs.Top.{Request, runs, makes_key, signs, countersigns, makes_device, IsRequest, command_of, Ends, no_command, did}
 use Rattle.mb_top.specs.declared.end.End.{End}
 use Rattle.mb_top.specs.declared.end.End.TheVariants as end
-use Rattle.mb_top.specs.Ending.{CarriesOutRest, CarriesOut, CarriesOutWords, ended_at}
+use Rattle.mb_top.specs.Ending.{CarriesOutRest, CarriesOut, CarriesOutWords}
 use Rattle.mb_top.proofs.Completing.{Completes, command_completes}
 
 -- ---- by the words
@@ -45,6 +45,8 @@ request_of (command ∷ first ∷ second ∷ third ∷ []) =
     else if same_bytes command (codes "keygen") then Some (makes_key (record { noise = first; key = second; public = third }))
     else Some (signs (record { key = first; draft = second; out = third }))
 request_of (command ∷ key ∷ layer ∷ order ∷ out ∷ []) = Some (countersigns (record { key = key; layer = layer_of_word layer; order = order; out = out }))
+request_of (command ∷ noise ∷ key ∷ owner ∷ code ∷ image ∷ []) =
+    Some (makes_device (record { noise = noise; key = key; owner = owner; code = code; image = image }))
 request_of _ = None
 
 layer_again : (layer : ℕ) → (layer ≡ 2) ⊎ (layer ≡ 3) → layer_of_word (decimal layer) ≡ layer
@@ -62,6 +64,7 @@ request_again words (makes_key names) is = ap request_of is.spelled
 request_again words (signs names) is = ap request_of is.spelled
 request_again words (countersigns names) is =
     ap request_of is.spelled ∙ ap (λ n. Some (countersigns (record { key = names.key; layer = n; order = names.order; out = names.out }))) (layer_again names.layer (upper_layer names.layer is.allowed.3))
+request_again words (makes_device names) is = ap request_of is.spelled
 
 one_request : (words : List (List ℕ)) (a b : Request) → IsRequest words a → IsRequest words b → a ≡ b
 one_request words a b is_a is_b =

@@ -1,5 +1,5 @@
 -- What carries out `sign` and `countersign`.
-use Rattle.std.proofs.Common.{◌≡◌, ℕ, ◌≤◌, List, [], ◌∷◌, Result, Ok, Err, IsErrOf, refl, sym, ◌∙◌, ap, subst}
+use Rattle.std.proofs.Common.{◌≡◌, ℕ, ◌≤◌, List, [], ◌∷◌, Result, Ok, Err, IsErrOf, refl, ◌∙◌, ap, subst}
 use Rattle.mb_model.specs.declared.order.Order.{Order}
 use Rattle.mb_model.specs.declared.tools.Keyfile.{Keyfile}
 use Rattle.mb_model.specs.declared.role.Role.TheVariants as role
@@ -9,7 +9,7 @@ use Rattle.mb_model.specs.Texts.{ended}
 use Rattle.mb_model.specs.OrderLines.{order_line}
 use Rattle.mb_model.specs.SignedOrders.{used_once, signed_order, countersigned_order, IsCountersignable}
 use Rattle.mb_model.specs.Outside.{Outside}
-use Rattle.mb_model.specs.Commands.{Output, print, refuse, at_first}
+use Rattle.mb_model.specs.Commands.{Output, print, at_first}
 use Rattle.mb_model.specs.Inputs.{draft_input, order_input}
 use Rattle.mb_model.specs.Sign.{SignNames, CountersignNames, index_text, use_index, sign_by, sign_draft, countersign_by, countersign_order}
 use Rattle.mb_officer.specs.declared.signing.SignEnd.{SignEnd}

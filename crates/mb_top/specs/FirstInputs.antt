@@ -1,5 +1,5 @@
 -- The inputs of the first run, as the board is loaded with them.
-use Rattle.std.specs.Prelude.{◌≡◌, ℕ, ◌≤◌, List, length, All, false}
+use Rattle.std.specs.Prelude.{ℕ, ◌≤◌, List, length, All, false}
 use Rattle.mb_model.specs.declared.first.FirstState.{FirstState}
 use Rattle.mb_model.specs.declared.event.Event.{Event}
 use Rattle.mb_model.specs.declared.role.Role.TheVariants as role

@@ -1,6 +1,6 @@
 -- What the program does with its command line: the two words that it answers by itself, and all other words.
 use Rattle.std.specs.Prelude.{◌≡◌, ℕ, List, [], ◌∷◌, codes}
-use Rattle.mb_model.specs.Commands.{Ended, PrintEnds, Stops, at_first}
+use Rattle.mb_model.specs.Commands.{Ended, PrintEnds, at_first}
 use Rattle.mb_model.specs.Top.{Ends}
 use Rattle.mb_top.specs.declared.end.End.{End}
 use Rattle.mb_top.specs.declared.end.End.TheVariants as end

@@ -1,24 +1,24 @@
 -- Which request the words are.
-use Rattle.std.specs.Prelude.{◌≡◌, ◌≢◌, ℕ, List, [], ◌∷◌, IsTrue}
+use Rattle.std.specs.Prelude.{◌≡◌, ◌≢◌, ℕ, List, [], ◌∷◌, All, IsTrue}
 use Rattle.std.specs.Fmt.{decimal}
 use Rattle.mb_model.specs.Layers.{is_upper}
 use Rattle.mb_model.specs.FirstCommand.{RunNames as RunFiles}
 use Rattle.mb_model.specs.Keygen.{KeygenNames as KeygenFiles}
 use Rattle.mb_model.specs.Sign.{SignNames as SignFiles, CountersignNames as CountersignFiles}
-use Rattle.mb_model.specs.Top.{Request as Asked, runs, makes_key, signs, countersigns, IsRequest}
+use Rattle.mb_model.specs.FactoryCommand.{FactoryNames as FactoryFiles}
+use Rattle.mb_model.specs.Top.{Request as Asked, runs, makes_key, signs, countersigns, makes_device}
 use Rattle.mb_top.specs.declared.words.RunNames.{RunNames}
 use Rattle.mb_top.specs.declared.words.KeygenNames.{KeygenNames}
 use Rattle.mb_top.specs.declared.words.SignNames.{SignNames}
 use Rattle.mb_top.specs.declared.words.CountersignNames.{CountersignNames}
+use Rattle.mb_top.specs.declared.words.FactoryNames.{FactoryNames}
 use Rattle.mb_top.specs.declared.words.Request.{Request}
 use Rattle.mb_top.specs.declared.words.Request.TheVariants as request
 
--- the words are a command and three names that are not empty
-pub record IsThree (words : List (List ℕ)) (command first second third : List ℕ) : Type 0 where
-  pub spelled : words ≡ command ∷ first ∷ second ∷ third ∷ []
-  pub first_given : first ≢ []
-  pub second_given : second ≢ []
-  pub third_given : third ≢ []
+-- the words are a command and names that are not empty
+pub record IsCalled (words : List (List ℕ)) (command : List ℕ) (names : List (List ℕ)) : Type 0 where
+  pub spelled : words ≡ command ∷ names
+  pub given : All (λ name. name ≢ []) names
 
 -- the word is the number of a layer that may countersign
 pub record IsLayerWord (word : List ℕ) (layer : ℕ) : Type 0 where
@@ -40,8 +40,18 @@ abbrev pub countersign_files : CountersignNames → CountersignFiles
 countersign_files names =
     record { key = names.key.now; layer = names.layer; order = names.order.now; out = names.out.now }
 
+abbrev pub factory_files : FactoryNames → FactoryFiles
+factory_files names = record {
+  noise = names.noise.now;
+  key = names.key.now;
+  owner = names.owner.now;
+  code = names.code.now;
+  image = names.image.now;
+}
+
 abbrev pub asked_by : Request → Asked
 asked_by (request.Run names) = runs (run_files names)
 asked_by (request.Keygen names) = makes_key (keygen_files names)
 asked_by (request.Sign names) = signs (sign_files names)
 asked_by (request.Countersign names) = countersigns (countersign_files names)
+asked_by (request.Factory names) = makes_device (factory_files names)

@@ -6,6 +6,7 @@ ghost use Rattle.mb_model.specs.Top.{Request as Asked, IsRequest, command_of, En
 ghost use Rattle.mb_top.specs.Ending.{CarriesOutWords, shown_by};
 
 use crate::end::End;
+use crate::factory::factory;
 use crate::keygen::keygen;
 use crate::output::stop;
 use crate::run::run;
@@ -59,6 +60,7 @@ fn counted_command<H: Host, B: Board, L: Ledger>(
         Some(Request::Keygen(names)) => keygen(alloc, &names, host, &mut steps),
         Some(Request::Sign(names)) => sign(alloc, &names, host, &mut steps),
         Some(Request::Countersign(names)) => countersign(alloc, &names, host, &mut steps),
+        Some(Request::Factory(names)) => factory(alloc, &names, host, &mut steps),
         None => Err(End::Words),
     }
 }

@@ -8,6 +8,7 @@
 
 mod commands;
 mod end;
+mod factory;
 mod first_input;
 mod first_refusal;
 mod input;

@@ -26,6 +26,10 @@ usage:
                                      and the order as a line, and prints the index
   miniboot countersign KEY LAYER ORDER OUT
                                      adds the countersignature of a layer's owner to an order line
+  miniboot factory NOISE KEY OWNER CODE IMAGE
+                                     makes a device of the noise with this owner and code, writes the
+                                     maker's key with its index used and the device's image, and
+                                     prints the device's serial
   miniboot --help                    prints this text
   miniboot --version                 prints the version
 

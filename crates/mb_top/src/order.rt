@@ -12,7 +12,7 @@ use mb_model::{PublicKey, SIGNATURE_LIMIT, Trust};
 const BODY_LENGTH: usize = 60;
 
 /// An order that establishes an owner of layer 2, read from its bytes.
-#[derive(Clone, Copy, Debug, PartialEq, Eq)]
+#[derive(Clone, Copy, PartialEq, Eq)]
 pub struct FirstOrder<'a> {
     /// The new owner.
     pub owner: PublicKey,

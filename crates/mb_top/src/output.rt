@@ -11,7 +11,7 @@ use mb_host::Host;
 use mb_model::Role;
 
 /// An output: its role, the name of its file, and its bytes.
-#[derive(Clone, Copy, Debug)]
+#[derive(Clone, Copy)]
 pub struct Output<'n, 'b> {
     pub role: Role,
     pub name: &'n str,

@@ -12,7 +12,7 @@ use mb_board::Board;
 use mb_model::{Event, FirstState, Reply, SECTOR_LENGTH};
 
 /// What the device knows between two events.
-#[derive(Clone, Copy, Debug, PartialEq, Eq)]
+#[derive(Clone, Copy, PartialEq, Eq)]
 enum Device {
     /// Power is off.
     Off,

@@ -24,7 +24,7 @@ use std::alloc::Global;
 use std::sync::ledger::Ledger;
 
 /// The names of the files that are written.
-#[derive(Clone, Copy, Debug)]
+#[derive(Clone, Copy)]
 struct OutputNames<'a> {
     key: &'a str,
     out: &'a str,
@@ -104,8 +104,8 @@ fn countersign_order<H: Host, L: Ledger>(
     }
 }
 
-/// How the command ends where the order was not signed.
-fn end_of(end: SignEnd) -> End
+/// How a command ends whose key has not signed.
+pub fn end_of(end: SignEnd) -> End
     ensures { result ≡ end_of end }
 {
     match end {

@@ -1,5 +1,6 @@
 //! The program over a host in memory: what it makes, by values of an independent program, and what a host shows of it.
 
+mod devices;
 mod keys;
 mod once;
 mod runs;

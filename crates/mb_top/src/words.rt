@@ -1,12 +1,13 @@
 //! Which request the words are.
 
-ghost use Rattle.std.specs.Prelude.{◌≡◌, ◌≢◌, ◌↔◌, ◌∷◌, ℕ, IsTrue, codes, List, [], map, MatchOption, string_bytes};
-ghost use Rattle.mb_model.specs.Top.{Request as Asked, countersigns, IsRequest};
+ghost use Rattle.std.specs.Prelude.{◌≡◌, ◌≢◌, ◌↔◌, ◌∷◌, ℕ, All, IsTrue, List, [], map, MatchOption, string_bytes};
+ghost use Rattle.mb_model.specs.Top.{Request as Asked, countersigns, makes_device, IsRequest};
 ghost use Rattle.mb_model.specs.Sign.{CountersignNames as CountersignFiles};
-ghost use Rattle.mb_top.specs.Words.{IsThree, IsLayerWord, countersign_files, asked_by};
+ghost use Rattle.mb_model.specs.FactoryCommand.{FactoryNames as FactoryFiles};
+ghost use Rattle.mb_top.specs.Words.{IsCalled, IsLayerWord, countersign_files, factory_files, asked_by};
 
 /// The names of the files of `run`.
-#[derive(Clone, Copy, Debug)]
+#[derive(Clone, Copy)]
 pub struct RunNames<'a> {
     pub image: &'a str,
     pub script: &'a str,
@@ -14,7 +15,7 @@ pub struct RunNames<'a> {
 }
 
 /// The names of the files of `keygen`.
-#[derive(Clone, Copy, Debug)]
+#[derive(Clone, Copy)]
 pub struct KeygenNames<'a> {
     pub noise: &'a str,
     pub key: &'a str,
@@ -22,7 +23,7 @@ pub struct KeygenNames<'a> {
 }
 
 /// The names of the files of `sign`.
-#[derive(Clone, Copy, Debug)]
+#[derive(Clone, Copy)]
 pub struct SignNames<'a> {
     pub key: &'a str,
     pub draft: &'a str,
@@ -30,7 +31,7 @@ pub struct SignNames<'a> {
 }
 
 /// The names of the files of `countersign`, and the layer whose owner countersigns.
-#[derive(Clone, Copy, Debug)]
+#[derive(Clone, Copy)]
 pub struct CountersignNames<'a> {
     pub key: &'a str,
     /// 2 or 3.
@@ -39,21 +40,42 @@ pub struct CountersignNames<'a> {
     pub out: &'a str,
 }
 
+/// The names of the files of `factory`.
+#[derive(Clone, Copy)]
+pub struct FactoryNames<'a> {
+    pub noise: &'a str,
+    pub key: &'a str,
+    pub owner: &'a str,
+    pub code: &'a str,
+    pub image: &'a str,
+}
+
 /// A command and what its words name.
-#[derive(Clone, Copy, Debug)]
+#[derive(Clone, Copy)]
 pub enum Request<'a> {
     Run(RunNames<'a>),
     Keygen(KeygenNames<'a>),
     Sign(SignNames<'a>),
     Countersign(CountersignNames<'a>),
+    Factory(FactoryNames<'a>),
 }
 
 /// Three names, in their order.
-#[derive(Clone, Copy, Debug)]
+#[derive(Clone, Copy)]
 struct Three<'a> {
     first: &'a str,
     second: &'a str,
     third: &'a str,
+}
+
+/// Five names, in their order.
+#[derive(Clone, Copy)]
+struct Five<'a> {
+    first: &'a str,
+    second: &'a str,
+    third: &'a str,
+    fourth: &'a str,
+    fifth: &'a str,
 }
 
 /// The request that the words are, or None where they are none.
@@ -83,8 +105,11 @@ pub fn request_in(words: &[String]) -> Option<Request<'_>>
             out: names.third,
         }));
     }
-    match countersign_in(words) {
-        Some(names) => Some(Request::Countersign(names)),
+    if let Some(names) = countersign_in(words) {
+        return Some(Request::Countersign(names));
+    }
+    match factory_in(words) {
+        Some(names) => Some(Request::Factory(names)),
         None => None,
     }
 }
@@ -103,24 +128,62 @@ fn are_given(first: &str, second: &str, third: &str) -> bool
     !first.is_empty() && !second.is_empty() && !third.is_empty()
 }
 
-/// The three names after this command, or None where the words are anything else.
-fn three_in<'a>(words: &'a [String], wanted: &str) -> Option<Three<'a>>
-    ensures { MatchOption result
-        ((first second third : List ℕ) → IsThree (map string_bytes words.now) wanted.now first second third → ⊥)
-        (λ names. IsThree (map string_bytes words.now) wanted.now names.first.now names.second.now names.third.now) }
+/// Whether each of the names is there.
+fn all_given(names: &[String]) -> bool
+    ensures { IsTrue result ↔ All (λ name. string_bytes name ≢ []) names.now }
 {
-    let [command, first, second, third] = words else {
+    names.iter().all(|name| !name.is_empty())
+}
+
+/// The names after this command, or None where the words are anything else or a name is empty.
+fn names_after<'a>(words: &'a [String], wanted: &str) -> Option<&'a [String]>
+    ensures { MatchOption result
+        ((names : List (List ℕ)) → IsCalled (map string_bytes words.now) wanted.now names → ⊥)
+        (λ names. IsCalled (map string_bytes words.now) wanted.now (map string_bytes names.now)) }
+{
+    let Some((command, names)) = words.split_first() else {
         return None;
     };
-    if is_word(command, wanted) && are_given(first, second, third) {
-        Some(Three {
-            first: first.as_str(),
-            second: second.as_str(),
-            third: third.as_str(),
-        })
+    if is_word(command, wanted) && all_given(names) {
+        Some(names)
     } else {
         None
     }
+}
+
+/// The three names after this command, or None where the words are anything else.
+fn three_in<'a>(words: &'a [String], wanted: &str) -> Option<Three<'a>>
+    ensures { MatchOption result
+        ((first second third : List ℕ) → IsCalled (map string_bytes words.now) wanted.now (first ∷ second ∷ third ∷ []) → ⊥)
+        (λ names. IsCalled (map string_bytes words.now) wanted.now (names.first.now ∷ names.second.now ∷ names.third.now ∷ [])) }
+{
+    let [first, second, third] = names_after(words, wanted)? else {
+        return None;
+    };
+    Some(Three {
+        first: first.as_str(),
+        second: second.as_str(),
+        third: third.as_str(),
+    })
+}
+
+/// The five names after this command, or None where the words are anything else.
+fn five_in<'a>(words: &'a [String], wanted: &str) -> Option<Five<'a>>
+    ensures { MatchOption result
+        ((first second third fourth fifth : List ℕ) → IsCalled (map string_bytes words.now) wanted.now (first ∷ second ∷ third ∷ fourth ∷ fifth ∷ []) → ⊥)
+        (λ names. IsCalled (map string_bytes words.now) wanted.now
+        (names.first.now ∷ names.second.now ∷ names.third.now ∷ names.fourth.now ∷ names.fifth.now ∷ [])) }
+{
+    let [first, second, third, fourth, fifth] = names_after(words, wanted)? else {
+        return None;
+    };
+    Some(Five {
+        first: first.as_str(),
+        second: second.as_str(),
+        third: third.as_str(),
+        fourth: fourth.as_str(),
+        fifth: fifth.as_str(),
+    })
 }
 
 /// The layer that the word names, 2 or 3, or None where it names neither.
@@ -158,4 +221,20 @@ fn countersign_in(words: &[String]) -> Option<CountersignNames<'_>>
     } else {
         None
     }
+}
+
+/// The names in the words of `factory`, or None where the words are anything else.
+fn factory_in(words: &[String]) -> Option<FactoryNames<'_>>
+    ensures { MatchOption result
+        ((names : FactoryFiles) → IsRequest (map string_bytes words.now) (makes_device names) → ⊥)
+        (λ found. IsRequest (map string_bytes words.now) (makes_device (factory_files found))) }
+{
+    let names = five_in(words, "factory")?;
+    Some(FactoryNames {
+        noise: names.first,
+        key: names.second,
+        owner: names.third,
+        code: names.fourth,
+        image: names.fifth,
+    })
 }

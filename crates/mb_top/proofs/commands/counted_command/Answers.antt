@@ -1,4 +1,4 @@
-use Rattle.std.proofs.Common.{map, string_bytes, subst, sym}
+use Rattle.std.proofs.Common.{map, string_bytes, subst}
 use Rattle.mb_model.specs.Top.{IsRequest}
 use Rattle.mb_top.specs.Words.{asked_by}
 use Rattle.mb_top.proofs.Requests.{request_carried_out, alone_carried_out}
@@ -31,3 +31,10 @@ returns-in-Some-Countersign g c =
     let outside = g.H.Host.outside in
     let asked = subst (λ r. IsRequest words (asked_by r)) c.in-Some-Countersign.field-0-is c.in-Some-Countersign.ensures in
     alone_carried_out words _ _ _ (outside c.args.host.now) (outside c.countersign.new.host) c.countersign.result asked c.requires.none_answered c.countersign.ensures
+
+pub returns-in-Some-Factory : goal.returns-in-Some-Factory
+returns-in-Some-Factory g c =
+    let words = map string_bytes c.args.words.now in
+    let outside = g.H.Host.outside in
+    let asked = subst (λ r. IsRequest words (asked_by r)) c.in-Some-Factory.field-0-is c.in-Some-Factory.ensures in
+    alone_carried_out words _ _ _ (outside c.args.host.now) (outside c.factory.new.host) c.factory.result asked c.requires.none_answered c.factory.ensures

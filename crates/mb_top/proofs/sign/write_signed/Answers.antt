@@ -1,4 +1,4 @@
-use Rattle.std.proofs.Common.{◌∙◌, subst, sym}
+use Rattle.std.proofs.Common.{◌∙◌}
 use Rattle.mb_top.proofs.SignLemmas.{index_used, index_lacks}
 use Rattle.mb_top.proofs.sign.write_signed.Goals as goal
 

@@ -1,0 +1,49 @@
+-- What the command `factory` does. Does a device come into the world with the owner, the code and the keys that were
+-- given, and is the maker's index used up before its image is there?
+use Rattle.std.specs.Prelude.{◌≡◌, List, ℕ, ◌++◌, codes}
+use Rattle.hex.specs.Hex.{encode_lower}
+use Rattle.mb_model.specs.declared.key.PublicKey.{PublicKey}
+use Rattle.mb_model.specs.declared.role.Role.TheVariants as role
+use Rattle.mb_model.specs.declared.tools.Keyfile.{Keyfile}
+use Rattle.mb_model.specs.KeyFormat.{keyfile_format}
+use Rattle.mb_model.specs.Texts.{ended}
+use Rattle.mb_model.specs.SignedOrders.{used_once}
+use Rattle.mb_model.specs.Factory.{serial_from, IsFactoryImage}
+use Rattle.mb_model.specs.Commands.{Command, read, find, either, write, print, refuse}
+use Rattle.mb_model.specs.Inputs.{birth_noise_input, key_input, owner_input, code_input}
+
+-- the names of the files
+pub record FactoryNames : Type 0 where
+  pub noise : List ℕ
+  pub key : List ℕ
+  pub owner : List ℕ
+  pub code : List ℕ
+  pub image : List ℕ
+
+-- the line that tells the serial of a device that was made of this noise
+abbrev pub serial_text : List ℕ → List ℕ
+serial_text noise = ended (codes "serial " ++ encode_lower (serial_from noise))
+
+-- the maker's key is written with one index more used, then the image, and the serial is told
+unfoldable pub write_device : FactoryNames → List ℕ → Keyfile → List ℕ → Command
+write_device names noise key image =
+    write (record { role = role.Key; name = names.key; bytes = keyfile_format.spelling (used_once key) })
+    (write (record { role = role.Image; name = names.image; bytes = image }) (print (serial_text noise)))
+
+-- the image of the new device, whose birth the maker's key signs, unless its 32 indices are used
+unfoldable pub make_device : FactoryNames → List ℕ → Keyfile → PublicKey → List ℕ → Command
+make_device names noise key owner code =
+    either (key.next ≡ 32) (refuse (codes "spent"))
+    (find (IsFactoryImage key.seed key.next owner code noise) (write_device names noise key))
+
+abbrev pub factory_owned : FactoryNames → List ℕ → Keyfile → PublicKey → Command
+factory_owned names noise key owner = read (code_input names.code) (make_device names noise key owner)
+
+abbrev pub factory_keyed : FactoryNames → List ℕ → Keyfile → Command
+factory_keyed names noise key = read (owner_input names.owner) (factory_owned names noise key)
+
+abbrev pub factory_drawn : FactoryNames → List ℕ → Command
+factory_drawn names noise = read (key_input names.key) (factory_keyed names noise)
+
+unfoldable pub factory : FactoryNames → Command
+factory names = read (birth_noise_input names.noise) (factory_drawn names)

@@ -1,0 +1,15 @@
+use Rattle.std.proofs.Common.{arith, ◌∙◌}
+use Rattle.mb_model.specs.EntryFormat.{entry_format}
+use Rattle.mb_model.proofs.FormatBounds.{entry_short}
+use Rattle.mb_officer.proofs.Births.{writes_fit, birth_signed}
+use Rattle.mb_officer.proofs.birth.sign_birth.Goals as goal
+
+pub unreachable-requires : goal.unreachable-requires
+unreachable-requires g c =
+    writes_fit (entry_format.spelling c.args.birth) c.args.text c.write_entry.new.out c.write_entry.result c.write_entry.ensures
+    (omega (arith, c.requires.room, entry_short.short c.args.birth c.requires.spelled)) c.in_default.not-Ok
+
+pub returns-clause-signed : goal.returns-clause-signed
+returns-clause-signed g c =
+    birth_signed c.args.k.now.seed c.args.k.now.next c.args.birth c.sign_next.result c.deref.result.now c.args.text.items c.sign_next.ensures.signature
+    (c.deref.ensures.value ∙ c.in-Ok.ensures.items) c.requires.empty

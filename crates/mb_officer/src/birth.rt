@@ -1,0 +1,225 @@
+//! A new device: its first entry, its records, and its image.
+
+ghost use Rattle.std.specs.Prelude.{◌≡◌, ◌↔◌, ◌+◌, ◌≤◌, ◌∷◌, [], length, None, Some, IfOk, OnOk, OnErr, IsErrOf};
+ghost use Rattle.std.specs.Vec.{vec_len, vec_capacity};
+ghost use Rattle.mb_model.specs.declared.entry.Entry.TheVariants as entry;
+ghost use Rattle.mb_model.specs.Key.{IsSized};
+ghost use Rattle.mb_model.specs.EntryFormat.{entry_format};
+ghost use Rattle.mb_model.specs.RootFormat.{root_format};
+ghost use Rattle.mb_model.specs.Flash.{public_format, public_of_parts};
+ghost use Rattle.mb_model.specs.Signing.{public_of};
+ghost use Rattle.mb_model.specs.OrderStep.{signed_by};
+ghost use Rattle.mb_model.specs.SignedOrders.{used_once};
+ghost use Rattle.mb_model.specs.Meaning.{IsWellFormed};
+ghost use Rattle.mb_model.specs.Factory.{serial_from, first_key, layers_at_birth, codes_at_birth, state_at_birth, IsFactoryImage};
+ghost use Rattle.mb_officer.specs.NewImage.{root_at_birth};
+
+use crate::image::put_image;
+use crate::keyfile::NONE_LEFT;
+use crate::signing::{SignEnd, sign_next, use_up};
+use mb_layout::{write_entry, write_public_parts, write_root};
+use mb_lms::Steps;
+use mb_log::born;
+use mb_model::{
+    Bytes, CodeName, Codes, Entry, IMAGE_LENGTH, KeySeed, Keyfile, Layer, Layers, NoMemory,
+    PublicKey, Root, SignedEntry, Trust,
+};
+use mb_signer::public;
+use sha2::{Digest, Sha256};
+use std::alloc::Global;
+use std::sync::ledger::Ledger;
+
+/// What the text begins with that is signed of an entry.
+const ENTRY: u8 = 3;
+
+/// How many bytes an entry has at most.
+const MOST_ENTRY: usize = 355;
+
+/// How many bytes a public record has at most.
+const MOST_PUBLIC: usize = 444_434;
+
+/// A layer without an owner.
+const UNOWNED: Layer = Layer {
+    owner: None,
+    code: None,
+    reliable: false,
+    trust: Trust::Never,
+};
+
+/// What the noise gives of a new device.
+#[derive(Clone, Copy)]
+pub(crate) struct Device {
+    pub(crate) serial: [u8; 16],
+    /// Its first key.
+    pub(crate) key: KeySeed,
+}
+
+/// The image of a new device, made of the noise, whose layer 1 has this owner and this code, of at most 32,768 bytes. The
+/// maker's key signs the device's birth at its next index, which is at most 32, in at most 69,872 steps.
+///
+/// Errors: `Spent` exactly where the next index is 32, and `NoMemory`.
+pub fn factory<L: Ledger>(
+    alloc: Global,
+    k: &mut Keyfile,
+    owner: &PublicKey,
+    code: &[u8],
+    noise: &[u8; 48],
+    steps: &mut Steps<L>,
+) -> Result<Vec<u8>, SignEnd>
+    requires next { k.old.next ≤ 32 }
+    requires code { length code.now ≤ 32768 }
+    ensures image { IfOk result (λ image. IsFactoryImage k.old.seed k.old.next owner.now code.now noise.now image.items) }
+    ensures stands { IfOk result (λ image. IsWellFormed image.items (Some (state_at_birth k.old.seed k.old.next owner.now code.now noise.now))) }
+    ensures used { OnOk result (k.new ≡ used_once k.old) }
+    ensures spent { IsErrOf result SignEnd.Spent ↔ (k.old.next ≡ 32) }
+    ensures countersignable { IsErrOf result SignEnd.NotCountersignable → ⊥ }
+    ensures unchanged { OnErr result ((k.new ≡ k.old) × (steps.new ≡ steps.old)) }
+    ensures cost { steps.new ≤ steps.old + 69872 }
+{
+    if k.next == NONE_LEFT {
+        return Err(SignEnd::Spent);
+    }
+    key_sizes(owner);
+    let device = device_of(noise);
+    let codes = codes_of(alloc, code)?;
+    let root = root_of(alloc, &device)?;
+    let text = room(alloc, MOST_ENTRY)?;
+    let mut stored = room(alloc, MOST_PUBLIC)?;
+    let mut image = room(alloc, IMAGE_LENGTH)?;
+    let birth = birth_of(&device, owner, code, steps);
+    let log = [sign_birth(k, birth, text, steps)];
+    store(&codes, &log, &mut stored);
+    let Ok(()) = put_image(&mut image, &stored, &root) else {
+        unreachable!();
+    };
+    use_up(k);
+    Ok(image)
+}
+
+/// The fields of a public key have the sizes that their types say.
+fn key_sizes(key: &PublicKey)
+    ensures { IsSized key.now }
+{
+    let _identifier: &[u8] = &key.identifier;
+    let _root: &[u8] = &key.root;
+}
+
+/// A device's serial and its first key.
+fn device_of(noise: &[u8; 48]) -> Device
+    ensures long { length noise.now ≡ 48 }
+    ensures serial { result.serial ≡ serial_from noise.now }
+    ensures key { result.key ≡ first_key noise.now }
+{
+    let mut draw = [0; 32];
+    draw.copy_from_slice(&noise[..32]);
+    let mut serial = [0; 16];
+    serial.copy_from_slice(&noise[32..]);
+    Device {
+        serial,
+        key: born(&draw, &serial, 0),
+    }
+}
+
+/// The code of layer 1 alone.
+fn codes_of(alloc: Global, code: &[u8]) -> Result<Codes, NoMemory>
+    ensures { IfOk result (λ codes. codes ≡ codes_at_birth code.now) }
+{
+    Ok(Codes {
+        one: Some(Bytes::copy(alloc, code)?),
+        two: None,
+        three: None,
+    })
+}
+
+/// The bytes of the root record.
+fn root_of(alloc: Global, device: &Device) -> Result<Vec<u8>, NoMemory>
+    requires { root_format.Allowed (root_at_birth device.now.serial device.now.key) }
+    ensures { IfOk result (λ root. root.items ≡ root_format.spelling (root_at_birth device.now.serial device.now.key)) }
+{
+    let root = Root {
+        area: 0,
+        serial: device.serial,
+        device: device.key,
+        uses: 0,
+        pending: None,
+    };
+    let mut bytes = Vec::new(alloc);
+    write_root(&root, &mut bytes)?;
+    Ok(bytes)
+}
+
+/// Room for so many bytes.
+fn room(alloc: Global, capacity: usize) -> Result<Vec<u8>, NoMemory>
+    ensures empty { IfOk result (λ room. room.items ≡ []) }
+    ensures length { IfOk result (λ room. vec_len room ≡ 0) }
+    ensures capacity { IfOk result (λ room. vec_capacity room ≡ capacity) }
+{
+    Ok(Vec::with_capacity(alloc, capacity)?)
+}
+
+/// The first entry of the log.
+fn birth_of<L: Ledger>(
+    device: &Device,
+    owner: &PublicKey,
+    code: &[u8],
+    steps: &mut Steps<L>,
+) -> Entry
+    ensures birth { result ≡ entry.Birth device.now.serial (public_of device.now.key) (layers_at_birth owner.now code.now) }
+    ensures cost { steps.new ≡ steps.old + 34399 }
+{
+    let name = CodeName {
+        hash: Sha256::digest(code),
+        version: 1,
+    };
+    let one = Layer {
+        owner: Some(*owner),
+        code: Some(name),
+        reliable: true,
+        trust: Trust::Always,
+    };
+    Entry::Birth {
+        serial: device.serial,
+        key: public(&device.key, steps),
+        layers: Layers {
+            one,
+            two: UNOWNED,
+            three: UNOWNED,
+        },
+    }
+}
+
+/// The first entry with the maker's signature at the key's next index. There is room for the entry's bytes.
+fn sign_birth<L: Ledger>(
+    k: &Keyfile,
+    birth: Entry,
+    text: Vec<u8>,
+    steps: &mut Steps<L>,
+) -> SignedEntry
+    requires next { k.now.next ≤ 31 }
+    requires spelled { entry_format.Allowed birth }
+    requires empty { text.items ≡ [] }
+    requires room { vec_len text + 355 ≤ vec_capacity text }
+    ensures signed { result ≡ signed_by k.now.seed k.now.next birth }
+    ensures cost { steps.new ≤ steps.old + 35473 }
+{
+    let mut text = text;
+    let Ok(()) = write_entry(&birth, &mut text) else {
+        unreachable!();
+    };
+    SignedEntry {
+        entry: birth,
+        signature: sign_next(k, &[ENTRY], &text, steps),
+    }
+}
+
+/// Writes the public record, for which there is room.
+fn store(codes: &Codes, log: &[SignedEntry], stored: &mut Vec<u8>)
+    requires spelled { public_format.Allowed (public_of_parts codes.now log.now []) }
+    requires empty { stored.old.items ≡ [] }
+    requires room { vec_len stored.old + 444434 ≤ vec_capacity stored.old }
+    ensures { stored.new.items ≡ public_format.spelling (public_of_parts codes.now log.now []) }
+{
+    let Ok(()) = write_public_parts(codes, log, &[], stored) else {
+        unreachable!();
+    };
+}

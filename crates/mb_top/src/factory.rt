@@ -1,0 +1,125 @@
+//! The command `factory`.
+
+ghost use Rattle.std.specs.Prelude.{◌≡◌, ◌≤◌, IfOk, string_bytes};
+ghost use Rattle.mb_model.specs.declared.tools.Keyfile.{Keyfile};
+ghost use Rattle.mb_model.specs.SignedOrders.{used_once};
+ghost use Rattle.mb_model.specs.FactoryCommand.{factory, factory_drawn, factory_keyed, factory_owned, write_device, serial_text};
+ghost use Rattle.mb_top.specs.Words.{factory_files};
+ghost use Rattle.mb_top.specs.Ending.{CarriesOut};
+
+use crate::end::End;
+use crate::input::{read_birth_noise, read_code, read_key, read_owner};
+use crate::output::{Output, finish};
+use crate::sign::end_of;
+use crate::words::FactoryNames;
+use mb_host::Host;
+use mb_lms::Steps;
+use mb_model::{Keyfile, NoMemory, PublicKey, Role};
+use mb_officer::{factory as make_image, write_keyfile};
+use std::alloc::Global;
+use std::sync::ledger::Ledger;
+
+/// Makes a device of the noise with this owner and this code, whose birth the maker's key signs: writes the key with its
+/// index used, then the image, and prints the serial.
+pub fn factory<H: Host, L: Ledger>(
+    alloc: Global,
+    names: &FactoryNames<'_>,
+    host: &mut H,
+    steps: &mut Steps<L>,
+) -> Result<(), End>
+    ensures { CarriesOut (factory (factory_files names.now)) (H.outside host.old) result (H.outside host.new) }
+{
+    let noise = read_birth_noise(alloc, host, names.noise)?;
+    factory_drawn(alloc, names, &noise, host, steps)
+}
+
+/// Makes a device of this noise.
+fn factory_drawn<H: Host, L: Ledger>(
+    alloc: Global,
+    names: &FactoryNames<'_>,
+    noise: &[u8; 48],
+    host: &mut H,
+    steps: &mut Steps<L>,
+) -> Result<(), End>
+    ensures { CarriesOut (factory_drawn (factory_files names.now) noise.now) (H.outside host.old) result (H.outside host.new) }
+{
+    let key = read_key(alloc, host, names.key)?;
+    factory_keyed(alloc, names, noise, key, host, steps)
+}
+
+/// Makes a device whose birth this key signs.
+fn factory_keyed<H: Host, L: Ledger>(
+    alloc: Global,
+    names: &FactoryNames<'_>,
+    noise: &[u8; 48],
+    key: Keyfile,
+    host: &mut H,
+    steps: &mut Steps<L>,
+) -> Result<(), End>
+    requires { key.next ≤ 32 }
+    ensures { CarriesOut (factory_keyed (factory_files names.now) noise.now key) (H.outside host.old) result (H.outside host.new) }
+{
+    let owner = read_owner(alloc, host, names.owner)?;
+    factory_owned(alloc, names, noise, key, &owner, host, steps)
+}
+
+/// Makes a device with this owner.
+fn factory_owned<H: Host, L: Ledger>(
+    alloc: Global,
+    names: &FactoryNames<'_>,
+    noise: &[u8; 48],
+    mut key: Keyfile,
+    owner: &PublicKey,
+    host: &mut H,
+    steps: &mut Steps<L>,
+) -> Result<(), End>
+    requires { key.next ≤ 32 }
+    ensures { CarriesOut (factory_owned (factory_files names.now) noise.now key owner.now) (H.outside host.old) result (H.outside host.new) }
+{
+    let code = read_code(alloc, host, names.code)?;
+    match make_image(alloc, &mut key, owner, &code, noise, steps) {
+        Ok(image) => write_device(alloc, names, noise, &key, image, host),
+        Err(end) => Err(end_of(end)),
+    }
+}
+
+/// Writes a key of which an index has been used, and the image of the device whose birth it signed, and prints the
+/// device's serial.
+fn write_device<H: Host>(
+    alloc: Global,
+    names: &FactoryNames<'_>,
+    noise: &[u8; 48],
+    key: &Keyfile,
+    image: Vec<u8>,
+    host: &mut H,
+) -> Result<(), End>
+    requires { key.now.next ≤ 32 }
+    ensures { (before : Keyfile) → key.now ≡ used_once before
+        → CarriesOut (write_device (factory_files names.now) noise.now before image.items) (H.outside host.old) result (H.outside host.new) }
+{
+    let Ok(text) = serial_text(alloc, noise) else {
+        return Err(End::NoMemory);
+    };
+    let file = write_keyfile(key);
+    let outputs = [
+        Output {
+            role: Role::Key,
+            name: names.key,
+            bytes: &file,
+        },
+        Output {
+            role: Role::Image,
+            name: names.image,
+            bytes: &image,
+        },
+    ];
+    finish(host, &outputs, text.as_bytes())
+}
+
+/// The line that tells the serial of a device that was made of this noise.
+fn serial_text(alloc: Global, noise: &[u8; 48]) -> Result<String, NoMemory>
+    ensures { IfOk result (λ text. string_bytes text ≡ serial_text noise.now) }
+{
+    let serial = hex::encode(alloc, &noise[32..48])?;
+    Ok(format!(in alloc; "serial {serial}\n")?)
+}
