@@ -5,31 +5,9 @@
 set -euo pipefail
 export LC_ALL=C
 
-here=$(cd "$(dirname "${BASH_SOURCE[0]}")" && pwd)
-cd "$here/.."
-
-for tool in rt python3; do
-    if ! command -v "$tool" >/dev/null; then
-        echo "$tool is needed, and is not on the PATH" >&2
-        exit 1
-    fi
-done
-
-work=$(mktemp -d)
-trap 'rm -rf "$work"' EXIT
-tar --create --exclude='crates/*/out' crates.txt HANDLES crates | tar --extract --directory "$work"
-
-# The program is a crate of the copy.
-crate="$work/crates/bench_keys"
-mkdir -p "$crate/src" "$crate/proofs/does"
-cp "$here/keys/main.txt" "$crate/src/main.rt"
-cp "$here/keys/invariants.txt" "$crate/proofs/does/Invariants.antt"
-echo 'bench_keys: mb_model mb_lms mb_signer' >>"$work/crates.txt"
-echo "Proving and building the program, and every crate below it where that is not done yet .." >&2
-if ! (cd "$crate" && rt run -- nothing 1) >"$work/build.log" 2>&1; then
-    tail -n 20 "$work/build.log" >&2
-    exit 1
-fi
+cd "$(dirname "${BASH_SOURCE[0]}")/.."
+. bench/program.sh
+program keys mb_model mb_lms mb_signer
 
 # The hashes of a public key, of a signature by a kept tree, and of its verification, from the digits of the program's
 # one text under its one key.
@@ -49,17 +27,8 @@ print(32 * (67 * 16 + 2) + 31, 67 + sum(digits) + 2, 1 + sum(15 - digit for digi
 PYTHON
 }
 
-# The least of three times of doing something so many times, in microseconds each.
-measure() {
-    local what=$1 count=$2 best=0 begun time round
-    for round in 1 2 3; do
-        begun=${EPOCHREALTIME/./}
-        "$crate/out/bench_keys" "$what" "$count" || [ $? -eq 1 ]
-        time=$((${EPOCHREALTIME/./} - begun))
-        if [ "$best" -eq 0 ] || [ "$time" -lt "$best" ]; then best=$time; fi
-    done
-    awk -v time="$best" -v count="$count" 'BEGIN { printf "%.1f", time / count }'
-}
+# The time of doing something so many times, in microseconds each.
+measure() { time_of "$2" "$program" "$1" "$2" | awk '{ print $1 * 1e3 }'; }
 
 # A line: what is done, the time of one, and its hashes.
 show() { awk -v what="$1" -v time="$2" -v hashes="$3" 'BEGIN { printf "%-18s %9.3f ms, %6d hashes, %4.0f ns each\n", what, time / 1e3, hashes, time * 1e3 / hashes }'; }

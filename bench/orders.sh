@@ -1,0 +1,25 @@
+#!/usr/bin/env bash
+# Measures, outside the gate, judging an order that passes beside verifying its signature alone. The order establishes an
+# owner of layer 2, and is signed by peers/officer.py.
+set -euo pipefail
+export LC_ALL=C
+cd "$(dirname "${BASH_SOURCE[0]}")/.."
+. bench/program.sh
+program orders mb_host mb_lms mb_model mb_command mb_orders
+
+PYTHONPATH=peers python3 - "$work" <<'PYTHON'
+import pathlib
+import sys
+
+from officer import Officer, body, order, signed_text
+
+work = pathlib.Path(sys.argv[1])
+one, two = Officer(b"1" * 32), Officer(b"2" * 32)
+text = body(f"order establish 2\ntarget length 1\nowner {two.public().hex()}\ntrust always\n")
+(work / "order").write_bytes(order(text, one.sign(signed_text(text))))
+(work / "owner").write_bytes(one.public())
+PYTHON
+
+for what in judge verify; do
+    echo "$what: $(time_of 2000 "$program" "$what" "$work/order" "$work/owner" 2000)"
+done

@@ -1,0 +1,53 @@
+# Read by the scripts of this folder: a program of a folder here, and how long it takes.
+
+# program NAME CRATES..: proves and builds the program of bench/NAME over these crates, in a copy of the repository that
+# is removed at the end. `program` is then the built file, and `work` a folder for what is tried.
+program() {
+    local name=$1 crate
+    shift
+    for tool in rt python3; do
+        if ! command -v "$tool" >/dev/null; then
+            echo "$tool is needed, and is not on the PATH" >&2
+            exit 1
+        fi
+    done
+    work=$(mktemp -d)
+    trap 'rm -rf "$work"' EXIT
+    tar --create --exclude='crates/*/out' crates.txt HANDLES crates | tar --extract --directory "$work"
+    crate="$work/crates/bench_$name"
+    mkdir -p "$crate/src" "$crate/proofs/does"
+    cp "bench/$name/main.txt" "$crate/src/main.rt"
+    cp "bench/$name/invariants.txt" "$crate/proofs/does/Invariants.antt"
+    echo "bench_$name: $*" >>"$work/crates.txt"
+    echo "Proving and building the program, and every crate below it where that is not done yet .." >&2
+    if ! (cd "$crate" && rt run) >"$work/build.log" 2>&1 && [ ! -x "$crate/out/bench_$name" ]; then
+        tail -n 20 "$work/build.log" >&2
+        exit 1
+    fi
+    program="$crate/out/bench_$name"
+}
+
+# time_of COUNT WORDS..: the least time of three runs of these words, which do a thing so many times, in milliseconds each.
+time_of() {
+    local count=$1 best=0 begun time round
+    shift
+    for round in 1 2 3; do
+        begun=${EPOCHREALTIME/./}
+        "$@" >/dev/null || [ $? -eq 1 ]
+        time=$((${EPOCHREALTIME/./} - begun))
+        if [ "$best" -eq 0 ] || [ "$time" -lt "$best" ]; then best=$time; fi
+    done
+    awk -v time="$best" -v count="$count" 'BEGIN { printf "%.3f ms", time / count / 1e3 }'
+}
+
+# memory_of WORDS..: the most memory that these words take, in megabytes.
+memory_of() {
+    python3 - "$@" <<'PYTHON'
+import resource
+import subprocess
+import sys
+
+subprocess.run(sys.argv[1:], stdout=subprocess.DEVNULL, check=False)
+print(f"{resource.getrusage(resource.RUSAGE_CHILDREN).ru_maxrss / 1024:.1f} MB")
+PYTHON
+}

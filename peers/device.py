@@ -1,0 +1,251 @@
+"""A device's image, written from the formats alone: its log, its records, and work that an order has left to be done.
+
+    device.py full IMAGE           a log of 128 entries, sixteen keys and 32 secrets
+    device.py new IMAGE            a new device
+    device.py pending KIND IMAGE   a device with work pending: entry, succession, renewal, last, add
+
+Each prints what the image stands for: `state LENGTH NUMBER USES`, the numbers of secrets and keys of regions 2 and 3, and
+the SHA-256 hash of the signatures of the log, one after another.
+"""
+
+import sys
+
+from lms import PrivateKey, sha256, u8, u16, u32
+from officer import Officer
+
+FLASH, BBRAM, AREA, FLASH_AREA = 1_048_576, 28_672, 4_096, 524_288
+ESTABLISH, LOAD, EMERGENCY = 1, 3, 4
+ALWAYS, COUNTERSIGNED = 0, 2
+EPOCH, CONFIGURATION = 0, 1
+UNOWNED = {"owner": None, "code": None, "version": 0, "reliable": False, "trust": 1}
+KEEP, DROP_CONFIGURATION = u8(0), u8(2)
+
+
+class Key:
+    """A key with a number, made of an event's draw and the serial."""
+
+    def __init__(self, draw, serial, number):
+        self.number, self.uses = number, 0
+        self.seed = sha256(u8(0x10), draw, serial, u32(number))
+        self.identifier = sha256(u8(0x11), draw, serial, u32(number))[:16]
+        self.key = PrivateKey(self.identifier, self.seed)
+
+    def spelled(self):
+        return self.identifier + self.seed
+
+    def sign(self, text):
+        """The signature of the text by the next index."""
+        self.uses += 1
+        return self.key.sign(self.uses - 1, text)
+
+
+def pair(some):
+    return (2 in some) + 2 * (3 in some)
+
+
+def optional(bytes_):
+    return u8(0) if bytes_ is None else u8(1) + bytes_
+
+
+class Device:
+    """A device whose owners are obeyed without looking at their signatures."""
+
+    def __init__(self):
+        self.draws = 0
+        self.serial = sha256(b"serial")[:16]
+        self.maker, self.owner = Officer(sha256(b"maker")), {n: Officer(sha256(b"owner", u8(n))) for n in (1, 2, 3)}
+        self.codes = {1: b"code of layer 1", 2: None, 3: None}
+        self.layers = {1: self.running(1, self.codes[1], 1, ALWAYS), 2: dict(UNOWNED), 3: dict(UNOWNED)}
+        self.made = self.number = 0
+        self.regions = {2: {"secrets": [], "keys": []}, 3: {"secrets": [], "keys": []}}
+        self.key, self.outgoing, self.log = self.new_key(), None, []
+        birth = u8(0) + self.serial + self.key.key.public() + self.spelled_layers()
+        self.log.append((birth, self.maker.sign(u8(3) + birth)))
+
+    def draw(self):
+        self.draws += 1
+        return sha256(b"draw", u32(self.draws))
+
+    def new_key(self):
+        self.made += 1
+        return Key(self.draw(), self.serial, self.made - 1)
+
+    def running(self, layer, code, version, trust):
+        owner = self.owner[layer].public()
+        return {"owner": owner, "code": sha256(code), "version": version, "reliable": True, "trust": trust}
+
+    def spelled_layers(self):
+        return b"".join(self.spelled_layer(self.layers[n]) for n in (1, 2, 3))
+
+    @staticmethod
+    def spelled_layer(layer):
+        flags = (layer["owner"] is not None) + 2 * (layer["code"] is not None) + 4 * layer["reliable"]
+        code = b"" if layer["code"] is None else layer["code"] + u32(layer["version"])
+        return u8(flags) + u8(layer["trust"]) + (layer["owner"] or b"") + code
+
+    # ---- entries
+
+    def append(self, entry):
+        self.log.append((entry, self.key.sign(u8(3) + entry)))
+
+    def succeed(self):
+        """A device key of which the last index is left gives way to the next."""
+        self.outgoing = None
+        if self.key.uses == 31:
+            self.outgoing, after = self.key, self.new_key()
+            self.append(u8(3) + u32(len(self.log)) + after.key.public())
+            self.key = after
+
+    def change(self, kind, layer, cosigned=(), renews=False):
+        """The entry of a change whose layers stand already; all regions above are kept, but for an owner's change."""
+        self.number += 1
+        kept = [m for m in (2, 3) if m < layer or kind == LOAD or (kind == EMERGENCY and m > layer)]
+        after = self.new_key() if renews else None
+        entry = u8(1) + u32(len(self.log)) + u32(self.number) + u8(kind) + u8(layer) + u8(pair(cosigned))
+        entry += u8(pair(kept)) + self.spelled_layers() + optional(after and after.key.public())
+        self.append(entry)
+        if renews:
+            self.outgoing, self.key = self.key, after
+
+    def establish(self, layer, trust):
+        self.succeed()
+        self.layers[layer] = dict(UNOWNED, owner=self.owner[layer].public(), trust=trust)
+        self.change(ESTABLISH, layer)
+
+    def load(self, layer, kind=LOAD, trust=ALWAYS):
+        """A load of layer 1 makes the next device key itself, at the last index too."""
+        self.outgoing = None
+        if layer > 1:
+            self.succeed()
+        code = b"code %d of layer %d" % (len(self.log), layer)
+        self.codes[layer] = code
+        self.layers[layer] = self.running(layer, code, len(self.log), trust)
+        self.change(kind, layer, renews=layer == 1)
+        for m in range(max(layer, 2), 4):
+            region = self.regions[m]
+            region["keys"] = [key for key in region["keys"] if key[0] == EPOCH]
+
+    def make_key(self, layer, kind=EPOCH):
+        self.succeed()
+        number, key = self.made, self.new_key()
+        entry = u8(2) + u32(len(self.log)) + u32(self.number) + u32(number) + u8(layer) + u8(kind) + key.key.public()
+        self.append(entry)
+        self.regions[layer]["keys"].append((kind, key))
+
+    def put(self, layer, name, value):
+        self.regions[layer]["secrets"].append((name, value, self.number))
+
+    # ---- records
+
+    @staticmethod
+    def spelled_key(key):
+        return u32(key[1].number) + u8(key[0]) + key[1].spelled() + u8(key[1].uses)
+
+    def region(self, layer):
+        secrets, keys = self.regions[layer]["secrets"], self.regions[layer]["keys"]
+        if not secrets and not keys:
+            return b""
+        text = u8(1) + u8(len(secrets))
+        for name, value, born in secrets:
+            text += u8(len(name)) + name + u8(len(value)) + value + u32(born)
+        return text + u8(len(keys)) + b"".join(map(self.spelled_key, keys))
+
+    def root(self, area, pending):
+        return u8(1) + u8(area) + self.serial + self.key.spelled() + u8(self.key.uses) + optional(pending)
+
+    def public(self, unsigned):
+        text = u8(1)
+        for layer in (1, 2, 3):
+            code = self.codes[layer]
+            text += optional(code if code is None else u32(len(code)) + code)
+        text += u16(len(self.log))
+        for place, (entry, signature) in enumerate(self.log):
+            text += entry + optional(None if place >= len(self.log) - unsigned else signature)
+        return text
+
+    def image(self, area=0, pending=None, unsigned=0, regions=None):
+        """The image, with the root and both regions in their second areas where `area` is 1."""
+        record = self.public(unsigned)
+        flash = bytearray(b"\xff" * FLASH)
+        flash[FLASH_AREA * area : FLASH_AREA * area + 4 + len(record)] = u32(len(record)) + record
+        bbram = bytearray(BBRAM)
+        bbram[0:4] = u8(0xA5) + u8(area) * 3
+        records = [self.root(area, pending), *(regions or (self.region(2), self.region(3)))]
+        for slot, text in enumerate(records):
+            at = AREA * (1 + 2 * slot + area)
+            bbram[at : at + 2 + len(text)] = u16(len(text)) + text
+        return bytes(flash + bbram)
+
+    def told(self):
+        """What the program tells of such a state."""
+        counts = [len(self.regions[m][what]) for m in (2, 3) for what in ("secrets", "keys")]
+        signatures = sha256(*(signature for _, signature in self.log)).hex()
+        return " ".join(map(str, ["state", len(self.log), self.number, self.key.uses, *counts, signatures]))
+
+
+def owned():
+    """A device whose three layers run."""
+    device = Device()
+    for layer in (2, 3):
+        device.establish(layer, ALWAYS)
+    for layer in (2, 3):
+        device.load(layer, EMERGENCY)
+    return device
+
+
+def full():
+    device = owned()
+    for layer in (2, 3):
+        for _ in range(8):
+            device.make_key(layer)
+        for number in range(16):
+            device.put(layer, b"name-%02d" % number, bytes([number]) * 128)
+    while len(device.log) < 128:
+        device.load(3 if len(device.log) < 127 or device.key.uses < 31 else 1)
+    return device, device.image()
+
+
+def with_pending(kind):
+    """The image as an order leaves it, and the device after the work is done."""
+    device = owned()
+    device.make_key(2, CONFIGURATION)
+    device.make_key(3)
+    device.put(2, b"pin", b"1234")
+    while kind in ("succession", "last") and device.key.uses < 31:
+        device.load(3)
+    before = device.region(2), device.region(3)
+    if kind == "add":
+        device.make_key(3, CONFIGURATION)
+        fates = KEEP + u8(3) + device.spelled_key(device.regions[3]["keys"][-1])
+    elif kind in ("renewal", "last"):
+        device.load(1)
+        fates = DROP_CONFIGURATION * 2
+    else:
+        device.load(3)
+        fates = KEEP + DROP_CONFIGURATION
+    outgoing = device.outgoing
+    unsigned = 2 if outgoing and kind == "succession" else 1
+    given = None if outgoing is None else outgoing.spelled() + u8(outgoing.uses)
+    pending = u8(unsigned) + optional(given) + fates
+    return device, device.image(1, pending, unsigned, before)
+
+
+def main(words):
+    if len(words) == 2 and words[0] == "full":
+        device, image = full()
+    elif len(words) == 2 and words[0] == "new":
+        device = Device()
+        image = device.image()
+    elif len(words) == 3 and words[0] == "pending" and words[1] in ("entry", "succession", "renewal", "last", "add"):
+        device, image = with_pending(words[1])
+    else:
+        print(__doc__, file=sys.stderr)
+        return 2
+    with open(words[-1], "wb") as file:
+        file.write(image)
+    print(device.told())
+    return 0
+
+
+if __name__ == "__main__":
+    sys.exit(main(sys.argv[1:]))
