@@ -1,7 +1,7 @@
 # Read by the scripts of this folder: a program of a folder here, and how long it takes.
 
-# program NAME CRATES..: proves and builds the program of bench/NAME over these crates, in a copy of the repository that
-# is removed at the end. `program` is then the built file, and `work` a folder for what is tried.
+# program NAME CRATES..: proves and builds the program of bench/NAME over these crates, in a copy of the repository, with
+# what was proved there before, that is removed at the end. `program` is then the built file, and `work` a folder.
 program() {
     local name=$1 crate
     shift
@@ -13,7 +13,7 @@ program() {
     done
     work=$(mktemp -d)
     trap 'rm -rf "$work"' EXIT
-    tar --create --exclude='crates/*/out' crates.txt HANDLES crates | tar --extract --directory "$work"
+    tar --create crates.txt HANDLES crates | tar --extract --directory "$work"
     crate="$work/crates/bench_$name"
     mkdir -p "$crate/src" "$crate/proofs/does"
     cp "bench/$name/main.txt" "$crate/src/main.rt"

@@ -83,10 +83,10 @@ serve() {
     sed -n 2p printed
 }
 
-# Signatures of other programs, one for each pair of types, and the first order.
+# Signatures of other programs, one for each width and each height, and the first order.
 if command -v python3 >/dev/null; then
     python3 -B "$top/peers/compare.py" --signatures >signatures
-    compare 'pairs of types' "$(wc -l <signatures)" 20
+    compare 'widths and heights' "$(wc -l <signatures)" 8
     compare 'their signatures' "$(peer signatures signatures && echo verify)" verify
 else
     echo "python3 is not there: the signatures in the tests were not verified"
