@@ -1,6 +1,7 @@
 #!/usr/bin/env bash
-# Measures the command `run` outside the gate: bench/run.sh [PROGRAM]. Best of three runs, in wall time, on 65,534 orders
-# that are no order, and on 850 orders that are verified and refused, beside what one processor hashes by openssl.
+# Measures the built program outside the gate: bench/run.sh [PROGRAM]. Best of three runs, in wall time, of `run` on 65,534
+# orders that are no order, and on 850 orders that are verified and refused, and of ten calls of `factory`, beside what one
+# processor hashes by openssl.
 set -euo pipefail
 export LC_ALL=C
 
@@ -97,6 +98,26 @@ if command -v python3 >/dev/null; then
 else
     echo "one of these verifications:     python3 is not there, so its hashes are not counted"
 fi
+
+# The least of three times of making ten devices, in microseconds. A key signs 32 births.
+devices() {
+    local best=0 begun time round device
+    head -c 48 /dev/zero >noise
+    printf 'code' >code
+    "$program" keygen noise key public >printed
+    for round in 1 2 3; do
+        begun=${EPOCHREALTIME/./}
+        for device in 1 2 3 4 5 6 7 8 9 10; do
+            "$program" factory noise key public code "device$device" >printed
+        done
+        time=$((${EPOCHREALTIME/./} - begun))
+        if [ "$best" -eq 0 ] || [ "$time" -lt "$best" ]; then best=$time; fi
+    done
+    echo "$best"
+}
+
+time=$(devices)
+echo "ten new devices:                $(seconds "$time") s, of two trees of 34,399 hashes each"
 
 if command -v openssl >/dev/null; then
     bytes=$(openssl speed -seconds 1 -bytes 55 sha256 2>/dev/null | awk '$1 == "sha256" { print $2 * 1000 }')
