@@ -40,14 +40,11 @@ time_of() {
     awk -v time="$best" -v count="$count" 'BEGIN { printf "%.3f ms", time / count / 1e3 }'
 }
 
-# memory_of WORDS..: the most memory that these words take, in megabytes.
+# memory_of WORDS..: the most memory that these words take, in megabytes, by GNU time.
 memory_of() {
-    python3 - "$@" <<'PYTHON'
-import resource
-import subprocess
-import sys
-
-subprocess.run(sys.argv[1:], stdout=subprocess.DEVNULL, check=False)
-print(f"{resource.getrusage(resource.RUSAGE_CHILDREN).ru_maxrss / 1024:.1f} MB")
-PYTHON
+    if [ -x /usr/bin/time ]; then
+        /usr/bin/time -f '%M' "$@" 2>&1 >/dev/null | awk '{ printf "%.1f MB", $1 / 1024 }'
+    else
+        printf 'GNU time is not there'
+    fi
 }
