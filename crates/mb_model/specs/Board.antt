@@ -1,10 +1,12 @@
--- What a board is for those who use it: its memory, and the events that it hands out and takes back answered.
-use Rattle.std.specs.Prelude.{ℕ, ◌+◌, List, [], ◌++◌, length, take, drop, Bool, true, false}
+-- What a board is for those who use it: its memory, its power, the events that it hands out and takes back answered, and
+-- what it counts.
+use Rattle.std.specs.Prelude.{ℕ, zero, suc, ◌+◌, List, [], ◌++◌, length, take, drop, replicate, Bool, true, false}
 use Rattle.std.specs.Prelude.{Option, None, Some}
 use Rattle.mb_model.specs.declared.event.Event.{Event}
 use Rattle.mb_model.specs.declared.event.Event.TheVariants as event
 use Rattle.mb_model.specs.declared.event.Answered.{Answered}
 use Rattle.mb_model.specs.Memory.{AreSized}
+use Rattle.mb_model.specs.Machine.{Phase, off, dead, ratchet}
 
 -- flash and battery-backed memory; an image is the one followed by the other
 pub record Memory : Type 0 where
@@ -24,24 +26,65 @@ pub record Final : Type 0 where
   pub power : Bool
   pub armed : Bool
 
--- the events that wait, the one that is out, and those answered; the memory as it was at the last answer, or at the
--- load where nothing was answered since; whether a power loss is armed
-pub record Ledger : Type 0 where
-  pub waiting : List Event
-  pub out : Option Event
-  pub answered : List Answered
-  pub standing : Memory
-  pub armed : Bool
-
--- the ledger of a board on which an image has just been loaded with these events
-abbrev pub loaded : Memory → List Event → Ledger
-loaded memory events = record { waiting = events; out = None; answered = []; standing = memory; armed = false }
-
 -- the memory with these bytes from the offset at on
 unfoldable pub put : ℕ → List ℕ → List ℕ → List ℕ
 put at bytes memory = take at memory ++ bytes ++ drop (at + length bytes) memory
 
--- the event that was handed out turns power off
-abbrev pub is_off : Option Event → Bool
-is_off (Some event.Off) = true
-is_off _ = false
+-- ---- what a board holds
+
+-- the phase by a board's power, and by the level of its ratchet, which is 0 until the device is found alive
+abbrev pub phase_at : Bool → ℕ → Phase
+phase_at false level = off
+phase_at true zero = dead
+phase_at true (suc n) = ratchet (suc n)
+
+-- its memory, its phase, and whether a power loss is armed
+pub record Held : Type 0 where
+  pub memory : Memory
+  pub phase : Phase
+  pub armed : Bool
+
+-- the events that wait, the one that is out, and those answered; and what the board held at the last answer, or at the
+-- load where nothing was answered since
+pub record Ledger : Type 0 where
+  pub waiting : List Event
+  pub out : Option Event
+  pub answered : List Answered
+  pub standing : Held
+
+-- whether a power loss is armed; how many calls power losses have stopped; how many write calls were made since the last
+-- event was taken, of which no more than 1,000 are counted
+pub record Meter : Type 0 where
+  pub armed : Bool
+  pub stops : ℕ
+  pub writes : ℕ
+
+-- a board on which a memory has just been loaded holds this
+abbrev pub held_at_load : Memory → Held
+held_at_load memory = record { memory = memory; phase = off; armed = false }
+
+-- and its ledger has these events waiting
+abbrev pub loaded : Memory → List Event → Ledger
+loaded memory events = record { waiting = events; out = None; answered = []; standing = held_at_load memory }
+
+-- ---- what handing out an event does
+
+-- Off and tamper turn power off.
+abbrev pub power_after : Option Event → Bool → Bool
+power_after (Some event.Off) power = false
+power_after (Some event.Tamper) power = false
+power_after _ power = power
+
+-- as many bytes of zero
+unfoldable pub zeros : ℕ → List ℕ
+zeros n = replicate n 0
+
+-- Tamper zeroes the battery-backed memory.
+abbrev pub memory_after : Option Event → Memory → Memory
+memory_after (Some event.Tamper) memory = record memory { bbram = zeros (length memory.bbram) }
+memory_after _ memory = memory
+
+-- A cut arms a power loss.
+abbrev pub armed_after : Option Event → Bool → Bool
+armed_after (Some (event.Cut count tear)) armed = true
+armed_after _ armed = armed

@@ -42,6 +42,7 @@ pub mod Flash
 pub mod Meaning
 pub mod Faults
 pub mod Clean
+pub mod Acknowledged
 pub mod Factory
 pub mod Lines
 pub mod Script
@@ -49,6 +50,7 @@ pub mod Replies
 pub mod Drafts
 pub mod OrderLines
 pub mod Listing
+pub mod Attach
 pub mod Acceptance
 pub mod Workload
 pub mod SignedOrders

@@ -19,7 +19,8 @@ use Rattle.mb_lemmas.proofs.LogLemmas.{made-push, last_of-split}
 use Rattle.mb_lemmas.proofs.AliveLemmas.{later_is_unmade}
 use Rattle.mb_lemmas.proofs.ValidStates.{valid_is_ruled}
 use Rattle.mb_lemmas.proofs.ReaderLemmas.{makes_none}
-use Rattle.mb_run_laws.specs.BirthLaws.{IsBornOf, bare_chain}
+use Rattle.mb_model.specs.Attach.{bare_chain}
+use Rattle.mb_run_laws.specs.BirthLaws.{IsBornOf}
 
 -- ---- entries
 

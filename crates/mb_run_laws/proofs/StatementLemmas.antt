@@ -35,7 +35,8 @@ use Rattle.mb_lemmas.proofs.ReaderLemmas.{living_is_flagged, not_true}
 use Rattle.mb_lemmas.proofs.SignatureLemmas.{signature_verifies}
 use Rattle.mb_run_laws.specs.RunLaws.{BeginsWith, worlds_of}
 use Rattle.mb_run_laws.specs.BirthLaws.{IsBornOf}
-use Rattle.mb_run_laws.specs.StatementLaws.{IsStatedIn, is_change_above, cut_at, stated_chain, entry_of, StaysAccepted}
+use Rattle.mb_model.specs.Attach.{is_change_above, cut_at, stated_chain}
+use Rattle.mb_run_laws.specs.StatementLaws.{IsStatedIn, entry_of, StaysAccepted}
 use Rattle.mb_run_laws.proofs.GrowthLemmas.{logs_grow}
 use Rattle.mb_run_laws.proofs.BirthLemmas.{log_is_good, key_of-split}
 use Rattle.mb_run_laws.proofs.KeyLemmas.{key_lives}

@@ -13,6 +13,7 @@ use Rattle.mb_model.specs.Log.{entries_of}
 use Rattle.mb_model.specs.ChainFormat.{chain_format}
 use Rattle.mb_model.specs.SignedTexts.{entry_text}
 use Rattle.mb_model.specs.Valid.{IsValidState}
+use Rattle.mb_model.specs.Attach.{bare_chain}
 use Rattle.mb_model.specs.Acceptance.{AreGood, report_of, Accepts}
 
 -- the maker signed the birth
@@ -25,10 +26,6 @@ IsBornOf maker log =
 abbrev pub LogsAreGood : Type 0
 LogsAreGood =
     (maker : PublicKey) (state : State) → IsValidState state → IsBornOf maker state.log → AreGood maker state.log
-
--- the chain of a log without a statement
-abbrev pub bare_chain : List SignedEntry → Chain
-bare_chain log = record { entries = log; statement = None }
 
 -- and the chain of the log is accepted for each key of a region that was born in it
 abbrev pub BornKeysAreAccepted : Type 0

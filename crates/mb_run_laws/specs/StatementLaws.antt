@@ -1,10 +1,7 @@
 -- Laws of statements. Is what a key once stated accepted with a later chain?
-use Rattle.std.specs.Prelude.{◌≡◌, ℕ, ◌<◌, nat_lt, Bool, false, not, List, [], ◌∷◌, take_while, All, Contains, Some}
+use Rattle.std.specs.Prelude.{◌≡◌, ℕ, ◌<◌, List, All, Contains, Some}
 use Rattle.mb_format.specs.Format.{Spells}
 use Rattle.mb_model.specs.declared.key.PublicKey.{PublicKey}
-use Rattle.mb_model.specs.declared.entry.Chain.{Chain}
-use Rattle.mb_model.specs.declared.entry.Entry.{Entry}
-use Rattle.mb_model.specs.declared.entry.Entry.TheVariants.{Birth, Change, NewKey, Succession}
 use Rattle.mb_model.specs.declared.entry.SignedEntry.{SignedEntry}
 use Rattle.mb_model.specs.declared.entry.Statement.{Statement}
 use Rattle.mb_model.specs.declared.event.Answered.{Answered}
@@ -18,6 +15,7 @@ use Rattle.mb_model.specs.OrderStep.{region_of}
 use Rattle.mb_model.specs.LayerEvents.{statement_of}
 use Rattle.mb_model.specs.Machine.{World, Step, Run}
 use Rattle.mb_model.specs.Valid.{Valid}
+use Rattle.mb_model.specs.Attach.{stated_chain}
 use Rattle.mb_model.specs.Acceptance.{KeyEntry, report_of, Accepts}
 use Rattle.mb_run_laws.specs.BirthLaws.{IsBornOf}
 use Rattle.mb_run_laws.specs.RunLaws.{worlds_of}
@@ -42,23 +40,6 @@ StatementsAreOfKeys =
     × (L : ℕ) × (key : RegionKey) × IsStatedIn state L key n index statement
 
 -- ---- the chain with a statement
-
--- the entry is a change with a number above this one
-abbrev pub is_change_above : ℕ → Entry → Bool
-is_change_above n (Birth serial key layers) = false
-is_change_above n (Change position number kind layer cosigned layers kept next) = nat_lt n number
-is_change_above n (NewKey position number key_number layer kind key) = false
-is_change_above n (Succession position key) = false
-
--- The entries that stand in a chain with a statement of the configuration number n: the birth, and those after it up to
--- the first change with a higher number.
-abbrev pub cut_at : ℕ → List SignedEntry → List SignedEntry
-cut_at n [] = []
-cut_at n (birth ∷ rest) = birth ∷ take_while (λ signed. not (is_change_above n signed.entry)) rest
-
--- the chain of a log to which a statement is attached
-abbrev pub stated_chain : List SignedEntry → Statement → Chain
-stated_chain log statement = record { entries = cut_at statement.number log; statement = Some statement }
 
 -- what the log tells of a key of layer L
 abbrev pub entry_of : ℕ → RegionKey → KeyEntry

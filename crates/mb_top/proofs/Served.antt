@@ -7,7 +7,8 @@ use Rattle.mb_model.specs.declared.event.Event.TheVariants as event
 use Rattle.mb_model.specs.declared.event.Answered.{Answered}
 use Rattle.mb_model.specs.declared.reply.Reply.{Reply}
 use Rattle.mb_model.specs.FirstPath.{HoldsFirstState, FirstStep, FirstRun, Steps, StepsBetween}
-use Rattle.mb_model.specs.Board.{Memory, Ledger, IsLoaded}
+use Rattle.mb_model.specs.Board.{Memory, IsLoaded}
+use Rattle.mb_first.specs.Ledger.{Ledger}
 use Rattle.mb_top.specs.declared.serve.Device.{Device}
 use Rattle.mb_top.specs.Serving.{Knows, IsServable, powered}
 

@@ -4,7 +4,8 @@ use Rattle.mb_model.specs.declared.event.Answered.{Answered}
 use Rattle.mb_model.specs.declared.role.Role.{Role}
 use Rattle.mb_model.specs.declared.role.Place.{Place}
 use Rattle.mb_model.specs.Outside.{Outside, HoldsTooMuch, read_once, FailsToRead}
-use Rattle.mb_model.specs.Board.{Memory, Ledger, Final}
+use Rattle.mb_model.specs.Board.{Memory, Final}
+use Rattle.mb_first.specs.Ledger.{Ledger}
 use Rattle.mb_model.specs.Commands.{Input, Command, Past, Ended, SaysLine, HasRead, CommandEnds, at_first, input_line}
 use Rattle.mb_model.specs.Commands.{role_word, place_words}
 use Rattle.mb_model.specs.Top.{Ends}

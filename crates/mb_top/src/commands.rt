@@ -12,7 +12,7 @@ use crate::output::stop;
 use crate::run::run;
 use crate::sign::{countersign, sign};
 use crate::words::{Request, request_in};
-use mb_board::Board;
+use mb_first::Board;
 use mb_host::Host;
 use mb_lms::Steps;
 use std::alloc::Global;

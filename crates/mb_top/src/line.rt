@@ -10,7 +10,7 @@ use crate::commands::top;
 use crate::end::End;
 use crate::output::stop;
 use crate::words::is_word;
-use mb_board::Board;
+use mb_first::Board;
 use mb_host::Host;
 use std::alloc::Global;
 

@@ -2,13 +2,14 @@
 
 ghost use Rattle.std.specs.Prelude.{◌≡◌, ◌≤◌, ◌++◌, ℕ, [], length, map, true, false, None, is_some};
 ghost use Rattle.mb_model.specs.FirstPath.{HoldsFirstState, IsFirstState, FirstRun, Answers, Steps};
-ghost use Rattle.mb_model.specs.Board.{IsLoaded, loaded};
+ghost use Rattle.mb_model.specs.Board.{IsLoaded};
+ghost use Rattle.mb_first.specs.Ledger.{loaded};
 ghost use Rattle.mb_model.specs.declared.first.FirstState.{FirstState};
 ghost use Rattle.mb_top.specs.Serving.{IsServable, Knows, IsReady, powered};
 
 use crate::judge::judge;
 use crate::sector::{read_sector, write_sector};
-use mb_board::Board;
+use mb_first::Board;
 use mb_model::{Event, FirstState, Reply, SECTOR_LENGTH};
 
 /// What the device knows between two events.

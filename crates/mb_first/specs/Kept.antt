@@ -1,6 +1,6 @@
 -- What holds of the fields of a memory: outside of the range that was written, the standing bytes are the bytes.
 use Rattle.std.specs.Prelude.{◌≡◌, ℕ, ◌≤◌, List, length, take, drop}
-use Rattle.mb_board.specs.declared.bank.Bank.TheInside.{Inside}
+use Rattle.mb_first.specs.declared.bank.Bank.TheInside.{Inside}
 
 -- two memories of one length are the same before a place and from another place on
 pub record IsSameOutside (from to : ℕ) (standing bytes : List ℕ) : Type 0 where

@@ -4,8 +4,8 @@ ghost use Rattle.std.specs.Prelude.{◌≡◌, ◌+◌, ◌-◌, ◌≤◌, ◌<
 ghost use Rattle.mb_model.specs.Pieces.{part};
 ghost use Rattle.mb_model.specs.Board.{put};
 ghost use Rattle.mb_model.specs.FirstPath.{erased};
-ghost use Rattle.mb_board.specs.Shown.{kept};
-ghost use Rattle.mb_board.specs.Kept.{IsSameOutside};
+ghost use Rattle.mb_first.specs.Shown.{kept};
+ghost use Rattle.mb_first.specs.Kept.{IsSameOutside};
 
 use mb_model::NoMemory;
 use std::alloc::Global;
@@ -25,11 +25,11 @@ pub struct Bank {
 }
 
 impl Model for Bank {
-    ghost use Rattle.mb_board.specs.Shown.{Contents};
+    ghost use Rattle.mb_first.specs.Shown.{Contents};
 
     ghost Value = { Contents };
 
-    ghost use Rattle.mb_board.specs.Kept.{IsKept};
+    ghost use Rattle.mb_first.specs.Kept.{IsKept};
 
     ghost view = { λ s. record { bytes = s.bytes.items; standing = s.standing.items } };
 

@@ -1,6 +1,6 @@
 use Rattle.std.proofs.Common.{◌∙◌, arith}
-use Rattle.mb_board.proofs.Written.{put-part, same_everywhere}
-use Rattle.mb_board.proofs.bank.copy_range.Goals as goal
+use Rattle.mb_first.proofs.Written.{put-part, same_everywhere}
+use Rattle.mb_first.proofs.bank.copy_range.Goals as goal
 
 pub returns-then-from-to : goal.returns-then-from-to
 returns-then-from-to c =

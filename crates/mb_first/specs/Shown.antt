@@ -1,6 +1,7 @@
 -- What is seen of a board that simulates a device.
 use Rattle.std.specs.Prelude.{ℕ, List, [], Bool}
-use Rattle.mb_model.specs.Board.{Memory, Ledger}
+use Rattle.mb_model.specs.Board.{Memory}
+use Rattle.mb_first.specs.Ledger.{Ledger}
 
 -- one of its memories: the bytes, and what they were when they were last kept
 pub record Contents : Type 0 where

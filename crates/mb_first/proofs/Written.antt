@@ -4,7 +4,7 @@ use Rattle.std.proofs.lemmas.List.{take-take, drop-drop, drop-take, take-append-
 use Rattle.mb_model.specs.Pieces.{part}
 use Rattle.mb_model.specs.Board.{put}
 use Rattle.mb_model.proofs.Places.{take-put_below, drop-put_above, length-part, length-put}
-use Rattle.mb_board.specs.Kept.{IsSameOutside}
+use Rattle.mb_first.specs.Kept.{IsSameOutside}
 
 take_less : (m n : ℕ) (xs ys : List ℕ) → m ≤ n → take n xs ≡ take n ys → take m xs ≡ take m ys
 take_less m n xs ys less same = sym (take-take m n xs less) ∙ (ap (take m) same ∙ take-take m n ys less)

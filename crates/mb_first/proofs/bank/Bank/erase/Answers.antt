@@ -1,8 +1,8 @@
 use Rattle.std.proofs.Common.{length, ap, arith}
 use Rattle.mb_model.proofs.Places.{length-erased}
-use Rattle.mb_board.specs.Shown.{Contents}
-use Rattle.mb_board.proofs.Written.{IsSameOutside-put}
-use Rattle.mb_board.proofs.bank.Bank.erase.Goals as goal
+use Rattle.mb_first.specs.Shown.{Contents}
+use Rattle.mb_first.proofs.Written.{IsSameOutside-put}
+use Rattle.mb_first.proofs.bank.Bank.erase.Goals as goal
 
 pub invariant_of-self : goal.invariant_of-self
 invariant_of-self c =

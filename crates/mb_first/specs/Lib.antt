@@ -1,3 +1,4 @@
+pub mod Ledger
 pub mod Shown
 pub mod Kept
 pub mod Sound

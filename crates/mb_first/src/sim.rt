@@ -1,8 +1,8 @@
 //! A board that simulates a device in memory.
 
 ghost use Rattle.std.specs.Prelude.{◌≡◌, ◌<◌, ◌++◌, ◌∷◌, [], ◌≤◌, false, IfOk, vec_len, vec_capacity};
-ghost use Rattle.mb_model.specs.Board.{loaded};
-ghost use Rattle.mb_board.specs.Shown.{unloaded};
+ghost use Rattle.mb_first.specs.Ledger.{loaded};
+ghost use Rattle.mb_first.specs.Shown.{unloaded};
 
 use crate::bank::Bank;
 use crate::board::{Board, Stopped};
@@ -27,11 +27,11 @@ pub struct SimBoard {
 
 impl Model for SimBoard {
     ghost use Rattle.std.specs.Prelude.{false};
-    ghost use Rattle.mb_board.specs.Shown.{Shown};
+    ghost use Rattle.mb_first.specs.Shown.{Shown};
 
     ghost Value = { Shown };
 
-    ghost use Rattle.mb_board.specs.Sound.{IsSound};
+    ghost use Rattle.mb_first.specs.Sound.{IsSound};
 
     ghost view = { λ s. record {
       power = s.is_on;

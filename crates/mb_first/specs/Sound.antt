@@ -1,6 +1,6 @@
 -- What holds of the fields of a board that simulates a device.
 use Rattle.std.specs.Prelude.{◌≡◌, ◌+◌, ◌≤◌, length, option_to_list, vec_capacity}
-use Rattle.mb_board.specs.declared.sim.SimBoard.TheInside.{Inside}
+use Rattle.mb_first.specs.declared.sim.SimBoard.TheInside.{Inside}
 
 pub record IsSound (board : Inside) : Type 0 where
   -- the copies are those of the events that wait

@@ -1,0 +1,28 @@
+-- How a statement is attached to a chain. Which part of a device's log tells of the code that made a statement?
+use Rattle.std.specs.Prelude.{ℕ, nat_lt, Bool, false, not, List, [], ◌∷◌, take_while, None, Some}
+use Rattle.mb_model.specs.declared.entry.Chain.{Chain}
+use Rattle.mb_model.specs.declared.entry.Entry.{Entry}
+use Rattle.mb_model.specs.declared.entry.Entry.TheVariants.{Birth, Change, NewKey, Succession}
+use Rattle.mb_model.specs.declared.entry.SignedEntry.{SignedEntry}
+use Rattle.mb_model.specs.declared.entry.Statement.{Statement}
+
+-- the chain of a log without a statement
+abbrev pub bare_chain : List SignedEntry → Chain
+bare_chain log = record { entries = log; statement = None }
+
+-- the entry is a change with a number above this one
+abbrev pub is_change_above : ℕ → Entry → Bool
+is_change_above n (Birth serial key layers) = false
+is_change_above n (Change position number kind layer cosigned layers kept next) = nat_lt n number
+is_change_above n (NewKey position number key_number layer kind key) = false
+is_change_above n (Succession position key) = false
+
+-- The entries that stand in a chain with a statement of the configuration number n: the birth, and those after it up to
+-- the first change with a higher number.
+abbrev pub cut_at : ℕ → List SignedEntry → List SignedEntry
+cut_at n [] = []
+cut_at n (birth ∷ rest) = birth ∷ take_while (λ signed. not (is_change_above n signed.entry)) rest
+
+-- the chain of a log to which a statement is attached
+abbrev pub stated_chain : List SignedEntry → Statement → Chain
+stated_chain log statement = record { entries = cut_at statement.number log; statement = Some statement }
