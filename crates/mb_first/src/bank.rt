@@ -2,8 +2,7 @@
 
 ghost use Rattle.std.specs.Prelude.{◌≡◌, ◌+◌, ◌-◌, ◌≤◌, ◌<◌, [], length, take, drop, IfOk};
 ghost use Rattle.mb_model.specs.Pieces.{part};
-ghost use Rattle.mb_model.specs.Board.{put};
-ghost use Rattle.mb_model.specs.FirstPath.{erased};
+ghost use Rattle.mb_model.specs.Board.{put, erased};
 ghost use Rattle.mb_first.specs.Shown.{kept};
 ghost use Rattle.mb_first.specs.Kept.{IsSameOutside};
 
@@ -108,7 +107,7 @@ fn write(memory: &mut Vec<u8>, at: usize, bytes: &[u8])
 }
 
 /// Sets `count` bytes of a memory from `at` on to 0xFF.
-#[tactic(auto, unfolding(mb_model::specs::Board::put, mb_model::specs::FirstPath::erased))]
+#[tactic(auto, unfolding(mb_model::specs::Board::put, mb_model::specs::Board::erased))]
 fn erase(memory: &mut Vec<u8>, at: usize, count: usize)
     requires { at + count ≤ length memory.old.items }
     ensures { memory.new.items ≡ put at (erased count) memory.old.items }

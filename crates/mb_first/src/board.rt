@@ -1,9 +1,9 @@
 //! What a board is for those who use it.
 
 ghost use Rattle.std.specs.Prelude.{◌≡◌, ◌≢◌, ◌+◌, ◌*◌, ◌/◌, ◌-◌, ◌<◌, ◌≤◌, ◌++◌, ◌∷◌, [], ℕ, Bool, true, false, length, All, IfOk, OnOk, OnErr, IfNone, IfSome, List, Some, None, if◌then◌else◌};
-ghost use Rattle.mb_model.specs.FirstPath.{IsFirstEvent, StepsBetween, erased};
+ghost use Rattle.mb_model.specs.FirstPath.{IsFirstEvent, StepsBetween};
 ghost use Rattle.mb_model.specs.Pieces.{part};
-ghost use Rattle.mb_model.specs.Board.{Memory, IsLoaded, image_of, put};
+ghost use Rattle.mb_model.specs.Board.{Memory, IsLoaded, image_of, put, erased};
 ghost use Rattle.mb_first.specs.Ledger.{Ledger, loaded, is_off};
 
 use mb_model::{Answered, Event, Events, NoMemory, Reply};

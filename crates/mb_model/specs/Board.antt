@@ -30,6 +30,10 @@ pub record Final : Type 0 where
 unfoldable pub put : ℕ → List ℕ → List ℕ → List ℕ
 put at bytes memory = take at memory ++ bytes ++ drop (at + length bytes) memory
 
+-- bytes of flash that has been erased
+unfoldable pub erased : ℕ → List ℕ
+erased n = replicate n 0xFF
+
 -- ---- what a board holds
 
 -- the phase by a board's power, and by the level of its ratchet, which is 0 until the device is found alive

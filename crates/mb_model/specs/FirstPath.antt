@@ -1,5 +1,5 @@
 -- The machine of the first path: one owner over layer 1, who may establish an owner of layer 2.
-use Rattle.std.specs.Prelude.{◌≡◌, ℕ, ◌-◌, ◌≤◌, ◌⊎◌, List, [], ◌∷◌, ◌++◌, length, take, replicate, Option, None, Some}
+use Rattle.std.specs.Prelude.{◌≡◌, ℕ, ◌-◌, ◌≤◌, ◌⊎◌, List, [], ◌∷◌, ◌++◌, length, take, Option, None, Some}
 use Rattle.std.specs.Prelude.{IfSome, IsSome}
 use Rattle.std.specs.Int.{w16, to_be_bytes}
 use Rattle.mb_model.specs.declared.key.PublicKey.{PublicKey}
@@ -16,6 +16,7 @@ use Rattle.mb_model.specs.declared.reply.Reply.TheVariants as reply
 use Rattle.mb_model.specs.Key.{key_bytes, IsSized}
 use Rattle.mb_model.specs.LayerFormat.{trust_byte}
 use Rattle.mb_model.specs.Merkle.{Verifies}
+use Rattle.mb_model.specs.Board.{erased}
 
 -- the owners of the first path have keys of types 5 and 3
 pub record IsFirstKey (key : PublicKey) : Type 0 where
@@ -37,10 +38,6 @@ ownership_bytes (Some held) = 1 ∷ key_bytes held.owner ++ trust_byte held.trus
 -- a state as bytes
 unfoldable pub state_bytes : FirstState → List ℕ
 state_bytes state = 0 ∷ state.serial ++ key_bytes state.one ++ ownership_bytes state.two
-
--- flash that has been erased
-unfoldable pub erased : ℕ → List ℕ
-erased n = replicate n 0xFF
 
 -- sector 0 of the flash, with which an image begins too
 unfoldable pub first_sector : List ℕ → List ℕ

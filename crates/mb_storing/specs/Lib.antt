@@ -3,3 +3,4 @@ pub mod InForce
 pub mod CommitLaws
 pub mod Storable
 pub mod StorableLaws
+pub mod Holding

@@ -16,7 +16,8 @@ use Rattle.mb_model.specs.declared.first.Ownership.{Ownership}
 use Rattle.mb_model.specs.declared.first.FirstState.{FirstState}
 use Rattle.mb_model.specs.Key.{key_bytes, IsSized}
 use Rattle.mb_model.specs.LayerFormat.{trust_byte}
-use Rattle.mb_model.specs.FirstPath.{FirstOrder, SpellsFirst, body_bytes, order_bytes, ownership_bytes, state_bytes, erased, IsSectorOf}
+use Rattle.mb_model.specs.FirstPath.{FirstOrder, SpellsFirst, body_bytes, order_bytes, ownership_bytes, state_bytes, IsSectorOf}
+use Rattle.mb_model.specs.Board.{erased}
 use Rattle.mb_model.proofs.KeyLemmas.{cons_same, length-key_bytes, key_bytes-same}
 use Rattle.mb_model.proofs.FirstPathLemmas.{key_front, trust_front, ownership_front, order_bytes-flat, owned_bytes-flat, state_bytes-flat}
 use Rattle.mb_top.specs.Records.{BeginsKey, BeginsTrust, BeginsOwnership, IsSignaturePart}

@@ -5,7 +5,8 @@ use Rattle.mb_model.specs.declared.first.Ownership.{Ownership}
 use Rattle.mb_model.specs.declared.first.FirstState.{FirstState}
 use Rattle.mb_model.specs.Key.{key_bytes}
 use Rattle.mb_model.specs.LayerFormat.{trust_byte}
-use Rattle.mb_model.specs.FirstPath.{ownership_bytes, state_bytes, erased, IsFirstState, IsSectorOf}
+use Rattle.mb_model.specs.FirstPath.{ownership_bytes, state_bytes, IsFirstState, IsSectorOf}
+use Rattle.mb_model.specs.Board.{erased}
 use Rattle.mb_top.specs.Records.{IsFilled}
 
 -- how much of a sector is erased shows by its length

@@ -5,7 +5,8 @@ use Rattle.mb_model.specs.declared.key.PublicKey.{PublicKey}
 use Rattle.mb_model.specs.declared.key.Trust.{Trust}
 use Rattle.mb_model.specs.declared.first.Ownership.{Ownership}
 use Rattle.mb_model.specs.Key.{key_bytes}
-use Rattle.mb_model.specs.FirstPath.{IsFirstKey, ownership_bytes, erased}
+use Rattle.mb_model.specs.FirstPath.{IsFirstKey, ownership_bytes}
+use Rattle.mb_model.specs.Board.{erased}
 use Rattle.mb_model.specs.LayerFormat.{trust_byte}
 
 -- a key of the first path, and the bytes after it

@@ -2,7 +2,7 @@
 
 ghost use Rattle.std.specs.Prelude.{◌≡◌, length, IfOk};
 ghost use Rattle.std.specs.Bool.{OnTrue};
-ghost use Rattle.mb_model.specs.FirstPath.{erased};
+ghost use Rattle.mb_model.specs.Board.{erased};
 
 use super::*;
 use mb_model::{Bytes, IMAGE_LENGTH};
@@ -23,7 +23,7 @@ fn is_order(event: &Option<Event>) -> bool {
     }
 }
 
-#[tactic(auto, unfolding(mb_model::specs::FirstPath::erased))]
+#[tactic(auto, unfolding(mb_model::specs::Board::erased))]
 fn is_blank(bytes: &[u8; 4]) -> bool
     ensures { OnTrue result (bytes.now ≡ erased 4) }
 {

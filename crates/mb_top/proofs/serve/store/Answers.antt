@@ -1,5 +1,6 @@
 use Rattle.std.proofs.Common.{ℕ, length, ◌∙◌, sym, subst, ap, arith}
-use Rattle.mb_model.specs.FirstPath.{IsSectorOf, first_sector, erased}
+use Rattle.mb_model.specs.FirstPath.{IsSectorOf, first_sector}
+use Rattle.mb_model.specs.Board.{erased}
 use Rattle.mb_model.specs.Pieces.{part}
 use Rattle.mb_model.proofs.Places.{length-erased, length-put, part-put}
 use Rattle.mb_top.proofs.Sectors.{first_sector-put_start}

@@ -1,0 +1,53 @@
+-- What a write call of a board leaves. What can a power loss do in the middle of a write?
+use Rattle.std.specs.Prelude.{◌≡◌, ℕ, ◌+◌, ◌≤◌, nat_lt, List, length, Bool, true, false, Result, Ok, Err, OnErr, if◌then◌else◌}
+use Rattle.mb_model.specs.Board.{Memory, Meter, Held, phase_at, put}
+
+-- after a stop power is off
+abbrev pub power_of : {A E : Type 0} → Result A E → Bool
+power_of (Ok value) = true
+power_of (Err stop) = false
+
+-- and the level is 0
+abbrev pub level_of : {A E : Type 0} → Result A E → ℕ → ℕ
+level_of (Ok value) level = level
+level_of (Err stop) level = 0
+
+-- one more write call, of which no more than 1,000 are counted
+abbrev pub one_more : ℕ → ℕ
+one_more writes = if nat_lt writes 1000 then writes + 1 else writes
+
+-- Each call is counted. A stop is counted as one too, and after it no power loss is armed.
+abbrev pub metered : {A E : Type 0} → Result A E → Meter → Meter
+metered (Ok value) meter = record meter { writes = one_more meter.writes }
+metered (Err stop) meter =
+    record { armed = false; stops = meter.stops + 1; writes = one_more meter.writes }
+
+-- Of a range of a memory any bytes were written; all others are as before.
+pub record Torn (at n : ℕ) (before after : List ℕ) : Type 0 where
+  pub written : List ℕ
+  pub sized : length written ≡ n
+  pub whole : after ≡ put at written before
+
+-- what a board holds, by its power and the level of its ratchet
+abbrev pub held_by : Memory → Bool → ℕ → Meter → Held
+held_by memory power level meter =
+    record { memory = memory; phase = phase_at power level; armed = meter.armed }
+
+-- ---- several calls
+
+-- whether a power loss is armed, and how often one has stopped a call, after calls that ended so
+abbrev pub armed_by : {A E : Type 0} → Result A E → Bool → Bool
+armed_by (Ok value) armed = armed
+armed_by (Err stop) armed = false
+
+abbrev pub stops_by : {A E : Type 0} → Result A E → ℕ → ℕ
+stops_by (Ok value) stops = stops
+stops_by (Err stop) stops = stops + 1
+
+-- Calls of which at most n write came to this result: they were stopped only by a power loss that was armed, and then
+-- the count of stops rose by one.
+pub record IsMetered (n : ℕ) {A E : Type 0} (result : Result A E) (before after : Meter) : Type 0 where
+  pub armed : after.armed ≡ armed_by result before.armed
+  pub stops : after.stops ≡ stops_by result before.stops
+  pub writes : after.writes ≤ before.writes + n
+  pub cut : OnErr result (before.armed ≡ true)

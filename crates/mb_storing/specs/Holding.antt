@@ -1,0 +1,29 @@
+-- What a board's memory holds, and its regions by the number of their slot.
+use Rattle.std.specs.Prelude.{ℕ, ◌==◌, Option, Some, if◌then◌else◌}
+use Rattle.mb_model.specs.declared.region.Region.{Region}
+use Rattle.mb_model.specs.declared.state.State.{State}
+use Rattle.mb_model.specs.declared.stored.Fate.{Fate}
+use Rattle.mb_model.specs.declared.stored.Pending.{Pending}
+use Rattle.mb_model.specs.Board.{Memory}
+use Rattle.mb_model.specs.Meaning.{Contents, HoldsContents, StandsFor, fate_of_two, fate_of_three}
+
+-- the memory holds these contents
+abbrev pub Holds : Memory → Contents → Type 0
+Holds memory contents = HoldsContents memory.flash memory.bbram contents
+
+-- the memory stands for this live state
+abbrev pub Means : Memory → State → Type 0
+Means memory state = StandsFor memory.flash memory.bbram (Some state)
+
+-- the region in slot 2 or 3
+abbrev pub region_in_slot : ℕ → Contents → Region
+region_in_slot slot contents = if slot == 2 then contents.two else contents.three
+
+-- the same contents with this region in slot 2 or 3
+abbrev pub with_region_in : ℕ → Region → Contents → Contents
+with_region_in slot region contents =
+    if slot == 2 then record contents { two = region } else record contents { three = region }
+
+-- what is to be done to the region in slot 2 or 3
+abbrev pub fate_in_slot : ℕ → Option Pending → Fate
+fate_in_slot slot pending = if slot == 2 then fate_of_two pending else fate_of_three pending
