@@ -1,4 +1,4 @@
-use Rattle.std.proofs.Common.{◌≡◌, sym, ap, ◌∙◌, find, arith}
+use Rattle.std.proofs.Common.{sym, ap, ◌∙◌, find, arith}
 use Rattle.mb_model.specs.LayerEvents.{has_number, with_use}
 use Rattle.mb_layout.specs.Edits.{used}
 use Rattle.mb_layout.proofs.RegionParts.{uses_fit}
