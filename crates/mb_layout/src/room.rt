@@ -1,0 +1,51 @@
+//! The buffers in which a device works.
+
+ghost use Rattle.std.specs.Prelude.{◌≡◌, ◌≤◌, [], length, vec_len, vec_capacity, IfOk};
+ghost use Rattle.mb_layout.specs.Rooms.{HasRoom};
+
+use mb_model::NoMemory;
+use std::alloc::Global;
+
+/// The most bytes of the public record.
+const PUBLIC_ROOM: usize = 470_000;
+
+/// The number of bytes of an area of the battery-backed memory.
+const AREA_ROOM: usize = 4_096;
+
+/// The buffers in which a device works, with room for all that it writes: 470,000, 4,096 and 4,096 bytes.
+#[derive(Drop)]
+pub struct Room {
+    /// The public record that is written next.
+    pub public: Vec<u8>,
+    /// Working space, on which nobody relies after a call.
+    pub area: Vec<u8>,
+    /// More working space.
+    pub other: Vec<u8>,
+}
+
+impl Room {
+    /// Empty buffers with their room. `NoMemory` where an allocation fails.
+    pub fn new(alloc: Global) -> Result<Room, NoMemory>
+        ensures room { IfOk result (λ room. HasRoom room) }
+        ensures empty { IfOk result (λ room. room.public.items ≡ []) }
+    {
+        let public = Vec::with_capacity(alloc, PUBLIC_ROOM)?;
+        let area = Vec::with_capacity(alloc, AREA_ROOM)?;
+        let other = Vec::with_capacity(alloc, AREA_ROOM)?;
+        Ok(Room {
+            public,
+            area,
+            other,
+        })
+    }
+}
+
+/// Gives a buffer with room for an area of the battery-backed memory the length of one, 4,096 bytes.
+pub fn make_area(buffer: &mut Vec<u8>)
+    requires { 4096 ≤ vec_capacity buffer.old }
+    ensures length { length buffer.new.items ≡ 4096 }
+    ensures len { vec_len buffer.new ≡ 4096 }
+    ensures capacity { vec_capacity buffer.old ≤ vec_capacity buffer.new }
+{
+    let _ = buffer.resize(AREA_ROOM, 0);
+}

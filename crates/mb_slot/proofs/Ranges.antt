@@ -1,0 +1,71 @@
+-- What a torn write leaves, byte by byte.
+use Rattle.std.proofs.Common.{◌≡◌, ℕ, ◌+◌, ◌-◌, ◌<◌, ◌≤◌, ◌⊎◌, inl, inr, List, [], ◌∷◌, length, get_or, drop, refl, ap, sym, ◌∙◌, arith}
+use Rattle.std.proofs.lemmas.List.{ext_get_or, get_or-take, get_or-drop}
+use Rattle.mb_model.specs.Pieces.{part}
+use Rattle.mb_model.specs.Board.{put}
+use Rattle.mb_model.proofs.Places.{length-part, length-put, take-put_below, drop-put_above, part-put}
+use Rattle.mb_board.specs.Calls.{Torn}
+use Rattle.mb_slot.specs.Slots.{IsOutside, IsSameOutside}
+
+-- ---- single bytes
+
+get_or-put_below : (at i : ℕ) (bytes memory : List ℕ) → i < at → at ≤ length memory → get_or (put at bytes memory) i 0 ≡ get_or memory i 0
+get_or-put_below at i bytes memory below within =
+    sym (get_or-take at (put at bytes memory) i 0 below)
+    ∙ ap (λ (xs : List ℕ). get_or xs i 0) (take-put_below at at bytes memory (omega arith) within)
+    ∙ get_or-take at memory i 0 below
+
+get_or-from : (n i : ℕ) (xs : List ℕ) → n ≤ i → get_or (drop n xs) (i - n) 0 ≡ get_or xs i 0
+get_or-from n i xs from =
+    let whole : n + (i - n) ≡ i = omega arith in
+    get_or-drop n xs (i - n) 0 ∙ ap (λ (k : ℕ). get_or xs k 0) whole
+
+get_or-put_above : (at i : ℕ) (bytes memory : List ℕ) → at + length bytes ≤ i → at ≤ length memory → get_or (put at bytes memory) i 0 ≡ get_or memory i 0
+get_or-put_above at i bytes memory above within =
+    let end : ℕ = at + length bytes in
+    sym (get_or-from end i (put at bytes memory) above)
+    ∙ ap (λ (xs : List ℕ). get_or xs (i - end) 0) (drop-put_above end at bytes memory (omega arith) within)
+    ∙ get_or-from end i memory above
+
+-- the byte that was put
+pub get_or-put_byte : (at byte : ℕ) (memory : List ℕ) → at ≤ length memory → get_or (put at (byte ∷ []) memory) at 0 ≡ byte
+get_or-put_byte at byte memory within =
+    let written : part at 1 (put at (byte ∷ []) memory) ≡ byte ∷ [] = part-put at 1 (byte ∷ []) memory refl within in
+    sym (get_or-from at at (put at (byte ∷ []) memory) (omega arith))
+    ∙ ap (λ (k : ℕ). get_or (drop at (put at (byte ∷ []) memory)) k 0) (omega arith)
+    ∙ sym (get_or-take 1 (drop at (put at (byte ∷ []) memory)) 0 0 (omega arith))
+    ∙ ap (λ (xs : List ℕ). get_or xs 0 0) written
+
+-- ---- ranges
+
+put_outside : (at n offset : ℕ) (bytes memory : List ℕ) → length bytes ≡ n → at + n ≤ length memory → IsOutside at n offset → get_or (put at bytes memory) offset 0 ≡ get_or memory offset 0
+put_outside at n offset bytes memory sized within (inl below) = get_or-put_below at offset bytes memory below (omega arith)
+put_outside at n offset bytes memory sized within (inr above) = get_or-put_above at offset bytes memory (omega arith) (omega arith)
+
+-- after bytes were put, a memory is the same outside of them
+pub put_same : (at n : ℕ) (bytes memory : List ℕ) → length bytes ≡ n → at + n ≤ length memory → IsSameOutside at n memory (put at bytes memory)
+put_same at n bytes memory sized within = record {
+  sized = length-put at bytes memory (omega arith);
+  bytes = λ offset outside. put_outside at n offset bytes memory sized within outside;
+}
+
+-- so it is after a torn write
+pub torn_same : (at n : ℕ) (before after : List ℕ) → at + n ≤ length before → Torn at n before after → IsSameOutside at n before after
+torn_same at n before after within torn = rw torn.whole (put_same at n torn.written before torn.sized within)
+
+-- a part whose every byte is the same is the same
+pub part_same : (from n : ℕ) (before after : List ℕ) → length after ≡ length before → from + n ≤ length before
+    → ((offset : ℕ) → from ≤ offset → offset < from + n → get_or after offset 0 ≡ get_or before offset 0) → part from n after ≡ part from n before
+part_same from n before after sized within same =
+    let count : length (part from n after) ≡ n = length-part from n after (omega arith) in
+    ext_get_or 0 (part from n after) (part from n before) (count ∙ sym (length-part from n before within))
+    (λ i less.
+    let short : i < n = omega arith in
+    get_or-take n (drop from after) i 0 short ∙ get_or-drop from after i 0
+    ∙ same (from + i) (omega arith) (omega arith)
+    ∙ sym (get_or-drop from before i 0) ∙ sym (get_or-take n (drop from before) i 0 short))
+
+-- a part apart from the bytes that may differ is the same
+pub apart_same : (from n at count : ℕ) (before after : List ℕ) → IsSameOutside at count before after → from + n ≤ length before → (from + n ≤ at) ⊎ (at + count ≤ from) → part from n after ≡ part from n before
+apart_same from n at count before after same within (inl below) = part_same from n before after same.sized within (λ offset least most. same.bytes offset (inl (omega arith)))
+apart_same from n at count before after same within (inr above) = part_same from n before after same.sized within (λ offset least most. same.bytes offset (inr (omega arith)))

@@ -1,0 +1,63 @@
+-- What a call on a slot of the battery-backed memory may need, and what it may change. Can a write to one slot reach
+-- another?
+use Rattle.std.specs.Prelude.{◌≡◌, ◌≢◌, ℕ, ◌+◌, ◌<◌, ◌≤◌, ◌%◌, ◌==◌, ◌⊎◌, List, length, slice_index, Bool, true, not, if◌then◌else◌}
+use Rattle.mb_model.specs.Memory.{slots, area_length, selector_of, current, other}
+use Rattle.mb_board.specs.Reach.{Reached}
+use Rattle.mb_model.specs.Board.{Memory, IsLoaded}
+
+-- A slot can be used where power is on, the level of the ratchet reaches it, and a memory is loaded.
+pub record CanUse (power : Bool) (level : ℕ) (memory : Memory) (slot : ℕ) : Type 0 where
+  pub on : power ≡ true
+  pub least : 1 ≤ slot
+  pub most : slot ≤ 3
+  pub reached : level ≤ slot
+  pub loaded : IsLoaded memory
+
+-- ---- where the areas of a slot stand
+
+-- the first area is in force, by the parity of the selector
+abbrev pub is_first_in_force : List ℕ → ℕ → Bool
+is_first_in_force bbram slot = selector_of bbram slot % 2 == 0
+
+-- the offset of the first area of a slot, or of its second
+abbrev pub offset_of : ℕ → Bool → ℕ
+offset_of slot is_first = if is_first then (slots slot).first else (slots slot).second
+
+-- the offset of the area in force, and that of the other
+abbrev pub current_offset : List ℕ → ℕ → ℕ
+current_offset bbram slot = offset_of slot (is_first_in_force bbram slot)
+
+abbrev pub other_offset : List ℕ → ℕ → ℕ
+other_offset bbram slot = offset_of slot (not (is_first_in_force bbram slot))
+
+-- this is the offset wanted, and an area stands there that the level reaches
+pub record IsAreaAt (level wanted at : ℕ) : Type 0 where
+  pub same : at ≡ wanted
+  pub within : at + 4096 ≤ 28672
+  pub reached : Reached level at 4096
+
+-- the area that was in force is the other one now, and the other one is in force
+pub record AreExchanged (slot : ℕ) (before after : List ℕ) : Type 0 where
+  pub in_force : current after slot ≡ other before slot
+  pub not_in_force : other after slot ≡ current before slot
+
+-- ---- what stays
+
+-- an offset is outside of so many bytes from another on
+abbrev pub IsOutside : ℕ → ℕ → ℕ → Type 0
+IsOutside at n offset = (offset < at) ⊎ (at + n ≤ offset)
+
+-- two memories of one length are the same outside of so many bytes
+pub record IsSameOutside (at n : ℕ) (before after : List ℕ) : Type 0 where
+  pub sized : length after ≡ length before
+  pub bytes : (offset : ℕ) → IsOutside at n offset → slice_index after offset ≡ slice_index before offset
+
+-- they are the same but for the selector and the areas of a slot
+pub record IsSameBut (slot : ℕ) (before after : List ℕ) : Type 0 where
+  pub sized : length after ≡ length before
+  pub bytes : (offset : ℕ) → offset ≢ (slots slot).selector → IsOutside (slots slot).first area_length offset
+      → IsOutside (slots slot).second area_length offset → slice_index after offset ≡ slice_index before offset
+
+-- they are the same but for the area of a slot that is not in force
+abbrev pub IsSameButOther : ℕ → List ℕ → List ℕ → Type 0
+IsSameButOther slot before after = IsSameOutside (other_offset before slot) area_length before after

@@ -1,0 +1,165 @@
+//! The two areas of a slot, and the selector between them.
+
+ghost use Rattle.std.specs.Prelude.{◌≡◌, ◌≢◌, ℕ, ◌≤◌, ◌+◌, ◌%◌, ◌==◌, ◌⊎◌, ◌↔◌, length, IsTrue, OnOk, Ok, slice_index};
+ghost use Rattle.mb_model.specs.Memory.{slots, IsBlank, selector_of, current, other};
+ghost use Rattle.mb_model.specs.Board.{IsLoaded};
+ghost use Rattle.mb_board.specs.Calls.{power_of, level_of, IsMetered};
+ghost use Rattle.mb_storing.specs.InForce.{AgreeBesides};
+ghost use Rattle.mb_slot.specs.Slots.{CanUse, is_first_in_force, offset_of, current_offset, other_offset, IsAreaAt, AreExchanged, IsSameBut, IsSameButOther};
+
+use mb_board::{Board, Stopped};
+
+/// Whether the first area of the slot is in force.
+fn is_first_in_force<B: Board>(b: &B, slot: u16) -> bool
+    requires { CanUse (B.power b.now) (B.level b.now) (B.memory b.now) slot }
+    ensures { result ≡ is_first_in_force (B.memory b.now).bbram slot }
+{
+    let mut selector = [0; 1];
+    b.bbram_read(slot, &mut selector);
+    selector[0] % 2 == 0
+}
+
+/// The offset of the first or the second area of a slot.
+fn offset_of(slot: u16, is_first: bool) -> u16
+    requires least { 1 ≤ slot }
+    requires most { slot ≤ 3 }
+    ensures { result ≡ offset_of slot is_first }
+{
+    if is_first {
+        8192 * slot - 4096
+    } else {
+        8192 * slot
+    }
+}
+
+/// The offset of the area that is in force in the slot.
+fn current_at<B: Board>(b: &B, slot: u16) -> u16
+    requires { CanUse (B.power b.now) (B.level b.now) (B.memory b.now) slot }
+    ensures { IsAreaAt (B.level b.now) (current_offset (B.memory b.now).bbram slot) result }
+{
+    offset_of(slot, is_first_in_force(b, slot))
+}
+
+/// The offset of the area that is not in force in the slot.
+fn other_at<B: Board>(b: &B, slot: u16) -> u16
+    requires { CanUse (B.power b.now) (B.level b.now) (B.memory b.now) slot }
+    ensures { IsAreaAt (B.level b.now) (other_offset (B.memory b.now).bbram slot) result }
+{
+    offset_of(slot, !is_first_in_force(b, slot))
+}
+
+/// Replaces the area that is not in force by these 4,096 bytes.
+fn write_other<B: Board>(b: &mut B, slot: u16, area: &[u8]) -> Result<(), Stopped>
+    requires can_use { CanUse (B.power b.old) (B.level b.old) (B.memory b.old) slot }
+    requires area { length area.now ≡ 4096 }
+    ensures done { OnOk result (other (B.memory b.new).bbram slot ≡ area.now) }
+    ensures current { current (B.memory b.new).bbram slot ≡ current (B.memory b.old).bbram slot }
+    ensures rest { IsSameButOther slot (B.memory b.old).bbram (B.memory b.new).bbram }
+    ensures sized { IsLoaded (B.memory b.new) }
+    ensures flash { (B.memory b.new).flash ≡ (B.memory b.old).flash }
+    ensures power { B.power b.new ≡ power_of result }
+    ensures level { B.level b.new ≡ level_of result (B.level b.old) }
+    ensures ledger { B.ledger b.new ≡ B.ledger b.old }
+    ensures meter { IsMetered 1 result (B.meter b.old) (B.meter b.new) }
+{
+    b.bbram_write(other_at(b, slot), area)
+}
+
+/// A selector by which the first or the second area of a slot is in force.
+fn selector_for(is_first: bool) -> u8
+    ensures { (result % 2 == 0) ≡ is_first }
+{
+    if is_first { 0 } else { 1 }
+}
+
+/// Puts the other area in force.
+fn flip<B: Board>(b: &mut B, slot: u16) -> Result<(), Stopped>
+    requires can_use { CanUse (B.power b.old) (B.level b.old) (B.memory b.old) slot }
+    ensures done { OnOk result (AreExchanged slot (B.memory b.old).bbram (B.memory b.new).bbram) }
+    ensures either { (current (B.memory b.new).bbram slot ≡ current (B.memory b.old).bbram slot)
+        ⊎ (current (B.memory b.new).bbram slot ≡ other (B.memory b.old).bbram slot) }
+    ensures rest { IsSameBut slot (B.memory b.old).bbram (B.memory b.new).bbram }
+    ensures sized { IsLoaded (B.memory b.new) }
+    ensures flash { (B.memory b.new).flash ≡ (B.memory b.old).flash }
+    ensures power { B.power b.new ≡ power_of result }
+    ensures level { B.level b.new ≡ level_of result (B.level b.old) }
+    ensures ledger { B.ledger b.new ≡ B.ledger b.old }
+    ensures meter { IsMetered 1 result (B.meter b.old) (B.meter b.new) }
+{
+    let selector = selector_for(!is_first_in_force(b, slot));
+    b.bbram_write(slot, &[selector])
+}
+
+/// The area of 4,096 bytes that is in force in the slot.
+pub fn read_current<B: Board>(b: &B, slot: u16, out: &mut [u8])
+    requires can_use { CanUse (B.power b.now) (B.level b.now) (B.memory b.now) slot }
+    requires room { length out.old ≡ 4096 }
+    ensures { out.new ≡ current (B.memory b.now).bbram slot }
+{
+    b.bbram_read(current_at(b, slot), out);
+}
+
+/// The area of 4,096 bytes that is not in force in the slot.
+pub fn read_other<B: Board>(b: &B, slot: u16, out: &mut [u8])
+    requires can_use { CanUse (B.power b.now) (B.level b.now) (B.memory b.now) slot }
+    requires room { length out.old ≡ 4096 }
+    ensures { out.new ≡ other (B.memory b.now).bbram slot }
+{
+    b.bbram_read(other_at(b, slot), out);
+}
+
+/// Whether each byte of the area that is not in force is zero.
+pub fn is_other_blank<B: Board>(b: &B, slot: u16) -> bool
+    requires can_use { CanUse (B.power b.now) (B.level b.now) (B.memory b.now) slot }
+    ensures { IsTrue result ↔ IsBlank (other (B.memory b.now).bbram slot) }
+{
+    let mut area = [0; 4096];
+    read_other(b, slot, &mut area);
+    area.iter().all(|byte| *byte == 0)
+}
+
+/// Puts an area of 4,096 bytes in force in the slot; the one that was in force becomes the other. Where power fails, the
+/// one or the other of them is in force, whole. There are at most two write calls.
+pub fn commit<B: Board>(b: &mut B, slot: u16, area: &[u8]) -> Result<(), Stopped>
+    requires can_use { CanUse (B.power b.old) (B.level b.old) (B.memory b.old) slot }
+    requires area { length area.now ≡ 4096 }
+    ensures done { OnOk result (current (B.memory b.new).bbram slot ≡ area.now) }
+    ensures left { OnOk result (other (B.memory b.new).bbram slot ≡ current (B.memory b.old).bbram slot) }
+    ensures either { (current (B.memory b.new).bbram slot ≡ current (B.memory b.old).bbram slot)
+        ⊎ (current (B.memory b.new).bbram slot ≡ area.now) }
+    ensures besides { AgreeBesides slot (B.memory b.old).bbram (B.memory b.new).bbram }
+    ensures rest { IsSameBut slot (B.memory b.old).bbram (B.memory b.new).bbram }
+    ensures sized { IsLoaded (B.memory b.new) }
+    ensures flash { (B.memory b.new).flash ≡ (B.memory b.old).flash }
+    ensures power { B.power b.new ≡ power_of result }
+    ensures level { B.level b.new ≡ level_of result (B.level b.old) }
+    ensures ledger { B.ledger b.new ≡ B.ledger b.old }
+    ensures meter { IsMetered 2 result (B.meter b.old) (B.meter b.new) }
+{
+    write_other(b, slot, area)?;
+    flip(b, slot)
+}
+
+/// Sets each byte of the area that is not in force to zero, where one is not. There is at most one write call.
+pub fn wipe_other<B: Board>(b: &mut B, slot: u16) -> Result<(), Stopped>
+    requires can_use { CanUse (B.power b.old) (B.level b.old) (B.memory b.old) slot }
+    ensures blank { OnOk result (IsBlank (other (B.memory b.new).bbram slot)) }
+    ensures current { current (B.memory b.new).bbram slot ≡ current (B.memory b.old).bbram slot }
+    ensures idle { IsBlank (other (B.memory b.old).bbram slot)
+        → (result ≡ Ok tt) × (B.memory b.new ≡ B.memory b.old) × (B.meter b.new ≡ B.meter b.old) }
+    ensures others { (m : ℕ) → 1 ≤ m → m ≤ 3 → m ≢ slot
+        → other (B.memory b.new).bbram m ≡ other (B.memory b.old).bbram m }
+    ensures besides { AgreeBesides slot (B.memory b.old).bbram (B.memory b.new).bbram }
+    ensures rest { IsSameButOther slot (B.memory b.old).bbram (B.memory b.new).bbram }
+    ensures sized { IsLoaded (B.memory b.new) }
+    ensures flash { (B.memory b.new).flash ≡ (B.memory b.old).flash }
+    ensures power { B.power b.new ≡ power_of result }
+    ensures level { B.level b.new ≡ level_of result (B.level b.old) }
+    ensures ledger { B.ledger b.new ≡ B.ledger b.old }
+    ensures meter { IsMetered 1 result (B.meter b.old) (B.meter b.new) }
+{
+    if is_other_blank(b, slot) {
+        return Ok(());
+    }
+    write_other(b, slot, &[0; 4096])
+}
