@@ -1,12 +1,12 @@
 -- The unsigned entries of a public record: where they stand, and what the record is with them signed.
-use Rattle.std.proofs.Common.{◌≡◌, ℕ, zero, suc, ◌+◌, ◌*◌, ◌-◌, ◌<◌, ◌≤◌, lit<, lit≤, Option, Some, None, Result, Ok, Err, List, [], ◌∷◌, ◌++◌, length, map, get_or, take, drop, refl, sym, ap, ◌∙◌, append-nil, append_assoc, length-append, length-drop, take-append-drop, arith}
+use Rattle.std.proofs.Common.{◌≡◌, ℕ, suc, ◌+◌, ◌-◌, ◌<◌, ◌≤◌, lit<, Some, Result, Ok, Err, List, [], ◌∷◌, ◌++◌, length, map, get_or, take, drop, refl, sym, ap, ◌∙◌, append-nil, append_assoc, length-append, length-drop, take-append-drop, arith}
 use Rattle.std.proofs.lemmas.List.{length-map, drop-drop, drop_all, append_cancel_right, map-append}
 use Rattle.std.proofs.Math.Seq.{drop-append_seam}
 use Rattle.std.specs.Int.{w16}
 use Rattle.std.specs.List.{AllByRecursion}
 use Rattle.std.specs.Global.{Vec}
 use Rattle.std.specs.Vec.{vec_len, vec_capacity}
-use Rattle.mb_format.specs.Format.{Format, IsBytes, SpelledAt, Spells}
+use Rattle.mb_format.specs.Format.{Format, SpelledAt, Spells}
 use Rattle.mb_format.specs.Reading.{IsExact}
 use Rattle.mb_format.specs.Combinators.{mark, between, items, times, number_bytes}
 use Rattle.mb_format.proofs.Fields.{wide16, mark_exact, between_exact}
@@ -201,7 +201,7 @@ too_few_entries lt is codes signed unsigned len s = let b = is codes signed unsi
 
 -- ---- the record with its last entries signed
 
-allowed_split : {A : Type 0} (item : Format A) (xs ys : List A) → (times (length (xs ++ ys)) item).Allowed (xs ++ ys) → (times (length xs) item).Allowed xs × (times (length ys) item).Allowed ys
+pub allowed_split : {A : Type 0} (item : Format A) (xs ys : List A) → (times (length (xs ++ ys)) item).Allowed (xs ++ ys) → (times (length xs) item).Allowed xs × (times (length ys) item).Allowed ys
 unfolding items
 allowed_split item [] ys h = (refl, h)
 allowed_split item (x ∷ xs) ys h = let rest = allowed_split item xs ys h.1 in ((h.0, rest.0), rest.1)

@@ -1,5 +1,5 @@
 -- How a layer is spelled, by what it has.
-use Rattle.std.proofs.Common.{◌≡◌, Bool, true, false, Option, Some, None, ◌++◌, List, ℕ, refl, ap, ◌∙◌, append-nil}
+use Rattle.std.proofs.Common.{◌≡◌, Bool, true, false, Some, None, ◌++◌, List, ℕ, refl, ap, ◌∙◌, append-nil}
 use Rattle.std.specs.Int.{w8}
 use Rattle.mb_format.specs.Combinators.{number, number_bytes}
 use Rattle.mb_model.specs.declared.key.PublicKey.{PublicKey}

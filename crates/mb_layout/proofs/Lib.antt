@@ -1,5 +1,6 @@
 pub mod Areas
 pub mod Completing
+pub mod Unsigned
 pub mod Entries
 pub mod LayerBytes
 pub mod RegionParts

@@ -1,5 +1,5 @@
 -- The record of a region, read in its parts.
-use Rattle.std.proofs.Common.{◌≡◌, ℕ, zero, suc, true, ◌-◌, ◌<◌, ◌≤◌, ◌==◌, inl, inr, List, [], ◌∷◌, ◌++◌, length, take, drop, get_or, Ok, Err, refl, sym, ap, ◌∙◌, length-append, arith}
+use Rattle.std.proofs.Common.{◌≡◌, ℕ, true, ◌-◌, ◌<◌, ◌≤◌, ◌==◌, inl, inr, List, [], ◌∷◌, ◌++◌, length, take, drop, Ok, Err, refl, sym, ap, ◌∙◌, arith}
 use Rattle.std.proofs.lemmas.Bool.{eqb-true}
 use Rattle.std.specs.List.{All}
 use Rattle.mb_format.specs.Combinators.{mark}
@@ -102,6 +102,15 @@ put_whole {E} {region} {secrets} {keys} old new (Err e) p none len room s k allo
     let same : (1 ∷ []) ++ (secrets ++ (keys_format 0).spelling keys) ≡ region_format.spelling region = rw (s, k) refl in
     absurd (omega (arith, p.no_room, len, room, ap length same, region_short.short region allowed))
 
+-- and the buffer has no less room afterwards
+pub put_roomy : {E : Type 0} {secrets : List ℕ} {keys : List RegionKey} (region : Region) (old new : Vec ℕ) (result : Result (Unit {0}) E) → Puts ((1 ∷ []) ++ (secrets ++ (keys_format 0).spelling keys)) old result new
+    → vec_len old ≡ 0 → 3091 ≤ vec_capacity old → secrets ≡ secrets_format.spelling region.secrets → keys ≡ region.keys → region_format.Allowed region → vec_capacity old ≤ vec_capacity new
+unfolding region_format keys_format
+put_roomy {E} {secrets} {keys} region old new (Ok u) p len room s k allowed = p.capacity
+put_roomy {E} {secrets} {keys} region old new (Err e) p len room s k allowed =
+    let same : (1 ∷ []) ++ (secrets ++ (keys_format 0).spelling keys) ≡ region_format.spelling region = rw (s, k) refl in
+    absurd (omega (arith, p.no_room, len, room, ap length same, region_short.short region allowed))
+
 -- the uses of the keys of a region that bytes spell fit into a byte
 pub uses_fit : {bytes : List ℕ} (region : Region) → SpellsRegion bytes region → All HasByteUses region.keys
 uses_fit region (inl none) = λ k d lt. absurd (omega (arith, lt, ap (λ (r : Region). length r.keys) none.1))
@@ -115,3 +124,8 @@ few_keys region (inr allowed) = (region_fits region allowed).keys
 pub stored_after : {region : Region} {bytes : List ℕ} → CanBeStored region → (region ≡ empty_region → ⊥) → (region_format.Allowed region → Spells region_format bytes region) → SpellsRegion bytes region
 stored_after (inl e) not_empty spells = absurd (not_empty e)
 stored_after (inr allowed) not_empty spells = inr (spells allowed)
+
+-- what is stored of a region that is not empty is a record
+pub record_after : {region : Region} {m n : ℕ} → CanBeStored region → (region ≡ empty_region → ⊥) → (region_format.Allowed region → m ≤ n) → m ≤ n
+record_after (inl e) not_empty fits = absurd (not_empty e)
+record_after (inr allowed) not_empty fits = fits allowed

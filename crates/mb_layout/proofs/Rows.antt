@@ -1,5 +1,5 @@
 -- Keys of a row, one after another.
-use Rattle.std.proofs.Common.{◌≡◌, ℕ, suc, ◌+◌, ◌<◌, ◌≤◌, Bool, true, false, cond, Option, Some, None, List, [], ◌∷◌, length, filter, ◌++◌, find, take, drop, refl, sym, ap, ◌∙◌, length-append, lit≤, arith}
+use Rattle.std.proofs.Common.{◌≡◌, ℕ, suc, ◌+◌, ◌<◌, ◌≤◌, Bool, true, false, cond, Some, None, List, [], ◌∷◌, length, filter, ◌++◌, find, take, drop, refl, sym, ap, ◌∙◌, length-append, lit≤, arith}
 use Rattle.std.specs.List.{list_any}
 use Rattle.mb_model.specs.declared.stored.Fate.TheVariants.{AddKey}
 use Rattle.mb_model.specs.Meaning.{fated_keys}

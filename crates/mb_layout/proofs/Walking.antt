@@ -3,12 +3,11 @@ use Rattle.std.proofs.Common.{◌≡◌, ℕ, ◌+◌, ◌-◌, ◌<◌, ◌≤�
 use Rattle.std.proofs.Math.Seq.{take-append_seam}
 use Rattle.mb_format.specs.Format.{Format, Spells}
 use Rattle.mb_format.specs.Reading.{IsExact}
-use Rattle.mb_format.specs.Combinators.{mark}
 use Rattle.mb_format.proofs.Exact.{met}
 use Rattle.mb_format.proofs.Whole.{at_start, whole_spelled}
 use Rattle.mb_format.specs.Format.{IsBytes}
 use Rattle.mb_bytes.specs.declared.cursor.Cursor.{Cursor}
-use Rattle.mb_bytes.specs.Reads.{ReadsOk, ReadsErr}
+use Rattle.mb_bytes.specs.Reads.{ReadsOk}
 use Rattle.mb_bytes.proofs.Exactly.{stands}
 use Rattle.mb_bytes.proofs.Reading.{IsReading, reading_begins, reading_goes_on}
 

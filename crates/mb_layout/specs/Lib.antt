@@ -8,3 +8,4 @@ pub mod StoredRegion
 pub mod Uncopied
 pub mod Walks
 pub mod Rooms
+pub mod UnsignedEntries

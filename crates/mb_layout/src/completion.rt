@@ -1,12 +1,14 @@
 //! The last signatures of a stored public record, without memory.
 
-ghost use Rattle.std.specs.Prelude.{◌≤◌, ◌*◌, ◌+◌, [], ◌∷◌, length, vec_len, vec_capacity};
+ghost use Rattle.std.specs.Prelude.{◌≡◌, ◌≤◌, ◌*◌, ◌+◌, [], ◌∷◌, length, vec_len, vec_capacity};
 ghost use Rattle.mb_layout.specs.Edits.{IsCompleted};
 ghost use Rattle.mb_layout.specs.LastEntries.{FindsLast};
+ghost use Rattle.mb_layout.specs.UnsignedEntries.{PassesEntry, FindsUnsigned, FindsTwoUnsigned};
 
+use crate::entry::entry_at;
 use crate::public::{ENTRIES, public_entry_at, put_signed, stored_codes_at};
 use crate::root::version_at;
-use mb_bytes::{Cursor, u16_between};
+use mb_bytes::{Cursor, flag_at, u16_between};
 use mb_model::BadRecord;
 
 /// A cursor before the last entries of the public record that the bytes spell, where it has as many.
@@ -26,6 +28,50 @@ fn before_last(bytes: &[u8], last: u16) -> Result<Cursor<'_>, BadRecord>
         public_entry_at(&mut cursor)?;
     }
     Ok(cursor)
+}
+
+/// The bytes of the unsigned entry at the cursor's offset, which stands after it then. Nothing is said where there is none.
+fn entry_bytes_at<'a>(cursor: &mut Cursor<'a>) -> &'a [u8]
+    ensures { PassesEntry cursor.old result.now cursor.new }
+{
+    let mut ahead = *cursor;
+    let Ok(_entry) = entry_at(&mut ahead) else {
+        return &[];
+    };
+    let length = ahead.offset() - cursor.offset();
+    let Ok(bytes) = cursor.take_slice(length) else {
+        return &[];
+    };
+    let Ok(_signed) = flag_at(cursor) else {
+        return &[];
+    };
+    bytes
+}
+
+/// The bytes of the one entry of the public record that is not signed, without the byte that says so. Nothing is said
+/// where the bytes are no public record with one such entry.
+pub fn unsigned_entry(bytes: &[u8]) -> &[u8]
+    requires { length bytes.now ≤ 4194304 }
+    ensures { FindsUnsigned bytes.now result.now }
+{
+    let Ok(mut cursor) = before_last(bytes, 1) else {
+        return &[];
+    };
+    entry_bytes_at(&mut cursor)
+}
+
+/// The bytes of the two entries of the public record that are not signed, each without the byte that says so. Nothing is
+/// said where the bytes are no public record with two such entries.
+pub fn two_unsigned_entries(bytes: &[u8]) -> (&[u8], &[u8])
+    requires { length bytes.now ≤ 4194304 }
+    ensures { FindsTwoUnsigned bytes.now result.0.now result.1.now }
+{
+    let Ok(mut cursor) = before_last(bytes, 2) else {
+        return (&[], &[]);
+    };
+    let first = entry_bytes_at(&mut cursor);
+    let second = entry_bytes_at(&mut cursor);
+    (first, second)
 }
 
 fn complete_one(bytes: &mut Vec<u8>, signature: &[u8; 2348])

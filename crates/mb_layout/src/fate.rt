@@ -3,8 +3,9 @@
 ghost use Rattle.std.specs.Prelude.{◌≡◌, ◌≤◌, length, vec_capacity};
 ghost use Rattle.mb_model.specs.declared.region.Region.{Region};
 ghost use Rattle.mb_model.specs.Meaning.{fated, fated_keys};
+ghost use Rattle.mb_model.specs.RegionFormat.{SpellsRegion};
 ghost use Rattle.mb_layout.specs.StoredRegion.{IsStoredAs};
-ghost use Rattle.mb_layout.specs.Edits.{IsFated};
+ghost use Rattle.mb_layout.specs.Edits.{IsFated, CanBeStored};
 
 use crate::row::{KeyRow, epoch_keys, has_key};
 use crate::stored::{StoredRegion, no_region, store, stored_region};
@@ -51,7 +52,9 @@ fn fated_region<'a>(fate: &Fate, stored: StoredRegion<'a>) -> StoredRegion<'a>
 pub fn fate_record(bytes: &[u8], fate: &Fate, out: &mut Vec<u8>)
     requires room { 3091 ≤ vec_capacity out.old }
     requires short { length bytes.now ≤ 4194304 }
-    ensures { IsFated fate.now bytes.now out.new.items }
+    ensures fated { IsFated fate.now bytes.now out.new.items }
+    ensures capacity { (region : Region) → SpellsRegion bytes.now region → CanBeStored (fated fate.now region)
+        → vec_capacity out.old ≤ vec_capacity out.new }
 {
     out.clear();
     let Some(stored) = stored_region(bytes) else {

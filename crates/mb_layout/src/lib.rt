@@ -24,7 +24,7 @@ mod tests;
 mod usage;
 
 pub use area::{fill_area, public_at_start, record_at_start, record_in, region_in, root_in};
-pub use completion::complete_record;
+pub use completion::{complete_record, two_unsigned_entries, unsigned_entry};
 pub use end::LayoutEnd;
 pub use entry::{read_entry, write_entry};
 pub use fate::fate_record;

@@ -101,7 +101,8 @@ fn put_stored(out: &mut Vec<u8>, secrets: &[u8], keys: &[RegionKey]) -> Result<(
 /// Replaces `out` by the record of the region, or by no bytes where it is empty.
 pub fn store(stored: &StoredRegion<'_>, out: &mut Vec<u8>)
     requires { 3091 ≤ vec_capacity out.old }
-    ensures { (region : Region) → IsStoredAs stored.now region → CanBeStored region → SpellsRegion out.new.items region }
+    ensures stored { (region : Region) → IsStoredAs stored.now region → CanBeStored region → SpellsRegion out.new.items region }
+    ensures capacity { (region : Region) → IsStoredAs stored.now region → CanBeStored region → vec_capacity out.old ≤ vec_capacity out.new }
 {
     out.clear();
     if stored.keys.as_slice().len() < stored.least as usize {

@@ -3,7 +3,7 @@
 ghost use Rattle.std.specs.Prelude.{◌≡◌, ◌≤◌, [], length, vec_capacity, OnErr};
 ghost use Rattle.mb_model.specs.RegionFormat.{SpellsRegion};
 ghost use Rattle.mb_model.specs.declared.region.Region.{Region};
-ghost use Rattle.mb_layout.specs.Edits.{UseOf};
+ghost use Rattle.mb_layout.specs.Edits.{UseOf, CanBeStored, used};
 
 use crate::row::{key_of, used_keys};
 use crate::stored::{StoredRegion, store, stored_region};
@@ -29,6 +29,8 @@ pub fn use_in_record(bytes: &[u8], number: u32, out: &mut Vec<u8>) -> Result<Reg
     requires room { 3091 ≤ vec_capacity out.old }
     requires short { length bytes.now ≤ 4194304 }
     ensures used { (region : Region) → SpellsRegion bytes.now region → UseOf region number result out.new.items }
+    ensures capacity { (region : Region) → SpellsRegion bytes.now region → CanBeStored (used number region)
+        → vec_capacity out.old ≤ vec_capacity out.new }
     ensures refused { OnErr result (out.new.items ≡ []) }
 {
     out.clear();

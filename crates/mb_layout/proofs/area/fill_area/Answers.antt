@@ -1,4 +1,3 @@
-use Rattle.std.proofs.Common.{arith}
 use Rattle.mb_layout.proofs.Areas.{fills}
 use Rattle.mb_layout.proofs.area.fill_area.Goals as goal
 

@@ -1,4 +1,3 @@
-use Rattle.std.proofs.Common.{arith}
 use Rattle.std.proofs.lemmas.Result.{err_from_is_err_and}
 use Rattle.mb_layout.proofs.Completing.{version_read, codes_read, number_read, before_first, before_next, next_read, before_last, too_few_entries}
 use Rattle.mb_layout.proofs.completion.before_last.Goals as goal

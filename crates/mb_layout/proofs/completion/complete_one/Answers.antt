@@ -1,4 +1,4 @@
-use Rattle.std.proofs.Common.{◌≡◌, length, ap, ◌∙◌, take, List, ℕ, arith}
+use Rattle.std.proofs.Common.{◌≡◌, length, arith}
 use Rattle.mb_layout.proofs.Completing.{one_signed, first_read}
 use Rattle.mb_layout.proofs.completion.complete_one.Goals as goal
 

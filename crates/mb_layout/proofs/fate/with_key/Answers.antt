@@ -1,5 +1,4 @@
-use Rattle.std.proofs.Common.{◌≡◌, ◌≤◌, ap, ◌∙◌, length, arith}
-use Rattle.mb_layout.proofs.Rows.{added_there, added_full, added_new}
+use Rattle.mb_layout.proofs.Rows.{added_there, added_new}
 use Rattle.mb_layout.proofs.fate.with_key.Goals as goal
 
 pub returns-then-has_key : goal.returns-then-has_key

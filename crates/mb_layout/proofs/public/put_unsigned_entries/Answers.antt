@@ -1,4 +1,3 @@
-use Rattle.std.proofs.Common.{map}
 use Rattle.std.proofs.lemmas.Result.{err_from_is_err_and}
 use Rattle.mb_model.specs.Flash.{without_signature}
 use Rattle.mb_bytes.proofs.Putting.{writing_goes_on, writing_stops, writing_ends}

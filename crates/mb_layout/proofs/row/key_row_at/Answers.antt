@@ -1,4 +1,4 @@
-use Rattle.std.proofs.Common.{ap, length, length-append, ◌∷◌, [], arith}
+use Rattle.std.proofs.Common.{length-append, ◌∷◌, [], arith}
 use Rattle.std.proofs.lemmas.Result.{err_from_is_err_and}
 use Rattle.std.specs.Prelude.{Some}
 use Rattle.std.specs.Int.{w8}

@@ -1,4 +1,4 @@
-use Rattle.std.proofs.Common.{sym, ap, ◌∙◌, List, ◌++◌, ◌∷◌, [], length, map, take, get_or, length-append, arith}
+use Rattle.std.proofs.Common.{sym, ap, ◌∙◌, List, ◌++◌, ◌∷◌, [], length, map, take, length-append, arith}
 use Rattle.std.proofs.lemmas.List.{map_more, take_all}
 use Rattle.mb_model.specs.declared.region.RegionKey.{RegionKey}
 use Rattle.mb_model.specs.LayerEvents.{with_use}

@@ -1,4 +1,4 @@
-use Rattle.std.proofs.Common.{◌≡◌, length, map, take, true}
+use Rattle.std.proofs.Common.{◌≡◌, length, map, take}
 use Rattle.std.specs.List.{All}
 use Rattle.mb_layout.specs.Bounds.{HasByteUses}
 use Rattle.mb_layout.proofs.Rows.{once_more}

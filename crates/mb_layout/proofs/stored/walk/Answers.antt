@@ -1,4 +1,4 @@
-use Rattle.std.proofs.Common.{◌≡◌, ◌∙◌, sym, ap, refl, drop, length, length-drop, arith}
+use Rattle.std.proofs.Common.{◌∙◌, refl, arith}
 use Rattle.std.proofs.lemmas.Result.{err_from_is_err_and}
 use Rattle.mb_model.proofs.RecordFormatLaws.{secrets_exact}
 use Rattle.mb_layout.proofs.Walking.{offsets_ascend}
