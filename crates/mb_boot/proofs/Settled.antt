@@ -1,16 +1,21 @@
 -- How the steps of settling join.
-use Rattle.std.proofs.Common.{◌≡◌, ◌≢◌, ℕ, zero, suc, ◌+◌, ◌-◌, ◌≤◌, ◌⊎◌, inl, inr, List, [], length, refl, sym, ap, subst, ◌∙◌, arith}
+use Rattle.std.proofs.Common.{◌≡◌, ◌≢◌, ℕ, zero, suc, ◌+◌, ◌-◌, ◌≤◌, ◌⊎◌, inl, inr, List, [], length, Option, None, Some, refl, sym, ap, subst, ◌∙◌, arith}
 use Rattle.mb_format.specs.Format.{Spells}
 use Rattle.mb_model.specs.declared.state.State.{State}
 use Rattle.mb_model.specs.declared.stored.Root.{Root}
 use Rattle.mb_model.specs.declared.stored.Fate.{Fate}
+use Rattle.mb_model.specs.declared.stored.Outgoing.{Outgoing}
+use Rattle.mb_model.specs.declared.stored.Pending.{Pending}
+use Rattle.std.specs.Option.{IfSome}
+use Rattle.mb_format.specs.Combinators.{optional}
+use Rattle.mb_model.proofs.FormatBounds.{public_short}
 use Rattle.mb_model.specs.declared.region.Region.{Region}
 use Rattle.mb_model.specs.declared.entry.SignedEntry.{SignedEntry}
 use Rattle.mb_model.specs.Log.{entries_of, layers_of}
-use Rattle.mb_model.specs.RootFormat.{root_format}
+use Rattle.mb_model.specs.RootFormat.{outgoing_format, pending_format, root_format}
 use Rattle.mb_model.specs.Board.{Memory, IsLoaded}
 use Rattle.mb_model.specs.Memory.{IsBlank, current, HoldsRecord}
-use Rattle.mb_model.specs.StoredLog.{HasIndex, completed, AreCounted}
+use Rattle.mb_model.specs.StoredLog.{unsigned_by, outgoing_of, completed, AreCounted}
 use Rattle.mb_model.specs.Flash.{public_format, public_of_parts, flash_area, BeginsArea, BeginsWithRecord, HoldsPublic}
 use Rattle.mb_model.specs.Meaning.{RootIn, Contents, HoldsContents, meant, fated, fate_of_two, fate_of_three}
 use Rattle.mb_model.specs.Clean.{root_of}
@@ -216,3 +221,41 @@ pub finish_keeps : (first applied written last : Memory) → IsLoaded last → K
     → KeepsMeaning first last
 finish_keeps first applied written last sized before fates kept signs (inl same) = keeps_then first written last before (contents_keep written last sized same)
 finish_keeps first applied written last sized before fates kept signs (inr finish) = settling_keeps first last sized (settled first applied written last fates kept signs finish)
+
+-- ---- what a root that is stored has
+
+pub record IsBounded (root : Root) : Type 0 where
+  pub area : root.area ≤ 1
+  pub uses : root.uses ≤ 32
+  pub outgoing : IfSome (outgoing_of root.pending) (λ outgoing. outgoing.uses ≤ 32)
+  pub unsigned : unsigned_by root.pending ≤ 2
+
+handed_over : (outgoing : Option Outgoing) → (optional outgoing_format).Allowed outgoing → IfSome outgoing (λ o. o.uses ≤ 32)
+unfolding outgoing_format
+handed_over None is = tt
+handed_over (Some outgoing) is = is.1.1.1
+
+pending_outgoing : (pending : Option Pending) → (optional pending_format).Allowed pending → IfSome (outgoing_of pending) (λ o. o.uses ≤ 32)
+unfolding pending_format
+pending_outgoing None is = tt
+pending_outgoing (Some pending) is = handed_over pending.outgoing is.1.1.0
+
+pending_unsigned : (pending : Option Pending) → (optional pending_format).Allowed pending → unsigned_by pending ≤ 2
+unfolding pending_format
+pending_unsigned None is = omega arith
+pending_unsigned (Some pending) is = is.1.0.1
+
+bounded_by : (root : Root) → root_format.Allowed root → IsBounded root
+unfolding root_format
+bounded_by root is = record { area = is.1.0.1; uses = is.1.1.1.1.0.1; outgoing = pending_outgoing root.pending is.1.1.1.1.1; unsigned = pending_unsigned root.pending is.1.1.1.1.1 }
+
+pub bounded : (bbram : List ℕ) (root : Root) → IsOnlyRoot bbram root → IsBounded root
+bounded bbram root only = bounded_by root only.holds.holds.spelled.allowed
+
+-- the record that was read leaves room for its signatures
+pub leaves_room : (memory : Memory) (root : Root) (read : List ℕ) → IsLive memory → IsOnlyRoot memory.bbram root → ((bytes : List ℕ) → BeginsArea (flash_area memory.flash root.area) bytes → read ≡ bytes) → length read ≤ 444434
+leaves_room memory root read live only reads =
+    let held = live_contents memory.flash memory.bbram live.state live.means in
+    let public = held.holds.public.begins in
+    let is : read ≡ public.bytes = reads public.bytes (subst (λ (r : Root). BeginsArea (flash_area memory.flash r.area) public.bytes) (only.only held.contents.root held.holds.root) public.begins) in
+    omega (arith, ap length is, ap length public.spelled.whole, public_short.short _ public.spelled.allowed)
