@@ -1,0 +1,14 @@
+use Rattle.std.proofs.Common.{◌∙◌}
+use Rattle.mb_model.specs.Meaning.{fated}
+use Rattle.mb_region.proofs.Replaced.{no_bytes_held, record_short, fated_stands, bytes_read}
+use Rattle.mb_region.proofs.stored.fate_bytes.Goals as goal
+
+pub unreachable-requires : goal.unreachable-requires
+unreachable-requires g c = no_bytes_held _ c.deref.result.now (c.deref.ensures.value ∙ c.read_area.ensures.read) (record { region = c.requires.held.region; holds = c.requires.held.holds }) c.in_default.ensures
+
+pub returns-clause-spelled : goal.returns-clause-spelled
+returns-clause-spelled g c = λ region has.
+    fated_stands c.args.fate.now _ c.deref.result.now c.in-Some.bytes.now c.fate_record.new.out.items region (bytes_read c.deref.ensures.value c.read_area.ensures.bytes) (c.deref.ensures.value ∙ c.read_area.ensures.read) c.requires.held c.in-Some.ensures c.fate_record.ensures has
+
+pub returns-clause-short : goal.returns-clause-short
+returns-clause-short g c = record_short c.fate_record.new.out.items (fated c.args.fate.now c.requires.held.region) (returns-clause-spelled g c c.requires.held.region c.requires.held.holds)

@@ -1,0 +1,34 @@
+-- What is needed to do to a stored region what is pending for it, and what it comes to.
+use Rattle.std.specs.Prelude.{◌≡◌, ℕ, ◌⊎◌, List}
+use Rattle.mb_model.specs.declared.region.Region.{Region}
+use Rattle.mb_model.specs.declared.stored.Fate.{Fate}
+use Rattle.mb_model.specs.Board.{Memory}
+use Rattle.mb_model.specs.Meaning.{HoldsRegion, Contents, fated}
+use Rattle.mb_storing.specs.Holding.{Holds, region_in_slot, with_region_in, fate_in_slot}
+use Rattle.mb_storing.specs.Storable.{HasRegionRecord}
+
+-- an area holds a region that has a record after this fate
+pub record CanBeFated (fate : Fate) (area : List ℕ) : Type 0 where
+  pub region : Region
+  pub holds : HoldsRegion area region
+  pub stored : HasRegionRecord (fated fate region)
+
+-- The memory holds contents for whose region in the slot this fate is pending, and that region has a record after it.
+pub record IsPending (slot : ℕ) (fate : Fate) (memory : Memory) : Type 0 where
+  pub contents : Contents
+  pub holds : Holds memory contents
+  pub pending : (any : Contents) → Holds memory any → fate_in_slot slot any.root.pending ≡ fate
+  pub stored : HasRegionRecord (fated fate (region_in_slot slot contents))
+
+-- the contents after the fate of the region in the slot
+abbrev pub fated_in : ℕ → Fate → Contents → Contents
+fated_in slot fate contents = with_region_in slot (fated fate (region_in_slot slot contents)) contents
+
+-- whatever the memory held, it holds after the fate
+pub record AppliesFate (slot : ℕ) (fate : Fate) (before after : Memory) : Type 0 where
+  pub applied : (contents : Contents) → Holds before contents → Holds after (fated_in slot fate contents)
+
+-- each of the contents that it held stays, or is as after the fate
+abbrev pub KeepsOrApplies : ℕ → Fate → Memory → Memory → Type 0
+KeepsOrApplies slot fate before after =
+    (contents : Contents) → Holds before contents → Holds after contents ⊎ Holds after (fated_in slot fate contents)

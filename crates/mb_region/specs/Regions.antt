@@ -1,0 +1,27 @@
+-- What becomes of the contents of a memory as a region is replaced. Can a power loss leave a part of the new region?
+use Rattle.std.specs.Prelude.{◌≡◌, ℕ, ◌⊎◌, List}
+use Rattle.mb_model.specs.declared.region.Region.{Region}
+use Rattle.mb_model.specs.Board.{Memory}
+use Rattle.mb_model.specs.Meaning.{HoldsRegion, Contents}
+use Rattle.mb_storing.specs.Holding.{Holds, with_region_in}
+
+-- these slots are those of regions
+abbrev pub IsRegionSlot : ℕ → Type 0
+IsRegionSlot slot = (slot ≡ 2) ⊎ (slot ≡ 3)
+
+-- an area holds some region
+pub record HoldsSomeRegion (area : List ℕ) : Type 0 where
+  pub region : Region
+  pub holds : HoldsRegion area region
+
+-- whatever the memory held, it holds
+pub record KeepsContents (before after : Memory) : Type 0 where
+  pub kept : (contents : Contents) → Holds before contents → Holds after contents
+
+-- whatever it held, it holds with this region in the slot
+pub record ReplacesRegion (slot : ℕ) (region : Region) (before after : Memory) : Type 0 where
+  pub replaced : (contents : Contents) → Holds before contents → Holds after (with_region_in slot region contents)
+
+-- it does the one or the other
+abbrev pub KeepsOrReplaces : ℕ → Region → Memory → Memory → Type 0
+KeepsOrReplaces slot region before after = KeepsContents before after ⊎ ReplacesRegion slot region before after

@@ -1,0 +1,19 @@
+//! The places of regions.
+
+ghost use Rattle.std.specs.Prelude.{◌≡◌, ◌⊎◌};
+ghost use Rattle.std.proofs.Common.{rules};
+
+use mb_ratchet::{Place, Three, Two};
+
+/// The place of a region: `Two` or `Three`.
+pub trait Named: Place {
+    ghost named: { (Self.place ≡ 2) ⊎ (Self.place ≡ 3) };
+}
+
+impl Named for Two {
+    ghost named = { Prim.search rules };
+}
+
+impl Named for Three {
+    ghost named = { Prim.search rules };
+}

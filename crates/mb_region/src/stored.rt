@@ -1,0 +1,208 @@
+//! Regions by the number of their slot.
+
+ghost use Rattle.std.specs.Prelude.{◌≡◌, ◌≤◌, ◌⊎◌, length, OnOk, IfOk, vec_capacity};
+ghost use Rattle.mb_format.specs.Format.{IsBytes};
+ghost use Rattle.mb_model.specs.declared.region.Region.{Region};
+ghost use Rattle.mb_model.specs.Board.{IsLoaded};
+ghost use Rattle.mb_model.specs.Memory.{current, other, HoldsInArea};
+ghost use Rattle.mb_model.specs.Meaning.{HoldsRegion, fated};
+ghost use Rattle.mb_model.specs.RegionFormat.{SpellsRegion};
+ghost use Rattle.mb_board.specs.Calls.{power_of, level_of, IsMetered};
+ghost use Rattle.mb_layout.specs.Rooms.{HasRoom};
+ghost use Rattle.mb_storing.specs.InForce.{AgreeBesides};
+ghost use Rattle.mb_storing.specs.Storable.{HasRegionRecord};
+ghost use Rattle.mb_slot.specs.Slots.{CanUse, IsSameBut};
+ghost use Rattle.mb_region.specs.Regions.{IsRegionSlot, HoldsSomeRegion, ReplacesRegion, KeepsOrReplaces};
+ghost use Rattle.mb_region.specs.Fates.{CanBeFated, IsPending, AppliesFate, KeepsOrApplies};
+
+use mb_board::{Board, Stopped};
+use mb_layout::{Room, fate_record, fill_area, make_area, record_in, region_in, write_region};
+use mb_model::{Fate, NoMemory, Region};
+use mb_slot::{commit, read_current};
+use std::alloc::Global;
+
+/// Puts an area with these bytes, of which there are at most 4,094, in force in the slot. `area` is working space.
+fn commit_bytes<B: Board>(
+    b: &mut B,
+    slot: u16,
+    bytes: &[u8],
+    area: &mut Vec<u8>,
+) -> Result<(), Stopped>
+    requires can_use { CanUse (B.power b.old) (B.level b.old) (B.memory b.old) slot }
+    requires short { length bytes.now ≤ 4094 }
+    requires room { 4096 ≤ vec_capacity area.old }
+    ensures done { OnOk result (HoldsInArea (current (B.memory b.new).bbram slot) bytes.now) }
+    ensures either { (current (B.memory b.new).bbram slot ≡ current (B.memory b.old).bbram slot)
+        ⊎ HoldsInArea (current (B.memory b.new).bbram slot) bytes.now }
+    ensures left { OnOk result (other (B.memory b.new).bbram slot ≡ current (B.memory b.old).bbram slot) }
+    ensures besides { AgreeBesides slot (B.memory b.old).bbram (B.memory b.new).bbram }
+    ensures rest { IsSameBut slot (B.memory b.old).bbram (B.memory b.new).bbram }
+    ensures sized { IsLoaded (B.memory b.new) }
+    ensures flash { (B.memory b.new).flash ≡ (B.memory b.old).flash }
+    ensures power { B.power b.new ≡ power_of result }
+    ensures level { B.level b.new ≡ level_of result (B.level b.old) }
+    ensures ledger { B.ledger b.new ≡ B.ledger b.old }
+    ensures meter { IsMetered 2 result (B.meter b.old) (B.meter b.new) }
+    ensures capacity { vec_capacity area.old ≤ vec_capacity area.new }
+{
+    make_area(area);
+    fill_area(bytes, area);
+    commit(b, slot, area)
+}
+
+/// Replaces the region in the slot by the one for which these bytes stand, of which there are at most 4,094. `area` is
+/// working space.
+pub(crate) fn replace<B: Board>(
+    b: &mut B,
+    slot: u16,
+    bytes: &[u8],
+    area: &mut Vec<u8>,
+) -> Result<(), Stopped>
+    requires can_use { CanUse (B.power b.old) (B.level b.old) (B.memory b.old) slot }
+    requires slot { IsRegionSlot slot }
+    requires short { length bytes.now ≤ 4094 }
+    requires room { 4096 ≤ vec_capacity area.old }
+    ensures done { (region : Region) → SpellsRegion bytes.now region
+        → OnOk result (ReplacesRegion slot region (B.memory b.old) (B.memory b.new)) }
+    ensures either { (region : Region) → SpellsRegion bytes.now region
+        → KeepsOrReplaces slot region (B.memory b.old) (B.memory b.new) }
+    ensures left { OnOk result (other (B.memory b.new).bbram slot ≡ current (B.memory b.old).bbram slot) }
+    ensures besides { AgreeBesides slot (B.memory b.old).bbram (B.memory b.new).bbram }
+    ensures rest { IsSameBut slot (B.memory b.old).bbram (B.memory b.new).bbram }
+    ensures sized { IsLoaded (B.memory b.new) }
+    ensures flash { (B.memory b.new).flash ≡ (B.memory b.old).flash }
+    ensures power { B.power b.new ≡ power_of result }
+    ensures level { B.level b.new ≡ level_of result (B.level b.old) }
+    ensures ledger { B.ledger b.new ≡ B.ledger b.old }
+    ensures meter { IsMetered 2 result (B.meter b.old) (B.meter b.new) }
+    ensures capacity { vec_capacity area.old ≤ vec_capacity area.new }
+{
+    commit_bytes(b, slot, bytes, area)
+}
+
+/// Replaces `out` by the bytes that stand for the region: by none where it is empty.
+fn region_bytes(region: &Region, out: &mut Vec<u8>)
+    requires stored { HasRegionRecord region.now }
+    requires room { 4096 ≤ vec_capacity out.old }
+    ensures spelled { SpellsRegion out.new.items region.now }
+    ensures short { length out.new.items ≤ 4094 }
+    ensures capacity { vec_capacity out.old ≤ vec_capacity out.new }
+{
+    out.clear();
+    if region.secrets.as_slice().is_empty() && region.keys.as_slice().is_empty() {
+        return;
+    }
+    let _ = write_region(region, out);
+}
+
+/// Replaces the region in the slot by this one.
+pub(crate) fn store_region<B: Board>(
+    b: &mut B,
+    slot: u16,
+    region: &Region,
+    room: &mut Room,
+) -> Result<(), Stopped>
+    requires can_use { CanUse (B.power b.old) (B.level b.old) (B.memory b.old) slot }
+    requires slot { IsRegionSlot slot }
+    requires stored { HasRegionRecord region.now }
+    requires room { HasRoom room.old }
+    ensures done { OnOk result (ReplacesRegion slot region.now (B.memory b.old) (B.memory b.new)) }
+    ensures either { KeepsOrReplaces slot region.now (B.memory b.old) (B.memory b.new) }
+    ensures left { OnOk result (other (B.memory b.new).bbram slot ≡ current (B.memory b.old).bbram slot) }
+    ensures besides { AgreeBesides slot (B.memory b.old).bbram (B.memory b.new).bbram }
+    ensures rest { IsSameBut slot (B.memory b.old).bbram (B.memory b.new).bbram }
+    ensures sized { IsLoaded (B.memory b.new) }
+    ensures flash { (B.memory b.new).flash ≡ (B.memory b.old).flash }
+    ensures power { B.power b.new ≡ power_of result }
+    ensures level { B.level b.new ≡ level_of result (B.level b.old) }
+    ensures ledger { B.ledger b.new ≡ B.ledger b.old }
+    ensures meter { IsMetered 2 result (B.meter b.old) (B.meter b.new) }
+    ensures room { HasRoom room.new }
+    ensures public { room.new.public ≡ room.old.public }
+{
+    region_bytes(region, &mut room.other);
+    replace(b, slot, &room.other, &mut room.area)
+}
+
+/// Replaces `area` by the area that is in force in the slot.
+fn read_area<B: Board>(b: &B, slot: u16, area: &mut Vec<u8>)
+    requires can_use { CanUse (B.power b.now) (B.level b.now) (B.memory b.now) slot }
+    requires room { 4096 ≤ vec_capacity area.old }
+    ensures read { area.new.items ≡ current (B.memory b.now).bbram slot }
+    ensures bytes { IsBytes area.new.items }
+    ensures capacity { vec_capacity area.old ≤ vec_capacity area.new }
+{
+    make_area(area);
+    read_current(b, slot, area);
+}
+
+/// Replaces `other` of the room by the bytes that stand for the region in the slot after its fate.
+fn fate_bytes<B: Board>(b: &B, slot: u16, fate: &Fate, room: &mut Room)
+    requires can_use { CanUse (B.power b.now) (B.level b.now) (B.memory b.now) slot }
+    requires held { CanBeFated fate.now (current (B.memory b.now).bbram slot) }
+    requires room { HasRoom room.old }
+    ensures spelled { (region : Region) → HoldsRegion (current (B.memory b.now).bbram slot) region
+        → SpellsRegion room.new.other.items (fated fate.now region) }
+    ensures short { length room.new.other.items ≤ 4094 }
+    ensures area { 4096 ≤ vec_capacity room.new.area }
+    ensures public { room.new.public ≡ room.old.public }
+{
+    read_area(b, slot, &mut room.area);
+    let Some(bytes) = record_in(&room.area) else {
+        unreachable!()
+    };
+    fate_record(bytes, fate, &mut room.other);
+}
+
+/// Does to the region in the slot what is pending for it.
+pub(crate) fn finish_fate<B: Board>(
+    b: &mut B,
+    slot: u16,
+    fate: &Fate,
+    room: &mut Room,
+) -> Result<(), Stopped>
+    requires can_use { CanUse (B.power b.old) (B.level b.old) (B.memory b.old) slot }
+    requires slot { IsRegionSlot slot }
+    requires pending { IsPending slot fate.now (B.memory b.old) }
+    requires room { HasRoom room.old }
+    ensures done { OnOk result (AppliesFate slot fate.now (B.memory b.old) (B.memory b.new)) }
+    ensures either { KeepsOrApplies slot fate.now (B.memory b.old) (B.memory b.new) }
+    ensures besides { AgreeBesides slot (B.memory b.old).bbram (B.memory b.new).bbram }
+    ensures rest { IsSameBut slot (B.memory b.old).bbram (B.memory b.new).bbram }
+    ensures sized { IsLoaded (B.memory b.new) }
+    ensures flash { (B.memory b.new).flash ≡ (B.memory b.old).flash }
+    ensures power { B.power b.new ≡ power_of result }
+    ensures level { B.level b.new ≡ level_of result (B.level b.old) }
+    ensures ledger { B.ledger b.new ≡ B.ledger b.old }
+    ensures meter { IsMetered 2 result (B.meter b.old) (B.meter b.new) }
+    ensures area { 4096 ≤ vec_capacity room.new.area }
+    ensures public { room.new.public ≡ room.old.public }
+{
+    if let Fate::Keep = fate {
+        return Ok(());
+    }
+    fate_bytes(b, slot, fate, room);
+    replace(b, slot, &room.other, &mut room.area)
+}
+
+/// The region in the slot. `NoMemory` where an allocation fails.
+pub(crate) fn load_region<B: Board>(
+    alloc: Global,
+    b: &B,
+    slot: u16,
+    room: &mut Room,
+) -> Result<Region, NoMemory>
+    requires can_use { CanUse (B.power b.now) (B.level b.now) (B.memory b.now) slot }
+    requires held { HoldsSomeRegion (current (B.memory b.now).bbram slot) }
+    requires room { HasRoom room.old }
+    ensures region { (region : Region) → HoldsRegion (current (B.memory b.now).bbram slot) region
+        → IfOk result (λ it. it ≡ region) }
+    ensures room { HasRoom room.new }
+    ensures public { room.new.public ≡ room.old.public }
+{
+    read_area(b, slot, &mut room.area);
+    match region_in(alloc, &room.area)? {
+        Some(region) => Ok(region),
+        None => unreachable!(),
+    }
+}
