@@ -7,6 +7,8 @@ use Rattle.mb_model.specs.declared.stored.Fate.{Fate}
 use Rattle.mb_model.specs.declared.stored.Outgoing.{Outgoing}
 use Rattle.mb_model.specs.declared.stored.Pending.{Pending}
 use Rattle.std.specs.Option.{IfSome}
+use Rattle.std.specs.Global.{Vec}
+use Rattle.std.specs.Vec.{vec_len, vec_capacity}
 use Rattle.mb_format.specs.Combinators.{optional}
 use Rattle.mb_model.proofs.FormatBounds.{public_short}
 use Rattle.mb_model.specs.declared.region.Region.{Region}
@@ -31,7 +33,7 @@ use Rattle.mb_storing.proofs.StorableRecords.{region_record, public_room}
 use Rattle.mb_area.specs.Roots.{HasSomeRoot, KeepsContents, Finishes, KeepsOrFinishes, IsReadyToFinish}
 use Rattle.mb_area.specs.Records.{BeginsSome}
 use Rattle.mb_region.specs.Fates.{IsPending, AppliesFate}
-use Rattle.mb_completion.specs.Completions.{PendingIsSigned}
+use Rattle.mb_completion.specs.Completions.{HasLog, PendingIsSigned}
 use Rattle.mb_boot.specs.Settling.{IsLive, IsOnlyRoot, KeepsMeaning, AppliesBoth, SpellsSigned, SignsRecord, IsAtRest, Settles}
 
 -- ---- the meaning
@@ -153,18 +155,31 @@ log_is : (contents : Contents) → (meant contents).log ≡ completed contents.r
 unfolding meant
 log_is contents = refl
 
-pub signed_here : (memory : Memory) (root : Root) (read signed : List ℕ) → IsOnlyRoot memory.bbram root → ((bytes : List ℕ) → BeginsArea (flash_area memory.flash root.area) bytes → read ≡ bytes)
-    → PendingIsSigned root read signed → SpellsSigned memory signed
+-- the record in force was read, and its pending entries were signed
+log_spelled : (memory : Memory) (root : Root) (read signed : Vec ℕ) (contents : Contents) → Holds memory contents → IsOnlyRoot memory.bbram root → ((bytes : List ℕ) → BeginsArea (flash_area memory.flash root.area) bytes → read.items ≡ bytes)
+    → PendingIsSigned root read signed → HasLog contents.codes (completed root contents.signed contents.unsigned) read signed
+log_spelled memory root read signed contents holds only reads signs =
+    let same : contents.root ≡ root = only.only contents.root holds.root in
+    let public = holds.public.begins in
+    let is : read.items ≡ public.bytes = reads public.bytes (subst (λ (r : Root). BeginsArea (flash_area memory.flash r.area) public.bytes) same public.begins) in
+    let here : Spells public_format read.items (public_of_parts contents.codes contents.signed contents.unsigned) =
+    subst (λ (bytes : List ℕ). Spells public_format bytes (public_of_parts contents.codes contents.signed contents.unsigned)) (sym is) public.spelled in
+    let counted : AreCounted root.pending contents.unsigned = subst (λ (r : Root). AreCounted r.pending contents.unsigned) same holds.public.counted in
+    signs contents.codes contents.signed contents.unsigned counted here
+
+pub still_roomy : (memory : Memory) (root : Root) (read signed : Vec ℕ) → IsLive memory → IsOnlyRoot memory.bbram root → ((bytes : List ℕ) → BeginsArea (flash_area memory.flash root.area) bytes → read.items ≡ bytes)
+    → PendingIsSigned root read signed → vec_capacity read ≤ vec_capacity signed
+still_roomy memory root read signed live only reads signs =
+    let held = live_contents memory.flash memory.bbram live.state live.means in
+    (log_spelled memory root read signed held.contents held.holds only reads signs).room
+
+pub signed_here : (memory : Memory) (root : Root) (read signed : Vec ℕ) → IsOnlyRoot memory.bbram root → ((bytes : List ℕ) → BeginsArea (flash_area memory.flash root.area) bytes → read.items ≡ bytes)
+    → PendingIsSigned root read signed → SpellsSigned memory signed.items
 signed_here memory root read signed only reads signs = record {
   spelled = λ contents holds. (
     let same : contents.root ≡ root = only.only contents.root holds.root in
-    let public = holds.public.begins in
-    let is : read ≡ public.bytes = reads public.bytes (subst (λ (r : Root). BeginsArea (flash_area memory.flash r.area) public.bytes) same public.begins) in
-    let here : Spells public_format read (public_of_parts contents.codes contents.signed contents.unsigned) =
-    subst (λ (bytes : List ℕ). Spells public_format bytes (public_of_parts contents.codes contents.signed contents.unsigned)) (sym is) public.spelled in
-    let counted : AreCounted root.pending contents.unsigned = subst (λ (r : Root). AreCounted r.pending contents.unsigned) same holds.public.counted in
-    let done : Spells public_format signed (public_of_parts contents.codes (completed root contents.signed contents.unsigned) []) = signs contents.codes contents.signed contents.unsigned counted here in
-    subst (λ (log : List SignedEntry). Spells public_format signed (public_of_parts contents.codes log []))
+    let done = (log_spelled memory root read signed contents holds only reads signs).spelled in
+    subst (λ (log : List SignedEntry). Spells public_format signed.items (public_of_parts contents.codes log []))
     (ap (λ (r : Root). completed r contents.signed contents.unsigned) (sym same) ∙ sym (log_is contents)) done);
 }
 

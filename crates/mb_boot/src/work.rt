@@ -39,7 +39,7 @@ fn fate_of_three(root: &Root) -> Fate
 }
 
 /// Does to both regions what is to be done to them.
-#[tactic(auto, using(crate::proofs::Settled::two_is_pending, crate::proofs::Settled::three_is_pending, crate::proofs::Settled::both_applied, crate::proofs::Settled::keeps, crate::proofs::Settled::keeps_then, crate::proofs::Settled::live_still, crate::proofs::Settled::two_root_still, crate::proofs::Settled::three_root_still))]
+#[tactic(auto, using(crate::proofs::Settled::two_is_pending, crate::proofs::Settled::keeps))]
 fn apply_fates<B: Board>(
     u: Unsettled,
     b: &mut B,
@@ -69,7 +69,7 @@ fn apply_fates<B: Board>(
 }
 
 /// Replaces `public` of the room by the record in force with every entry signed.
-#[tactic(auto, using(crate::proofs::Settled::some_record, crate::proofs::Settled::signed_here, crate::proofs::Settled::record_is_short))]
+#[tactic(auto, using(crate::proofs::Settled::some_record))]
 fn sign_record<B: Board, L: Ledger>(b: &B, root: &Root, room: &mut Room, steps: &mut Steps<L>)
     requires on { B.power b.now ≡ true }
     requires loaded { IsLoaded (B.memory b.now) }

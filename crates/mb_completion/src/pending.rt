@@ -41,7 +41,7 @@ fn sign_last<L: Ledger>(key: &KeySeed, index: u32, record: &mut Vec<u8>, steps: 
     requires index { index ≤ 31 }
     requires room { vec_len record.old + 2348 ≤ vec_capacity record.old }
     requires short { vec_len record.old ≤ 4194304 }
-    ensures signed { LastIsSigned key.now index record.old.items record.new.items }
+    ensures signed { LastIsSigned key.now index record.old record.new }
     ensures cost { steps.new ≤ steps.old + 35473 }
 {
     let mut signatures = [[0; SIGNATURE_LENGTH]];
@@ -67,7 +67,7 @@ fn sign_last_two<L: Ledger>(
     requires index { index ≤ 31 }
     requires room { vec_len record.old + 4696 ≤ vec_capacity record.old }
     requires short { vec_len record.old ≤ 4194304 }
-    ensures signed { LastTwoAreSigned outgoing.now index device.now record.old.items record.new.items }
+    ensures signed { LastTwoAreSigned outgoing.now index device.now record.old record.new }
     ensures cost { steps.new ≤ steps.old + 70946 }
 {
     let mut signatures = [[0; SIGNATURE_LENGTH]; 2];
@@ -86,7 +86,7 @@ pub fn sign_pending<L: Ledger>(root: &Root, record: &mut Vec<u8>, steps: &mut St
     requires few { unsigned_by root.now.pending ≤ 2 }
     requires room { vec_len record.old + 4696 ≤ vec_capacity record.old }
     requires short { vec_len record.old ≤ 4194304 }
-    ensures signed { PendingIsSigned root.now record.old.items record.new.items }
+    ensures signed { PendingIsSigned root.now record.old record.new }
     ensures cost { steps.new ≤ steps.old + 70946 }
 {
     let Some(pending) = &root.pending else {
