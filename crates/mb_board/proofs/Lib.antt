@@ -1,0 +1,3 @@
+mod Sectors
+mod Fillings
+mod Reaching

@@ -1,0 +1,25 @@
+use Rattle.std.proofs.Common.{◌*◌, ap, ◌∙◌}
+use Rattle.mb_model.specs.Board.{put, erased}
+use Rattle.mb_model.proofs.Places.{length-erased}
+use Rattle.mb_board.specs.Cuts.{torn_by}
+use Rattle.mb_board.specs.Shown.{Contents, Shown}
+use Rattle.mb_board.proofs.Fillings.{length-torn_by}
+use Rattle.mb_board.proofs.sim.SimBoard.erase_sector.Goals as goal
+
+pub returns-in-Ok-clause-torn : goal.returns-in-Ok-clause-torn
+returns-in-Ok-clause-torn c = record {
+  written = erased 4096;
+  sized = length-erased 4096;
+  whole =
+      ap (λ (bank : Contents). bank.bytes) c.erase.ensures
+      ∙ ap (λ (board : Shown). put (4096 * c.args.sector) (erased 4096) board.memory.flash) c.self.view_is;
+}
+
+pub returns-in-Err-clause-torn : goal.returns-in-Err-clause-torn
+returns-in-Err-clause-torn c = record {
+  written = torn_by c.in-Err.tear (erased 4096);
+  sized = length-torn_by c.in-Err.tear (erased 4096) ∙ length-erased 4096;
+  whole =
+      ap (λ (bank : Contents). bank.bytes) c.erase_torn.ensures
+      ∙ ap (λ (board : Shown). put (4096 * c.args.sector) (torn_by c.in-Err.tear (erased 4096)) board.memory.flash) c.self.view_is;
+}
