@@ -1,3 +1,4 @@
 mod Sectors
 mod Fillings
 mod Reaching
+mod Falling

@@ -1,5 +1,5 @@
 -- When a power loss stops a write call of a board that simulates a device, and what the call's range then holds.
-use Rattle.std.specs.Prelude.{ℕ, ◌-◌, ◌%◌, ◌≤◌, ◌==◌, ◌&&◌, nat_lt, List, ◌++◌, length, take, map, slice_index}
+use Rattle.std.specs.Prelude.{◌≡◌, ℕ, zero, suc, ◌+◌, ◌-◌, ◌<◌, ◌%◌, ◌≤◌, ◌==◌, ◌&&◌, nat_lt, List, ◌++◌, length, take, map, slice_index}
 use Rattle.std.specs.Prelude.{Bool, true, false, Option, None, Some, Result, Ok, Err, if◌then◌else◌}
 use Rattle.std.specs.List.{range_with_len}
 use Rattle.mb_model.specs.declared.event.Event.{Event}
@@ -56,6 +56,21 @@ abbrev pub cut_after : Option Event → Option Cut → Option Cut
 cut_after (Some (event.Cut count tear)) cut = Some (record { count = count; tear = tear })
 cut_after _ cut = cut
 
+-- the one that is armed after one call that passed, and after so many
+abbrev pub passed_one : Option Cut → Option Cut
+passed_one cut = cut_left {A = Unit {0}} {E = Tear} (Ok tt) cut
+
+abbrev pub cut_in : ℕ → Option Cut → Option Cut
+cut_in zero cut = cut
+cut_in (suc n) cut = cut_in n (passed_one cut)
+
+-- A power loss falls into the call that it was set for: those before it pass, and it fails. None falls into a call where
+-- the count of stops is at its last value.
+pub record FallsInItsCall (cut : Cut) : Type 0 where
+  pub before : (n stops : ℕ) → n + 1 < cut.count → passes_by (cut_in n (Some cut)) stops ≡ Ok tt
+  pub there : (n stops : ℕ) → n + 1 ≡ cut.count → stops < last_count → passes_by (cut_in n (Some cut)) stops ≡ Err cut.tear
+  pub never : (n : ℕ) → passes_by (cut_in n (Some cut)) last_count ≡ Ok tt
+
 -- ---- what the range of a call holds
 
 -- so many bytes, which are those that the tear fills with, repeated from the first
@@ -70,3 +85,8 @@ torn_by tear bytes = take tear.keep bytes ++ filling tear (length bytes - tear.k
 abbrev pub left_by : Result (Unit {0}) Tear → List ℕ → List ℕ
 left_by (Ok passed) bytes = bytes
 left_by (Err tear) bytes = torn_by tear bytes
+
+-- a tear keeps all of so many bytes
+abbrev pub KeepsAll : Result (Unit {0}) Tear → ℕ → Type 0
+KeepsAll (Ok passed) n = Unit {0}
+KeepsAll (Err tear) n = n ≤ tear.keep

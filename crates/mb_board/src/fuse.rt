@@ -2,7 +2,7 @@
 
 ghost use Rattle.std.specs.Prelude.{◌≡◌, Some, None, true, IfErr, OnErr};
 ghost use Rattle.mb_board.specs.Calls.{metered};
-ghost use Rattle.mb_board.specs.Cuts.{HasFill, unused, meter_of, is_armed, passes, cut_left};
+ghost use Rattle.mb_board.specs.Cuts.{FallsInItsCall, HasFill, unused, meter_of, is_armed, passes, cut_left};
 
 use mb_model::Tear;
 use std::marker::Model;
@@ -17,6 +17,13 @@ pub struct Cut {
     pub count: u32,
     /// What it leaves of the write.
     pub tear: Tear,
+}
+
+impl Cut {
+    /// A power loss falls into the write call that it is set for, and into no other.
+    pub fn falls_in_its_call(&self)
+        ensures { FallsInItsCall self.now }
+    {}
 }
 
 /// The power loss that is armed, the count of calls that were stopped, and that of write calls since the last event.

@@ -1,12 +1,13 @@
 //! A board that simulates a device in memory.
 
 ghost use Rattle.std.specs.Prelude.{◌≡◌, ◌+◌, ◌*◌, ◌-◌, ◌/◌, ◌<◌, ◌≤◌, ◌++◌, ◌∷◌, [], List, Some, None, true, false, length, All, IfOk, IfSome, IfNone, OnOk, OnErr, vec_len, vec_capacity};
+ghost use Rattle.std.specs.Result.{is_ok};
 ghost use Rattle.std.proofs.Common.{ap};
 ghost use Rattle.mb_format.specs.Format.{IsBytes};
 ghost use Rattle.mb_model.specs.Script.{IsScriptEvent};
 ghost use Rattle.mb_model.specs.Board.{Memory, loaded, put, erased, power_after, memory_after, armed_after};
 ghost use Rattle.mb_board.specs.Calls.{power_of, level_of, metered, Torn};
-ghost use Rattle.mb_board.specs.Cuts.{unused, passes, left_by, cut_left, cut_after, meter_of, is_armed};
+ghost use Rattle.mb_board.specs.Cuts.{unused, passes, left_by, KeepsAll, cut_left, cut_after, meter_of, is_armed};
 ghost use Rattle.mb_board.specs.Reach.{Reached};
 ghost use Rattle.mb_board.specs.Shown.{Rest, Shown, rest_of, unloaded};
 
@@ -114,8 +115,9 @@ impl SimBoard {
     pub fn erase_sector(&mut self, sector: u16) -> Result<(), Stopped>
         requires on { self.old.power ≡ true }
         requires within { 4096 * sector + 4096 ≤ length self.old.memory.flash }
-        ensures passes { power_of result ≡ power_of (passes self.old.fuse) }
+        ensures passes { is_ok result ≡ is_ok (passes self.old.fuse) }
         ensures left { self.new.memory.flash ≡ put (4096 * sector) (left_by (passes self.old.fuse) (erased 4096)) self.old.memory.flash }
+        ensures whole { KeepsAll (passes self.old.fuse) 4096 → self.new.memory.flash ≡ put (4096 * sector) (erased 4096) self.old.memory.flash }
         ensures cut { self.new.fuse.cut ≡ cut_left result self.old.fuse.cut }
         ensures erased { OnOk result (self.new.memory.flash ≡ put (4096 * sector) (erased 4096) self.old.memory.flash) }
         ensures torn { Torn (4096 * sector) 4096 self.old.memory.flash self.new.memory.flash }
@@ -146,8 +148,9 @@ impl SimBoard {
         requires some { 0 < length bytes.now }
         requires within { at + length bytes.now ≤ length self.old.memory.flash }
         requires one_sector { at / 4096 ≡ (at + length bytes.now - 1) / 4096 }
-        ensures passes { power_of result ≡ power_of (passes self.old.fuse) }
+        ensures passes { is_ok result ≡ is_ok (passes self.old.fuse) }
         ensures left { self.new.memory.flash ≡ put at (left_by (passes self.old.fuse) bytes.now) self.old.memory.flash }
+        ensures whole { KeepsAll (passes self.old.fuse) (length bytes.now) → self.new.memory.flash ≡ put at bytes.now self.old.memory.flash }
         ensures cut { self.new.fuse.cut ≡ cut_left result self.old.fuse.cut }
         ensures stored { OnOk result (self.new.memory.flash ≡ put at bytes.now self.old.memory.flash) }
         ensures torn { Torn at (length bytes.now) self.old.memory.flash self.new.memory.flash }
@@ -178,8 +181,9 @@ impl SimBoard {
         requires some { 0 < length bytes.now }
         requires within { at + length bytes.now ≤ length self.old.memory.bbram }
         requires reached { Reached self.old.level at (length bytes.now) }
-        ensures passes { power_of result ≡ power_of (passes self.old.fuse) }
+        ensures passes { is_ok result ≡ is_ok (passes self.old.fuse) }
         ensures left { self.new.memory.bbram ≡ put at (left_by (passes self.old.fuse) bytes.now) self.old.memory.bbram }
+        ensures whole { KeepsAll (passes self.old.fuse) (length bytes.now) → self.new.memory.bbram ≡ put at bytes.now self.old.memory.bbram }
         ensures cut { self.new.fuse.cut ≡ cut_left result self.old.fuse.cut }
         ensures stored { OnOk result (self.new.memory.bbram ≡ put at bytes.now self.old.memory.bbram) }
         ensures torn { Torn at (length bytes.now) self.old.memory.bbram self.new.memory.bbram }
