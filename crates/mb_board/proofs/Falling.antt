@@ -1,6 +1,5 @@
 -- When a power loss that is armed falls.
-use Rattle.std.proofs.Common.{◌≡◌, ℕ, zero, suc, ◌+◌, ◌-◌, ◌<◌, ◌==◌, ◌&&◌, nat_lt, Bool, true, false, Option, Some, Result, Ok, Err, if◌then◌else◌, refl, ap, ◌∙◌, arith, eq-eqb, lt-ltb, ne_eqb}
-use Rattle.mb_model.specs.declared.event.Tear.{Tear}
+use Rattle.std.proofs.Common.{◌≡◌, ℕ, zero, suc, ◌-◌, ◌<◌, ◌==◌, ◌&&◌, nat_lt, true, false, Some, Ok, Err, if◌then◌else◌, refl, ap, ◌∙◌, arith, eq-eqb, lt-ltb, ne_eqb}
 use Rattle.mb_board.specs.declared.fuse.Cut.{Cut}
 use Rattle.mb_board.specs.Cuts.{passes_by, cut_in, last_count, FallsInItsCall}
 

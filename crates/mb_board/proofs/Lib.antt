@@ -1,3 +1,4 @@
+pub mod TornLemmas
 mod Sectors
 mod Fillings
 mod Reaching

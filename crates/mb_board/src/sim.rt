@@ -382,3 +382,6 @@ fn append(answered: &mut Vec<Answered>, answer: Answered)
         unreachable!();
     }
 }
+
+#[cfg(test)]
+mod tests;
