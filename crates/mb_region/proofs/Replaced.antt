@@ -34,6 +34,9 @@ one_held area a b one other =
 pub held_stands : (area bytes : List ℕ) (region : Region) → HoldsInArea area bytes → HoldsRegion area region → SpellsRegion bytes region
 held_stands area bytes region found has = subst (λ (xs : List ℕ). SpellsRegion xs region) (one_held area has.bytes bytes has.holds found) has.spelled
 
+pub still_stands : {area : List ℕ} (read bytes : List ℕ) (region : Region) → read ≡ area → HoldsInArea read bytes → HoldsRegion area region → SpellsRegion bytes region
+still_stands {area} read bytes region same found has = held_stands read bytes region found (subst (λ (xs : List ℕ). HoldsRegion xs region) (sym same) has)
+
 pub no_bytes_held : (area read : List ℕ) → read ≡ area → HoldsSomeRegion area → ((bytes : List ℕ) → HoldsInArea read bytes → ⊥) → ⊥
 no_bytes_held area read same has none = none has.holds.bytes (subst (λ (xs : List ℕ). HoldsInArea xs has.holds.bytes) (sym same) has.holds.holds)
 

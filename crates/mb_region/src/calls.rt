@@ -136,7 +136,7 @@ pub fn apply_fate<S: Reaches<L>, L: Named, B: Board>(
     ensures level { B.level b.new ≡ level_of result (B.level b.old) }
     ensures ledger { B.ledger b.new ≡ B.ledger b.old }
     ensures meter { IsMetered 2 result (B.meter b.old) (B.meter b.new) }
-    ensures area { 4096 ≤ vec_capacity room.new.area }
+    ensures room { HasRoom room.new }
     ensures public { room.new.public ≡ room.old.public }
 {
     match finish_fate(b, L::number(), fate, room) {

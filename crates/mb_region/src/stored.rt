@@ -144,7 +144,7 @@ fn fate_bytes<B: Board>(b: &B, slot: u16, fate: &Fate, room: &mut Room)
     ensures spelled { (region : Region) → HoldsRegion (current (B.memory b.now).bbram slot) region
         → SpellsRegion room.new.other.items (fated fate.now region) }
     ensures short { length room.new.other.items ≤ 4094 }
-    ensures area { 4096 ≤ vec_capacity room.new.area }
+    ensures room { HasRoom room.new }
     ensures public { room.new.public ≡ room.old.public }
 {
     read_area(b, slot, &mut room.area);
@@ -175,7 +175,7 @@ pub(crate) fn finish_fate<B: Board>(
     ensures level { B.level b.new ≡ level_of result (B.level b.old) }
     ensures ledger { B.ledger b.new ≡ B.ledger b.old }
     ensures meter { IsMetered 2 result (B.meter b.old) (B.meter b.new) }
-    ensures area { 4096 ≤ vec_capacity room.new.area }
+    ensures room { HasRoom room.new }
     ensures public { room.new.public ≡ room.old.public }
 {
     if let Fate::Keep = fate {

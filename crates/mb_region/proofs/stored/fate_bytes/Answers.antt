@@ -1,6 +1,6 @@
-use Rattle.std.proofs.Common.{◌∙◌}
+use Rattle.std.proofs.Common.{◌∙◌, arith}
 use Rattle.mb_model.specs.Meaning.{fated}
-use Rattle.mb_region.proofs.Replaced.{no_bytes_held, record_short, fated_stands, bytes_read}
+use Rattle.mb_region.proofs.Replaced.{no_bytes_held, record_short, fated_stands, bytes_read, still_stands, can_be_stored}
 use Rattle.mb_region.proofs.stored.fate_bytes.Goals as goal
 
 pub unreachable-requires : goal.unreachable-requires
@@ -8,7 +8,16 @@ unreachable-requires g c = no_bytes_held _ c.deref.result.now (c.deref.ensures.v
 
 pub returns-clause-spelled : goal.returns-clause-spelled
 returns-clause-spelled g c = λ region has.
-    fated_stands c.args.fate.now _ c.deref.result.now c.in-Some.bytes.now c.fate_record.new.out.items region (bytes_read c.deref.ensures.value c.read_area.ensures.bytes) (c.deref.ensures.value ∙ c.read_area.ensures.read) c.requires.held c.in-Some.ensures c.fate_record.ensures has
+    fated_stands c.args.fate.now _ c.deref.result.now c.in-Some.bytes.now c.fate_record.new.out.items region (bytes_read c.deref.ensures.value c.read_area.ensures.bytes) (c.deref.ensures.value ∙ c.read_area.ensures.read) c.requires.held c.in-Some.ensures c.fate_record.ensures.fated has
 
 pub returns-clause-short : goal.returns-clause-short
 returns-clause-short g c = record_short c.fate_record.new.out.items (fated c.args.fate.now c.requires.held.region) (returns-clause-spelled g c c.requires.held.region c.requires.held.holds)
+
+pub returns-clause-room : goal.returns-clause-room
+returns-clause-room g c =
+    let stands = still_stands c.deref.result.now c.in-Some.bytes.now c.requires.held.region (c.deref.ensures.value ∙ c.read_area.ensures.read) c.in-Some.ensures c.requires.held.holds in
+    record {
+      public = c.requires.room.public;
+      area = omega (arith, c.read_area.ensures.capacity, c.requires.room.area);
+      other = omega (arith, c.fate_record.ensures.capacity c.requires.held.region stands (can_be_stored (fated c.args.fate.now c.requires.held.region) c.requires.held.stored), c.requires.room.other);
+    }
