@@ -27,6 +27,7 @@ READERS = {
     "crates/mb_command/src/tests.rt": readers.commands_orders,
     "crates/mb_officer/src/tests.rt": readers.key_files,
     "crates/mb_officer/src/tests/orders.rt": readers.officers_orders,
+    "crates/mb_image/src/tests/pending.rt": readers.pending_images,
     "crates/mb_orders/src/tests/signed.rt": readers.judged_orders,
     "crates/mb_top/src/tests/keys.rt": top_readers.keys,
     "crates/mb_top/src/tests/once.rt": top_readers.once,
