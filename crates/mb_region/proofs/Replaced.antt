@@ -18,10 +18,10 @@ use Rattle.mb_layout.specs.Found.{Finds}
 use Rattle.mb_layout.proofs.Areas.{bytes_are}
 use Rattle.mb_format.proofs.Fields.{wide16}
 use Rattle.mb_model.specs.declared.stored.Root.{Root}
-use Rattle.mb_storing.specs.Holding.{Holds, Means, region_in_slot, fate_in_slot}
+use Rattle.mb_storing.specs.Holding.{Holds, Means, region_in_slot, fate_in_slot, KeepsContents}
 use Rattle.mb_storing.specs.Storable.{HasRegionRecord}
 use Rattle.mb_storing.proofs.CommitLemmas.{stands_for_meant, live_contents, two_done_means, three_done_means}
-use Rattle.mb_region.specs.Regions.{IsRegionSlot, HoldsSomeRegion, KeepsContents, ReplacesRegion, KeepsOrReplaces}
+use Rattle.mb_region.specs.Regions.{IsRegionSlot, HoldsSomeRegion, ReplacesRegion, KeepsOrReplaces}
 use Rattle.mb_region.specs.Fates.{CanBeFated, IsPending, fated_in, AppliesFate, KeepsOrApplies}
 
 -- ---- what an area holds
