@@ -294,7 +294,7 @@ pub record IsCut (old cut : Vec ℕ) (place : ℕ) : Type 0 where
 pub one_signed : {E : Type 0} {cursor after : Cursor} {stored : PublicEntry} (old cut new : Vec ℕ) (signature : List ℕ) (result : Result (Unit {0}) E) → length signature ≡ 2348 → ReadsOk public_entry_format cursor stored after → IsCut old cut cursor.offset
     → vec_len old + 2348 ≤ vec_capacity old → Puts (public_entry_format.spelling (record { entry = stored.entry; signature = Some signature })) cut result new
     → (codes : Codes) (signed : List SignedEntry) (unsigned : List Entry) → length unsigned ≡ 1 → Spells public_format old.items (public_of_parts codes signed unsigned) → StandsBefore old.items cursor unsigned
-    → Spells public_format new.items (public_of_parts codes (signed ++ signed_each unsigned (signature ∷ [])) [])
+    → Spells public_format new.items (public_of_parts codes (signed ++ signed_each unsigned (signature ∷ [])) []) × (vec_capacity old ≤ vec_capacity new)
 unfolding items
 one_signed old cut_bytes new signature result size r cut room put codes signed [] len s stands = absurd (omega arith)
 one_signed old cut_bytes new signature result size r cut room put codes signed (entry ∷ (other ∷ others)) len s stands = absurd (omega arith)
@@ -306,16 +306,18 @@ one_signed {E} {cursor} {after} {stored} old cut_bytes new signature result size
     let longer = signed_size entry signature size in
     let place : cursor.offset ≤ length old.items = omega (arith, cursor.within, ap length stands.same) in
     let left : length (drop cursor.offset old.items) ≡ length (public_entry_format.spelling (without_signature entry)) = ap length (stands.rest ∙ append-nil (public_entry_format.spelling (without_signature entry))) in
-    let p = appended result put_here (omega (arith, cut.len, cut.capacity, room, longer, left, length-drop cursor.offset old.items, length_items old, place)) in
-    completed_spells codes signed (entry ∷ []) (signature ∷ []) old.items new.items cursor.offset refl (size, tt) s stands.rest
-    (p.items ∙ ap (λ (x : List ℕ). x ++ public_entry_format.spelling (with_signature (record { entry = entry; signature = signature }))) cut.items
-    ∙ ap (λ (x : List ℕ). take cursor.offset old.items ++ x) (sym (append-nil (public_entry_format.spelling (with_signature (record { entry = entry; signature = signature }))))))
+    let p = appended result put_here (omega (arith, cut.len, cut.capacity, room, longer, left, length-drop cursor.offset old.items, length_items old, place)) in (
+      completed_spells codes signed (entry ∷ []) (signature ∷ []) old.items new.items cursor.offset refl (size, tt) s stands.rest
+          (p.items ∙ ap (λ (x : List ℕ). x ++ public_entry_format.spelling (with_signature (record { entry = entry; signature = signature }))) cut.items
+          ∙ ap (λ (x : List ℕ). take cursor.offset old.items ++ x) (sym (append-nil (public_entry_format.spelling (with_signature (record { entry = entry; signature = signature })))))),
+      omega (arith, p.capacity, cut.capacity),
+    )
 
 pub two_signed : {E : Type 0} {cursor middle after : Cursor} {one two : PublicEntry} (old cut mid new : Vec ℕ) (first second : List ℕ) (result_one result_two : Result (Unit {0}) E) → length first ≡ 2348 → length second ≡ 2348
     → ReadsOk public_entry_format cursor one middle → ReadsOk public_entry_format middle two after → IsCut old cut cursor.offset → vec_len old + 4696 ≤ vec_capacity old
     → Puts (public_entry_format.spelling (record { entry = one.entry; signature = Some first })) cut result_one mid → Puts (public_entry_format.spelling (record { entry = two.entry; signature = Some second })) mid result_two new
     → (codes : Codes) (signed : List SignedEntry) (unsigned : List Entry) → length unsigned ≡ 2 → Spells public_format old.items (public_of_parts codes signed unsigned) → StandsBefore old.items cursor unsigned
-    → Spells public_format new.items (public_of_parts codes (signed ++ signed_each unsigned (first ∷ second ∷ [])) [])
+    → Spells public_format new.items (public_of_parts codes (signed ++ signed_each unsigned (first ∷ second ∷ [])) []) × (vec_capacity old ≤ vec_capacity new)
 unfolding items
 two_signed old cut_bytes mid new first second result_one result_two size_one size_two r q cut room put_one put_two codes signed [] len s stands = absurd (omega arith)
 two_signed old cut_bytes mid new first second result_one result_two size_one size_two r q cut room put_one put_two codes signed (entry ∷ []) len s stands = absurd (omega arith)
@@ -334,11 +336,13 @@ two_signed {E} {cursor} {middle} {after} {one} {two} old cut_bytes mid new first
     let left : length (drop cursor.offset old.items) ≡ length (bare entry) + length (bare other) =
     ap length (stands.rest ∙ ap (λ (x : List ℕ). bare entry ++ x) (append-nil (bare other))) ∙ length-append (bare entry) (bare other) in
     let p = appended result_one (rw same_one at put_one) (omega (arith, cut.len, cut.capacity, room, longer_one, left, length-drop cursor.offset old.items, length_items old, place)) in
-    let t = appended result_two (rw same_two at put_two) (omega (arith, cut.len, cut.capacity, room, longer_one, longer_two, left, length-drop cursor.offset old.items, length_items old, place, p.len, p.capacity)) in
-    completed_spells codes signed (entry ∷ (other ∷ [])) (first ∷ second ∷ []) old.items new.items cursor.offset refl (size_one, (size_two, tt)) s stands.rest
-    (t.items ∙ ap (λ (x : List ℕ). x ++ bytes_of other second) (p.items ∙ ap (λ (x : List ℕ). x ++ bytes_of entry first) cut.items)
-    ∙ append_assoc (take cursor.offset old.items) (bytes_of entry first) (bytes_of other second)
-    ∙ ap (λ (x : List ℕ). take cursor.offset old.items ++ (bytes_of entry first ++ x)) (sym (append-nil (bytes_of other second))))
+    let t = appended result_two (rw same_two at put_two) (omega (arith, cut.len, cut.capacity, room, longer_one, longer_two, left, length-drop cursor.offset old.items, length_items old, place, p.len, p.capacity)) in (
+      completed_spells codes signed (entry ∷ (other ∷ [])) (first ∷ second ∷ []) old.items new.items cursor.offset refl (size_one, (size_two, tt)) s stands.rest
+          (t.items ∙ ap (λ (x : List ℕ). x ++ bytes_of other second) (p.items ∙ ap (λ (x : List ℕ). x ++ bytes_of entry first) cut.items)
+          ∙ append_assoc (take cursor.offset old.items) (bytes_of entry first) (bytes_of other second)
+          ∙ ap (λ (x : List ℕ). take cursor.offset old.items ++ (bytes_of entry first ++ x)) (sym (append-nil (bytes_of other second)))),
+      omega (arith, t.capacity, p.capacity, cut.capacity),
+    )
 
 -- where there is nothing to sign
 pub none_signed : {bytes : List ℕ} (codes : Codes) (signed : List SignedEntry) (unsigned : List Entry) → length unsigned ≡ 0 → Spells public_format bytes (public_of_parts codes signed unsigned) → Spells public_format bytes (public_of_parts codes (signed ++ signed_each unsigned []) [])

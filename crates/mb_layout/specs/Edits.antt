@@ -1,6 +1,8 @@
 -- What becomes of stored bytes where a record is edited and no memory is taken. Which record stands there afterwards?
 use Rattle.std.specs.Prelude.{◌≡◌, ℕ, ◌<◌, ◌≤◌, ◌⊎◌, List, [], ◌∷◌, ◌++◌, length, find}
 use Rattle.std.specs.Prelude.{Some, None, Result, Ok, Err}
+use Rattle.std.specs.Global.{Vec}
+use Rattle.std.specs.Vec.{vec_capacity}
 use Rattle.mb_format.specs.Format.{Spells}
 use Rattle.mb_model.specs.declared.entry.Entry.{Entry}
 use Rattle.mb_model.specs.declared.entry.SignedEntry.{SignedEntry}
@@ -54,6 +56,13 @@ signed_each [] signatures = []
 signed_each (entry ∷ entries) [] = []
 signed_each (entry ∷ entries) (signature ∷ signatures) =
     record { entry = entry; signature = signature } ∷ signed_each entries signatures
+
+-- Where the old bytes spelled a public record with as many unsigned entries as there are signatures, their buffer keeps
+-- its room.
+abbrev pub KeepsRoom : List (List ℕ) → Vec ℕ → Vec ℕ → Type 0
+KeepsRoom signatures old new =
+    (codes : Codes) (signed : List SignedEntry) (unsigned : List Entry) → length unsigned ≡ length signatures
+    → Spells public_format old.items (public_of_parts codes signed unsigned) → vec_capacity old ≤ vec_capacity new
 
 -- Where the old bytes spelled a public record with as many unsigned entries as there are signatures, the new ones spell
 -- it with each of them signed.

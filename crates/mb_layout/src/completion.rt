@@ -1,7 +1,7 @@
 //! The last signatures of a stored public record, without memory.
 
 ghost use Rattle.std.specs.Prelude.{◌≡◌, ◌≤◌, ◌*◌, ◌+◌, [], ◌∷◌, length, vec_len, vec_capacity};
-ghost use Rattle.mb_layout.specs.Edits.{IsCompleted};
+ghost use Rattle.mb_layout.specs.Edits.{IsCompleted, KeepsRoom};
 ghost use Rattle.mb_layout.specs.LastEntries.{FindsLast};
 ghost use Rattle.mb_layout.specs.UnsignedEntries.{PassesEntry, FindsUnsigned, FindsTwoUnsigned};
 
@@ -77,7 +77,8 @@ pub fn two_unsigned_entries(bytes: &[u8]) -> (&[u8], &[u8])
 fn complete_one(bytes: &mut Vec<u8>, signature: &[u8; 2348])
     requires room { vec_len bytes.old + 2348 ≤ vec_capacity bytes.old }
     requires short { vec_len bytes.old ≤ 4194304 }
-    ensures { IsCompleted (signature.now ∷ []) bytes.old.items bytes.new.items }
+    ensures completed { IsCompleted (signature.now ∷ []) bytes.old.items bytes.new.items }
+    ensures capacity { KeepsRoom (signature.now ∷ []) bytes.old bytes.new }
 {
     let Ok(mut cursor) = before_last(bytes.as_slice(), 1) else {
         return;
@@ -93,7 +94,8 @@ fn complete_one(bytes: &mut Vec<u8>, signature: &[u8; 2348])
 fn complete_two(bytes: &mut Vec<u8>, first: &[u8; 2348], second: &[u8; 2348])
     requires room { vec_len bytes.old + 4696 ≤ vec_capacity bytes.old }
     requires short { vec_len bytes.old ≤ 4194304 }
-    ensures { IsCompleted (first.now ∷ second.now ∷ []) bytes.old.items bytes.new.items }
+    ensures completed { IsCompleted (first.now ∷ second.now ∷ []) bytes.old.items bytes.new.items }
+    ensures capacity { KeepsRoom (first.now ∷ second.now ∷ []) bytes.old bytes.new }
 {
     let Ok(mut cursor) = before_last(bytes.as_slice(), 2) else {
         return;
@@ -117,7 +119,8 @@ pub fn complete_record(bytes: &mut Vec<u8>, signatures: &[[u8; 2348]])
     requires room { vec_len bytes.old + 2348 * length signatures.now ≤ vec_capacity bytes.old }
     requires short { vec_len bytes.old ≤ 4194304 }
     requires count { length signatures.now ≤ 2 }
-    ensures { IsCompleted signatures.now bytes.old.items bytes.new.items }
+    ensures completed { IsCompleted signatures.now bytes.old.items bytes.new.items }
+    ensures capacity { KeepsRoom signatures.now bytes.old bytes.new }
 {
     match signatures {
         [one] => complete_one(bytes, one),

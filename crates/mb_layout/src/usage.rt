@@ -32,6 +32,7 @@ pub fn use_in_record(bytes: &[u8], number: u32, out: &mut Vec<u8>) -> Result<Reg
     ensures capacity { (region : Region) → SpellsRegion bytes.now region → CanBeStored (used number region)
         → vec_capacity out.old ≤ vec_capacity out.new }
     ensures refused { OnErr result (out.new.items ≡ []) }
+    ensures refused_capacity { OnErr result (vec_capacity out.old ≤ vec_capacity out.new) }
 {
     out.clear();
     let Some(stored) = stored_region(bytes) else {

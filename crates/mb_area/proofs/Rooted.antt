@@ -1,0 +1,135 @@
+-- Roots as they are read, written and put in force.
+use Rattle.std.proofs.Common.{◌≡◌, ◌≢◌, ◌↔◌, ℕ, ◌+◌, ◌-◌, ◌<◌, ◌≤◌, ◌⊎◌, inl, inr, Bool, true, false, List, [], ◌∷◌, ◌++◌, length, Option, None, Some, Result, Ok, Err, refl, sym, ap, subst, ◌∙◌, arith}
+use Rattle.std.specs.Bool.{IsTrue}
+use Rattle.std.specs.Option.{is_some}
+use Rattle.std.specs.Global.{Vec}
+use Rattle.std.specs.Vec.{vec_len, vec_capacity}
+use Rattle.mb_format.specs.Format.{IsBytes, Spells}
+use Rattle.mb_bytes.specs.Puts.{Writes}
+use Rattle.mb_model.specs.declared.stored.Pending.{Pending}
+use Rattle.mb_model.specs.declared.stored.Root.{Root}
+use Rattle.mb_model.specs.RootFormat.{pending_format, root_format}
+use Rattle.mb_model.specs.Board.{Memory}
+use Rattle.mb_model.specs.Memory.{IsBlank, current, HoldsRecord}
+use Rattle.mb_model.specs.Flash.{flash_area}
+use Rattle.mb_model.specs.Meaning.{RootIn, Contents, HoldsContents, meant}
+use Rattle.mb_model.specs.Clean.{root_of}
+use Rattle.mb_lemmas.proofs.MeaningLemmas.{one_root}
+use Rattle.mb_storing.specs.Commits.{both_done, at_rest}
+use Rattle.mb_storing.specs.Holding.{Holds}
+use Rattle.mb_storing.specs.InForce.{AgreeInForce, AgreeBesides}
+use Rattle.mb_storing.proofs.FrameLemmas.{contents_agree, root_replaced}
+use Rattle.mb_storing.proofs.RestLemmas.{work_finished}
+use Rattle.mb_storing.proofs.StorableFormats.{none_allowed}
+use Rattle.mb_storing.proofs.StorableRecords.{root_room}
+use Rattle.mb_area.specs.Roots.{HoldsSomeRoot, HasSomeRoot, KeepsContents, CommitsRoot, settled_root, IsReadyToFinish, finished, Finishes}
+
+-- ---- reading
+
+-- no bytes are blank
+none_blank : IsBlank []
+none_blank = λ k d less. absurd (omega arith)
+
+-- an area holds one root
+pub one_held : (area : List ℕ) (root any : Root) → IsBytes area → HoldsRecord root_format area root → HoldsRecord root_format area any → any ≡ root
+one_held area root any are holds here = one_root 0xA5 [] area any root are (record { alive = refl; blank = none_blank; holds = here }) (record { alive = refl; blank = none_blank; holds = holds })
+
+pub in_force : (area bbram : List ℕ) (root : Root) → area ≡ current bbram 1 → HoldsRecord root_format area root → HoldsRecord root_format (current bbram 1) root
+in_force area bbram root same holds = subst (λ (xs : List ℕ). HoldsRecord root_format xs root) same holds
+
+pub some_held : (area : List ℕ) (memory : Memory) → area ≡ current memory.bbram 1 → HasSomeRoot memory → HoldsSomeRoot area
+some_held area memory same some = record { root = some.root; holds = subst (λ (xs : List ℕ). HoldsRecord root_format xs some.root) (sym same) some.holds.holds }
+
+pub small_area : (root : Root) → root_format.Allowed root → root.area ≤ 1
+unfolding root_format
+small_area root is = is.1.0.1
+
+-- ---- writing
+
+pub settled_allowed : (root : Root) → root_format.Allowed root → root_format.Allowed (settled_root root)
+unfolding root_format
+settled_allowed root is = (tt, ((omega arith, omega arith), (is.1.1.0, (is.1.1.1.0, (is.1.1.1.1.0, none_allowed pending_format)))))
+
+pub record IsSpelled (bytes : List ℕ) (root : Root) : Type 0 where
+  pub spelled : Spells root_format bytes root
+  pub short : length bytes ≤ 4094
+
+pub root_spelled : {E : Type 0} (root : Root) (cleared new : Vec ℕ) (result : Result (Unit {0}) E) → root_format.Allowed root → cleared.items ≡ [] → vec_len cleared ≡ 0 → 4096 ≤ vec_capacity cleared
+    → Writes (root_format.spelling root) cleared result new → IsSpelled new.items root
+root_spelled root cleared new (Ok u) allowed empty none room w =
+    let whole : new.items ≡ root_format.spelling root = w.items ∙ ap (λ (xs : List ℕ). xs ++ root_format.spelling root) empty in
+    record { spelled = record { allowed = allowed; whole = whole }; short = omega (arith, root_room root allowed, ap length whole) }
+root_spelled root cleared new (Err e) allowed empty none room w = absurd (omega (arith, w.no_room, root_room root allowed))
+
+pub still_room : {E : Type 0} (root : Root) (cleared new : Vec ℕ) (result : Result (Unit {0}) E) → root_format.Allowed root → vec_len cleared ≡ 0 → 4096 ≤ vec_capacity cleared
+    → Writes (root_format.spelling root) cleared result new → vec_capacity cleared ≤ vec_capacity new
+still_room root cleared new (Ok u) allowed none room w = w.capacity
+still_room root cleared new (Err e) allowed none room w = absurd (omega (arith, w.no_room, root_room root allowed))
+
+-- ---- a slot in force as it was
+
+pub kept_in_force : (before after : Memory) → AgreeBesides 1 before.bbram after.bbram → current after.bbram 1 ≡ current before.bbram 1 → after.flash ≡ before.flash → KeepsContents before after
+kept_in_force before after agree same flash = record {
+  kept = λ contents holds. contents_agree before.flash before.bbram after.flash after.bbram contents (record {
+    life = agree.life;
+    between = agree.between;
+    root = same;
+    two = agree.others 2 (omega arith) (omega arith) (λ e. omega (arith, e));
+    three = agree.others 3 (omega arith) (omega arith) (λ e. omega (arith, e));
+    public = λ root has. ap (λ (xs : List ℕ). flash_area xs root.area) flash;
+  }) holds;
+}
+
+-- ---- a root put in force
+
+pub root_committed : (root : Root) (before after : Memory) → AgreeBesides 1 before.bbram after.bbram → HoldsRecord root_format (current after.bbram 1) root → after.flash ≡ before.flash → CommitsRoot root before after
+root_committed root before after agree own flash = record {
+  committed = λ contents codes signed unsigned holds public.
+      subst (λ (xs : List ℕ). HoldsContents xs after.bbram (record contents { root = root; codes = codes; signed = signed; unsigned = unsigned })) (sym flash)
+      (root_replaced before.flash before.bbram after.bbram contents root codes signed unsigned agree own public holds);
+}
+
+pub committed_or_kept : (root : Root) (before after : Memory) → AgreeBesides 1 before.bbram after.bbram → after.flash ≡ before.flash
+    → (current after.bbram 1 ≡ current before.bbram 1) ⊎ HoldsRecord root_format (current after.bbram 1) root → KeepsContents before after ⊎ CommitsRoot root before after
+committed_or_kept root before after agree flash (inl same) = inl (kept_in_force before after agree same flash)
+committed_or_kept root before after agree flash (inr own) = inr (root_committed root before after agree own flash)
+
+settled_is : (contents : Contents) → settled_root contents.root ≡ root_of (meant contents) (1 - contents.root.area)
+unfolding meant
+settled_is contents = refl
+
+pub root_finished : (root : Root) (before after : Memory) → ((any : Root) → RootIn before.bbram any → any ≡ root) → AgreeBesides 1 before.bbram after.bbram → HoldsRecord root_format (current after.bbram 1) (settled_root root) → after.flash ≡ before.flash
+    → Finishes before after
+root_finished root before after only agree own flash = record {
+  finishes = λ contents ready. (
+      let same : contents.root ≡ root = only contents.root ready.holds.root in
+      let area : ℕ = 1 - contents.root.area in
+      let here : HoldsRecord root_format (current after.bbram 1) (root_of (meant contents) area) =
+      subst (HoldsRecord root_format (current after.bbram 1)) (sym (ap settled_root same) ∙ settled_is contents) own in
+      let done : HoldsContents before.flash before.bbram (both_done contents) = subst (HoldsContents before.flash before.bbram) (sym ready.applied) ready.holds in
+      subst (λ (xs : List ℕ). HoldsContents xs after.bbram (at_rest (meant contents) area)) (sym flash)
+      (work_finished before.flash before.bbram after.bbram contents area agree here ready.signed done));
+}
+
+pub finished_or_kept : (root : Root) (before after : Memory) → ((any : Root) → RootIn before.bbram any → any ≡ root) → AgreeBesides 1 before.bbram after.bbram → after.flash ≡ before.flash
+    → (current after.bbram 1 ≡ current before.bbram 1) ⊎ HoldsRecord root_format (current after.bbram 1) (settled_root root) → KeepsContents before after ⊎ Finishes before after
+finished_or_kept root before after only agree flash (inl same) = inl (kept_in_force before after agree same flash)
+finished_or_kept root before after only agree flash (inr own) = inr (root_finished root before after only agree own flash)
+
+-- ---- whether work is pending
+
+pub is_pending : (root any : Root) → any ≡ root → true ≡ is_some root.pending → any.pending ≡ None → ⊥
+is_pending root any same some none =
+    let clash : true ≡ is_some {T = Pending} None = some ∙ ap (λ (r : Root). is_some r.pending) (sym same) ∙ ap is_some none in
+    cc
+
+none_in : {A : Type 0} (option : Option A) → false ≡ is_some option → option ≡ None
+none_in None e = refl
+none_in (Some x) e = absurd (cc)
+
+pub none_pending : (root any : Root) → any ≡ root → false ≡ is_some root.pending → any.pending ≡ None
+none_pending root any same none = ap (λ (r : Root). r.pending) same ∙ none_in root.pending none
+
+-- what would make a false test true does not hold
+pub is_not : {P : Type 0} → (IsTrue false ↔ P) → P → ⊥
+is_not both p = let clash : false ≡ true = both.1 p in cc

@@ -1,0 +1,8 @@
+-- Records at the start of an area of the flash.
+use Rattle.std.specs.Prelude.{ℕ, List}
+use Rattle.mb_model.specs.Flash.{BeginsArea}
+
+-- an area begins with the bytes of some record
+pub record BeginsSome (area : List ℕ) : Type 0 where
+  pub bytes : List ℕ
+  pub begins : BeginsArea area bytes

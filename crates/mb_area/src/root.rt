@@ -1,0 +1,200 @@
+//! The root in its slot.
+
+ghost use Rattle.std.specs.Prelude.{◌≡◌, ◌≤◌, ◌-◌, ◌⊎◌, length, OnOk, IsOk, true, vec_capacity};
+ghost use Rattle.mb_format.specs.Format.{Spells};
+ghost use Rattle.mb_model.specs.declared.stored.Root.{Root};
+ghost use Rattle.mb_model.specs.declared.state.State.{State};
+ghost use Rattle.mb_model.specs.RootFormat.{root_format};
+ghost use Rattle.mb_model.specs.Memory.{IsBlank, current, other, HoldsRecord};
+ghost use Rattle.mb_model.specs.Meaning.{RootIn};
+ghost use Rattle.mb_model.specs.Board.{IsLoaded};
+ghost use Rattle.mb_board.specs.Calls.{power_of, level_of, IsMetered};
+ghost use Rattle.mb_storing.specs.InForce.{AgreeBesides};
+ghost use Rattle.mb_slot.specs.Slots.{CanUse, IsSameBut, IsSameButOther};
+ghost use Rattle.mb_layout.specs.Rooms.{HasRoom};
+ghost use Rattle.mb_area.specs.Roots.{HoldsSomeRoot, HasSomeRoot, KeepsContents, CommitsRoot, Finishes, KeepsOrFinishes, settled_root};
+
+use crate::state::{Unsettled, Unwiped};
+use mb_board::{Board, Stopped};
+use mb_layout::{Room, fill_area, make_area, root_in, write_root};
+use mb_model::Root;
+use mb_ratchet::{Off, One, R1, Reaches, Up};
+use mb_slot::{commit, read_current, wipe_other};
+
+/// The number of the root's slot.
+pub(crate) const ROOT_SLOT: u16 = 1;
+
+/// The root whose record the area holds.
+fn held_root(area: &[u8]) -> Root
+    requires { HoldsSomeRoot area.now }
+    ensures holds { HoldsRecord root_format area.now result }
+    ensures only { (root : Root) → HoldsRecord root_format area.now root → root ≡ result }
+{
+    let Some(root) = root_in(area) else {
+        unreachable!()
+    };
+    root
+}
+
+/// The root in force.
+pub fn read_root<B: Board>(b: &B, room: &mut Room) -> Root
+    requires on { B.power b.now ≡ true }
+    requires level { B.level b.now ≤ 1 }
+    requires loaded { IsLoaded (B.memory b.now) }
+    requires root { HasSomeRoot (B.memory b.now) }
+    requires room { HasRoom room.old }
+    ensures holds { RootIn (B.memory b.now).bbram result }
+    ensures root { (root : Root) → RootIn (B.memory b.now).bbram root → root ≡ result }
+    ensures area { result.area ≤ 1 }
+    ensures room { HasRoom room.new }
+    ensures public { room.new.public ≡ room.old.public }
+{
+    make_area(&mut room.area);
+    read_current(b, ROOT_SLOT, &mut room.area);
+    held_root(&room.area)
+}
+
+/// Replaces `out` by the bytes of the root.
+fn root_bytes(root: &Root, out: &mut Vec<u8>)
+    requires allowed { root_format.Allowed root.now }
+    requires room { 4096 ≤ vec_capacity out.old }
+    ensures spelled { Spells root_format out.new.items root.now }
+    ensures short { length out.new.items ≤ 4094 }
+    ensures capacity { vec_capacity out.old ≤ vec_capacity out.new }
+{
+    out.clear();
+    let _ = write_root(root, out);
+}
+
+/// Puts the root in force. Where power fails, this one or the one before is in force. There are at most two write calls.
+fn store_root<B: Board>(b: &mut B, root: &Root, room: &mut Room) -> Result<(), Stopped>
+    requires can_use { CanUse (B.power b.old) (B.level b.old) (B.memory b.old) 1 }
+    requires allowed { root_format.Allowed root.now }
+    requires room { HasRoom room.old }
+    ensures done { OnOk result (HoldsRecord root_format (current (B.memory b.new).bbram 1) root.now) }
+    ensures either { (current (B.memory b.new).bbram 1 ≡ current (B.memory b.old).bbram 1)
+        ⊎ HoldsRecord root_format (current (B.memory b.new).bbram 1) root.now }
+    ensures left { OnOk result (other (B.memory b.new).bbram 1 ≡ current (B.memory b.old).bbram 1) }
+    ensures besides { AgreeBesides 1 (B.memory b.old).bbram (B.memory b.new).bbram }
+    ensures rest { IsSameBut 1 (B.memory b.old).bbram (B.memory b.new).bbram }
+    ensures sized { IsLoaded (B.memory b.new) }
+    ensures flash { (B.memory b.new).flash ≡ (B.memory b.old).flash }
+    ensures power { B.power b.new ≡ power_of result }
+    ensures level { B.level b.new ≡ level_of result (B.level b.old) }
+    ensures ledger { B.ledger b.new ≡ B.ledger b.old }
+    ensures meter { IsMetered 2 result (B.meter b.old) (B.meter b.new) }
+    ensures room { HasRoom room.new }
+    ensures public { room.new.public ≡ room.old.public }
+{
+    root_bytes(root, &mut room.other);
+    make_area(&mut room.area);
+    fill_area(&room.other, &mut room.area);
+    commit(b, ROOT_SLOT, &room.area)
+}
+
+/// Puts the root in force, with whose public record the flash area that it names begins, as an order leaves it. Where
+/// power fails, this one or the one before is in force. There are at most two write calls.
+#[tactic(auto, using(crate::proofs::Rooted::root_committed, crate::proofs::Rooted::committed_or_kept))]
+pub fn commit_root<B: Board>(
+    up: Up<R1>,
+    b: &mut B,
+    root: &Root,
+    room: &mut Room,
+) -> Result<Unsettled, Off>
+    requires on { B.power b.old ≡ true }
+    requires level { B.level b.old ≡ 1 }
+    requires loaded { IsLoaded (B.memory b.old) }
+    requires allowed { root_format.Allowed root.now }
+    requires room { HasRoom room.old }
+    ensures done { OnOk result (CommitsRoot root.now (B.memory b.old) (B.memory b.new)) }
+    ensures either { KeepsContents (B.memory b.old) (B.memory b.new)
+        ⊎ CommitsRoot root.now (B.memory b.old) (B.memory b.new) }
+    ensures rest { IsSameBut 1 (B.memory b.old).bbram (B.memory b.new).bbram }
+    ensures sized { IsLoaded (B.memory b.new) }
+    ensures flash { (B.memory b.new).flash ≡ (B.memory b.old).flash }
+    ensures power { B.power b.new ≡ power_of result }
+    ensures level { B.level b.new ≡ level_of result (B.level b.old) }
+    ensures ledger { B.ledger b.new ≡ B.ledger b.old }
+    ensures meter { IsMetered 2 result (B.meter b.old) (B.meter b.new) }
+    ensures room { HasRoom room.new }
+{
+    match store_root(b, root, room) {
+        Ok(()) => Ok(Unsettled { up }),
+        Err(Stopped) => Err(Reaches::<One>::lost(up, b)),
+    }
+}
+
+/// The root of a device with nothing pending, whose public record stands in the area of the flash that this root does
+/// not name.
+fn settled_root(root: &Root) -> Root
+    requires { root.now.area ≤ 1 }
+    ensures { result ≡ settled_root root.now }
+{
+    Root {
+        area: 1 - root.area,
+        serial: root.serial,
+        device: root.device,
+        uses: root.uses,
+        pending: None,
+    }
+}
+
+/// Puts the root in force that says that nothing is pending, where the fates stand applied and the signed public record
+/// stands in the flash area that is not in force. Where power fails, this root or the one before is in force. There are at
+/// most two write calls.
+#[tactic(auto, using(crate::proofs::Rooted::root_finished, crate::proofs::Rooted::finished_or_kept, crate::proofs::Rooted::settled_allowed))]
+pub fn finish_root<B: Board>(u: Unsettled, b: &mut B, room: &mut Room) -> Result<Unwiped, Off>
+    requires on { B.power b.old ≡ true }
+    requires level { B.level b.old ≡ 1 }
+    requires loaded { IsLoaded (B.memory b.old) }
+    requires root { HasSomeRoot (B.memory b.old) }
+    requires room { HasRoom room.old }
+    ensures done { OnOk result (Finishes (B.memory b.old) (B.memory b.new)) }
+    ensures either { KeepsOrFinishes (B.memory b.old) (B.memory b.new) }
+    ensures rest { IsSameBut 1 (B.memory b.old).bbram (B.memory b.new).bbram }
+    ensures sized { IsLoaded (B.memory b.new) }
+    ensures flash { (B.memory b.new).flash ≡ (B.memory b.old).flash }
+    ensures power { B.power b.new ≡ power_of result }
+    ensures level { B.level b.new ≡ level_of result (B.level b.old) }
+    ensures ledger { B.ledger b.new ≡ B.ledger b.old }
+    ensures meter { IsMetered 2 result (B.meter b.old) (B.meter b.new) }
+    ensures room { HasRoom room.new }
+{
+    let root = settled_root(&read_root(b, room));
+    match store_root(b, &root, room) {
+        Ok(()) => Ok(unwiped(u)),
+        Err(Stopped) => Err(Reaches::<One>::lost(u, b)),
+    }
+}
+
+/// The state after the last of the work is done.
+fn unwiped(u: Unsettled) -> Unwiped {
+    let Unsettled { up } = u;
+    Unwiped { up }
+}
+
+/// Sets each byte of the root's area that is not in force to zero; writes nothing where each is zero already. There is at
+/// most one write call.
+#[tactic(auto, using(crate::proofs::Rooted::kept_in_force))]
+pub fn wipe_root<B: Board>(w: Unwiped, b: &mut B) -> Result<Up<R1>, Off>
+    requires on { B.power b.old ≡ true }
+    requires level { B.level b.old ≡ 1 }
+    requires loaded { IsLoaded (B.memory b.old) }
+    ensures blank { OnOk result (IsBlank (other (B.memory b.new).bbram 1)) }
+    ensures contents { KeepsContents (B.memory b.old) (B.memory b.new) }
+    ensures idle { IsBlank (other (B.memory b.old).bbram 1)
+        → IsOk result × (B.memory b.new ≡ B.memory b.old) × (B.meter b.new ≡ B.meter b.old) }
+    ensures rest { IsSameButOther 1 (B.memory b.old).bbram (B.memory b.new).bbram }
+    ensures sized { IsLoaded (B.memory b.new) }
+    ensures flash { (B.memory b.new).flash ≡ (B.memory b.old).flash }
+    ensures power { B.power b.new ≡ power_of result }
+    ensures level { B.level b.new ≡ level_of result (B.level b.old) }
+    ensures ledger { B.ledger b.new ≡ B.ledger b.old }
+    ensures meter { IsMetered 1 result (B.meter b.old) (B.meter b.new) }
+{
+    let Unwiped { up } = w;
+    match wipe_other(b, ROOT_SLOT) {
+        Ok(()) => Ok(up),
+        Err(Stopped) => Err(Reaches::<One>::lost(up, b)),
+    }
+}

@@ -1,0 +1,31 @@
+//! The states of a device in which work is left.
+
+ghost use Rattle.std.specs.Prelude.{◌≡◌, ◌≤◌, false};
+ghost use Rattle.std.proofs.Common.{rules};
+
+use mb_ratchet::{Off, One, Place, R1, Reaches, Register, Up};
+
+/// A device at level 1 whose root says that work is pending. It reaches every place, and cannot be let go: the work has
+/// to be done first.
+pub struct Unsettled {
+    pub(crate) up: Up<R1>,
+}
+
+/// A device at level 1 with nothing pending, of whose root the area that is not in force may hold an old secret. It
+/// cannot be let go: that area has to be wiped first.
+pub struct Unwiped {
+    pub(crate) up: Up<R1>,
+}
+
+impl<L: Place> Reaches<L> for Unsettled {
+    ghost stage = { 1 };
+
+    ghost raised = { Prim.search rules };
+
+    ghost within = { L.least };
+
+    fn lost<R: Register>(self, r: &R) -> Off {
+        let Unsettled { up } = self;
+        Reaches::<One>::lost(up, r)
+    }
+}

@@ -1,0 +1,114 @@
+//! Unsigned entries, signed where they stand.
+
+ghost use Rattle.std.specs.Prelude.{◌≡◌, ◌+◌, ◌-◌, ◌≤◌, ◌∷◌, IfSome, vec_len, vec_capacity};
+ghost use Rattle.mb_model.specs.Signing.{signature_of};
+ghost use Rattle.mb_model.specs.StoredLog.{unsigned_by, outgoing_of};
+ghost use Rattle.mb_completion.specs.Completions.{LastIsSigned, LastTwoAreSigned, PendingIsSigned};
+
+use mb_layout::{complete_record, two_unsigned_entries, unsigned_entry};
+use mb_lms::Steps;
+use mb_model::{KeySeed, Root};
+use mb_signer::{Uses, sign, take_index};
+use std::sync::ledger::Ledger;
+
+/// What the text begins with that a device key signs of an entry.
+const ENTRY: u8 = 3;
+
+/// How many bytes a signature has.
+const SIGNATURE_LENGTH: usize = 2348;
+
+/// Signs the bytes of an entry by the key at the index.
+fn sign_entry<L: Ledger>(
+    key: &KeySeed,
+    index: u32,
+    entry: &[u8],
+    signature: &mut [u8; SIGNATURE_LENGTH],
+    steps: &mut Steps<L>,
+)
+    requires { index ≤ 31 }
+    ensures signature { signature.new ≡ signature_of key.now index (ENTRY ∷ entry.now) }
+    ensures cost { steps.new ≤ steps.old + 35473 }
+{
+    let mut uses = Uses::stored(index);
+    let Some(right) = take_index(&mut uses) else {
+        unreachable!();
+    };
+    sign(right, key, &[ENTRY], entry, signature, steps);
+}
+
+/// Signs the one unsigned entry of the record.
+fn sign_last<L: Ledger>(key: &KeySeed, index: u32, record: &mut Vec<u8>, steps: &mut Steps<L>)
+    requires index { index ≤ 31 }
+    requires room { vec_len record.old + 2348 ≤ vec_capacity record.old }
+    requires short { vec_len record.old ≤ 4194304 }
+    ensures signed { LastIsSigned key.now index record.old record.new }
+    ensures cost { steps.new ≤ steps.old + 35473 }
+{
+    let mut signatures = [[0; SIGNATURE_LENGTH]];
+    sign_entry(
+        key,
+        index,
+        unsigned_entry(record.as_slice()),
+        &mut signatures[0],
+        steps,
+    );
+    complete_record(record, &signatures);
+}
+
+/// Signs the two unsigned entries of the record: the first by the outgoing key at the index, the second by the device key
+/// at its first index.
+fn sign_last_two<L: Ledger>(
+    outgoing: &KeySeed,
+    index: u32,
+    device: &KeySeed,
+    record: &mut Vec<u8>,
+    steps: &mut Steps<L>,
+)
+    requires index { index ≤ 31 }
+    requires room { vec_len record.old + 4696 ≤ vec_capacity record.old }
+    requires short { vec_len record.old ≤ 4194304 }
+    ensures signed { LastTwoAreSigned outgoing.now index device.now record.old record.new }
+    ensures cost { steps.new ≤ steps.old + 70946 }
+{
+    let mut signatures = [[0; SIGNATURE_LENGTH]; 2];
+    let (first, second) = two_unsigned_entries(record.as_slice());
+    sign_entry(outgoing, index, first, &mut signatures[0], steps);
+    sign_entry(device, 0, second, &mut signatures[1], steps);
+    complete_record(record, &signatures);
+}
+
+/// Completes the public record in place: each entry that the root leaves unsigned is signed once, by the key and at the
+/// index that the root names, in at most 70,946 steps. Nothing is said where the bytes are no public record with as many
+/// unsigned entries as the root says. There is room for the signatures.
+pub fn sign_pending<L: Ledger>(root: &Root, record: &mut Vec<u8>, steps: &mut Steps<L>)
+    requires uses { root.now.uses ≤ 32 }
+    requires outgoing { IfSome (outgoing_of root.now.pending) (λ outgoing. outgoing.uses ≤ 32) }
+    requires few { unsigned_by root.now.pending ≤ 2 }
+    requires room { vec_len record.old + 4696 ≤ vec_capacity record.old }
+    requires short { vec_len record.old ≤ 4194304 }
+    ensures signed { PendingIsSigned root.now record.old record.new }
+    ensures cost { steps.new ≤ steps.old + 70946 }
+{
+    let Some(pending) = &root.pending else {
+        return;
+    };
+    match (&pending.outgoing, pending.unsigned) {
+        (None, _) => sign_last(&root.device, last_of(root.uses), record, steps),
+        (Some(outgoing), 1) => sign_last(&outgoing.seed, last_of(outgoing.uses), record, steps),
+        (Some(outgoing), 2) => sign_last_two(
+            &outgoing.seed,
+            last_of(outgoing.uses),
+            &root.device,
+            record,
+            steps,
+        ),
+        _ => {}
+    }
+}
+
+/// The index that a key used last, of as many.
+fn last_of(uses: u32) -> u32
+    ensures { result ≡ uses - 1 }
+{
+    uses.saturating_sub(1)
+}

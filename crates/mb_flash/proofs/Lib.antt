@@ -1,0 +1,2 @@
+pub mod Sectored
+pub mod Areas

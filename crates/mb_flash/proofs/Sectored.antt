@@ -1,0 +1,94 @@
+-- What the writes of a sector, and of several, leave.
+use Rattle.std.proofs.Common.{◌≡◌, ℕ, ◌+◌, ◌*◌, ◌/◌, ◌<◌, ◌≤◌, ◌⊎◌, inl, inr, List, [], ◌∷◌, ◌++◌, length, take, drop, refl, ap, sym, ◌∙◌, arith, length-append}
+use Rattle.std.proofs.Math.Seq.{take-add}
+use Rattle.std.proofs.lemmas.List.{take-take, take-replicate, drop-drop, append-nil}
+use Rattle.mb_model.specs.Memory.{AreSized}
+use Rattle.mb_model.specs.Pieces.{part}
+use Rattle.mb_model.specs.Board.{put, erased}
+use Rattle.mb_model.proofs.Places.{length-erased, part-put}
+use Rattle.mb_board.specs.Calls.{Torn}
+use Rattle.mb_slot.specs.Slots.{IsOutside, IsSameOutside}
+use Rattle.mb_slot.proofs.Ranges.{torn_same, apart_same}
+
+-- ---- what stays
+
+narrower : (at m n offset : ℕ) → m ≤ n → IsOutside at n offset → IsOutside at m offset
+narrower at m n offset less (inl below) = inl below
+narrower at m n offset less (inr above) = inr (omega arith)
+
+-- what is the same outside of fewer bytes is so outside of more
+pub widened : (at m n : ℕ) (before after : List ℕ) → m ≤ n → IsSameOutside at m before after → IsSameOutside at n before after
+widened at m n before after less same = record {
+  sized = same.sized;
+  bytes = λ offset outside. same.bytes offset (narrower at m n offset less outside);
+}
+
+pub same_then : (at n : ℕ) (before between after : List ℕ) → IsSameOutside at n before between → IsSameOutside at n between after → IsSameOutside at n before after
+same_then at n before between after first later = record {
+  sized = later.sized ∙ first.sized;
+  bytes = λ offset outside. later.bytes offset outside ∙ first.bytes offset outside;
+}
+
+pub still_sized : (at n : ℕ) (flash bbram after other : List ℕ) → AreSized flash bbram → IsSameOutside at n flash after → other ≡ bbram → AreSized after other
+still_sized at n flash bbram after other sized same kept = record { flash = same.sized ∙ sized.flash; bbram = ap length kept ∙ sized.bbram }
+
+-- ---- one sector
+
+-- a write call of at most a sector, at the start of this one
+pub torn_sector : (sector n : ℕ) (before after : List ℕ) → sector < 256 → n ≤ 4096 → length before ≡ 1048576 → Torn (4096 * sector) n before after
+    → IsSameOutside (4096 * sector) 4096 before after
+torn_sector sector n before after less few sized torn =
+    widened (4096 * sector) n 4096 before after few (torn_same (4096 * sector) n before after (omega arith) torn)
+
+-- an erased sector begins with erased bytes
+pub erased_start : (sector n : ℕ) (before after : List ℕ) → sector < 256 → n ≤ 4096 → length before ≡ 1048576
+    → after ≡ put (4096 * sector) (erased 4096) before → part (4096 * sector) n after ≡ erased n
+unfolding erased
+erased_start sector n before after less few sized whole =
+    let at : ℕ = 4096 * sector in
+    let all : part at 4096 (put at (erased 4096) before) ≡ erased 4096 = part-put at 4096 (erased 4096) before (sym (length-erased 4096)) (omega arith) in
+    ap (part at n) whole
+    ∙ sym (take-take n 4096 (drop at (put at (erased 4096) before)) few)
+    ∙ ap (take n) all
+    ∙ take-replicate n 4096 0xFF few
+
+-- what was put at the start of a sector stands there
+pub put_start : (sector : ℕ) (before after bytes : List ℕ) → sector < 256 → length before ≡ 1048576
+    → after ≡ put (4096 * sector) bytes before → part (4096 * sector) (length bytes) after ≡ bytes
+put_start sector before after bytes less sized whole =
+    ap (part (4096 * sector) (length bytes)) whole ∙ part-put (4096 * sector) (length bytes) bytes before refl (omega arith)
+
+-- ---- several sectors
+
+no_items : (xs : List ℕ) → length xs ≡ 0 → xs ≡ []
+no_items [] none = refl
+no_items (x ∷ xs) none = absurd (omega (arith, none))
+
+-- where a piece fills its sector, or nothing comes after it, what stands in its sector and in those after it is both
+pub joined : (at : ℕ) (flash piece rest bytes : List ℕ) → bytes ≡ piece ++ rest → (length piece ≡ 4096) ⊎ (length rest ≡ 0)
+    → part at (length piece) flash ≡ piece → part (at + 4096) (length rest) flash ≡ rest → part at (length bytes) flash ≡ bytes
+joined at flash piece rest bytes whole (inl full) first later =
+    let count : length bytes ≡ length piece + length rest = ap length whole ∙ length-append piece rest in
+    let next : drop (length piece) (drop at flash) ≡ drop (at + 4096) flash = drop-drop (length piece) at flash ∙ ap (λ n. drop (at + n) flash) full in
+    ap (λ n. part at n flash) count
+    ∙ take-add (length piece) (length rest) (drop at flash)
+    ∙ ap (λ xs. take (length piece) (drop at flash) ++ take (length rest) xs) next
+    ∙ ap (λ xs. xs ++ part (at + 4096) (length rest) flash) first
+    ∙ ap (λ xs. piece ++ xs) later
+    ∙ sym whole
+joined at flash piece rest bytes whole (inr none) first later =
+    let empty : rest ≡ [] = no_items rest none in
+    let same : bytes ≡ piece = whole ∙ ap (λ xs. piece ++ xs) empty ∙ append-nil piece in
+    rw same first
+
+-- what stands in a sector stays while those after it are written
+pub both_stand : (first : ℕ) (mid after piece rest bytes : List ℕ) → bytes ≡ piece ++ rest → length piece ≤ 4096 → (length piece ≡ 4096) ⊎ (length rest ≡ 0)
+    → IsSameOutside (4096 * (first + 1)) (4096 * ((length rest + 4095) / 4096)) mid after → 4096 * first + 4096 ≤ length mid
+    → part (4096 * first) (length piece) mid ≡ piece → part (4096 * (first + 1)) (length rest) after ≡ rest
+    → part (4096 * first) (length bytes) after ≡ bytes
+both_stand first mid after piece rest bytes whole most full same within stood later =
+    let at : ℕ = 4096 * first in
+    let next : 4096 * (first + 1) ≡ at + 4096 = omega arith in
+    let stays : part at (length piece) after ≡ part at (length piece) mid =
+    apart_same at (length piece) (4096 * (first + 1)) (4096 * ((length rest + 4095) / 4096)) mid after same (omega arith) (inl (omega arith)) in
+    joined at after piece rest bytes whole full (stays ∙ stood) (ap (λ k. part k (length rest) after) (sym next) ∙ later)

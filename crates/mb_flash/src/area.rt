@@ -1,0 +1,89 @@
+//! A record at the start of an area of the flash.
+
+ghost use Rattle.std.specs.Prelude.{◌≡◌, ◌+◌, ◌-◌, ◌*◌, ◌≤◌, ◌++◌, ◌⊎◌, length, take, true, OnOk};
+ghost use Rattle.std.specs.Int.{w32, to_be_bytes};
+ghost use Rattle.mb_model.specs.Pieces.{part};
+ghost use Rattle.mb_model.specs.Board.{IsLoaded};
+ghost use Rattle.mb_model.specs.Flash.{flash_area, BeginsArea};
+ghost use Rattle.mb_board.specs.Calls.{power_of, level_of, IsMetered};
+ghost use Rattle.mb_slot.specs.Slots.{IsSameOutside};
+ghost use Rattle.mb_flash.specs.Sectors.{sectors_for};
+
+use crate::sector::{write_sector, write_sectors};
+use mb_board::{Board, Stopped};
+use mb_bytes::put_at;
+use mb_model::SECTOR_LENGTH;
+
+/// How many bytes the length of a record takes before it.
+const PREFIX: usize = 4;
+
+/// How many sectors an area has.
+const AREA_SECTORS: u16 = 128;
+
+/// Puts a length and the first bytes of a record at the start of a sector's bytes.
+fn fill_first(count: u32, head: &[u8], piece: &mut [u8])
+    requires head { length head.now ≤ 4092 }
+    requires piece { length piece.old ≡ 4096 }
+    ensures { take (4 + length head.now) piece.new ≡ to_be_bytes w32 count ++ head.now }
+{
+    put_at(piece, 0, &count.to_be_bytes());
+    put_at(piece, PREFIX, head);
+}
+
+/// Makes the area, 0 or 1, begin with this record, of at most 470,000 bytes: its length, and the record. What follows it is
+/// any. Where power fails, the other area is as it was. There are at most two write calls for each sector that the record
+/// needs, and none for a sector that holds its bytes already.
+#[tactic(auto, using(crate::proofs::Areas::begins, crate::proofs::Areas::other_kept))]
+pub fn write_area<B: Board>(b: &mut B, area: u16, record: &[u8]) -> Result<(), Stopped>
+    requires on { B.power b.old ≡ true }
+    requires loaded { IsLoaded (B.memory b.old) }
+    requires area { area ≤ 1 }
+    requires short { length record.now ≤ 470000 }
+    ensures written { OnOk result (BeginsArea (flash_area (B.memory b.new).flash area) record.now) }
+    ensures other { flash_area (B.memory b.new).flash (1 - area) ≡ flash_area (B.memory b.old).flash (1 - area) }
+    ensures same { IsSameOutside (524288 * area) 524288 (B.memory b.old).flash (B.memory b.new).flash }
+    ensures sized { IsLoaded (B.memory b.new) }
+    ensures bbram { (B.memory b.new).bbram ≡ (B.memory b.old).bbram }
+    ensures power { B.power b.new ≡ power_of result }
+    ensures level { B.level b.new ≡ level_of result (B.level b.old) }
+    ensures ledger { B.ledger b.new ≡ B.ledger b.old }
+    ensures meter { IsMetered (2 * sectors_for (4 + length record.now)) result (B.meter b.old) (B.meter b.new) }
+{
+    write_lengthened(b, area, record)
+}
+
+/// Writes the length of the record and the record at the start of the area.
+fn write_lengthened<B: Board>(b: &mut B, area: u16, record: &[u8]) -> Result<(), Stopped>
+    requires on { B.power b.old ≡ true }
+    requires loaded { IsLoaded (B.memory b.old) }
+    requires area { area ≤ 1 }
+    requires short { length record.now ≤ 470000 }
+    ensures stored { OnOk result (part (524288 * area) (4 + length record.now) (B.memory b.new).flash
+        ≡ to_be_bytes w32 (length record.now) ++ record.now) }
+    ensures same { IsSameOutside (524288 * area) 524288 (B.memory b.old).flash (B.memory b.new).flash }
+    ensures sized { IsLoaded (B.memory b.new) }
+    ensures bbram { (B.memory b.new).bbram ≡ (B.memory b.old).bbram }
+    ensures power { B.power b.new ≡ power_of result }
+    ensures level { B.level b.new ≡ level_of result (B.level b.old) }
+    ensures ledger { B.ledger b.new ≡ B.ledger b.old }
+    ensures meter { IsMetered (2 * sectors_for (4 + length record.now)) result (B.meter b.old) (B.meter b.new) }
+{
+    let (head, rest) = split_head(record);
+    let mut piece = [0; SECTOR_LENGTH];
+    fill_first(record.len() as u32, head, &mut piece);
+    let first = AREA_SECTORS * area;
+    write_sector(b, first, &piece[..PREFIX + head.len()])?;
+    write_sectors(b, first + 1, rest)
+}
+
+/// The bytes of a record that stand in the first sector after its length, and the rest.
+fn split_head(record: &[u8]) -> (&[u8], &[u8])
+    ensures whole { record.now ≡ result.0.now ++ result.1.now }
+    ensures most { length result.0.now ≤ 4092 }
+    ensures full { (length result.0.now ≡ 4092) ⊎ (length result.1.now ≡ 0) }
+{
+    if record.len() <= SECTOR_LENGTH - PREFIX {
+        return (record, &[]);
+    }
+    record.split_at(SECTOR_LENGTH - PREFIX)
+}
