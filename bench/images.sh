@@ -12,7 +12,7 @@ cd "$(dirname "${BASH_SOURCE[0]}")/.."
 program image mb_host mb_image mb_lms mb_model sha2 hex
 
 failed=0
-for kind in new 'pending entry' 'pending succession' 'pending renewal' 'pending last' 'pending add' full; do
+for kind in new 'pending entry' 'pending succession' 'pending renewal' 'pending last' 'pending add' 'pending short' full; do
     # shellcheck disable=SC2086 # the words of a kind
     wanted=$(python3 peers/device.py $kind "$work/image")
     found=$("$program" tell "$work/image")

@@ -2,9 +2,10 @@
 
     device.py full IMAGE           a log of 128 entries, sixteen keys and 32 secrets
     device.py new IMAGE            a new device
-    device.py pending KIND IMAGE   a device with work pending: entry, succession, renewal, last, add
+    device.py pending KIND IMAGE   a device with work pending: entry, succession, renewal, last, add, short
+    device.py row KIND             a row of the tests of such work in crates/mb_image, whose birth is signed by zeros
 
-Each prints what the image stands for: `state LENGTH NUMBER USES`, the numbers of secrets and keys of regions 2 and 3, and
+Each image's line says what it stands for: `state LENGTH NUMBER USES`, the numbers of secrets and keys of regions 2 and 3, and
 the SHA-256 hash of the signatures of the log, one after another.
 """
 
@@ -14,11 +15,13 @@ from lms import PrivateKey, sha256, u8, u16, u32
 from officer import Officer
 
 FLASH, BBRAM, AREA, FLASH_AREA = 1_048_576, 28_672, 4_096, 524_288
-ESTABLISH, LOAD, EMERGENCY = 1, 3, 4
+SIGNATURE = 2_348
+ESTABLISH, SURRENDER, LOAD, EMERGENCY = 1, 2, 3, 4
 ALWAYS, COUNTERSIGNED = 0, 2
 EPOCH, CONFIGURATION = 0, 1
 UNOWNED = {"owner": None, "code": None, "version": 0, "reliable": False, "trust": 1}
-KEEP, DROP_CONFIGURATION = u8(0), u8(2)
+EMPTY, KEEP, DROP_CONFIGURATION, ADD = u8(1), u8(0), u8(2), u8(3)
+KINDS = "entry", "succession", "renewal", "last", "add", "short"
 
 
 class Key:
@@ -48,9 +51,9 @@ def optional(bytes_):
 
 
 class Device:
-    """A device whose owners are obeyed without looking at their signatures."""
+    """A device whose owners are obeyed without looking at their signatures, and whose birth the maker has signed or not."""
 
-    def __init__(self):
+    def __init__(self, signed=True):
         self.draws = 0
         self.serial = sha256(b"serial")[:16]
         self.maker, self.owner = Officer(sha256(b"maker")), {n: Officer(sha256(b"owner", u8(n))) for n in (1, 2, 3)}
@@ -60,7 +63,7 @@ class Device:
         self.regions = {2: {"secrets": [], "keys": []}, 3: {"secrets": [], "keys": []}}
         self.key, self.outgoing, self.log = self.new_key(), None, []
         birth = u8(0) + self.serial + self.key.key.public() + self.spelled_layers()
-        self.log.append((birth, self.maker.sign(u8(3) + birth)))
+        self.log.append((birth, self.maker.sign(u8(3) + birth) if signed else bytes(SIGNATURE)))
 
     def draw(self):
         self.draws += 1
@@ -111,6 +114,12 @@ class Device:
         self.succeed()
         self.layers[layer] = dict(UNOWNED, owner=self.owner[layer].public(), trust=trust)
         self.change(ESTABLISH, layer)
+
+    def surrender(self, layer):
+        """The owner of a layer, of which nothing is kept, gives it up."""
+        self.succeed()
+        self.layers[layer], self.codes[layer] = dict(UNOWNED), None
+        self.change(SURRENDER, layer)
 
     def load(self, layer, kind=LOAD, trust=ALWAYS):
         """A load of layer 1 makes the next device key itself, at the last index too."""
@@ -183,9 +192,9 @@ class Device:
         return " ".join(map(str, ["state", len(self.log), self.number, self.key.uses, *counts, signatures]))
 
 
-def owned():
+def owned(signed=True):
     """A device whose three layers run."""
-    device = Device()
+    device = Device(signed)
     for layer in (2, 3):
         device.establish(layer, ALWAYS)
     for layer in (2, 3):
@@ -205,9 +214,23 @@ def full():
     return device, device.image()
 
 
-def with_pending(kind):
-    """The image as an order leaves it, and the device after the work is done."""
-    device = owned()
+def short_succession(signed):
+    """A device key that gives way in a log of small entries: layer 2 is established and surrendered in turn."""
+    device = Device(signed)
+    while device.key.uses < 31:
+        device.establish(2, ALWAYS)
+        if device.key.uses < 31:
+            device.surrender(2)
+    before = device.region(2), device.region(3)
+    device.surrender(2)
+    return device, before, EMPTY * 2
+
+
+def left_to_do(kind, signed=True):
+    """A device after an order of the kind, the records of its regions before it, and their fates."""
+    if kind == "short":
+        return short_succession(signed)
+    device = owned(signed)
     device.make_key(2, CONFIGURATION)
     device.make_key(3)
     device.put(2, b"pin", b"1234")
@@ -216,18 +239,52 @@ def with_pending(kind):
     before = device.region(2), device.region(3)
     if kind == "add":
         device.make_key(3, CONFIGURATION)
-        fates = KEEP + u8(3) + device.spelled_key(device.regions[3]["keys"][-1])
-    elif kind in ("renewal", "last"):
+        return device, before, KEEP + ADD + device.spelled_key(device.regions[3]["keys"][-1])
+    if kind in ("renewal", "last"):
         device.load(1)
-        fates = DROP_CONFIGURATION * 2
-    else:
-        device.load(3)
-        fates = KEEP + DROP_CONFIGURATION
-    outgoing = device.outgoing
-    unsigned = 2 if outgoing and kind == "succession" else 1
-    given = None if outgoing is None else outgoing.spelled() + u8(outgoing.uses)
-    pending = u8(unsigned) + optional(given) + fates
+        return device, before, DROP_CONFIGURATION * 2
+    device.load(3)
+    return device, before, KEEP + DROP_CONFIGURATION
+
+
+def pending_of(device, kind, fates):
+    """How many entries are unsigned, and the pending work as the root has it."""
+    unsigned = 2 if kind in ("succession", "short") else 1
+    outgoing = device.outgoing and device.outgoing.spelled() + u8(device.outgoing.uses)
+    return unsigned, u8(unsigned) + optional(outgoing) + fates
+
+
+def with_pending(kind):
+    """The device after the order, and the image that the order leaves."""
+    device, before, fates = left_to_do(kind)
+    unsigned, pending = pending_of(device, kind, fates)
     return device, device.image(1, pending, unsigned, before)
+
+
+def row(kind):
+    """A row of the tests: the records that the order leaves, and what they stand for."""
+    device, before, fates = left_to_do(kind, signed=False)
+    unsigned, pending = pending_of(device, kind, fates)
+    signer = device.outgoing or device.key
+    public = device.public(unsigned)
+    codes = public[: public.index(u16(len(device.log)) + device.log[0][0])]
+    told = device.told().split(" ")
+    yield "Left {"
+    yield f'    identifier: "{signer.identifier.hex()}",'
+    yield f'    seed: "{signer.seed.hex()}",'
+    yield f'    codes: "{codes.hex()}",'
+    yield "    entries: &["
+    for entry, _ in device.log:
+        yield f'        "{entry.hex()}",'
+    yield "    ],"
+    yield f"    unsigned: {unsigned},"
+    yield f'    root: "{device.root(0, pending).hex()}",'
+    yield f'    two: "{before[0].hex()}",'
+    yield f'    three: "{before[1].hex()}",'
+    yield f"    uses: {told[3]},"
+    yield f"    items: [{', '.join(told[4:8])}],"
+    yield f'    signatures: "{told[8]}",'
+    yield "}"
 
 
 def main(words):
@@ -236,8 +293,11 @@ def main(words):
     elif len(words) == 2 and words[0] == "new":
         device = Device()
         image = device.image()
-    elif len(words) == 3 and words[0] == "pending" and words[1] in ("entry", "succession", "renewal", "last", "add"):
+    elif len(words) == 3 and words[0] == "pending" and words[1] in KINDS:
         device, image = with_pending(words[1])
+    elif len(words) == 2 and words[0] == "row" and words[1] in KINDS:
+        print("\n".join(row(words[1])))
+        return 0
     else:
         print(__doc__, file=sys.stderr)
         return 2

@@ -2,6 +2,7 @@
 
 import re
 
+import device
 import two_officers
 from lms import PrivateKey, sha256, u16
 from officer import Officer, body, countersigned_text, order, signed_text
@@ -98,6 +99,15 @@ def judged_orders(source):
     }
     for name, word in signed.items():
         source.compare(f"signature {name}", word.hex(), source.constant(name))
+
+
+def pending_images(source):
+    """Each row of work that an order has left, word by word."""
+    for name, kind in ("ENTRY", "entry"), ("RENEWAL", "renewal"), ("NEW_KEY", "add"), ("SUCCESSION", "short"):
+        for (text,) in source.rows(rf"const {name}: Left = Left {{(.*?)\n}};"):
+            found, wanted = (re.findall(HEX, row) for row in (text, "\n".join(device.row(kind))))
+            source.compare(f"work left by {kind}", found, wanted)
+            source.seen.update(found)
 
 
 def first_order(source):

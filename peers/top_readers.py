@@ -1,8 +1,11 @@
 """What is computed anew of the tests of the commands."""
 
-from lms import sha256
-from officer import Officer, body, countersigned_text, order, signed_text
-from sources import HEX, TEXT, Source, line_of, unhex, verifies
+import functools
+import re
+
+from lms import PrivateKey, sha256, u32
+from officer import Officer, body, countersigned_text, order, order_line, signed_text
+from sources import Source, line_of, verifies
 
 IMAGE_LENGTH = 1_077_248
 
@@ -11,24 +14,92 @@ def owner_line(officer):
     return f"owner {officer.owner().hex()}\n"
 
 
-def keys(source):
-    """Keys by `keygen`: the noise, the key file, the public key, the line."""
+class Host:
+    """The files of a play as its commands leave them, but for images."""
+
+    def __init__(self, files):
+        self.files, self.orders = dict(files), {}
+
+    def does(self, command, *names):
+        """What the command prints where it is done."""
+        if command == "keygen":
+            officer = Officer(self.files[names[0]])
+            self.files[names[1]], self.files[names[2]] = officer.key_file(), officer.public()
+            return owner_line(officer)
+        if command == "factory":
+            self.next_index(names[1])
+            return None
+        if command not in ("sign", "countersign"):
+            return None
+        key, used = self.files[names[0]], self.next_index(names[0])
+        sign = functools.partial(private_key(key[4:20], key[20:52]).sign, used)
+        if command == "sign":
+            text = body(self.files[names[1]].decode())
+            made = (text, sign(signed_text(text)), [])
+        else:
+            text, signature, beside = self.orders[names[2]]
+            layer = int(names[1])
+            made = (text, signature, [*beside, (layer, sign(countersigned_text(layer, text)))])
+        self.orders[names[-1]], self.files[names[-1]] = made, order_line(order(*made)).encode()
+        return f"index {used}\n"
+
+    def next_index(self, name):
+        """The next index of the key file of this name, which is then used."""
+        key = self.files[name]
+        used = int.from_bytes(key[52:], "big")
+        self.files[name] = key[:52] + u32(used + 1)
+        return used
+
+
+@functools.lru_cache(None)
+def private_key(identifier, seed):
+    return PrivateKey(identifier, seed)
+
+
+def given(source):
+    """The files of the plays whose bytes are written out."""
+    kinds = {"Hex": bytes.fromhex, "Text": lambda text: line_of(text).encode()}
     word = r'("[^"]*"|[A-Z_]+)'
-    for row in source.rows(rf"makes\(\s*&rt,\s*{word},\s*{word},\s*{word},\s*{word}"):
-        noise, key, public, line = (source.argument(each) for each in row)
-        source.seen.update([noise, key, public])
-        officer = Officer(*unhex(noise))
-        source.compare("key file", officer.key_file().hex(), key)
-        source.compare("public key", officer.public().hex(), public)
-        source.compare("line of the owner", owner_line(officer), line_of(line))
+    for name, kind, content in source.rows(rf'name: "(\w+)",\s*content: Content::(Hex|Text)\(\s*{word},?\s*\)'):
+        content = source.argument(content)
+        source.seen.add(content)
+        yield name, kinds[kind](content)
+
+
+def plays(source):
+    """The plays are followed step by step, but for those in which a call of the host fails."""
+    files = list(given(source))
+    for failing, steps in source.rows(r"Play {\s*failing: &\[([\d, ]*)\],\s*steps: &\[(.*?)\],\s*}"):
+        host = Host(files)
+        for kind, rest in re.findall(r'Step::(\w+)\(((?:[^()"]|"[^"]*")*)\)', steps):
+            follow(source, host, kind, arguments(source, rest), bool(failing))
+
+
+def arguments(source, text):
+    """The arguments of a step, constants by their values."""
+    return [word if word.isdigit() else source.argument(word) for word in re.findall(r'"[^"]*"|\b[A-Z_]+\b|\b\d+\b', text)]
+
+
+def follow(source, host, kind, words, failing):
+    source.seen.update(words)
+    if failing:
+        return
+    if kind == "Ends" and words[1] == "0":
+        found = host.does(*words[0].split(" "))
+        if found:
+            source.compare(words[0], found, line_of(words[2]))
+    elif kind == "Holds" and words[0] in host.files:
+        source.compare(f"file {words[0]}", host.files[words[0]].hex(), words[1])
+    elif kind == "IsOrder":
+        source.compare(f"order {words[0]}", sha256(order(*host.orders[words[0]])).hex(), words[1])
 
 
 def first_head(source):
     """The first bytes of the first image, and the order for it."""
     tests = source.name.rsplit("/", 1)[0]
-    (head,) = unhex(Source(source.root, f"{tests}/runs.rt").constant("SECTOR"))
-    (text,) = unhex(Source(source.root, f"{tests}/once.rt").constant("ORDER"))
-    return head, text
+    head = bytes.fromhex(Source(source.root, f"{tests}/runs.rt").constant("SECTOR"))
+    once = Source(source.root, f"{tests}/once.rt")
+    return head, bytes.fromhex(once.constant("ORDER") + once.constant("ORDER_END"))
 
 
 def once(source):
@@ -48,59 +119,15 @@ def runs(source):
 
 
 def signed_orders(source):
-    """Orders that one key signs first, and another countersigns for layer 3."""
-    noise = source.constant("NOISE")
-    first, other = Officer(*unhex(noise)), Officer(bytes(range(1, 33)))
-    source.compare("owner", owner_line(first), line_of(source.constant("OWNER")))
-    source.compare("other key file", other.key_file().hex(), source.constant("COUNTERSIGNER"))
-    for name, used in (("KEY", 0), ("USED_KEY", 1), ("SPENT_KEY", 32)):
+    """The key files of the tables, and their plays."""
+    noise = bytes.fromhex(source.constant("NOISE"))
+    first, other = Officer(noise), Officer(bytes(range(1, 33)))
+    files = {"KEY": 0, "USED_KEY": 1, "SPENT_KEY": 32}
+    for name, used in files.items():
         first.next = used
         source.compare(name, first.key_file().hex(), source.constant(name))
     first.next = 0
     source.compare("LONG_KEY", (first.key_file() + b"\0").hex(), source.constant("LONG_KEY"))
     source.compare("OTHER_WORD", (b"MBK2" + first.key_file()[4:]).hex(), source.constant("OTHER_WORD"))
-    rows = source.rows(rf"gives(?:_countersigned)?\(\s*&rt,\s*{TEXT},\s*{HEX},\s*(?:{HEX})?")
-    rows.append((source.constant("SURRENDER"), source.constant("SIGNED_SURRENDER"), None))
-    for draft, signed, countersigned in rows:
-        first.next, other.next = 0, 0
-        text = body(line_of(draft))
-        name, signature = draft.split("\\n")[0], first.sign(signed_text(text))
-        source.compare(name, sha256(order(text, signature)).hex(), signed)
-        if countersigned:
-            by_three = other.sign(countersigned_text(3, text))
-            found = sha256(order(text, signature, [(3, by_three)])).hex()
-            source.compare(f"{name}, countersigned", found, countersigned)
-
-
-class Life:
-    """Three officers' keys, their drafts, and the order that was signed last."""
-
-    def __init__(self, files):
-        self.files, self.officers = files, {}
-
-    def does(self, command, *names):
-        """What the command prints."""
-        if command == "keygen":
-            officer = self.officers[names[1]] = Officer(*unhex(self.files[names[0]]))
-            return owner_line(officer)
-        officer = self.officers[names[0]]
-        if command == "sign":
-            self.body, self.beside = body(line_of(self.files[names[1]])), []
-            self.signature = officer.sign(signed_text(self.body))
-        else:
-            layer = int(names[1])
-            self.beside.append((layer, officer.sign(countersigned_text(layer, self.body))))
-        return f"index {officer.next - 1}\n"
-
-    def order(self):
-        return order(self.body, self.signature, self.beside)
-
-
-def device(source):
-    """The calls are followed in their order: words and their line, and the hash of the order where it is told."""
-    life = Life(dict(source.rows(rf'"((?:noise|draft)\d)",\s*{TEXT}')))
-    call = rf'"((?:keygen|sign|countersign) [^"]*)",\s*(?:0,\s*)?"((?:owner|index)[^"]*)",?\s*(?:{HEX})?'
-    for words, line, hashed in source.rows(call):
-        source.compare(words, life.does(*words.split(" ")), line_of(line))
-        if hashed:
-            source.compare(f"order of {words}", sha256(life.order()).hex(), hashed)
+    source.compare("COUNTERSIGNER", other.key_file().hex(), source.constant("COUNTERSIGNER"))
+    plays(source)

@@ -12,7 +12,7 @@ use Rattle.mb_model.specs.Flash.{HoldsPublic}
 use Rattle.mb_model.specs.Meaning.{RootIn, Contents, meant}
 use Rattle.mb_model.specs.Clean.{root_of}
 use Rattle.mb_storing.specs.Commits.{both_done, at_rest}
-use Rattle.mb_storing.specs.Holding.{Holds}
+use Rattle.mb_storing.specs.Holding.{Holds, KeepsContents}
 
 -- an area holds some root
 pub record HoldsSomeRoot (area : List ℕ) : Type 0 where
@@ -23,10 +23,6 @@ pub record HoldsSomeRoot (area : List ℕ) : Type 0 where
 pub record HasSomeRoot (memory : Memory) : Type 0 where
   pub root : Root
   pub holds : RootIn memory.bbram root
-
--- whatever the memory held, it holds
-pub record KeepsContents (before after : Memory) : Type 0 where
-  pub kept : (contents : Contents) → Holds before contents → Holds after contents
 
 -- Whatever the memory held, it holds with this root, and with the codes and entries that the flash holds for the root.
 pub record CommitsRoot (new_root : Root) (before after : Memory) : Type 0 where

@@ -12,7 +12,8 @@ ghost use Rattle.mb_board.specs.Calls.{power_of, level_of, IsMetered};
 ghost use Rattle.mb_storing.specs.InForce.{AgreeBesides};
 ghost use Rattle.mb_slot.specs.Slots.{CanUse, IsSameBut, IsSameButOther};
 ghost use Rattle.mb_layout.specs.Rooms.{HasRoom};
-ghost use Rattle.mb_area.specs.Roots.{HoldsSomeRoot, HasSomeRoot, KeepsContents, CommitsRoot, Finishes, KeepsOrFinishes, settled_root};
+ghost use Rattle.mb_storing.specs.Holding.{KeepsContents};
+ghost use Rattle.mb_area.specs.Roots.{HoldsSomeRoot, HasSomeRoot, CommitsRoot, Finishes, KeepsOrFinishes, settled_root};
 
 use crate::state::{Unsettled, Unwiped};
 use mb_board::{Board, Stopped};

@@ -5,6 +5,11 @@
 //! `mb_model`, whose definitions it speaks of, and on `mb_ratchet`.
 #![tactic(auto)]
 
+mod bank;
 mod board;
+mod fuse;
+mod sim;
 
 pub use board::{Board, Stopped};
+pub use fuse::Cut;
+pub use sim::SimBoard;

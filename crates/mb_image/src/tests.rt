@@ -2,9 +2,12 @@
 
 ghost use Rattle.std.specs.Prelude.{◌≡◌, ◌<◌};
 
+mod pending;
+
 use super::*;
 use mb_lms::Steps;
 use mb_model::{FLASH_LENGTH, IMAGE_LENGTH, State};
+use sha2::{Digest, Sha256};
 use std::alloc::Global;
 use std::marker::Brand;
 use std::process::Abort;
@@ -49,8 +52,45 @@ fn new_device(alloc: Global) -> Result<Vec<u8>, Fail> {
     Ok(image)
 }
 
+/// What is seen of a state.
+#[derive(Clone, Copy)]
+struct Seen {
+    serial: [u8; 16],
+    entries: usize,
+    uses: u32,
+    /// How many secrets and keys region 2 has, and region 3.
+    items: [usize; 4],
+    /// The SHA-256 hash of all signatures, one after another.
+    signatures: [u8; 32],
+    is_reliable: bool,
+}
+
+fn signatures_of(state: &State) -> [u8; 32] {
+    let mut hasher = Sha256::new();
+    for signed in state.log.as_slice() {
+        hasher.update(&signed.signature);
+    }
+    hasher.finalize()
+}
+
+fn seen_of(state: &State) -> Seen {
+    Seen {
+        serial: state.serial,
+        entries: state.log.as_slice().len(),
+        uses: state.uses,
+        items: [
+            state.two.secrets.as_slice().len(),
+            state.two.keys.as_slice().len(),
+            state.three.secrets.as_slice().len(),
+            state.three.keys.as_slice().len(),
+        ],
+        signatures: signatures_of(state),
+        is_reliable: state.layers.one.reliable,
+    }
+}
+
 /// For which state the image stands, on a count of its own.
-fn answer(alloc: Global, image: &[u8]) -> Result<Option<State>, ImageEnd> {
+fn answer(alloc: Global, image: &[u8]) -> Result<Option<Seen>, ImageEnd> {
     answer_counted::<Brand>(alloc, image, Blank::new(1))
 }
 
@@ -58,12 +98,15 @@ fn answer_counted<L: Ledger>(
     alloc: Global,
     image: &[u8],
     blank: Blank,
-) -> Result<Option<State>, ImageEnd>
+) -> Result<Option<Seen>, ImageEnd>
     requires name { blank.name ≡ L.name }
     requires parts { blank.parts ≡ L.parts }
     requires some { 0 < blank.parts }
 {
-    stand_for(alloc, image, &mut Steps::<L>::begin(alloc, blank))
+    match stand_for(alloc, image, &mut Steps::<L>::begin(alloc, blank))? {
+        Some(state) => Ok(Some(seen_of(&state))),
+        None => Ok(None),
+    }
 }
 
 /// The image of a new device with another byte at an offset has this fault.
@@ -87,16 +130,16 @@ fn expect_fault(
 fn new_device_stands_for_its_state(rt: HostRuntime) -> Result<(), Fail> {
     let alloc = rt.alloc();
     let image = new_device(alloc)?;
-    let Ok(Some(state)) = answer(alloc, &image) else {
+    let Ok(Some(seen)) = answer(alloc, &image) else {
         panic!(rt; "no state");
     };
     assert_eq!(rt;
-        state.serial,
+        seen.serial,
         [0, 1, 2, 3, 4, 5, 6, 7, 8, 9, 10, 11, 12, 13, 14, 15]
     );
-    assert_eq!(rt; state.uses, 0);
-    assert_eq!(rt; state.log.as_slice().len(), 1);
-    assert!(rt; state.layers.one.reliable);
+    assert_eq!(rt; seen.uses, 0);
+    assert_eq!(rt; seen.entries, 1);
+    assert!(rt; seen.is_reliable);
     Ok(())
 }
 

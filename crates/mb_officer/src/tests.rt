@@ -5,7 +5,7 @@ mod limits;
 mod order_lines;
 mod orders;
 
-use crate::{BadRecord, Keyfile, make_key, read_keyfile, write_keyfile};
+use crate::{BadRecord, make_key, read_keyfile, write_keyfile};
 use hex::FromHex;
 use std::process::Abort;
 use std::test::Fail;
@@ -31,57 +31,29 @@ fn a_key_of_zeros(rt: HostRuntime) -> Result<(), Fail> {
     )
 }
 
-#[test]
-fn a_key_of_counted_noise(rt: HostRuntime) -> Result<(), Fail> {
-    makes(
-        &rt,
-        "000102030405060708090a0b0c0d0e0f101112131415161718191a1b1c1d1e1f",
-        "4d424b31f5d541e6c1f5736fac8d67703916a7e4b7b94ea512bd312bfcd9eedbebef91090a23420ddbc50323fc7193e51021\
-        7f8c00000000",
-    )
-}
+/// How many bytes are read of the file of a key with this next index, and the place that is wrong.
+const BROKEN: &[(usize, u8, u32)] = &[
+    (0, 0, 0),
+    (3, 0, 0),
+    (19, 0, 4),
+    (51, 0, 20),
+    (55, 0, 52),
+    (57, 32, 56),
+    (56, 33, 52),
+];
 
-#[test]
-fn a_key_of_mixed_noise(rt: HostRuntime) -> Result<(), Fail> {
-    makes(
-        &rt,
-        "111e44f31816a2e7e0998c8b6532415d4f75797ff4312785967bdcd6833e1d96",
-        "4d424b3145e47fb59aa5a55f0f83d81c6d9de2eaffbfddc10c0c223395dda0609b99feeda3baded74bf09ba9881a083b49fe\
-        63e400000000",
-    )
-}
-
-/// The file of a key with this next index and a byte more.
-fn used(next: u8) -> [u8; 57] {
+/// So many bytes of the file of a key with this next index, and a byte more, are wrong at this place.
+fn is_wrong(rt: &impl Abort, length: usize, next: u8, at: u32) {
     let mut file = [0; 57];
     file[..56].copy_from_slice(&write_keyfile(&make_key(&[0; 32])));
     file[55] = next;
-    file
-}
-
-/// What is read of so many bytes of the file.
-fn read(rt: &impl Abort, file: &[u8; 57], length: usize) -> Result<Keyfile, BadRecord> {
     assert!(rt; length <= 57);
-    read_keyfile(&file[..length])
-}
-
-#[test]
-fn used_keys_are_read(rt: HostRuntime) {
-    let mut key = make_key(&[0; 32]);
-    key.next = 32;
-    assert!(rt; read(&rt, &used(32), 56) == Ok(key));
+    assert_eq!(rt; read_keyfile(&file[..length]).err(), Some(BadRecord { at }));
 }
 
 #[test]
 fn broken_files_are_refused(rt: HostRuntime) {
-    let mut file = used(32);
-    assert_eq!(rt; read(&rt, &file, 0).err(), Some(BadRecord { at: 0 }));
-    assert_eq!(rt; read(&rt, &file, 3).err(), Some(BadRecord { at: 0 }));
-    assert_eq!(rt; read(&rt, &file, 19).err(), Some(BadRecord { at: 4 }));
-    assert_eq!(rt; read(&rt, &file, 51).err(), Some(BadRecord { at: 20 }));
-    assert_eq!(rt; read(&rt, &file, 55).err(), Some(BadRecord { at: 52 }));
-    assert_eq!(rt; read(&rt, &file, 57).err(), Some(BadRecord { at: 56 }));
-    assert_eq!(rt; read(&rt, &used(33), 56).err(), Some(BadRecord { at: 52 }));
-    file[3] = b'2';
-    assert_eq!(rt; read(&rt, &file, 56).err(), Some(BadRecord { at: 0 }));
+    for (length, next, at) in BROKEN {
+        is_wrong(&rt, *length, *next, *at);
+    }
 }

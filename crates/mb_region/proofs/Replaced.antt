@@ -18,10 +18,10 @@ use Rattle.mb_layout.specs.Found.{Finds}
 use Rattle.mb_layout.proofs.Areas.{bytes_are}
 use Rattle.mb_format.proofs.Fields.{wide16}
 use Rattle.mb_model.specs.declared.stored.Root.{Root}
-use Rattle.mb_storing.specs.Holding.{Holds, Means, region_in_slot, fate_in_slot}
+use Rattle.mb_storing.specs.Holding.{Holds, Means, region_in_slot, with_region_in, fate_in_slot, KeepsContents}
 use Rattle.mb_storing.specs.Storable.{HasRegionRecord}
 use Rattle.mb_storing.proofs.CommitLemmas.{stands_for_meant, live_contents, two_done_means, three_done_means}
-use Rattle.mb_region.specs.Regions.{IsRegionSlot, HoldsSomeRegion, KeepsContents, ReplacesRegion, KeepsOrReplaces}
+use Rattle.mb_region.specs.Regions.{IsRegionSlot, HoldsSomeRegion, ReplacesRegion, KeepsOrReplaces}
 use Rattle.mb_region.specs.Fates.{CanBeFated, IsPending, fated_in, AppliesFate, KeepsOrApplies}
 
 -- ---- what an area holds
@@ -90,33 +90,39 @@ keep_applied slot memory = record { applied = λ contents holds. subst (Holds me
 pub fate_kept : (slot : ℕ) (fate : Fate) (memory : Memory) → fate ≡ Keep → AppliesFate slot fate memory memory
 fate_kept slot fate memory same = subst (λ (f : Fate). AppliesFate slot f memory memory) (sym same) (keep_applied slot memory)
 
--- these bytes stand for each region that the area held, after its fate
-abbrev pub AreFated : Fate → List ℕ → List ℕ → Type 0
-AreFated fate area bytes = (region : Region) → HoldsRegion area region → SpellsRegion bytes (fated fate region)
+-- these bytes stand for each region that the area held, after this edit
+abbrev pub AreEdited : (Region → Region) → List ℕ → List ℕ → Type 0
+AreEdited edit area bytes = (region : Region) → HoldsRegion area region → SpellsRegion bytes (edit region)
 
-fate_applied : (slot : ℕ) (fate : Fate) (before after : Memory) (bytes : List ℕ) → IsRegionSlot slot → AreFated fate (current before.bbram slot) bytes
-    → ((region : Region) → SpellsRegion bytes region → ReplacesRegion slot region before after) → AppliesFate slot fate before after
-fate_applied slot fate before after bytes which spelled done = record {
-  applied = λ contents holds.
-      (done (fated fate (region_in_slot slot contents)) (spelled (region_in_slot slot contents) (region_held slot before contents which holds))).replaced contents holds;
-}
+-- so where a region is replaced by the one for which they stand, the contents have the region after the edit
+pub edited_holds : (slot : ℕ) (edit : Region → Region) (before after : Memory) (bytes : List ℕ) → IsRegionSlot slot → AreEdited edit (current before.bbram slot) bytes
+    → ((region : Region) → SpellsRegion bytes region → ReplacesRegion slot region before after)
+    → (contents : Contents) → Holds before contents → Holds after (with_region_in slot (edit (region_in_slot slot contents)) contents)
+edited_holds slot edit before after bytes which spelled done contents holds =
+    (done (edit (region_in_slot slot contents)) (spelled (region_in_slot slot contents) (region_held slot before contents which holds))).replaced contents holds
 
-pub fate_done : {A E : Type 0} (slot : ℕ) (fate : Fate) (before after : Memory) (written bytes : List ℕ) (result : Result A E) → IsRegionSlot slot → written ≡ bytes → AreFated fate (current before.bbram slot) bytes
+-- and where it may be replaced, they stay or have it
+pub edited_either : (slot : ℕ) (edit : Region → Region) (before after : Memory) (bytes : List ℕ) → IsRegionSlot slot → AreEdited edit (current before.bbram slot) bytes
+    → ((region : Region) → SpellsRegion bytes region → KeepsOrReplaces slot region before after)
+    → (contents : Contents) → Holds before contents → Holds after contents ⊎ Holds after (with_region_in slot (edit (region_in_slot slot contents)) contents)
+edited_either slot edit before after bytes which spelled done contents holds =
+    each (done (edit (region_in_slot slot contents)) (spelled (region_in_slot slot contents) (region_held slot before contents which holds)))
+  where
+    each : KeepsContents before after ⊎ ReplacesRegion slot (edit (region_in_slot slot contents)) before after
+        → Holds after contents ⊎ Holds after (with_region_in slot (edit (region_in_slot slot contents)) contents)
+    each (inl keeps) = inl (keeps.kept contents holds)
+    each (inr replaces) = inr (replaces.replaced contents holds)
+
+pub fate_done : {A E : Type 0} (slot : ℕ) (fate : Fate) (before after : Memory) (written bytes : List ℕ) (result : Result A E) → IsRegionSlot slot → written ≡ bytes → AreEdited (fated fate) (current before.bbram slot) bytes
     → ((region : Region) → SpellsRegion written region → OnOk result (ReplacesRegion slot region before after)) → OnOk result (AppliesFate slot fate before after)
 fate_done slot fate before after written bytes (Ok value) which same spelled done =
-    fate_applied slot fate before after written which (subst (λ (xs : List ℕ). AreFated fate (current before.bbram slot) xs) (sym same) spelled) done
+    record { applied = edited_holds slot (fated fate) before after written which (subst (AreEdited (fated fate) (current before.bbram slot)) (sym same) spelled) done }
 fate_done slot fate before after written bytes (Err error) which same spelled done = tt
 
-pub fate_either : (slot : ℕ) (fate : Fate) (before after : Memory) (written bytes : List ℕ) → IsRegionSlot slot → written ≡ bytes → AreFated fate (current before.bbram slot) bytes
+pub fate_either : (slot : ℕ) (fate : Fate) (before after : Memory) (written bytes : List ℕ) → IsRegionSlot slot → written ≡ bytes → AreEdited (fated fate) (current before.bbram slot) bytes
     → ((region : Region) → SpellsRegion written region → KeepsOrReplaces slot region before after) → KeepsOrApplies slot fate before after
-fate_either slot fate before after written bytes which same spelled done = λ contents holds.
-    each contents holds (done (fated fate (region_in_slot slot contents))
-    (subst (λ (xs : List ℕ). SpellsRegion xs (fated fate (region_in_slot slot contents))) (sym same) (spelled (region_in_slot slot contents) (region_held slot before contents which holds))))
-  where
-    each : (contents : Contents) → Holds before contents → KeepsContents before after ⊎ ReplacesRegion slot (fated fate (region_in_slot slot contents)) before after
-        → Holds after contents ⊎ Holds after (fated_in slot fate contents)
-    each contents holds (inl keeps) = inl (keeps.kept contents holds)
-    each contents holds (inr replaces) = inr (replaces.replaced contents holds)
+fate_either slot fate before after written bytes which same spelled done =
+    edited_either slot (fated fate) before after written which (subst (AreEdited (fated fate) (current before.bbram slot)) (sym same) spelled) done
 
 -- ---- the meaning
 

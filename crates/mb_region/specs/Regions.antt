@@ -3,7 +3,7 @@ use Rattle.std.specs.Prelude.{◌≡◌, ℕ, ◌⊎◌, List}
 use Rattle.mb_model.specs.declared.region.Region.{Region}
 use Rattle.mb_model.specs.Board.{Memory}
 use Rattle.mb_model.specs.Meaning.{HoldsRegion, Contents}
-use Rattle.mb_storing.specs.Holding.{Holds, with_region_in}
+use Rattle.mb_storing.specs.Holding.{Holds, KeepsContents, with_region_in}
 
 -- these slots are those of regions
 abbrev pub IsRegionSlot : ℕ → Type 0
@@ -14,11 +14,7 @@ pub record HoldsSomeRegion (area : List ℕ) : Type 0 where
   pub region : Region
   pub holds : HoldsRegion area region
 
--- whatever the memory held, it holds
-pub record KeepsContents (before after : Memory) : Type 0 where
-  pub kept : (contents : Contents) → Holds before contents → Holds after contents
-
--- whatever it held, it holds with this region in the slot
+-- whatever the memory held, it holds with this region in the slot
 pub record ReplacesRegion (slot : ℕ) (region : Region) (before after : Memory) : Type 0 where
   pub replaced : (contents : Contents) → Holds before contents → Holds after (with_region_in slot region contents)
 

@@ -9,11 +9,11 @@ ghost use Rattle.mb_model.specs.Meaning.{HoldsRegion};
 ghost use Rattle.mb_model.specs.RegionFormat.{SpellsRegion};
 ghost use Rattle.mb_board.specs.Calls.{power_of, level_of, IsMetered};
 ghost use Rattle.mb_layout.specs.Rooms.{HasRoom};
-ghost use Rattle.mb_storing.specs.Holding.{Means};
+ghost use Rattle.mb_storing.specs.Holding.{Means, KeepsContents};
 ghost use Rattle.mb_storing.specs.InForce.{AgreeBesides};
 ghost use Rattle.mb_storing.specs.Storable.{HasRegionRecord};
 ghost use Rattle.mb_slot.specs.Slots.{IsSameBut, IsSameButOther};
-ghost use Rattle.mb_region.specs.Regions.{HoldsSomeRegion, KeepsContents, ReplacesRegion, KeepsOrReplaces};
+ghost use Rattle.mb_region.specs.Regions.{HoldsSomeRegion, ReplacesRegion, KeepsOrReplaces};
 ghost use Rattle.mb_region.specs.Fates.{IsPending, AppliesFate, KeepsOrApplies};
 
 use crate::named::Named;

@@ -13,3 +13,4 @@ mod stored;
 
 pub use calls::{apply_fate, commit_record, commit_region, read_stored, wipe_region};
 pub use named::Named;
+pub use stored::read_area;

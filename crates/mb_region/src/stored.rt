@@ -125,7 +125,7 @@ pub(crate) fn store_region<B: Board>(
 }
 
 /// Replaces `area` by the area that is in force in the slot.
-fn read_area<B: Board>(b: &B, slot: u16, area: &mut Vec<u8>)
+pub fn read_area<B: Board>(b: &B, slot: u16, area: &mut Vec<u8>)
     requires can_use { CanUse (B.power b.now) (B.level b.now) (B.memory b.now) slot }
     requires room { 4096 ≤ vec_capacity area.old }
     ensures read { area.new.items ≡ current (B.memory b.now).bbram slot }

@@ -71,7 +71,7 @@ fate_three (Some pending) is = is.1.1.1.1
 
 -- ---- regions
 
-spelled_storable : (bytes : List ℕ) (region : Region) → SpellsRegion bytes region → IsStorableRegion region
+pub spelled_storable : (bytes : List ℕ) (region : Region) → SpellsRegion bytes region → IsStorableRegion region
 unfolding region_format secrets_format keys_format
 spelled_storable bytes region (inl none) = subst IsStorableRegion (sym none.1) empty_storable
 spelled_storable bytes region (inr spelled) =

@@ -175,7 +175,8 @@ found_number : (number : ℕ) (keys : List RegionKey) (found : RegionKey) → fi
 found_number number [] found is = absurd (grind (arith, is))
 found_number number (key ∷ keys) found is = found_by number key keys found (has_number number key) refl is (found_number number keys found)
 
-use_region : (number : ℕ) (found : RegionKey) (region : Region) → AllPairs (λ a b. a.number < b.number) region.keys → IsStorableRegion region
+-- a region whose keys stand in the order of their numbers can be stored with one more use of a key that has one left
+pub use_region : (number : ℕ) (found : RegionKey) (region : Region) → AllPairs (λ a b. a.number < b.number) region.keys → IsStorableRegion region
     → find (has_number number) region.keys ≡ Some found → found.uses < 32 → IsStorableRegion (record region { keys = with_use number region.keys })
 unfolding with_use
 use_region number found region up is e left = record {

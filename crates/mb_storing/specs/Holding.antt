@@ -11,6 +11,10 @@ use Rattle.mb_model.specs.Meaning.{Contents, HoldsContents, StandsFor, fate_of_t
 abbrev pub Holds : Memory → Contents → Type 0
 Holds memory contents = HoldsContents memory.flash memory.bbram contents
 
+-- whatever the memory held, it holds
+pub record KeepsContents (before after : Memory) : Type 0 where
+  pub kept : (contents : Contents) → Holds before contents → Holds after contents
+
 -- the memory stands for this live state
 abbrev pub Means : Memory → State → Type 0
 Means memory state = StandsFor memory.flash memory.bbram (Some state)

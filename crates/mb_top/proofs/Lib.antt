@@ -1,11 +1,3 @@
-pub mod ScriptLemmas
-pub mod EventLemmas
-pub mod RecordLemmas
-pub mod SectorLemmas
-pub mod OneScript
-mod Sectors
-mod Stepping
-mod Served
 mod Inputs
 mod Scripts
 pub mod CommandLemmas

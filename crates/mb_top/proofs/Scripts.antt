@@ -6,7 +6,7 @@ use Rattle.mb_model.specs.declared.event.Event.{Event}
 use Rattle.mb_model.specs.declared.event.Event.TheVariants as event
 use Rattle.mb_model.specs.FirstPath.{IsFirstEvent}
 use Rattle.mb_model.specs.FirstTexts.{IsFirstScript, commands, script_events}
-use Rattle.mb_top.specs.Serving.{IsServable}
+use Rattle.mb_first.specs.Serving.{IsServable}
 use Rattle.mb_top.specs.FirstInputs.{CanServe}
 
 -- commands, and then the off, are served while power is on

@@ -7,7 +7,7 @@ use Rattle.mb_model.specs.FirstPath.{IsFirstEvent}
 use Rattle.mb_model.specs.FirstTexts.{IsFirstScript}
 use Rattle.mb_model.specs.FirstCommand.{IsFirstImage, IsFirstDrawn, formed_input}
 use Rattle.mb_model.specs.Commands.{Input}
-use Rattle.mb_top.specs.Serving.{IsServable}
+use Rattle.mb_first.specs.Serving.{IsServable}
 
 abbrev pub image_input : List ℕ → Input FirstState
 image_input name = formed_input role.Image IsFirstImage name

@@ -1,6 +1,3 @@
-pub mod Script
-pub mod Records
-pub mod Serving
 pub mod Words
 pub mod Ending
 pub mod Outputs

@@ -9,8 +9,7 @@ ghost use Rattle.mb_top.specs.FirstInputs.{image_input, script_input, noise_inpu
 
 use crate::end::End;
 use crate::input::read_input;
-use crate::script::{ScriptEnd, make_events, read_script};
-use crate::sector::read_sector;
+use mb_first::{ScriptEnd, make_events, read_script, read_sector};
 use mb_host::Host;
 use mb_model::{Bytes, Events, IMAGE_LENGTH, Place, Role, SECTOR_LENGTH};
 use std::alloc::Global;

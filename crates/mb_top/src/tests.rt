@@ -1,7 +1,9 @@
 //! The program over a host in memory: what it makes, by values of an independent program, and what a host shows of it.
+//! Tests are tables of plays: words one after another, how each ends, and what files then hold.
 
 mod devices;
 mod keys;
+mod life;
 mod once;
 mod runs;
 mod sign;
@@ -16,25 +18,117 @@ use std::alloc::Global;
 use std::process::Abort;
 use std::test::Fail;
 
-/// Adds a file of this name.
-fn add(files: &mut Files, alloc: Global, name: &str, bytes: &[u8]) -> Result<(), NoMemory> {
-    files.push(File {
-        name: Bytes::copy(alloc, name.as_bytes())?,
-        bytes: Bytes::copy(alloc, bytes)?,
-    })
+/// A file before a play.
+struct Given {
+    name: &'static str,
+    content: Content,
 }
 
-/// Adds a file of this name, whose bytes are given in hexadecimal.
-fn add_hex(files: &mut Files, alloc: Global, name: &str, bytes: &str) -> Result<(), Fail> {
-    let bytes = hex::decode(alloc, bytes)?;
-    add(files, alloc, name, &bytes)?;
+/// What a file holds before a play.
+enum Content {
+    /// Bytes in hexadecimal.
+    Hex(&'static str),
+    /// A text.
+    Text(&'static str),
+    /// The pieces of a text.
+    Pieces(&'static [&'static str]),
+    /// Bytes in hexadecimal, and then erased flash up to this length.
+    Erased(&'static str, usize),
+    /// So many bytes, all of them 7.
+    Sevens(usize),
+}
+
+/// Steps over one host.
+struct Play {
+    /// The numbers of the host's calls that fail.
+    failing: &'static [u64],
+    steps: &'static [Step],
+}
+
+/// What is done in a play, or seen of its host.
+enum Step {
+    /// The words end with this status and print these lines. A space separates words; one may be empty.
+    Ends(&'static str, u8, &'static str),
+    /// The file of this name has these bytes, in hexadecimal.
+    Holds(&'static str, &'static str),
+    /// The bytes of the file of this name have this hash.
+    HasHash(&'static str, &'static str),
+    /// The file of this name is the line of an order whose bytes have this hash.
+    IsOrder(&'static str, &'static str),
+    /// There is no file of this name.
+    IsMissing(&'static str),
+    /// So many reads, writes and prints were called.
+    WasCalled(u64, u64, u64),
+}
+
+/// Each play goes as it says, over a host of its own with these files.
+fn perform(rt: &(impl Abort + AllocGlobal), files: &[Given], plays: &[Play]) -> Result<(), Fail> {
+    for play in plays {
+        let mut host = host_with(rt.alloc(), files, play.failing)?;
+        go_on(rt, &mut host, play.steps)?;
+    }
     Ok(())
 }
 
+/// The steps go as they say.
+fn go_on(
+    rt: &(impl Abort + AllocGlobal),
+    host: &mut MemoryHost,
+    steps: &[Step],
+) -> Result<(), Fail> {
+    for step in steps {
+        take(rt, host, step)?;
+    }
+    Ok(())
+}
+
+fn take(rt: &(impl Abort + AllocGlobal), host: &mut MemoryHost, step: &Step) -> Result<(), Fail> {
+    match step {
+        Step::Ends(words, status, lines) => ends(rt, host, words, *status, lines),
+        Step::Holds(name, bytes) => file_is(rt, host, name, bytes),
+        Step::HasHash(name, hash) => hash_is(rt, file_of(host, name)?, hash),
+        Step::IsOrder(name, hash) => order_is(rt, file_of(host, name)?, hash),
+        Step::IsMissing(name) => is_missing(rt, host, name),
+        Step::WasCalled(reads, writes, prints) => was_called(rt, host, [*reads, *writes, *prints]),
+    }
+}
+
 /// A host with these files, whose calls of these numbers fail.
-fn host_of(alloc: Global, files: Files, failing: &[u64]) -> Result<MemoryHost, NoMemory> {
+fn host_with(alloc: Global, given: &[Given], failing: &[u64]) -> Result<MemoryHost, Fail> {
+    let mut files = Files::new(alloc);
+    for file in given {
+        files.push(File {
+            name: Bytes::copy(alloc, file.name.as_bytes())?,
+            bytes: Bytes::from_vec(bytes_of(alloc, &file.content)?),
+        })?;
+    }
     let failing = Calls::from_vec(Vec::from_slice(alloc, failing)?);
-    MemoryHost::new(alloc, files, failing)
+    Ok(MemoryHost::new(alloc, files, failing)?)
+}
+
+fn bytes_of(alloc: Global, content: &Content) -> Result<Vec<u8>, Fail> {
+    match content {
+        Content::Hex(bytes) => Ok(hex::decode(alloc, bytes)?),
+        Content::Text(text) => Ok(Vec::from_slice(alloc, text.as_bytes())?),
+        Content::Pieces(pieces) => joined(alloc, pieces),
+        Content::Erased(bytes, length) => filled(hex::decode(alloc, bytes)?, *length, 0xFF),
+        Content::Sevens(length) => filled(Vec::new(alloc), *length, 7),
+    }
+}
+
+/// The text of these pieces.
+fn joined(alloc: Global, pieces: &[&str]) -> Result<Vec<u8>, Fail> {
+    let mut text = Vec::new(alloc);
+    for piece in pieces {
+        text.extend_from_slice(piece.as_bytes())?;
+    }
+    Ok(text)
+}
+
+/// These bytes, and then this byte up to the length.
+fn filled(mut bytes: Vec<u8>, length: usize, byte: u8) -> Result<Vec<u8>, Fail> {
+    bytes.resize(length, byte)?;
+    Ok(bytes)
 }
 
 /// The words of a text, which a space separates. A word may be empty.
@@ -73,14 +167,19 @@ fn prints(rt: &impl Abort, host: &MemoryHost, seen: usize, lines: &str) {
     assert_eq!(rt; printed, Some(lines.as_bytes()));
 }
 
-/// The host was called so many times.
-fn was_called(rt: &impl Abort, host: &MemoryHost, reads: u64, writes: u64, prints: u64) {
-    let calls = [host.reads(), host.writes(), host.prints()];
-    assert_eq!(rt; calls, [reads, writes, prints]);
+fn was_called(rt: &impl Abort, host: &MemoryHost, calls: [u64; 3]) -> Result<(), Fail> {
+    let called = [host.reads(), host.writes(), host.prints()];
+    assert_eq!(rt; called, calls);
+    Ok(())
+}
+
+fn is_missing(rt: &impl Abort, host: &MemoryHost, name: &str) -> Result<(), Fail> {
+    assert!(rt; host.file(name).is_none(), "{name}");
+    Ok(())
 }
 
 /// The content of the file of this name.
-fn content<'a>(host: &'a MemoryHost, name: &str) -> Result<&'a [u8], Fail> {
+fn file_of<'a>(host: &'a MemoryHost, name: &str) -> Result<&'a [u8], Fail> {
     Ok(host.file(name).ok_or("no such file")?)
 }
 
@@ -91,7 +190,7 @@ fn file_is(
     name: &str,
     bytes: &str,
 ) -> Result<(), Fail> {
-    let found = hex::encode(rt.alloc(), content(host, name)?)?;
+    let found = hex::encode(rt.alloc(), file_of(host, name)?)?;
     assert_eq!(rt; found.as_str(), bytes, "{name}");
     Ok(())
 }
@@ -105,12 +204,10 @@ fn hash_is(rt: &(impl Abort + AllocGlobal), bytes: &[u8], hash: &str) -> Result<
     Ok(())
 }
 
-/// The file of this name has this hash, given in hexadecimal.
-fn file_has_hash(
-    rt: &(impl Abort + AllocGlobal),
-    host: &MemoryHost,
-    name: &str,
-    hash: &str,
-) -> Result<(), Fail> {
-    hash_is(rt, content(host, name)?, hash)
+/// The line is that of an order whose bytes have this hash.
+fn order_is(rt: &(impl Abort + AllocGlobal), line: &[u8], hash: &str) -> Result<(), Fail> {
+    let line = line.strip_prefix(b"command ").ok_or("no order")?;
+    let word = line.strip_suffix(b"\n").ok_or("no line")?;
+    let order = hex::decode(rt.alloc(), word)?;
+    hash_is(rt, &order, hash)
 }

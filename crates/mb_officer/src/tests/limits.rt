@@ -1,5 +1,8 @@
 //! Where there is memory, the largest order is drafted, read from a line and written as one, and an order of each kind is
-//! signed, and signed again.
+//! signed and handed on.
+
+ghost use Rattle.std.specs.Prelude.{IfOk, OnOk};
+ghost use Rattle.mb_model.specs.OrderFormat.{order_format};
 
 use super::orders::{signed, signer};
 use crate::{read_draft, read_order_line, write_order_line};
@@ -79,36 +82,58 @@ fn the_longest_line_goes_both_ways(rt: HostRuntime) -> Result<(), Fail> {
     Ok(())
 }
 
-/// The order of the draft is handed on as a line, signed, handed on again, and signed once more.
-fn is_handled(rt: &impl Abort, alloc: Global, draft: &[u8]) -> Result<(), Fail> {
+/// The order that its line hands on.
+fn handed_on(alloc: Global, order: &Order) -> Result<Order, Fail>
+    requires { order_format.Allowed order.now }
+    ensures { IfOk result (λ order. order_format.Allowed order) }
+{
+    let line = write_order_line(alloc, order)?;
+    Ok(read_order_line(alloc, line.as_slice())?)
+}
+
+/// The order of the draft.
+fn drafted(rt: &impl Abort, alloc: Global, draft: &str) -> Result<Order, Fail>
+    ensures { IfOk result (λ order. order_format.Allowed order) }
+{
     assert!(rt; draft.len() <= 1_000);
-    let drafted = read_draft(alloc, draft)?;
-    let line = write_order_line(alloc, &drafted)?;
-    let mut order = read_order_line(alloc, line.as_slice())?;
+    Ok(read_draft(alloc, draft.as_bytes())?)
+}
+
+/// The order is signed by a new key.
+fn is_signed(rt: &impl Abort, alloc: Global, order: &mut Order) -> Result<(), Fail>
+    requires { order_format.Allowed order.old }
+    ensures { OnOk result (order_format.Allowed order.new) }
+{
     let mut key = signer()?;
-    assert_eq!(rt; signed(alloc, &mut key, &mut order)?, 0);
-    let line = write_order_line(alloc, &order)?;
-    let mut order = read_order_line(alloc, line.as_slice())?;
-    assert!(rt; key.next == 1);
-    assert_eq!(rt; signed(alloc, &mut key, &mut order)?, 1);
-    assert_eq!(rt; key.next, 2);
+    assert_eq!(rt; signed(alloc, &mut key, order)?, 0);
     Ok(())
 }
 
-#[test]
-fn each_kind_of_order_is_handled(rt: HostRuntime) -> Result<(), Fail> {
-    let alloc = rt.alloc();
-    let load = b"order load 3\nversion 1\ntrust never\ncode -\n";
-    let emergency = b"order emergency 3\nversion 1\ntrust never\ncode 00\n";
-    is_handled(&rt, alloc, ESTABLISH)?;
-    is_handled(&rt, alloc, b"order surrender 2\n")?;
-    is_handled(&rt, alloc, load)?;
-    is_handled(&rt, alloc, emergency)?;
-    is_handled(&rt, alloc, b"order newkey 2 epoch\n")?;
-    is_handled(&rt, alloc, b"order newkey 3 configuration\n")
+/// The order of the draft is handed on as a line, signed, and handed on again.
+fn is_handled(rt: &impl Abort, alloc: Global, draft: &str) -> Result<(), Fail> {
+    let drafted = drafted(rt, alloc, draft)?;
+    let mut order = handed_on(alloc, &drafted)?;
+    is_signed(rt, alloc, &mut order)?;
+    handed_on(alloc, &order)?;
+    Ok(())
 }
 
-/// The draft by which layer 2 gets an owner, whose key is of types 5 and 3.
-const ESTABLISH: &[u8] = b"order establish 2\ntarget length 1\n\
-    owner 0000000500000003111111111111111111111111111111112222222222222222222222222222222222222222222222222222222222222222\n\
-    trust countersigned\n";
+/// A draft of each kind of order.
+const KINDS: &[&str] = &[
+    "order establish 2\ntarget length 1\n\
+        owner 0000000500000003111111111111111111111111111111112222222222222222222222222222222222222222222222222222222222222222\n\
+        trust countersigned\n",
+    "order surrender 2\n",
+    "order load 3\nversion 1\ntrust never\ncode -\n",
+    "order emergency 3\nversion 1\ntrust never\ncode 00\n",
+    "order newkey 2 epoch\n",
+    "order newkey 3 configuration\n",
+];
+
+#[test]
+fn each_kind_of_order_is_handled(rt: HostRuntime) -> Result<(), Fail> {
+    for draft in KINDS {
+        is_handled(&rt, rt.alloc(), draft)?;
+    }
+    Ok(())
+}

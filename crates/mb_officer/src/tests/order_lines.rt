@@ -2,6 +2,7 @@
 
 use crate::{OrderLineEnd, read_order_line, write_order_line};
 use std::alloc::Global;
+use std::process::Abort;
 use std::test::Fail;
 
 #[test]
@@ -15,40 +16,28 @@ fn the_line_of_an_order_is_read_and_written(rt: HostRuntime) -> Result<(), Fail>
     Ok(())
 }
 
-/// The line of the text that is the first that is wrong.
-fn wrong_line(alloc: Global, text: &[u8]) -> Option<u32> {
-    match read_order_line(alloc, text) {
-        Err(OrderLineEnd::BadLine { line }) => Some(line),
-        _ => None,
-    }
+/// Texts that are no line of an order, and the first wrong line of each.
+const WRONG: &[(&str, u32)] = &[
+    ("", 1),
+    ("\ncommand 0202010200000007000000", 1),
+    ("command 02020102000000070000000\n", 1),
+    ("command 02020102000000070000\n\n", 1),
+    ("command 0202010200000007000000\n\n", 2),
+    ("command 0202010200000007000000\nboot", 2),
+];
+
+/// The text has this first wrong line.
+fn is_wrong(rt: &impl Abort, alloc: Global, text: &str, line: u32) {
+    let found = match read_order_line(alloc, text.as_bytes()) {
+        Err(OrderLineEnd::BadLine { line }) => line,
+        _ => 0,
+    };
+    assert_eq!(rt; found, line, "{text}");
 }
 
 #[test]
 fn other_texts_are_refused(rt: HostRuntime) {
-    let alloc = rt.alloc();
-    assert_eq!(rt; wrong_line(alloc, b""), Some(1));
-    assert_eq!(rt;
-        wrong_line(alloc, b"\ncommand 0202010200000007000000"),
-        Some(1)
-    );
-    assert_eq!(rt;
-        wrong_line(alloc, b"command 02020102000000070000000\n"),
-        Some(1)
-    );
-    assert_eq!(rt;
-        wrong_line(alloc, b"command 02020102000000070000\n\n"),
-        Some(1)
-    );
-    assert_eq!(rt;
-        wrong_line(alloc, b"command 0202010200000007000000\n"),
-        None
-    );
-    assert_eq!(rt;
-        wrong_line(alloc, b"command 0202010200000007000000\n\n"),
-        Some(2)
-    );
-    assert_eq!(rt;
-        wrong_line(alloc, b"command 0202010200000007000000\nboot"),
-        Some(2)
-    );
+    for (text, line) in WRONG {
+        is_wrong(&rt, rt.alloc(), text, *line);
+    }
 }

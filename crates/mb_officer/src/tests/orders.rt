@@ -152,76 +152,6 @@ fn countersigns(rt: &impl Abort, alloc: Global, order: &mut Order, hash: &str) -
 }
 
 #[test]
-fn a_surrender(rt: HostRuntime) -> Result<(), Fail> {
-    let alloc = rt.alloc();
-    let mut order = drafted(
-        &rt,
-        alloc,
-        b"order surrender 2\ntarget length 7\n",
-        "0202010200000007",
-    )?;
-    signs(
-        &rt,
-        alloc,
-        &mut order,
-        "e3ec45246d17d96678d6314fa65279bc3047965b6f07fcebcf8d4243639e892c",
-    )
-}
-
-#[test]
-fn a_new_key(rt: HostRuntime) -> Result<(), Fail> {
-    let alloc = rt.alloc();
-    let mut order = drafted(&rt, alloc, b"order newkey 3 configuration\n", "05030001")?;
-    signs(
-        &rt,
-        alloc,
-        &mut order,
-        "01085c0f7d93513601f746c3acc8c6b07e33cb5a12b31d7370a1c33b6fa019bd",
-    )
-}
-
-#[test]
-fn a_load(rt: HostRuntime) -> Result<(), Fail> {
-    let alloc = rt.alloc();
-    let mut order = drafted(
-        &rt,
-        alloc,
-        b"order load 3\nversion 258\ntrust never\ncode 616263\n",
-        "030300000001020100000003616263",
-    )?;
-    signs(
-        &rt,
-        alloc,
-        &mut order,
-        "877df22e0d738a908af098b70779e623e3b46c80f034c4c2c425f4d66ee21845",
-    )
-}
-
-#[test]
-fn a_load_countersigned(rt: HostRuntime) -> Result<(), Fail> {
-    let alloc = rt.alloc();
-    let mut order = drafted(
-        &rt,
-        alloc,
-        b"order load 1\ntarget length 5\ntarget serial 000102030405060708090a0b0c0d0e0f\nversion 2\n\
-            trust countersigned\ncode -\n",
-        "030102020000000501000102030405060708090a0b0c0d0e0f000000020200000000",
-    )?;
-    signs(
-        &rt,
-        alloc,
-        &mut order,
-        "ee9d007db8c8b320d34c1c62ab64957b270eaecd8ba042d6112846407a8f62eb",
-    )?;
-    countersigns(
-        &rt,
-        alloc,
-        &mut order,
-        "9f64221401076f488275db932042a102f87586e5a05076a6872306e60e216f8c",
-    )
-}
-
-#[test]
 fn an_emergency_countersigned(rt: HostRuntime) -> Result<(), Fail> {
     let alloc = rt.alloc();
     let mut order = drafted(
@@ -246,40 +176,4 @@ fn an_emergency_countersigned(rt: HostRuntime) -> Result<(), Fail> {
         &mut order,
         "3e43471b11adc07980d95f8e2d91906a2a6b2b2fb46b900fc9f65e9d7877aee9",
     )
-}
-
-#[test]
-fn a_spent_key_signs_nothing(rt: HostRuntime) -> Result<(), Fail> {
-    let alloc = rt.alloc();
-    let mut order = drafted(&rt, alloc, b"order surrender 2", "020200")?;
-    let mut key = signer()?;
-    key.next = 32;
-    assert_eq!(rt; signed(alloc, &mut key, &mut order), Err(SignEnd::Spent));
-    assert_eq!(rt;
-        countersigned(alloc, &mut key, 3, &mut order),
-        Err(SignEnd::NotCountersignable)
-    );
-    Ok(())
-}
-
-#[test]
-fn countersignatures_stand_by_layers(rt: HostRuntime) -> Result<(), Fail> {
-    let alloc = rt.alloc();
-    let mut order = read_draft(
-        alloc,
-        b"order load 1\nversion 2\ntrust countersigned\ncode -\n",
-    )?;
-    let mut three = countersigner()?;
-    countersigned(alloc, &mut three, 3, &mut order)?;
-    let mut two = signer()?;
-    countersigned(alloc, &mut two, 2, &mut order)?;
-    let mut again = countersigner()?;
-    assert_eq!(rt;
-        countersigned(alloc, &mut again, 3, &mut order),
-        Err(SignEnd::NotCountersignable)
-    );
-    let list = order.countersignatures.as_slice();
-    assert_eq!(rt; list.len(), 2);
-    assert!(rt; list[0].layer == 2 && list[1].layer == 3);
-    Ok(())
 }

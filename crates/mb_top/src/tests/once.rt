@@ -1,15 +1,7 @@
 //! An order that an independent program made and signed.
 
-use std::alloc::Global;
-use std::test::Fail;
-
-/// The order.
-pub fn order(alloc: Global) -> Result<Vec<u8>, Fail> {
-    Ok(hex::decode(alloc, ORDER)?)
-}
-
-/// It establishes an owner of layer 2 with the trust countersigned.
-const ORDER: &str =
+/// The order up to its last two bytes. It establishes an owner of layer 2 with the trust countersigned.
+pub const ORDER: &str =
     "01020000000005000000035c6d009ae4672bd031a5dc7525cbaba82e56d8e64c6a43bb1c541dc444c381d61f0ad5bca66db1\
     d753e7a3bbdf84873c02092c0000000000000003bc0271fbb6c3417580f5a5b1030b1ccb9fe6d1edfa52050d6e07e78a00f6\
     e070cde055f89ca1bf1dfa61f4a31895e50af875d03fb224657da79fd7eb110ac95ec3531531f04235655c21742426cecfc8\
@@ -58,4 +50,7 @@ const ORDER: &str =
     facfb7e36d3528aa5a7570c7e3b40632225b7b30aafd947488ab33336e54ef5277ec08995082258684120d60f2e7b0c549c0\
     f24dc7de8284e0460a8bd29593f1ee49398ab1107fb28a0b3fe5e9e6568c53b5cc414b20433b456d15d2fa4ae0d87a1e3256\
     aaf2f3ade524b0c71d81ce7e7bd7dcf747e16d3ea1be99060bb42f1d862ee05a606debaa6f19daf5e7099b7f9dd80d6ef414\
-    66246bb16628f4a71b6100";
+    66246bb16628f4a71b";
+
+/// Its last two bytes: the last of its signature, and that it has no countersignatures.
+pub const ORDER_END: &str = "6100";

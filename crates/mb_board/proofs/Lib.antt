@@ -1,0 +1,5 @@
+pub mod TornLemmas
+mod Sectors
+mod Fillings
+mod Reaching
+mod Falling

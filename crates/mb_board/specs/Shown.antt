@@ -1,0 +1,34 @@
+-- What is seen of a board that simulates a device.
+use Rattle.std.specs.Prelude.{ℕ, List, [], Bool}
+use Rattle.mb_model.specs.Board.{Memory, Ledger}
+use Rattle.mb_board.specs.Cuts.{Armed}
+
+-- one of its memories: the bytes, and what they were when they were last kept
+pub record Contents : Type 0 where
+  pub bytes : List ℕ
+  pub standing : List ℕ
+
+-- a memory whose bytes were just kept
+abbrev pub kept : List ℕ → Contents
+kept bytes = record { bytes = bytes; standing = bytes }
+
+-- its power, the level of its ratchet, its memory, its events, and when power will fail
+pub record Shown : Type 0 where
+  pub power : Bool
+  pub level : ℕ
+  pub memory : Memory
+  pub ledger : Ledger
+  pub fuse : Armed
+
+-- all but power and level
+pub record Rest : Type 0 where
+  pub memory : Memory
+  pub ledger : Ledger
+  pub fuse : Armed
+
+abbrev pub rest_of : Shown → Rest
+rest_of board = record { memory = board.memory; ledger = board.ledger; fuse = board.fuse }
+
+-- both memories are empty
+abbrev pub unloaded : Memory
+unloaded = record { flash = []; bbram = [] }

@@ -1,0 +1,387 @@
+//! A board that simulates a device in memory.
+
+ghost use Rattle.std.specs.Prelude.{◌≡◌, ◌+◌, ◌*◌, ◌-◌, ◌/◌, ◌<◌, ◌≤◌, ◌++◌, ◌∷◌, [], List, Some, None, true, false, length, All, IfOk, IfSome, IfNone, OnOk, OnErr, vec_len, vec_capacity};
+ghost use Rattle.std.specs.Result.{is_ok};
+ghost use Rattle.std.proofs.Common.{ap};
+ghost use Rattle.mb_format.specs.Format.{IsBytes};
+ghost use Rattle.mb_model.specs.Script.{IsScriptEvent};
+ghost use Rattle.mb_model.specs.Board.{Memory, loaded, put, erased, power_after, memory_after, armed_after};
+ghost use Rattle.mb_board.specs.Calls.{power_of, level_of, metered, Torn};
+ghost use Rattle.mb_board.specs.Cuts.{unused, passes, left_by, KeepsAll, cut_left, cut_after, meter_of, is_armed};
+ghost use Rattle.mb_board.specs.Reach.{Reached};
+ghost use Rattle.mb_board.specs.Shown.{Rest, Shown, rest_of, unloaded};
+
+use crate::bank::{Bank, are_bytes};
+use crate::board::{Board, Stopped};
+use crate::fuse::Fuse;
+use mb_model::{Answered, Event, Events, FLASH_LENGTH, NoMemory, Reply};
+use mb_ratchet::Register;
+use std::alloc::Global;
+use std::collections::VecDeque;
+use std::marker::Model;
+
+/// What a board held, beside the bytes of its memories, when they were last kept.
+#[derive(Drop)]
+struct Standing {
+    is_on: bool,
+    level: u8,
+    is_armed: bool,
+}
+
+impl Standing {
+    /// Power is off, and no power loss is armed.
+    fn off() -> Standing
+        ensures on { result.is_on ≡ false }
+        ensures armed { result.is_armed ≡ false }
+    {
+        Standing {
+            is_on: false,
+            level: 0,
+            is_armed: false,
+        }
+    }
+}
+
+/// A board whose memories and events are held in memory. A write call of it is stopped exactly where a power loss was
+/// armed for that call, unless its count of stops is at its last value.
+#[derive(Drop)]
+pub struct SimBoard {
+    is_on: bool,
+    level: u8,
+    fuse: Fuse,
+    /// Its bytes were last kept at the last answer, or at the load where nothing was answered since. So were those of
+    /// the battery-backed memory, and `standing` says what the board held then.
+    flash: Bank,
+    bbram: Bank,
+    standing: Standing,
+    waiting: VecDeque<Event>,
+    /// A copy of each event that waits, which the board keeps while that event is out.
+    copies: VecDeque<Event>,
+    out: Option<Event>,
+    answered: Vec<Answered>,
+}
+
+impl Model for SimBoard {
+    ghost use Rattle.mb_model.specs.Board.{phase_at};
+    ghost use Rattle.mb_board.specs.Shown.{Shown};
+    ghost use Rattle.mb_board.specs.Sound.{IsSound};
+
+    ghost Value = { Shown };
+
+    ghost view = { λ s. record {
+      power = s.is_on;
+      level = s.level;
+      memory = record { flash = s.flash.bytes; bbram = s.bbram.bytes };
+      ledger = record {
+        waiting = s.waiting.items;
+        out = s.out;
+        answered = s.answered.items;
+        standing = record {
+          memory = record { flash = s.flash.standing; bbram = s.bbram.standing };
+          phase = phase_at s.standing.is_on s.standing.level;
+          armed = s.standing.is_armed;
+        };
+      };
+      fuse = s.fuse;
+    } };
+
+    ghost invariant = { IsSound };
+}
+
+impl SimBoard {
+    /// A board on which nothing was ever loaded: power is off, both memories are empty, there are no events, and no
+    /// power loss is armed.
+    pub fn new(alloc: Global) -> SimBoard
+        ensures power { result.power ≡ false }
+        ensures memory { result.memory ≡ unloaded }
+        ensures ledger { result.ledger ≡ loaded unloaded [] }
+        ensures fuse { result.fuse ≡ unused }
+    {
+        SimBoard {
+            is_on: false,
+            level: 0,
+            fuse: Fuse::new(),
+            flash: Bank::new(alloc),
+            bbram: Bank::new(alloc),
+            standing: Standing::off(),
+            waiting: VecDeque::new(alloc),
+            copies: VecDeque::new(alloc),
+            out: None,
+            answered: Vec::new(alloc),
+        }
+    }
+
+    /// What `flash_erase` does, and besides when it is stopped, and what a stop leaves of the sector.
+    pub fn erase_sector(&mut self, sector: u16) -> Result<(), Stopped>
+        requires on { self.old.power ≡ true }
+        requires within { 4096 * sector + 4096 ≤ length self.old.memory.flash }
+        ensures passes { is_ok result ≡ is_ok (passes self.old.fuse) }
+        ensures left { self.new.memory.flash ≡ put (4096 * sector) (left_by (passes self.old.fuse) (erased 4096)) self.old.memory.flash }
+        ensures whole { KeepsAll (passes self.old.fuse) 4096 → self.new.memory.flash ≡ put (4096 * sector) (erased 4096) self.old.memory.flash }
+        ensures cut { self.new.fuse.cut ≡ cut_left result self.old.fuse.cut }
+        ensures erased { OnOk result (self.new.memory.flash ≡ put (4096 * sector) (erased 4096) self.old.memory.flash) }
+        ensures torn { Torn (4096 * sector) 4096 self.old.memory.flash self.new.memory.flash }
+        ensures bbram { self.new.memory.bbram ≡ self.old.memory.bbram }
+        ensures power { self.new.power ≡ power_of result }
+        ensures level { self.new.level ≡ level_of result self.old.level }
+        ensures ledger { self.new.ledger ≡ self.old.ledger }
+        ensures meter { meter_of self.new.fuse ≡ metered result (meter_of self.old.fuse) }
+        ensures stopped { OnErr result (is_armed self.old.fuse.cut ≡ true) }
+    {
+        match self.fuse.pass() {
+            Ok(()) => {
+                self.flash.erase(sector);
+                Ok(())
+            }
+            Err(tear) => {
+                self.flash.erase_torn(sector, &tear);
+                self.is_on = false;
+                self.level = 0;
+                Err(Stopped)
+            }
+        }
+    }
+
+    /// What `flash_program` does, and besides when it is stopped, and what a stop leaves of the range.
+    pub fn program(&mut self, at: u32, bytes: &[u8]) -> Result<(), Stopped>
+        requires on { self.old.power ≡ true }
+        requires some { 0 < length bytes.now }
+        requires within { at + length bytes.now ≤ length self.old.memory.flash }
+        requires one_sector { at / 4096 ≡ (at + length bytes.now - 1) / 4096 }
+        ensures passes { is_ok result ≡ is_ok (passes self.old.fuse) }
+        ensures left { self.new.memory.flash ≡ put at (left_by (passes self.old.fuse) bytes.now) self.old.memory.flash }
+        ensures whole { KeepsAll (passes self.old.fuse) (length bytes.now) → self.new.memory.flash ≡ put at bytes.now self.old.memory.flash }
+        ensures cut { self.new.fuse.cut ≡ cut_left result self.old.fuse.cut }
+        ensures stored { OnOk result (self.new.memory.flash ≡ put at bytes.now self.old.memory.flash) }
+        ensures torn { Torn at (length bytes.now) self.old.memory.flash self.new.memory.flash }
+        ensures bbram { self.new.memory.bbram ≡ self.old.memory.bbram }
+        ensures power { self.new.power ≡ power_of result }
+        ensures level { self.new.level ≡ level_of result self.old.level }
+        ensures ledger { self.new.ledger ≡ self.old.ledger }
+        ensures meter { meter_of self.new.fuse ≡ metered result (meter_of self.old.fuse) }
+        ensures stopped { OnErr result (is_armed self.old.fuse.cut ≡ true) }
+    {
+        match self.fuse.pass() {
+            Ok(()) => {
+                self.flash.write(at as usize, bytes);
+                Ok(())
+            }
+            Err(tear) => {
+                self.flash.write_torn(at as usize, bytes, &tear);
+                self.is_on = false;
+                self.level = 0;
+                Err(Stopped)
+            }
+        }
+    }
+
+    /// What `bbram_write` does, and besides when it is stopped, and what a stop leaves of the range.
+    pub fn write_bbram(&mut self, at: u16, bytes: &[u8]) -> Result<(), Stopped>
+        requires on { self.old.power ≡ true }
+        requires some { 0 < length bytes.now }
+        requires within { at + length bytes.now ≤ length self.old.memory.bbram }
+        requires reached { Reached self.old.level at (length bytes.now) }
+        ensures passes { is_ok result ≡ is_ok (passes self.old.fuse) }
+        ensures left { self.new.memory.bbram ≡ put at (left_by (passes self.old.fuse) bytes.now) self.old.memory.bbram }
+        ensures whole { KeepsAll (passes self.old.fuse) (length bytes.now) → self.new.memory.bbram ≡ put at bytes.now self.old.memory.bbram }
+        ensures cut { self.new.fuse.cut ≡ cut_left result self.old.fuse.cut }
+        ensures stored { OnOk result (self.new.memory.bbram ≡ put at bytes.now self.old.memory.bbram) }
+        ensures torn { Torn at (length bytes.now) self.old.memory.bbram self.new.memory.bbram }
+        ensures flash { self.new.memory.flash ≡ self.old.memory.flash }
+        ensures power { self.new.power ≡ power_of result }
+        ensures level { self.new.level ≡ level_of result self.old.level }
+        ensures ledger { self.new.ledger ≡ self.old.ledger }
+        ensures meter { meter_of self.new.fuse ≡ metered result (meter_of self.old.fuse) }
+        ensures stopped { OnErr result (is_armed self.old.fuse.cut ≡ true) }
+    {
+        match self.fuse.pass() {
+            Ok(()) => {
+                self.bbram.write(at as usize, bytes);
+                Ok(())
+            }
+            Err(tear) => {
+                self.bbram.write_torn(at as usize, bytes, &tear);
+                self.is_on = false;
+                self.level = 0;
+                Err(Stopped)
+            }
+        }
+    }
+
+    /// What `take` does, and besides which power loss is armed then.
+    pub fn take_event(&mut self) -> Option<Event>
+        requires { self.old.ledger.out ≡ None }
+        ensures fuse { self.new.fuse ≡ record self.old.fuse { cut = cut_after result self.old.fuse.cut; writes = 0 } }
+        ensures none { IfNone result ((self.old.ledger.waiting ≡ []) × (self.new.ledger ≡ self.old.ledger)) }
+        ensures some { IfSome result (λ event. (rest : List Event) × (self.old.ledger.waiting ≡ event ∷ rest)
+            × (self.new.ledger ≡ record self.old.ledger { waiting = rest; out = Some event })) }
+        ensures power { self.new.power ≡ power_after result self.old.power }
+        ensures level { self.new.level ≡ self.old.level }
+        ensures memory { self.new.memory ≡ memory_after result self.old.memory }
+        ensures armed { is_armed self.new.fuse.cut ≡ armed_after result (is_armed self.old.fuse.cut) }
+        ensures flash_bytes { IsBytes self.new.memory.flash }
+        ensures bbram_bytes { IsBytes self.new.memory.bbram }
+    {
+        self.fuse.restart();
+        let event = self.waiting.pop_front();
+        if let Some(event) = &event {
+            self.out = self.copies.pop_front();
+            self.meet(event);
+        }
+        are_bytes(self.flash.as_slice());
+        are_bytes(self.bbram.as_slice());
+        event
+    }
+
+    /// What an event does to the board as it is handed out.
+    fn meet(&mut self, event: &Event)
+        requires { IsScriptEvent event.now }
+        ensures fuse { self.new.fuse ≡ record self.old.fuse { cut = cut_after (Some event.now) self.old.fuse.cut } }
+        ensures armed { is_armed self.new.fuse.cut ≡ armed_after (Some event.now) (is_armed self.old.fuse.cut) }
+        ensures power { self.new.power ≡ power_after (Some event.now) self.old.power }
+        ensures level { self.new.level ≡ self.old.level }
+        ensures memory { self.new.memory ≡ memory_after (Some event.now) self.old.memory }
+        ensures ledger { self.new.ledger ≡ self.old.ledger }
+    {
+        match event {
+            Event::Off => self.is_on = false,
+            Event::Tamper => {
+                self.is_on = false;
+                self.bbram.clear();
+            }
+            Event::Cut { count, tear } => self.fuse.arm(*count, *tear),
+            _ => {}
+        }
+    }
+}
+
+impl Register for SimBoard {
+    ghost Rest = { Rest };
+
+    ghost rest = { rest_of };
+
+    ghost power = { λ board. board.power };
+
+    ghost level = { λ board. board.level };
+
+    fn power_on(&mut self) {
+        self.is_on = true;
+        self.level = 0;
+    }
+
+    fn power_off(&mut self) {
+        self.is_on = false;
+    }
+
+    fn raise(&mut self) {
+        self.level += 1;
+    }
+}
+
+impl Board for SimBoard {
+    ghost memory = { λ board. board.memory };
+
+    ghost ledger = { λ board. board.ledger };
+
+    ghost meter = { λ board. meter_of board.fuse };
+
+    fn flash_read(&self, at: u32, out: &mut [u8]) {
+        let start = at as usize;
+        out.copy_from_slice(&self.flash.as_slice()[start..start + out.len()]);
+    }
+
+    fn flash_erase(&mut self, sector: u16) -> Result<(), Stopped> {
+        self.erase_sector(sector)
+    }
+
+    fn flash_program(&mut self, at: u32, bytes: &[u8]) -> Result<(), Stopped> {
+        self.program(at, bytes)
+    }
+
+    fn bbram_read(&self, at: u16, out: &mut [u8]) {
+        let start = at as usize;
+        out.copy_from_slice(&self.bbram.as_slice()[start..start + out.len()]);
+    }
+
+    fn bbram_write(&mut self, at: u16, bytes: &[u8]) -> Result<(), Stopped> {
+        self.write_bbram(at, bytes)
+    }
+
+    fn load(&mut self, alloc: Global, image: &[u8], events: Events) -> Result<(), NoMemory> {
+        let (flash, bbram) = image.split_at(FLASH_LENGTH);
+        let flash = Bank::from_slice(alloc, flash)?;
+        let bbram = Bank::from_slice(alloc, bbram)?;
+        let answered = Vec::with_capacity(alloc, events.as_slice().len())?;
+        let copies = copies_of(alloc, events.as_slice())?;
+        self.flash = flash;
+        self.bbram = bbram;
+        self.standing = Standing::off();
+        self.waiting = VecDeque::from_vec(events.into_vec());
+        self.copies = copies;
+        self.answered = answered;
+        self.fuse.disarm();
+        self.fuse.restart();
+        Ok(())
+    }
+
+    fn events_left(&self) -> u32 {
+        self.waiting.len() as u32
+    }
+
+    fn take(&mut self) -> Option<Event> {
+        self.take_event()
+    }
+
+    fn answer(&mut self, event: Event, reply: Reply) {
+        self.flash.keep();
+        self.bbram.keep();
+        self.standing = Standing {
+            is_on: self.is_on,
+            level: self.level,
+            is_armed: self.fuse.is_armed(),
+        };
+        self.out = None;
+        append(&mut self.answered, Answered { event, reply });
+    }
+
+    fn answered(&self) -> &[Answered] {
+        self.answered.as_slice()
+    }
+
+    fn copy_image(&self, out: &mut [u8]) {
+        let (flash, bbram) = out.split_at_mut(FLASH_LENGTH);
+        flash.copy_from_slice(self.flash.as_slice());
+        bbram.copy_from_slice(self.bbram.as_slice());
+    }
+
+    ghost keeps_memory = { λ a b same. ap (λ (rest : Rest). rest.memory) same };
+
+    ghost keeps_ledger = { λ a b same. ap (λ (rest : Rest). rest.ledger) same };
+
+    ghost keeps_meter = { λ a b same. ap (λ (rest : Rest). meter_of rest.fuse) same };
+}
+
+/// A copy of each event.
+fn copies_of(alloc: Global, events: &[Event]) -> Result<VecDeque<Event>, NoMemory>
+    ensures { IfOk result (λ copies. copies.items ≡ events.now) }
+{
+    let mut copies = VecDeque::with_capacity(alloc, events.len())?;
+    for event in events {
+        copies.push_back(event.copy(alloc)?)?;
+    }
+    Ok(copies)
+}
+
+/// Adds an answer at the end of a list that has room for it.
+fn append(answered: &mut Vec<Answered>, answer: Answered)
+    requires { vec_len answered.old < vec_capacity answered.old }
+    ensures items { answered.new.items ≡ answered.old.items ++ answer ∷ [] }
+    ensures room { vec_capacity answered.old ≤ vec_capacity answered.new }
+{
+    if answered.push(answer).is_err() {
+        unreachable!();
+    }
+}
+
+#[cfg(test)]
+mod tests;

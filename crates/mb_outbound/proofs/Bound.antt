@@ -1,0 +1,92 @@
+-- What is stored once a key of a region was used.
+use Rattle.std.proofs.Common.{◌≡◌, ℕ, ◌≤◌, ◌<◌, inr, List, length, Result, Ok, Err, OnOk, OnErr, sym, subst}
+use Rattle.std.specs.Prelude.{AllPairs}
+use Rattle.mb_format.specs.Format.{IsBytes}
+use Rattle.mb_model.specs.declared.region.Region.{Region}
+use Rattle.mb_model.specs.declared.region.RegionKey.{RegionKey}
+use Rattle.mb_model.specs.Board.{Memory}
+use Rattle.mb_model.specs.Memory.{current}
+use Rattle.mb_model.specs.RegionFormat.{SpellsRegion}
+use Rattle.mb_model.specs.Meaning.{HoldsRegion}
+use Rattle.mb_layout.specs.declared.usage.NotUsed.{NotUsed}
+use Rattle.mb_layout.specs.declared.usage.NotUsed.TheVariants.{NoKey, Spent}
+use Rattle.mb_layout.specs.Edits.{CanBeStored, used, UseOf}
+use Rattle.mb_storing.proofs.StorableMemories.{spelled_storable}
+use Rattle.mb_storing.proofs.StorableRecords.{region_record}
+use Rattle.mb_storing.proofs.StorableSteps.{use_region}
+use Rattle.mb_storing.specs.Holding.{KeepsContents}
+use Rattle.mb_region.specs.Regions.{IsRegionSlot, HoldsSomeRegion, ReplacesRegion, KeepsOrReplaces}
+use Rattle.mb_region.proofs.Replaced.{region_found, can_be_stored, record_short, edited_holds, edited_either}
+use Rattle.mb_outbound.specs.Binding.{HoldsOrdered, HasUse, StoresUse, KeepsOrStoresUse}
+use Rattle.mb_outbound.specs.Using.{IsUsable, FindsUse}
+
+-- ---- the use of a key
+
+abbrev AreOrdered : Region → Type 0
+AreOrdered region = AllPairs (λ a b. a.number < b.number) region.keys
+
+use_stored : (bytes : List ℕ) (region : Region) (number : ℕ) (key : RegionKey) → AreOrdered region → SpellsRegion bytes region → HasUse region number key → CanBeStored (used number region)
+use_stored bytes region number key up stands has =
+    can_be_stored (used number region) (region_record (used number region) (use_region number key region up (spelled_storable bytes region stands) has.found has.left))
+
+pub finds_use : (bytes new : List ℕ) (region : Region) (number : ℕ) (result : Result RegionKey NotUsed) → AreOrdered region → SpellsRegion bytes region → UseOf region number result new → FindsUse region number result new
+finds_use bytes new region number (Ok key) up stands outcome =
+    let has : HasUse region number key = record { found = outcome.found; left = outcome.left } in
+    record { has_use = has; stands = outcome.stored (use_stored bytes region number key up stands has) }
+finds_use bytes new region number (Err NoKey) up stands outcome = outcome
+finds_use bytes new region number (Err Spent) up stands outcome = outcome
+
+-- the keys of each region that the area holds stand in order
+pub ordered_held : {area : List ℕ} (read : List ℕ) (held : HoldsOrdered area) (region : Region) → IsBytes read → read ≡ area → HoldsRegion area region → AreOrdered region
+ordered_held read held region are same has =
+    subst AreOrdered (region_found _ read held.region region are same (subst (λ (xs : List ℕ). HoldsRegion xs held.region) (sym same) held.holds) has) held.ordered
+
+pub some_held : {area : List ℕ} → HoldsOrdered area → HoldsSomeRegion area
+some_held held = record { region = held.region; holds = held.holds }
+
+pub use_short : (region : Region) (number : ℕ) (bytes : List ℕ) (result : Result RegionKey NotUsed) → FindsUse region number result bytes → OnOk result (length bytes ≤ 4094)
+use_short region number bytes (Ok key) outcome = record_short bytes (used number region) outcome.stands
+use_short region number bytes (Err refused) outcome = tt
+
+pub use_room : (bytes new : List ℕ) (region : Region) (number old_room new_room : ℕ) (result : Result RegionKey NotUsed) → AreOrdered region → SpellsRegion bytes region → UseOf region number result new
+    → (CanBeStored (used number region) → old_room ≤ new_room) → OnErr result (old_room ≤ new_room) → old_room ≤ new_room
+use_room bytes new region number old_room new_room (Ok key) up stands outcome kept refused = kept (use_stored bytes region number key up stands (record { found = outcome.found; left = outcome.left }))
+use_room bytes new region number old_room new_room (Err end) up stands outcome kept refused = refused
+
+-- ---- a commit, and then a wipe
+
+pub replaces_then : (slot : ℕ) (region : Region) (before between after : Memory) → ReplacesRegion slot region before between → KeepsContents between after → ReplacesRegion slot region before after
+replaces_then slot region before between after first second = record { replaced = λ contents holds. second.kept _ (first.replaced contents holds) }
+
+pub replaced_on : {A E : Type 0} (result : Result A E) (slot : ℕ) (region : Region) (before between after : Memory) → ReplacesRegion slot region before between → KeepsContents between after → OnOk result (ReplacesRegion slot region before after)
+replaced_on (Ok value) slot region before between after first second = replaces_then slot region before between after first second
+replaced_on (Err error) slot region before between after first second = tt
+
+pub either_then : (slot : ℕ) (region : Region) (before between after : Memory) → ReplacesRegion slot region before between → KeepsContents between after → KeepsOrReplaces slot region before after
+either_then slot region before between after first second = inr (replaces_then slot region before between after first second)
+
+-- ---- what is bound
+
+pub use_stands : (area bytes : List ℕ) (number : ℕ) (found : RegionKey) → ((region : Region) → HoldsRegion area region → IsUsable region number found bytes) → (region : Region) → HoldsRegion area region → SpellsRegion bytes (used number region)
+use_stands area bytes number found usable region has = (usable region has).stands
+
+pub stores_use : (slot number : ℕ) (before after : Memory) (bytes : List ℕ) (found : RegionKey) → IsRegionSlot slot → ((region : Region) → HoldsRegion (current before.bbram slot) region → IsUsable region number found bytes)
+    → ((region : Region) → SpellsRegion bytes region → ReplacesRegion slot region before after) → StoresUse slot number before after
+stores_use slot number before after bytes found which usable done =
+    record { stored = edited_holds slot (used number) before after bytes which (use_stands (current before.bbram slot) bytes number found usable) done }
+
+pub keeps_or_stores : (slot number : ℕ) (before after : Memory) (bytes : List ℕ) (found : RegionKey) → IsRegionSlot slot → ((region : Region) → HoldsRegion (current before.bbram slot) region → IsUsable region number found bytes)
+    → ((region : Region) → SpellsRegion bytes region → KeepsOrReplaces slot region before after) → KeepsOrStoresUse slot number before after
+keeps_or_stores slot number before after bytes found which usable done =
+    edited_either slot (used number) before after bytes which (use_stands (current before.bbram slot) bytes number found usable) done
+
+-- ---- at the place of the slot
+
+pub at_place : (bbram : List ℕ) {region : Region} (slot place : ℕ) → slot ≡ place → HoldsRegion (current bbram place) region → HoldsRegion (current bbram slot) region
+at_place bbram {region} slot place same has = subst (λ (n : ℕ). HoldsRegion (current bbram n) region) (sym same) has
+
+pub stands_still : {read known : List ℕ} (region : Region) → read ≡ known → SpellsRegion known region → SpellsRegion read region
+stands_still region same stands = subst (λ (xs : List ℕ). SpellsRegion xs region) (sym same) stands
+
+pub refused_as : {end known : NotUsed} (region : Region) (number : ℕ) (bytes : List ℕ) → end ≡ known → FindsUse region number (Err end) bytes → FindsUse region number (Err known) bytes
+refused_as region number bytes same outcome = subst (λ (e : NotUsed). FindsUse region number (Err e) bytes) same outcome

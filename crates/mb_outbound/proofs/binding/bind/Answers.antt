@@ -1,0 +1,32 @@
+use Rattle.mb_outbound.proofs.Bound.{stores_use, keeps_or_stores, at_place, refused_as}
+use Rattle.mb_outbound.proofs.binding.bind.Goals as goal
+
+pub returns-in-Err-NoKey-clause-bound : goal.returns-in-Err-NoKey-clause-bound
+returns-in-Err-NoKey-clause-bound g c = λ region has.
+    refused_as region c.args.key c.next_use.new.room.other.items c.in-Err-NoKey.field-0-is (c.in-Err-NoKey.ensures.used region (at_place _ c.number.result g.L.Place.place c.number.ensures has))
+
+pub returns-in-Err-Spent-clause-bound : goal.returns-in-Err-Spent-clause-bound
+returns-in-Err-Spent-clause-bound g c = λ region has.
+    refused_as region c.args.key c.next_use.new.room.other.items c.in-Err-Spent.field-0-is (c.in-Err-Spent.ensures.used region (at_place _ c.number.result g.L.Place.place c.number.ensures has))
+
+pub right_after-requires : goal.right_after-requires
+right_after-requires g c = (c.in-Ok.ensures.used c.requires.held.region (at_place _ c.number.result g.L.Place.place c.number.ensures c.requires.held.holds)).has_use.left
+
+pub returns-in-Ok-store-clause-done : goal.returns-in-Ok-store-clause-done
+returns-in-Ok-store-clause-done g c =
+    stores_use g.L.Place.place c.args.key _ _ c.next_use.new.room.other.items c.in-Ok.found g.met.L.Named.named
+    (λ region has. c.in-Ok.ensures.used region (at_place _ c.number.result g.L.Place.place c.number.ensures has)) c.in-Ok-store.ensures.done
+
+pub returns-in-Ok-store-clause-either : goal.returns-in-Ok-store-clause-either
+returns-in-Ok-store-clause-either g c =
+    keeps_or_stores g.L.Place.place c.args.key _ _ c.next_use.new.room.other.items c.in-Ok.found g.met.L.Named.named
+    (λ region has. c.in-Ok.ensures.used region (at_place _ c.number.result g.L.Place.place c.number.ensures has)) c.store.ensures.either
+
+pub returns-in-Err-clause-bound : goal.returns-in-Err-clause-bound
+returns-in-Err-clause-bound g c = λ region has.
+    (c.in-Ok.found, (c.in-Ok.ensures.used region (at_place _ c.number.result g.L.Place.place c.number.ensures has)).has_use)
+
+pub returns-in-Err-clause-either : goal.returns-in-Err-clause-either
+returns-in-Err-clause-either g c =
+    keeps_or_stores g.L.Place.place c.args.key _ _ c.next_use.new.room.other.items c.in-Ok.found g.met.L.Named.named
+    (λ region has. c.in-Ok.ensures.used region (at_place _ c.number.result g.L.Place.place c.number.ensures has)) c.store.ensures.either

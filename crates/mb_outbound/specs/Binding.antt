@@ -1,0 +1,65 @@
+-- What it means that a key of a region is bound: one more use of it is stored before its right is handed out. Can two
+-- statements be signed with one index?
+use Rattle.std.specs.Prelude.{◌≡◌, ℕ, ◌<◌, ◌⊎◌, List, find, AllPairs, None, Some, Result, Ok, Err}
+use Rattle.mb_model.specs.declared.key.KeySeed.{KeySeed}
+use Rattle.mb_model.specs.declared.region.Region.{Region}
+use Rattle.mb_model.specs.declared.region.RegionKey.{RegionKey}
+use Rattle.mb_model.specs.Board.{Memory, Meter}
+use Rattle.mb_model.specs.LayerEvents.{has_number}
+use Rattle.mb_model.specs.Meaning.{HoldsRegion, Contents}
+use Rattle.mb_storing.specs.Holding.{Holds, region_in_slot, with_region_in}
+use Rattle.mb_layout.specs.Edits.{used, IsSpent}
+use Rattle.mb_outbound.specs.declared.binding.BindEnd.{BindEnd}
+use Rattle.mb_outbound.specs.declared.binding.BindEnd.TheVariants.{NoKey, Spent, Stopped}
+
+-- an area holds a region whose keys stand in the order of their numbers, as those of a valid state do
+pub record HoldsOrdered (area : List ℕ) : Type 0 where
+  pub region : Region
+  pub holds : HoldsRegion area region
+  pub ordered : AllPairs (λ a b. a.number < b.number) region.keys
+
+-- the region has a key of this number, which has an index left
+pub record HasUse (region : Region) (number : ℕ) (key : RegionKey) : Type 0 where
+  pub found : find (has_number number) region.keys ≡ Some key
+  pub left : key.uses < 32
+
+-- the right is to the next index of that key, and the seed is the key's
+pub record IsBound (region : Region) (number right : ℕ) (handed : KeySeed) : Type 0 where
+  pub key : RegionKey
+  pub has_use : HasUse region number key
+  pub index : right ≡ key.uses
+  pub seed : handed ≡ key.seed
+
+-- what binding a key of a region comes to
+abbrev pub BindOf : {S : Type 0} → Region → ℕ → Result (S × ℕ × KeySeed) (BindEnd S) → Type 0
+BindOf region number (Ok bound) = IsBound region number bound.1 bound.2
+BindOf region number (Err (NoKey state)) = find (has_number number) region.keys ≡ None
+BindOf region number (Err (Spent state)) = IsSpent region number
+BindOf region number (Err (Stopped off)) = (key : RegionKey) × HasUse region number key
+
+-- whether power failed in the call
+abbrev pub power_in : {A S : Type 0} → Result A (BindEnd S) → Result (Unit {0}) (Unit {0})
+power_in (Ok bound) = Ok tt
+power_in (Err (NoKey state)) = Ok tt
+power_in (Err (Spent state)) = Ok tt
+power_in (Err (Stopped off)) = Err tt
+
+-- where the key is missing or spent, nothing was written
+abbrev pub IsUnwritten : {A S : Type 0} → Result A (BindEnd S) → Memory → Memory → Meter → Meter → Type 0
+IsUnwritten (Ok bound) before after old new = Unit {0}
+IsUnwritten (Err (NoKey state)) before after old new = (after ≡ before) × (new ≡ old)
+IsUnwritten (Err (Spent state)) before after old new = (after ≡ before) × (new ≡ old)
+IsUnwritten (Err (Stopped off)) before after old new = Unit {0}
+
+-- the contents with one more use of the key in the region of this slot
+abbrev pub used_in : ℕ → ℕ → Contents → Contents
+used_in slot number contents = with_region_in slot (used number (region_in_slot slot contents)) contents
+
+-- whatever the memory held, it holds with one more use of the key
+pub record StoresUse (slot number : ℕ) (before after : Memory) : Type 0 where
+  pub stored : (contents : Contents) → Holds before contents → Holds after (used_in slot number contents)
+
+-- each of the contents that it held stays, or has one more use of the key
+abbrev pub KeepsOrStoresUse : ℕ → ℕ → Memory → Memory → Type 0
+KeepsOrStoresUse slot number before after =
+    (contents : Contents) → Holds before contents → Holds after contents ⊎ Holds after (used_in slot number contents)

@@ -1,0 +1,21 @@
+-- What is found where a key of a stored region is to be used.
+use Rattle.std.specs.Prelude.{◌≡◌, ℕ, List, find, None, Result, Ok, Err}
+use Rattle.mb_model.specs.declared.region.Region.{Region}
+use Rattle.mb_model.specs.declared.region.RegionKey.{RegionKey}
+use Rattle.mb_model.specs.LayerEvents.{has_number}
+use Rattle.mb_model.specs.RegionFormat.{SpellsRegion}
+use Rattle.mb_layout.specs.declared.usage.NotUsed.{NotUsed}
+use Rattle.mb_layout.specs.declared.usage.NotUsed.TheVariants.{NoKey, Spent}
+use Rattle.mb_layout.specs.Edits.{used, IsSpent}
+use Rattle.mb_outbound.specs.Binding.{HasUse}
+
+-- the key has an index left, and the bytes stand for the region with one more use of it
+pub record IsUsable (region : Region) (number : ℕ) (key : RegionKey) (bytes : List ℕ) : Type 0 where
+  pub has_use : HasUse region number key
+  pub stands : SpellsRegion bytes (used number region)
+
+-- what looking for the use of a key comes to
+abbrev pub FindsUse : Region → ℕ → Result RegionKey NotUsed → List ℕ → Type 0
+FindsUse region number (Ok key) bytes = IsUsable region number key bytes
+FindsUse region number (Err NoKey) bytes = find (has_number number) region.keys ≡ None
+FindsUse region number (Err Spent) bytes = IsSpent region number

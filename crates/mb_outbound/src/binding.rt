@@ -1,0 +1,133 @@
+//! Binding of the keys of regions.
+
+ghost use Rattle.std.specs.Prelude.{◌≡◌, ◌≤◌, ◌<◌, length, OnOk, IfOk, OnErr, true, vec_capacity};
+ghost use Rattle.mb_model.specs.declared.region.Region.{Region};
+ghost use Rattle.mb_model.specs.Board.{IsLoaded};
+ghost use Rattle.mb_model.specs.Memory.{IsBlank, current, other};
+ghost use Rattle.mb_model.specs.Meaning.{HoldsRegion};
+ghost use Rattle.mb_model.specs.RegionFormat.{SpellsRegion};
+ghost use Rattle.mb_board.specs.Calls.{power_of, level_of, IsMetered};
+ghost use Rattle.mb_layout.specs.Rooms.{HasRoom};
+ghost use Rattle.mb_layout.specs.Edits.{UseOf};
+ghost use Rattle.mb_storing.specs.InForce.{AgreeBesides};
+ghost use Rattle.mb_slot.specs.Slots.{CanUse, IsSameBut};
+ghost use Rattle.mb_region.specs.Regions.{ReplacesRegion, KeepsOrReplaces};
+ghost use Rattle.mb_outbound.specs.Binding.{HoldsOrdered, BindOf, power_in, IsUnwritten, StoresUse, KeepsOrStoresUse};
+ghost use Rattle.mb_outbound.specs.Using.{FindsUse};
+
+use mb_board::Board;
+use mb_layout::{NotUsed, Room, record_in, use_in_record};
+use mb_model::{KeySeed, RegionKey};
+use mb_ratchet::{Off, Reaches};
+use mb_region::{Named, commit_record, read_area, wipe_region};
+use mb_signer::{OneUse, Uses, take_index};
+
+/// Why no right was handed out.
+pub enum BindEnd<S> {
+    /// The region has no key of the number.
+    NoKey(S),
+    /// None of the key's 32 indices is left.
+    Spent(S),
+    /// Power failed in this call.
+    Stopped(Off),
+}
+
+/// The first key of this number in the region of the slot, as it is stored; `other` of the room is replaced by the bytes
+/// that stand for the region with one more use of it.
+fn next_use<B: Board>(b: &B, slot: u16, key: u32, room: &mut Room) -> Result<RegionKey, NotUsed>
+    requires can_use { CanUse (B.power b.now) (B.level b.now) (B.memory b.now) slot }
+    requires held { HoldsOrdered (current (B.memory b.now).bbram slot) }
+    requires room { HasRoom room.old }
+    ensures used { (region : Region) → HoldsRegion (current (B.memory b.now).bbram slot) region
+        → FindsUse region key result room.new.other.items }
+    ensures short { OnOk result (length room.new.other.items ≤ 4094) }
+    ensures room { HasRoom room.new }
+    ensures public { room.new.public ≡ room.old.public }
+{
+    read_area(b, slot, &mut room.area);
+    let Some(bytes) = record_in(&room.area) else {
+        unreachable!()
+    };
+    use_in_record(bytes, key, &mut room.other)
+}
+
+/// Replaces the stored region by the one for which `other` of the room stands, and then wipes the area before it.
+fn store<S: Reaches<L>, L: Named, B: Board>(s: S, b: &mut B, room: &mut Room) -> Result<S, Off>
+    requires on { B.power b.old ≡ true }
+    requires level { B.level b.old ≡ S.stage }
+    requires loaded { IsLoaded (B.memory b.old) }
+    requires short { length room.old.other.items ≤ 4094 }
+    requires room { HasRoom room.old }
+    ensures done { (region : Region) → SpellsRegion room.old.other.items region
+        → OnOk result (ReplacesRegion L.place region (B.memory b.old) (B.memory b.new)) }
+    ensures either { (region : Region) → SpellsRegion room.old.other.items region
+        → KeepsOrReplaces L.place region (B.memory b.old) (B.memory b.new) }
+    ensures blank { OnOk result (IsBlank (other (B.memory b.new).bbram L.place)) }
+    ensures besides { AgreeBesides L.place (B.memory b.old).bbram (B.memory b.new).bbram }
+    ensures rest { IsSameBut L.place (B.memory b.old).bbram (B.memory b.new).bbram }
+    ensures sized { IsLoaded (B.memory b.new) }
+    ensures flash { (B.memory b.new).flash ≡ (B.memory b.old).flash }
+    ensures power { B.power b.new ≡ power_of result }
+    ensures level { B.level b.new ≡ level_of result (B.level b.old) }
+    ensures ledger { B.ledger b.new ≡ B.ledger b.old }
+    ensures meter { IsMetered 3 result (B.meter b.old) (B.meter b.new) }
+    ensures room { HasRoom room.new }
+    ensures public { room.new.public ≡ room.old.public }
+{
+    let s = commit_record::<S, L, B>(s, b, &room.other, &mut room.area)?;
+    wipe_region::<S, L, B>(s, b)
+}
+
+/// The right to the index after so many uses.
+fn right_after(uses: u32) -> OneUse
+    requires { uses < 32 }
+    ensures { result ≡ uses }
+{
+    let mut count = Uses::stored(uses);
+    match take_index(&mut count) {
+        Some(right) => right,
+        None => unreachable!(),
+    }
+}
+
+/// Binds the key of this number: the right to its next index, and its seed. One more use of the key is then stored, and
+/// the area of the region that is not in force is wiped. Where power fails, the uses of the key are the old ones or one
+/// more, and all else stays. `NoKey` exactly where the region has no key of the number, and `Spent` exactly where none of
+/// the key's indices is left; then nothing is written. There are at most three write calls.
+pub fn bind<S: Reaches<L>, L: Named, B: Board>(
+    s: S,
+    b: &mut B,
+    key: u32,
+    room: &mut Room,
+) -> Result<(S, OneUse, KeySeed), BindEnd<S>>
+    requires on { B.power b.old ≡ true }
+    requires level { B.level b.old ≡ S.stage }
+    requires loaded { IsLoaded (B.memory b.old) }
+    requires held { HoldsOrdered (current (B.memory b.old).bbram L.place) }
+    requires room { HasRoom room.old }
+    ensures bound { (region : Region) → HoldsRegion (current (B.memory b.old).bbram L.place) region → BindOf region key result }
+    ensures done { OnOk result (StoresUse L.place key (B.memory b.old) (B.memory b.new)) }
+    ensures either { KeepsOrStoresUse L.place key (B.memory b.old) (B.memory b.new) }
+    ensures blank { OnOk result (IsBlank (other (B.memory b.new).bbram L.place)) }
+    ensures unwritten { IsUnwritten result (B.memory b.old) (B.memory b.new) (B.meter b.old) (B.meter b.new) }
+    ensures besides { AgreeBesides L.place (B.memory b.old).bbram (B.memory b.new).bbram }
+    ensures rest { IsSameBut L.place (B.memory b.old).bbram (B.memory b.new).bbram }
+    ensures sized { IsLoaded (B.memory b.new) }
+    ensures flash { (B.memory b.new).flash ≡ (B.memory b.old).flash }
+    ensures power { B.power b.new ≡ power_of (power_in result) }
+    ensures level { B.level b.new ≡ level_of (power_in result) (B.level b.old) }
+    ensures ledger { B.ledger b.new ≡ B.ledger b.old }
+    ensures meter { IsMetered 3 (power_in result) (B.meter b.old) (B.meter b.new) }
+    ensures room { HasRoom room.new }
+    ensures public { room.new.public ≡ room.old.public }
+{
+    let found = match next_use(b, L::number(), key, room) {
+        Ok(found) => found,
+        Err(NotUsed::NoKey) => return Err(BindEnd::NoKey(s)),
+        Err(NotUsed::Spent) => return Err(BindEnd::Spent(s)),
+    };
+    match store::<S, L, B>(s, b, room) {
+        Ok(s) => Ok((s, right_after(found.uses), found.seed)),
+        Err(off) => Err(BindEnd::Stopped(off)),
+    }
+}
