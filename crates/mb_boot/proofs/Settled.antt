@@ -23,14 +23,14 @@ use Rattle.mb_model.specs.Meaning.{RootIn, Contents, HoldsContents, meant, fated
 use Rattle.mb_model.specs.Clean.{root_of}
 use Rattle.mb_model.specs.Valid.{IsValidState}
 use Rattle.mb_storing.specs.Commits.{two_done, three_done, both_done, at_rest, has_both}
-use Rattle.mb_storing.specs.Holding.{Holds, Means}
+use Rattle.mb_storing.specs.Holding.{Holds, Means, KeepsContents}
 use Rattle.mb_storing.specs.InForce.{AgreeBesides}
 use Rattle.mb_storing.specs.Storable.{IsStorableState, HasRegionRecord}
 use Rattle.mb_storing.proofs.CommitLemmas.{live_contents, stands_for_meant, both_done_means, work_ends}
 use Rattle.mb_storing.proofs.RestLemmas.{rest_stands, meant_layers}
 use Rattle.mb_storing.proofs.StorableMemories.{stands_storable}
 use Rattle.mb_storing.proofs.StorableRecords.{region_record, public_room}
-use Rattle.mb_area.specs.Roots.{HasSomeRoot, KeepsContents, Finishes, KeepsOrFinishes, IsReadyToFinish}
+use Rattle.mb_area.specs.Roots.{HasSomeRoot, Finishes, KeepsOrFinishes, IsReadyToFinish}
 use Rattle.mb_area.specs.Records.{BeginsSome}
 use Rattle.mb_region.specs.Fates.{IsPending, AppliesFate}
 use Rattle.mb_completion.specs.Completions.{HasLog, PendingIsSigned}

@@ -5,7 +5,7 @@ ghost use Rattle.mb_model.specs.Board.{IsLoaded};
 ghost use Rattle.mb_model.specs.Meaning.{fate_of_two, fate_of_three};
 ghost use Rattle.mb_board.specs.Calls.{power_of, level_of, IsMetered};
 ghost use Rattle.mb_layout.specs.Rooms.{HasRoom};
-ghost use Rattle.mb_area.specs.Roots.{KeepsContents};
+ghost use Rattle.mb_storing.specs.Holding.{KeepsContents};
 ghost use Rattle.mb_boot.specs.Settling.{IsLive, IsOnlyRoot, KeepsMeaning, AppliesBoth, SpellsSigned, SignsRecord, Settles};
 
 use mb_area::{Unsettled, Unwiped, finish_root, read_public, read_root, write_public};
