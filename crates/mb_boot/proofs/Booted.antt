@@ -76,10 +76,10 @@ unsettled_quiet unsettled before after counted later is = record { quiet = λ st
 pub quiet_then : (before between after : Memory) (counted later last : Meter) → IsQuiet before between counted later → (IsWiped between.bbram → (after ≡ between) × (last ≡ later)) → IsQuiet before after counted last
 quiet_then before between after counted later last first idle = record {
   quiet = λ state clean. (
-    let one = first.quiet state clean in
-    let wiped : IsWiped between.bbram = subst (λ (m : Memory). IsWiped m.bbram) (sym one.0) (record { two = clean.other_two; three = clean.other_three }) in
-    let two = idle wiped in
-    (two.0 ∙ one.0, two.1 ∙ one.1));
+      let one = first.quiet state clean in
+      let wiped : IsWiped between.bbram = subst (λ (m : Memory). IsWiped m.bbram) (sym one.0) (record { two = clean.other_two; three = clean.other_three }) in
+      let two = idle wiped in
+      (two.0 ∙ one.0, two.1 ∙ one.1));
 }
 
 -- ---- the wipes of the regions
@@ -105,17 +105,17 @@ both_wiped before after sized same two three =
 pub cleaned : (first between after : Memory) → Rests first between → KeepsContents between after → other after.bbram 1 ≡ other between.bbram 1 → IsWiped after.bbram → IsLoaded after → Cleans first after
 cleaned first between after rests kept root wiped sized = record {
   cleans = λ state means. (
-    let rest = rest_kept between after state kept (rests.rests state means) in
-    record {
-      sized = sized.bbram;
-      area = rest.area;
-      root = rest.holds.root;
-      two = rest.holds.two;
-      three = rest.holds.three;
-      other_root = subst IsBlank (sym root) rests.blank;
-      other_two = wiped.two;
-      other_three = wiped.three;
-    });
+      let rest = rest_kept between after state kept (rests.rests state means) in
+      record {
+        sized = sized.bbram;
+        area = rest.area;
+        root = rest.holds.root;
+        two = rest.holds.two;
+        three = rest.holds.three;
+        other_root = subst IsBlank (sym root) rests.blank;
+        other_two = wiped.two;
+        other_three = wiped.three;
+      });
 }
 
 -- ---- alive or dead
@@ -170,3 +170,32 @@ state_same before after same = record { kept = λ known stands. subst (λ (m : M
 
 pub same_quiet : (before after : Memory) (counted later : Meter) → after ≡ before → later ≡ counted → IsQuiet before after counted later
 same_quiet before after counted later memory meter = record { quiet = λ state clean. (memory, meter) }
+
+-- ---- the whole boot, from a memory that waking has left as it was
+
+pub loaded_as : (first now : Memory) → now ≡ first → StandsForValid first → IsLoaded now
+loaded_as first now same is = subst (λ (m : Memory). IsLoaded m) (sym same) is.stands.sized
+
+alive_by : (first now : Memory) (dead : Bool) → now ≡ first → dead ≡ (life_byte now.bbram == 0) → dead ≡ false → (life_byte first.bbram == 0) ≡ false
+alive_by first now dead same told alive = subst (λ (m : Memory). (life_byte m.bbram == 0) ≡ false) same (sym told ∙ alive)
+
+pub live_from : (first woken climbed : Memory) (dead : Bool) → woken ≡ first → climbed ≡ woken → StandsForValid first → dead ≡ (life_byte woken.bbram == 0) → dead ≡ false → IsLive climbed
+live_from first woken climbed dead same again is told alive = subst IsLive (sym (again ∙ same)) (alive_is_live first is (alive_by first woken dead same told alive))
+
+pub state_kept_from : (first woken climbed after : Memory) (dead : Bool) → woken ≡ first → climbed ≡ woken → dead ≡ (life_byte woken.bbram == 0) → dead ≡ false → KeepsMeaning climbed after → KeepsState first after
+state_kept_from first woken climbed after dead same again told alive kept =
+    state_kept first after (alive_by first woken dead same told alive) (subst (λ (m : Memory). KeepsMeaning m after) (again ∙ same) kept)
+
+pub cleans_from : (first woken climbed after : Memory) → woken ≡ first → climbed ≡ woken → Cleans climbed after → Cleans first after
+cleans_from first woken climbed after same again cleans = subst (λ (m : Memory). Cleans m after) (again ∙ same) cleans
+
+pub quiet_from : (first woken climbed after : Memory) (counted counted_woken counted_climbed later : Meter) → woken ≡ first → climbed ≡ woken → counted_woken ≡ counted → counted_climbed ≡ counted_woken
+    → IsQuiet climbed after counted_climbed later → IsQuiet first after counted later
+quiet_from first woken climbed after counted counted_woken counted_climbed later same again meter meter_again quiet =
+    subst (λ (n : Meter). IsQuiet first after n later) (meter_again ∙ meter) (subst (λ (m : Memory). IsQuiet m after counted_climbed later) (again ∙ same) quiet)
+
+pub dead_from : (first woken : Memory) (dead : Bool) (known : Option State) → woken ≡ first → dead ≡ (life_byte woken.bbram == 0) → dead ≡ true → StandsFor first.flash first.bbram known → true ≡ is_none known
+dead_from first woken dead known same told is stands = dead_is_none first known (subst (λ (m : Memory). (life_byte m.bbram == 0) ≡ true) same (sym told ∙ is)) stands
+
+pub alive_from : (first woken : Memory) (dead : Bool) (known : Option State) → woken ≡ first → dead ≡ (life_byte woken.bbram == 0) → dead ≡ false → StandsFor first.flash first.bbram known → false ≡ is_none known
+alive_from first woken dead known same told alive stands = alive_is_some first known (alive_by first woken dead same told alive) stands

@@ -51,8 +51,8 @@ live_still before after live keep = record { state = live.state; means = keep.ke
 pub contents_keep : (before after : Memory) → IsLoaded after → KeepsContents before after → KeepsMeaning before after
 contents_keep before after sized keep = record {
   kept = λ state means. (
-    let live = live_contents before.flash before.bbram state means in
-    stands_for_meant after.flash after.bbram live.contents state sized (keep.kept live.contents live.holds) live.index (sym live.means));
+      let live = live_contents before.flash before.bbram state means in
+      stands_for_meant after.flash after.bbram live.contents state sized (keep.kept live.contents live.holds) live.index (sym live.means));
 }
 
 -- ---- the root
@@ -133,11 +133,11 @@ pub both_applied : (before between after : Memory) (root : Root) (two three : Fa
     → AppliesFate 2 two before between → AppliesFate 3 three between after → AppliesBoth before after
 both_applied before between after root two three only is_two is_three first second = record {
   applied = λ contents holds. (
-    let root_is : contents.root ≡ root = only.only contents.root holds.root in
-    let own_two : two ≡ fate_of_two contents.root.pending = is_two ∙ sym (ap (λ (r : Root). fate_of_two r.pending) root_is) in
-    let own_three : three ≡ fate_of_three contents.root.pending = is_three ∙ sym (ap (λ (r : Root). fate_of_three r.pending) root_is) in
-    let now : Holds between (two_done contents) = subst (λ (f : Fate). Holds between (record contents { two = fated f contents.two })) own_two (first.applied contents holds) in
-    subst (λ (f : Fate). Holds after (record (two_done contents) { three = fated f contents.three })) own_three (second.applied (two_done contents) now));
+      let root_is : contents.root ≡ root = only.only contents.root holds.root in
+      let own_two : two ≡ fate_of_two contents.root.pending = is_two ∙ sym (ap (λ (r : Root). fate_of_two r.pending) root_is) in
+      let own_three : three ≡ fate_of_three contents.root.pending = is_three ∙ sym (ap (λ (r : Root). fate_of_three r.pending) root_is) in
+      let now : Holds between (two_done contents) = subst (λ (f : Fate). Holds between (record contents { two = fated f contents.two })) own_two (first.applied contents holds) in
+      subst (λ (f : Fate). Holds after (record (two_done contents) { three = fated f contents.three })) own_three (second.applied (two_done contents) now));
 }
 
 -- ---- the public record
@@ -177,10 +177,10 @@ pub signed_here : (memory : Memory) (root : Root) (read signed : Vec ℕ) → Is
     → PendingIsSigned root read signed → SpellsSigned memory signed.items
 signed_here memory root read signed only reads signs = record {
   spelled = λ contents holds. (
-    let same : contents.root ≡ root = only.only contents.root holds.root in
-    let done = (log_spelled memory root read signed contents holds only reads signs).spelled in
-    subst (λ (log : List SignedEntry). Spells public_format signed.items (public_of_parts contents.codes log []))
-    (ap (λ (r : Root). completed r contents.signed contents.unsigned) (sym same) ∙ sym (log_is contents)) done);
+      let same : contents.root ≡ root = only.only contents.root holds.root in
+      let done = (log_spelled memory root read signed contents holds only reads signs).spelled in
+      subst (λ (log : List SignedEntry). Spells public_format signed.items (public_of_parts contents.codes log []))
+      (ap (λ (r : Root). completed r contents.signed contents.unsigned) (sym same) ∙ sym (log_is contents)) done);
 }
 
 pub record_is_short : (memory : Memory) (bytes : List ℕ) → IsLive memory → SpellsSigned memory bytes → length bytes ≤ 470000
@@ -192,15 +192,15 @@ record_is_short memory bytes live signed =
 pub record_signed : (before after : Memory) (root : Root) (bytes : List ℕ) → IsOnlyRoot before.bbram root → SpellsSigned before bytes → BeginsArea (flash_area after.flash (1 - root.area)) bytes → SignsRecord before after
 record_signed before after root bytes only signed begins = record {
   signed = λ contents holds. (
-    let same : root ≡ contents.root = sym (only.only contents.root holds.root) in
-    record {
-      begins = record {
-        bytes = bytes;
-        begins = subst (λ (r : Root). BeginsArea (flash_area after.flash (1 - r.area)) bytes) same begins;
-        spelled = signed.spelled contents holds;
-      };
-      counted = record { counted = refl; can_sign = tt };
-    });
+      let same : root ≡ contents.root = sym (only.only contents.root holds.root) in
+      record {
+        begins = record {
+          bytes = bytes;
+          begins = subst (λ (r : Root). BeginsArea (flash_area after.flash (1 - r.area)) bytes) same begins;
+          spelled = signed.spelled contents holds;
+        };
+        counted = record { counted = refl; can_sign = tt };
+      });
 }
 
 -- ---- all of it
@@ -212,23 +212,23 @@ done_again contents = work_ends contents (both_done contents) (has_both refl)
 pub settled : (first applied written last : Memory) → AppliesBoth first applied → KeepsContents applied written → SignsRecord applied written → Finishes written last → Settles first last
 settled first applied written last fates kept signs finish = record {
   settled = λ state means. (
-    let live = live_contents first.flash first.bbram state means in
-    let contents : Contents = live.contents in
-    let now : Contents = both_done contents in
-    let holds : Holds applied now = fates.applied contents live.holds in
-    let ready : IsReadyToFinish written now = record { holds = kept.kept now holds; applied = done_again contents; signed = signs.signed now holds } in
-    let same : meant now ≡ state = both_done_means contents ∙ sym live.means in
-    record { area = 1 - contents.root.area; holds = subst (λ (s : State). Holds last (at_rest s (1 - contents.root.area))) same (finish.finishes now ready) });
+      let live = live_contents first.flash first.bbram state means in
+      let contents : Contents = live.contents in
+      let now : Contents = both_done contents in
+      let holds : Holds applied now = fates.applied contents live.holds in
+      let ready : IsReadyToFinish written now = record { holds = kept.kept now holds; applied = done_again contents; signed = signs.signed now holds } in
+      let same : meant now ≡ state = both_done_means contents ∙ sym live.means in
+      record { area = 1 - contents.root.area; holds = subst (λ (s : State). Holds last (at_rest s (1 - contents.root.area))) same (finish.finishes now ready) });
 }
 
 -- what settles keeps the meaning
 pub settling_keeps : (before after : Memory) → IsLoaded after → Settles before after → KeepsMeaning before after
 settling_keeps before after sized settles = record {
   kept = λ state means. (
-    let live = live_contents before.flash before.bbram state means in
-    let rest = settles.settled state means in
-    let layers = subst (λ (s : State). s.layers ≡ layers_of (entries_of s.log)) (sym live.means) (meant_layers live.contents) in
-    rest_stands after.flash after.bbram state rest.area sized layers rest.holds);
+      let live = live_contents before.flash before.bbram state means in
+      let rest = settles.settled state means in
+      let layers = subst (λ (s : State). s.layers ≡ layers_of (entries_of s.log)) (sym live.means) (meant_layers live.contents) in
+      rest_stands after.flash after.bbram state rest.area sized layers rest.holds);
 }
 
 -- wherever power fails in the last step, the meaning stays

@@ -104,7 +104,7 @@ fn wipe_regions<B: Board>(up: Up<R1>, b: &mut B) -> Result<Up<R1>, Off>
 }
 
 /// Does all that is left to be done in a device that is alive. There are at most 239 write calls.
-#[tactic(auto, using(crate::proofs::Booted::found_as, crate::proofs::Booted::live_root, crate::proofs::Booted::cleaned, crate::proofs::Settled::contents_keep, crate::proofs::Settled::keeps_then, crate::proofs::Booted::quiet_then))]
+#[tactic(auto, using(crate::proofs::Booted::found_as, crate::proofs::Settled::some_root, crate::proofs::Booted::cleaned, crate::proofs::Settled::contents_keep, crate::proofs::Settled::keeps_then, crate::proofs::Booted::quiet_then))]
 fn come_up<B: Board, L: Ledger>(
     up: Up<R1>,
     b: &mut B,
@@ -177,6 +177,7 @@ fn give_up<B: Board>(up: Up<R1>, b: &mut B) -> Off
 ///
 /// Errors: `Zeroised` exactly where the device is dead; `Stopped` where power failed; `NoMemory` where an allocation
 /// failed, before anything was written.
+#[tactic(auto, using(crate::proofs::Booted::live_from, crate::proofs::Booted::dead_from, crate::proofs::Booted::alive_from, crate::proofs::Booted::state_kept_from, crate::proofs::Booted::cleans_from, crate::proofs::Booted::quiet_from, crate::proofs::Booted::state_same, crate::proofs::Booted::same_quiet, crate::proofs::Booted::loaded_as))]
 pub fn boot<B: Board, L: Ledger>(
     alloc: Global,
     off: Off,
