@@ -2,8 +2,8 @@
 
     device.py full IMAGE           a log of 128 entries, sixteen keys and 32 secrets
     device.py new IMAGE            a new device
-    device.py pending KIND IMAGE   a device with work pending: entry, succession, renewal, last, add, short
-    device.py row KIND             a row of the tests of such work in crates/mb_image, whose birth is signed by zeros
+    device.py pending KIND IMAGE   a device with work pending: entry, succession, renewal, last, add, short; with none: born
+    device.py row KIND             a row of the tests of such work in crates/mb_cuts, whose birth is signed by zeros
 
 Each image's line says what it stands for: `state LENGTH NUMBER USES`, the numbers of secrets and keys of regions 2 and 3, and
 the SHA-256 hash of the signatures of the log, one after another.
@@ -21,7 +21,7 @@ ALWAYS, COUNTERSIGNED = 0, 2
 EPOCH, CONFIGURATION = 0, 1
 UNOWNED = {"owner": None, "code": None, "version": 0, "reliable": False, "trust": 1}
 EMPTY, KEEP, DROP_CONFIGURATION, ADD = u8(1), u8(0), u8(2), u8(3)
-KINDS = "entry", "succession", "renewal", "last", "add", "short"
+KINDS = "entry", "succession", "renewal", "last", "add", "short", "born"
 
 
 class Key:
@@ -230,6 +230,9 @@ def left_to_do(kind, signed=True):
     """A device after an order of the kind, the records of its regions before it, and their fates."""
     if kind == "short":
         return short_succession(signed)
+    if kind == "born":
+        device = Device(signed)
+        return device, (device.region(2), device.region(3)), None
     device = owned(signed)
     device.make_key(2, CONFIGURATION)
     device.make_key(3)
@@ -249,6 +252,8 @@ def left_to_do(kind, signed=True):
 
 def pending_of(device, kind, fates):
     """How many entries are unsigned, and the pending work as the root has it."""
+    if fates is None:
+        return 0, None
     unsigned = 2 if kind in ("succession", "short") else 1
     outgoing = device.outgoing and device.outgoing.spelled() + u8(device.outgoing.uses)
     return unsigned, u8(unsigned) + optional(outgoing) + fates

@@ -102,12 +102,33 @@ def judged_orders(source):
 
 
 def pending_images(source):
-    """Each row of work that an order has left, word by word."""
-    for name, kind in ("ENTRY", "entry"), ("RENEWAL", "renewal"), ("NEW_KEY", "add"), ("SUCCESSION", "short"):
+    """Each row of work that an order has left, and that of a new device, word by word."""
+    kinds = ("ENTRY", "entry"), ("RENEWAL", "renewal"), ("NEW_KEY", "add"), ("SUCCESSION", "short"), ("BORN", "born")
+    for name, kind in kinds:
         for (text,) in source.rows(rf"const {name}: Left = Left {{(.*?)\n}};"):
             found, wanted = (re.findall(HEX, row) for row in (text, "\n".join(device.row(kind))))
             source.compare(f"work left by {kind}", found, wanted)
             source.seen.update(found)
+
+
+def replaced_regions(source):
+    """The regions of a device, after one more use of each key, and with another secret in each."""
+    found = []
+    for name in ("", "_USED", "_PUT"):
+        owned, _, _ = device.left_to_do("entry", signed=False)
+        for layer in (2, 3) if name == "_USED" else ():
+            owned.regions[layer]["keys"][0][1].uses += 1
+        if name == "_PUT":
+            pin, _, born = owned.regions[2]["secrets"][0]
+            owned.regions[3]["secrets"] = owned.regions[2]["secrets"]
+            owned.regions[2]["secrets"] = [(pin, b"5678", born)]
+        found += [("TWO" + name, owned.region(2)), ("THREE" + name, owned.region(3))]
+    for name, region in found:
+        source.compare(f"region {name}", region.hex(), source.constant(name))
+
+
+def next_root(source):
+    source.compare("root", device.Device(signed=False).root(1, None).hex(), source.constant("NEXT_ROOT"))
 
 
 def first_order(source):

@@ -2,8 +2,6 @@
 
 ghost use Rattle.std.specs.Prelude.{◌≡◌, ◌<◌};
 
-mod pending;
-
 use super::*;
 use mb_lms::Steps;
 use mb_model::{FLASH_LENGTH, IMAGE_LENGTH, State};

@@ -1,42 +1,37 @@
-//! Images as orders leave them, written by another program: what they stand for once the work is done.
+//! Images as orders leave them, and that of a new device, written by another program.
 
-ghost use Rattle.std.specs.Prelude.{◌≡◌, ◌<◌};
-
-use super::answer;
 use hex::FromHex;
 use mb_lms::Steps;
 use mb_model::{FLASH_LENGTH, IMAGE_LENGTH, KeySeed};
 use mb_signer::{OneUse, Uses, sign, take_index};
 use std::alloc::Global;
-use std::marker::Brand;
-use std::process::Abort;
-use std::sync::ledger::{Blank, Ledger};
+use std::sync::ledger::Ledger;
 use std::test::Fail;
 
 /// What an order has left, and what it stands for. Bytes are in hexadecimal.
-struct Left {
+pub struct Left {
     /// The device key that signed every entry so far but the birth.
     identifier: &'static str,
     seed: &'static str,
     /// The public record up to the number of entries.
     codes: &'static str,
-    entries: &'static [&'static str],
+    pub entries: &'static [&'static str],
     /// How many of them are not signed yet.
     unsigned: usize,
-    root: &'static str,
+    pub root: &'static str,
     /// The records of regions 2 and 3.
-    two: &'static str,
-    three: &'static str,
+    pub two: &'static str,
+    pub three: &'static str,
     /// How many indices of the device key are used afterwards.
-    uses: u32,
+    pub uses: u32,
     /// How many secrets and keys region 2 has afterwards, and region 3.
-    items: [usize; 4],
+    pub items: [usize; 4],
     /// The SHA-256 hash of all signatures afterwards, one after another.
-    signatures: &'static str,
+    pub signatures: &'static str,
 }
 
 /// A load of layer 3, whose one entry is not signed: region 2 stays, and region 3 loses its configuration keys.
-const ENTRY: Left = Left {
+pub const ENTRY: Left = Left {
     identifier: "e4f1a113ee7ce457619d3d0d324c363a",
     seed: "9340c5a93a0446d41683fa018ee70553484f9ac0794cd0c20074f6d1e05dddd0",
     codes: "01010000000f636f6465206f66206c6179657220310100000011636f64652033206f66206c6179657220320100000011636f\
@@ -91,7 +86,7 @@ const ENTRY: Left = Left {
 };
 
 /// A load of layer 1, by which the device has its next key: both regions lose their configuration keys.
-const RENEWAL: Left = Left {
+pub const RENEWAL: Left = Left {
     identifier: "e4f1a113ee7ce457619d3d0d324c363a",
     seed: "9340c5a93a0446d41683fa018ee70553484f9ac0794cd0c20074f6d1e05dddd0",
     codes: "010100000011636f64652037206f66206c6179657220310100000011636f64652033206f66206c6179657220320100000011\
@@ -149,7 +144,7 @@ const RENEWAL: Left = Left {
 };
 
 /// A new key of region 3, which its fate has.
-const NEW_KEY: Left = Left {
+pub const NEW_KEY: Left = Left {
     identifier: "e4f1a113ee7ce457619d3d0d324c363a",
     seed: "9340c5a93a0446d41683fa018ee70553484f9ac0794cd0c20074f6d1e05dddd0",
     codes: "01010000000f636f6465206f66206c6179657220310100000011636f64652033206f66206c6179657220320100000011636f\
@@ -202,7 +197,7 @@ const NEW_KEY: Left = Left {
 
 /// A surrender of layer 2 at the last index of the device key: the next device key and the change are not signed, and both
 /// regions are emptied.
-const SUCCESSION: Left = Left {
+pub const SUCCESSION: Left = Left {
     identifier: "e4f1a113ee7ce457619d3d0d324c363a",
     seed: "9340c5a93a0446d41683fa018ee70553484f9ac0794cd0c20074f6d1e05dddd0",
     codes: "01010000000f636f6465206f66206c6179657220310000",
@@ -337,6 +332,27 @@ const SUCCESSION: Left = Left {
     signatures: "4734347d11c43d04e7f4bfe83f55f09257c9460314a9a20ccd08ff7c52db6474",
 };
 
+/// A new device, in which nothing is left to be done.
+pub const BORN: Left = Left {
+    identifier: "e4f1a113ee7ce457619d3d0d324c363a",
+    seed: "9340c5a93a0446d41683fa018ee70553484f9ac0794cd0c20074f6d1e05dddd0",
+    codes: "01010000000f636f6465206f66206c6179657220310000",
+    entries: &[
+        "000144b1defcf7561087015f8d830d65b10000000500000003e4f1a113ee7ce457619d3d0d324c363a0a2faeec89cf7f98b4874c\
+            d75da154ba6c8fc75266461579084cd47e20d933f7070000000005000000035fbf6e19e56a012089bf1ee10e30e07dc43caf\
+            0ed4b61d72dc82c678bbb59b85f770acbdd748edd0b30b8ed1543afdbf3cdc5a15226b47b541482fdb80594d173303cdde06\
+            a5cf52120227461d1ba1ed0000000100010001",
+    ],
+    unsigned: 0,
+    root: "01000144b1defcf7561087015f8d830d65b1e4f1a113ee7ce457619d3d0d324c363a9340c5a93a0446d41683fa018ee7055348\
+        4f9ac0794cd0c20074f6d1e05dddd00000",
+    two: "",
+    three: "",
+    uses: 0,
+    items: [0, 0, 0, 0],
+    signatures: "6375e911546068bfae125746efe9903ae70edaddccb0e0838381759e3d99381e",
+};
+
 /// The right to sign at the next index.
 fn next_right(uses: &mut Uses) -> Result<OneUse, Fail> {
     Ok(take_index(uses).ok_or("no index is left")?)
@@ -387,7 +403,11 @@ fn put_areas(alloc: Global, image: &mut Vec<u8>, record: &str, end: usize) -> Re
 }
 
 /// The image, with the first of two areas in force everywhere.
-fn image_of<L: Ledger>(alloc: Global, left: &Left, steps: &mut Steps<L>) -> Result<Vec<u8>, Fail> {
+pub fn image_of<L: Ledger>(
+    alloc: Global,
+    left: &Left,
+    steps: &mut Steps<L>,
+) -> Result<Vec<u8>, Fail> {
     let record = record_of(alloc, left, steps)?;
     let mut image = Vec::new(alloc);
     image.extend_from_slice(&u32::try_from(record.len())?.to_be_bytes())?;
@@ -399,54 +419,4 @@ fn image_of<L: Ledger>(alloc: Global, left: &Left, steps: &mut Steps<L>) -> Resu
     put_areas(alloc, &mut image, left.two, FLASH_LENGTH + 20480)?;
     put_areas(alloc, &mut image, left.three, IMAGE_LENGTH)?;
     Ok(image)
-}
-
-/// The image stands for the state after the order.
-fn expect_counted<L: Ledger>(
-    rt: &impl Abort,
-    alloc: Global,
-    left: &Left,
-    blank: Blank,
-) -> Result<(), Fail>
-    requires name { blank.name ≡ L.name }
-    requires parts { blank.parts ≡ L.parts }
-    requires some { 0 < blank.parts }
-{
-    let image = image_of(alloc, left, &mut Steps::<L>::begin(alloc, blank))?;
-    let Ok(Some(seen)) = answer(alloc, &image) else {
-        panic!(rt; "no state");
-    };
-    assert_eq!(rt; seen.entries, left.entries.len());
-    assert_eq!(rt; seen.uses, left.uses);
-    assert_eq!(rt; seen.items, left.items);
-    assert_eq!(rt;
-        seen.signatures,
-        <[u8; 32] as FromHex>::from_hex(left.signatures)?
-    );
-    Ok(())
-}
-
-/// The same, on a count of its own.
-fn expect_done(rt: &impl Abort, alloc: Global, left: &Left) -> Result<(), Fail> {
-    expect_counted::<Brand>(rt, alloc, left, Blank::new(1))
-}
-
-#[test]
-fn one_entry(rt: HostRuntime) -> Result<(), Fail> {
-    expect_done(&rt, rt.alloc(), &ENTRY)
-}
-
-#[test]
-fn next_device_key(rt: HostRuntime) -> Result<(), Fail> {
-    expect_done(&rt, rt.alloc(), &RENEWAL)
-}
-
-#[test]
-fn new_key(rt: HostRuntime) -> Result<(), Fail> {
-    expect_done(&rt, rt.alloc(), &NEW_KEY)
-}
-
-#[test]
-fn succession_and_entry(rt: HostRuntime) -> Result<(), Fail> {
-    expect_done(&rt, rt.alloc(), &SUCCESSION)
 }

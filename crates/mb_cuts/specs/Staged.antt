@@ -1,0 +1,26 @@
+-- What is known of a memory before a call that a test makes.
+use Rattle.std.specs.Prelude.{◌≡◌, ℕ, List, Bool, false, Some}
+use Rattle.mb_model.specs.declared.state.State.{State}
+use Rattle.mb_model.specs.Memory.{current}
+use Rattle.mb_model.specs.Meaning.{IsWellFormed}
+use Rattle.mb_model.specs.Board.{Memory, IsLoaded, image_of}
+use Rattle.mb_region.specs.Regions.{HoldsSomeRegion}
+use Rattle.mb_boot.specs.Booting.{StandsForValid}
+
+-- an image stands for a live state that a device can have
+pub record IsLive (image : List ℕ) : Type 0 where
+  pub state : State
+  pub well_formed : IsWellFormed image (Some state)
+
+-- a board holds an image, with power off
+pub record HoldsImage (image : List ℕ) (power : Bool) (memory : Memory) : Type 0 where
+  pub off : power ≡ false
+  pub loaded : IsLoaded memory
+  pub same : image_of memory ≡ image
+
+-- a memory has what the calls require
+pub record IsReady (memory : Memory) : Type 0 where
+  pub loaded : IsLoaded memory
+  pub stands : StandsForValid memory
+  pub two : HoldsSomeRegion (current memory.bbram 2)
+  pub three : HoldsSomeRegion (current memory.bbram 3)

@@ -1,0 +1,7 @@
+//! Calls stopped at each of their writes.
+
+mod board;
+mod boots;
+mod calls;
+mod images;
+mod states;
