@@ -1,0 +1,84 @@
+-- What becomes of a memory as its device comes up. Is it clean then, and does it stand for the same state?
+use Rattle.std.specs.Prelude.{◌≡◌, ℕ, List, Bool, true, false, Option, None, Some, Result, Ok, Err}
+use Rattle.mb_model.specs.declared.state.State.{State}
+use Rattle.mb_model.specs.declared.stored.Root.{Root}
+use Rattle.mb_model.specs.Board.{Memory, Meter}
+use Rattle.mb_model.specs.Memory.{IsBlank, other}
+use Rattle.mb_model.specs.Meaning.{RootIn, StandsFor}
+use Rattle.mb_model.specs.Clean.{Clean}
+use Rattle.mb_model.specs.Valid.{Valid}
+use Rattle.mb_storing.specs.Holding.{Means}
+use Rattle.mb_area.specs.declared.first_look.Looked.{Looked}
+use Rattle.mb_area.specs.Look.{IsLooked}
+use Rattle.mb_boot.specs.Settling.{IsAtRest}
+use Rattle.mb_boot.specs.declared.device.BootEnd.{BootEnd}
+use Rattle.mb_boot.specs.declared.device.BootEnd.TheVariants.{Stopped, Zeroised, NoMemory}
+
+-- the memory stands for a state that a device can have, or for a dead device
+pub record StandsForValid (memory : Memory) : Type 0 where
+  pub state : Option State
+  pub stands : StandsFor memory.flash memory.bbram state
+  pub valid : Valid state
+
+-- whatever it stood for, it stands for
+pub record KeepsState (before after : Memory) : Type 0 where
+  pub kept : (state : Option State) → StandsFor before.flash before.bbram state → StandsFor after.flash after.bbram state
+
+-- what was found is what is left to be done by the root in force and its other area
+pub record IsFoundAs (looked : Looked) (bbram : List ℕ) : Type 0 where
+  pub found : (root : Root) → RootIn bbram root → IsLooked looked root (other bbram 1)
+
+-- whatever state the memory stood for, it holds with nothing pending, and the area of the root that is not in force is
+-- all zero
+pub record Rests (before after : Memory) : Type 0 where
+  pub rests : (state : State) → Means before state → IsAtRest after state
+  pub blank : IsBlank (other after.bbram 1)
+
+-- the areas of the regions that are not in force are all zero
+pub record IsWiped (bbram : List ℕ) : Type 0 where
+  pub two : IsBlank (other bbram 2)
+  pub three : IsBlank (other bbram 3)
+
+-- whatever state the memory stood for, it is clean for
+pub record Cleans (before after : Memory) : Type 0 where
+  pub cleans : (state : State) → Means before state → Clean after.bbram (Some state)
+
+-- where the memory was clean, nothing was written
+pub record IsQuiet (before after : Memory) (counted counted_after : Meter) : Type 0 where
+  pub quiet : (state : State) → Clean before.bbram (Some state) → (after ≡ before) × (counted_after ≡ counted)
+
+-- ---- how a boot ends
+
+-- whether power failed, of which alone the counts tell
+abbrev pub stop_of : {A : Type 0} → Result A BootEnd → Result (Unit {0}) (Unit {0})
+stop_of (Ok up) = Ok tt
+stop_of (Err (Stopped off)) = Err tt
+stop_of (Err (Zeroised dead)) = Ok tt
+stop_of (Err (NoMemory off)) = Ok tt
+
+-- power is on in a device that has come up, and in a dead one
+abbrev pub power_at : {A : Type 0} → Result A BootEnd → Bool
+power_at (Ok up) = true
+power_at (Err (Stopped off)) = false
+power_at (Err (Zeroised dead)) = true
+power_at (Err (NoMemory off)) = false
+
+-- at these levels
+abbrev pub HasLevel : {A : Type 0} → Result A BootEnd → ℕ → Type 0
+HasLevel (Ok up) level = level ≡ 1
+HasLevel (Err (Stopped off)) level = Unit {0}
+HasLevel (Err (Zeroised dead)) level = level ≡ 0
+HasLevel (Err (NoMemory off)) level = Unit {0}
+
+abbrev pub is_zeroised : {A : Type 0} → Result A BootEnd → Bool
+is_zeroised (Ok up) = false
+is_zeroised (Err (Stopped off)) = false
+is_zeroised (Err (Zeroised dead)) = true
+is_zeroised (Err (NoMemory off)) = false
+
+-- where a device was found dead, and where an allocation failed, both hold
+abbrev pub IfUnwritten : {A : Type 0} → Result A BootEnd → Type 0 → Type 0 → Type 0
+IfUnwritten (Ok up) P Q = Unit {0}
+IfUnwritten (Err (Stopped off)) P Q = Unit {0}
+IfUnwritten (Err (Zeroised dead)) P Q = P × Q
+IfUnwritten (Err (NoMemory off)) P Q = P × Q

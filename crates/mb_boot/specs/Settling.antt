@@ -1,0 +1,52 @@
+-- What becomes of a memory as the work of an order is done. Does it stand for one state wherever power fails?
+use Rattle.std.specs.Prelude.{◌≡◌, ℕ, ◌-◌, List, []}
+use Rattle.mb_format.specs.Format.{Spells}
+use Rattle.mb_model.specs.declared.state.State.{State}
+use Rattle.mb_model.specs.declared.stored.Root.{Root}
+use Rattle.mb_model.specs.Board.{Memory}
+use Rattle.mb_model.specs.StoredLog.{HasIndex}
+use Rattle.mb_model.specs.Flash.{public_format, public_of_parts, HoldsPublic}
+use Rattle.mb_model.specs.Meaning.{RootIn, Contents, meant}
+use Rattle.mb_model.specs.Clean.{root_of}
+use Rattle.mb_model.specs.Valid.{IsValidState}
+use Rattle.mb_storing.specs.Commits.{both_done, at_rest}
+use Rattle.mb_storing.specs.Holding.{Holds, Means}
+
+-- the memory stands for a state that a device can have
+pub record IsLive (memory : Memory) : Type 0 where
+  pub state : State
+  pub means : Means memory state
+  pub valid : IsValidState state
+
+-- this root is the one in force
+pub record IsOnlyRoot (bbram : List ℕ) (root : Root) : Type 0 where
+  pub holds : RootIn bbram root
+  pub only : (any : Root) → RootIn bbram any → any ≡ root
+
+-- whatever state the memory stood for, it stands for
+pub record KeepsMeaning (before after : Memory) : Type 0 where
+  pub kept : (state : State) → Means before state → Means after state
+
+-- whatever the memory held, it holds with what is to be done to both regions done
+pub record AppliesBoth (before after : Memory) : Type 0 where
+  pub applied : (contents : Contents) → Holds before contents → Holds after (both_done contents)
+
+-- whatever the memory holds, the bytes spell its public record with every entry signed
+pub record SpellsSigned (memory : Memory) (bytes : List ℕ) : Type 0 where
+  pub spelled : (contents : Contents) → Holds memory contents
+      → Spells public_format bytes (public_of_parts contents.codes (meant contents).log [])
+
+-- whatever the memory held, the area of the flash that the root does not name holds its public record with every entry
+-- signed
+pub record SignsRecord (before after : Memory) : Type 0 where
+  pub signed : (contents : Contents) → Holds before contents
+      → HoldsPublic after.flash (root_of (meant contents) (1 - contents.root.area)) contents.codes (meant contents).log []
+
+-- the memory holds this state with nothing pending
+pub record IsAtRest (memory : Memory) (state : State) : Type 0 where
+  pub area : ℕ
+  pub holds : Holds memory (at_rest state area)
+
+-- whatever state the memory stood for, it holds with nothing pending
+pub record Settles (before after : Memory) : Type 0 where
+  pub settled : (state : State) → Means before state → IsAtRest after state

@@ -1,0 +1,215 @@
+//! A device that comes up.
+
+ghost use Rattle.std.specs.Prelude.{◌≡◌, ◌+◌, ◌≤◌, ◌==◌, OnOk, IfOk, Option, true, false};
+ghost use Rattle.std.specs.Option.{is_none};
+ghost use Rattle.mb_model.specs.declared.state.State.{State};
+ghost use Rattle.mb_model.specs.Memory.{life_byte, other};
+ghost use Rattle.mb_model.specs.Meaning.{StandsFor};
+ghost use Rattle.mb_model.specs.Board.{IsLoaded};
+ghost use Rattle.mb_board.specs.Calls.{power_of, level_of, IsMetered};
+ghost use Rattle.mb_layout.specs.Rooms.{HasRoom};
+ghost use Rattle.mb_storing.specs.Holding.{KeepsContents};
+ghost use Rattle.mb_boot.specs.Settling.{IsLive, KeepsMeaning};
+ghost use Rattle.mb_boot.specs.Booting.{IsFoundAs, Rests, IsWiped, Cleans, IsQuiet, StandsForValid, KeepsState, IfUnwritten, stop_of, power_at, HasLevel, is_zeroised};
+
+use crate::work::settle;
+use mb_area::{LookEnd, Looked, look, wipe_root};
+use mb_board::Board;
+use mb_layout::Room;
+use mb_lms::Steps;
+use mb_model::NoMemory;
+use mb_ratchet::{Dead, Off, R1, Three, Two, Up, Zero};
+use mb_region::wipe_region;
+use std::alloc::Global;
+use std::sync::ledger::Ledger;
+
+/// Why a device did not come up.
+#[derive(Drop)]
+pub enum BootEnd {
+    /// Power failed.
+    Stopped(Off),
+    /// The device is dead: its battery-backed memory is all zero.
+    Zeroised(Dead),
+    /// An allocation failed; power was turned off.
+    NoMemory(Off),
+}
+
+/// Whether the life byte says that the device is dead.
+fn is_dead<B: Board>(b: &B) -> bool
+    requires on { B.power b.now ≡ true }
+    requires loaded { IsLoaded (B.memory b.now) }
+    ensures { result ≡ (life_byte (B.memory b.now).bbram == 0) }
+{
+    let mut life = [0; 1];
+    b.bbram_read(0, &mut life);
+    life[0] == 0
+}
+
+/// Does what is left to be done in a device that is alive, and wipes the root's area that is not in force. There are at
+/// most 237 write calls.
+#[tactic(auto, using(crate::proofs::Booted::already_rests, crate::proofs::Booted::wiped_rests, crate::proofs::Booted::settled_rests, crate::proofs::Booted::already_quiet, crate::proofs::Booted::unwiped_quiet, crate::proofs::Booted::unsettled_quiet, crate::proofs::Settled::contents_keep, crate::proofs::Settled::keeps_then, crate::proofs::Booted::keeps_all))]
+fn bring_to_rest<B: Board, L: Ledger>(
+    looked: Looked,
+    b: &mut B,
+    room: &mut Room,
+    steps: &mut Steps<L>,
+) -> Result<Up<R1>, Off>
+    requires on { B.power b.old ≡ true }
+    requires level { B.level b.old ≡ 1 }
+    requires loaded { IsLoaded (B.memory b.old) }
+    requires live { IsLive (B.memory b.old) }
+    requires looked { IsFoundAs looked (B.memory b.old).bbram }
+    requires room { HasRoom room.old }
+    ensures rests { OnOk result (Rests (B.memory b.old) (B.memory b.new)) }
+    ensures meaning { KeepsMeaning (B.memory b.old) (B.memory b.new) }
+    ensures quiet { IsQuiet (B.memory b.old) (B.memory b.new) (B.meter b.old) (B.meter b.new) }
+    ensures sized { IsLoaded (B.memory b.new) }
+    ensures power { B.power b.new ≡ power_of result }
+    ensures level { B.level b.new ≡ level_of result (B.level b.old) }
+    ensures ledger { B.ledger b.new ≡ B.ledger b.old }
+    ensures meter { IsMetered 237 result (B.meter b.old) (B.meter b.new) }
+    ensures room { HasRoom room.new }
+    ensures cost { steps.new ≤ steps.old + 70946 }
+{
+    match looked {
+        Looked::Settled(up) => Ok(up),
+        Looked::Unwiped(w) => wipe_root(w, b),
+        Looked::Unsettled(u) => {
+            let w = settle(u, b, room, steps)?;
+            wipe_root(w, b)
+        }
+    }
+}
+
+/// Wipes the areas of both regions that are not in force. There are at most two write calls.
+#[tactic(auto, using(crate::proofs::Booted::contents_then, crate::proofs::Booted::two_leaves_root, crate::proofs::Booted::three_leaves_root, crate::proofs::Booted::both_wiped))]
+fn wipe_regions<B: Board>(up: Up<R1>, b: &mut B) -> Result<Up<R1>, Off>
+    requires on { B.power b.old ≡ true }
+    requires level { B.level b.old ≡ 1 }
+    requires loaded { IsLoaded (B.memory b.old) }
+    ensures wiped { OnOk result (IsWiped (B.memory b.new).bbram) }
+    ensures root { other (B.memory b.new).bbram 1 ≡ other (B.memory b.old).bbram 1 }
+    ensures contents { KeepsContents (B.memory b.old) (B.memory b.new) }
+    ensures idle { IsWiped (B.memory b.old).bbram
+        → (B.memory b.new ≡ B.memory b.old) × (B.meter b.new ≡ B.meter b.old) }
+    ensures sized { IsLoaded (B.memory b.new) }
+    ensures power { B.power b.new ≡ power_of result }
+    ensures level { B.level b.new ≡ level_of result (B.level b.old) }
+    ensures ledger { B.ledger b.new ≡ B.ledger b.old }
+    ensures meter { IsMetered 2 result (B.meter b.old) (B.meter b.new) }
+{
+    let up = wipe_region::<Up<R1>, Two, B>(up, b)?;
+    let up = wipe_region::<Up<R1>, Three, B>(up, b)?;
+    Ok(up)
+}
+
+/// Does all that is left to be done in a device that is alive. There are at most 239 write calls.
+#[tactic(auto, using(crate::proofs::Booted::found_as, crate::proofs::Settled::some_root, crate::proofs::Booted::cleaned, crate::proofs::Settled::contents_keep, crate::proofs::Settled::keeps_then, crate::proofs::Booted::quiet_then))]
+fn come_up<B: Board, L: Ledger>(
+    up: Up<R1>,
+    b: &mut B,
+    room: &mut Room,
+    steps: &mut Steps<L>,
+) -> Result<Up<R1>, Off>
+    requires on { B.power b.old ≡ true }
+    requires level { B.level b.old ≡ 1 }
+    requires loaded { IsLoaded (B.memory b.old) }
+    requires live { IsLive (B.memory b.old) }
+    requires room { HasRoom room.old }
+    ensures clean { OnOk result (Cleans (B.memory b.old) (B.memory b.new)) }
+    ensures meaning { KeepsMeaning (B.memory b.old) (B.memory b.new) }
+    ensures quiet { IsQuiet (B.memory b.old) (B.memory b.new) (B.meter b.old) (B.meter b.new) }
+    ensures sized { IsLoaded (B.memory b.new) }
+    ensures power { B.power b.new ≡ power_of result }
+    ensures level { B.level b.new ≡ level_of result (B.level b.old) }
+    ensures ledger { B.ledger b.new ≡ B.ledger b.old }
+    ensures meter { IsMetered 239 result (B.meter b.old) (B.meter b.new) }
+    ensures room { HasRoom room.new }
+    ensures cost { steps.new ≤ steps.old + 70946 }
+{
+    let looked = match look(up, b, room) {
+        Ok(looked) => looked,
+        Err(LookEnd::NoMemory(_up)) => unreachable!(),
+    };
+    let up = bring_to_rest(looked, b, room, steps)?;
+    let up = wipe_regions(up, b)?;
+    Ok(up)
+}
+
+/// Turns power on.
+fn wake<B: Board>(off: Off, b: &mut B) -> Zero
+    requires { B.power b.old ≡ false }
+    ensures power { B.power b.new ≡ true }
+    ensures level { B.level b.new ≡ 0 }
+    ensures memory { B.memory b.new ≡ B.memory b.old }
+    ensures ledger { B.ledger b.new ≡ B.ledger b.old }
+    ensures meter { B.meter b.new ≡ B.meter b.old }
+{
+    off.power_on(b)
+}
+
+/// Raises the level to 1.
+fn climb<B: Board>(zero: Zero, b: &mut B) -> Up<R1>
+    requires power { B.power b.old ≡ true }
+    requires level { B.level b.old ≡ 0 }
+    ensures power { B.power b.new ≡ true }
+    ensures level { B.level b.new ≡ 1 }
+    ensures memory { B.memory b.new ≡ B.memory b.old }
+    ensures ledger { B.ledger b.new ≡ B.ledger b.old }
+    ensures meter { B.meter b.new ≡ B.meter b.old }
+{
+    zero.advance(b)
+}
+
+/// Turns power off.
+fn give_up<B: Board>(up: Up<R1>, b: &mut B) -> Off
+    ensures power { B.power b.new ≡ false }
+    ensures memory { B.memory b.new ≡ B.memory b.old }
+    ensures ledger { B.ledger b.new ≡ B.ledger b.old }
+    ensures meter { B.meter b.new ≡ B.meter b.old }
+{
+    up.off(b)
+}
+
+/// Brings a device up to level 1, where nothing is pending and its battery-backed memory is clean, with the buffers in
+/// which it works. Wherever power fails, the memory stands for what it stood for. Nothing is written to a clean memory.
+/// There are at most 239 write calls, and 70,946 steps.
+///
+/// Errors: `Zeroised` exactly where the device is dead; `Stopped` where power failed; `NoMemory` where an allocation
+/// failed, before anything was written.
+#[tactic(auto, using(crate::proofs::Booted::live_from, crate::proofs::Booted::dead_from, crate::proofs::Booted::alive_from, crate::proofs::Booted::state_kept_from, crate::proofs::Booted::cleans_from, crate::proofs::Booted::quiet_from, crate::proofs::Booted::state_same, crate::proofs::Booted::same_quiet, crate::proofs::Booted::loaded_as))]
+pub fn boot<B: Board, L: Ledger>(
+    alloc: Global,
+    off: Off,
+    b: &mut B,
+    steps: &mut Steps<L>,
+) -> Result<(Up<R1>, Room), BootEnd>
+    requires off { B.power b.old ≡ false }
+    requires stands { StandsForValid (B.memory b.old) }
+    ensures clean { OnOk result (Cleans (B.memory b.old) (B.memory b.new)) }
+    ensures meaning { KeepsState (B.memory b.old) (B.memory b.new) }
+    ensures zeroised { (state : Option State) → StandsFor (B.memory b.old).flash (B.memory b.old).bbram state
+        → is_zeroised result ≡ is_none state }
+    ensures quiet { IsQuiet (B.memory b.old) (B.memory b.new) (B.meter b.old) (B.meter b.new) }
+    ensures unwritten { IfUnwritten result (B.memory b.new ≡ B.memory b.old) (B.meter b.new ≡ B.meter b.old) }
+    ensures power { B.power b.new ≡ power_at result }
+    ensures level { HasLevel result (B.level b.new) }
+    ensures ledger { B.ledger b.new ≡ B.ledger b.old }
+    ensures meter { IsMetered 239 (stop_of result) (B.meter b.old) (B.meter b.new) }
+    ensures room { IfOk result (λ up. HasRoom up.1) }
+    ensures cost { steps.new ≤ steps.old + 70946 }
+{
+    let zero = wake(off, b);
+    if is_dead(b) {
+        return Err(BootEnd::Zeroised(zero.dead()));
+    }
+    let up = climb(zero, b);
+    let mut room = match Room::new(alloc) {
+        Ok(room) => room,
+        Err(NoMemory) => return Err(BootEnd::NoMemory(give_up(up, b))),
+    };
+    match come_up(up, b, &mut room, steps) {
+        Ok(up) => Ok((up, room)),
+        Err(off) => Err(BootEnd::Stopped(off)),
+    }
+}
