@@ -4,7 +4,6 @@ use Rattle.mb_format.specs.Format.{Spells}
 use Rattle.mb_model.specs.declared.state.State.{State}
 use Rattle.mb_model.specs.declared.stored.Root.{Root}
 use Rattle.mb_model.specs.Board.{Memory}
-use Rattle.mb_model.specs.StoredLog.{HasIndex}
 use Rattle.mb_model.specs.Flash.{public_format, public_of_parts, HoldsPublic}
 use Rattle.mb_model.specs.Meaning.{RootIn, Contents, meant}
 use Rattle.mb_model.specs.Clean.{root_of}

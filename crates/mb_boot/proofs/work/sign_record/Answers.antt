@@ -1,4 +1,4 @@
-use Rattle.std.proofs.Common.{length, arith}
+use Rattle.std.proofs.Common.{arith}
 use Rattle.mb_bytes.proofs.Putting.{length_items}
 use Rattle.mb_boot.proofs.Settled.{bounded, leaves_room, signed_here, still_roomy, record_is_short}
 use Rattle.mb_boot.proofs.work.sign_record.Goals as goal
