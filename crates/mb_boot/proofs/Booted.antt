@@ -13,7 +13,7 @@ use Rattle.mb_model.specs.Clean.{root_of, IsCleanFor, Clean}
 use Rattle.mb_model.specs.Valid.{Valid, IsValidState}
 use Rattle.mb_lemmas.proofs.MeaningLemmas.{not_blank}
 use Rattle.mb_storing.specs.Commits.{at_rest}
-use Rattle.mb_storing.specs.Holding.{Holds, Means, KeepsContents}
+use Rattle.mb_storing.specs.Holding.{Holds, Means, KeepsContents, KeepsMeaning}
 use Rattle.mb_storing.proofs.CommitLemmas.{live_contents}
 use Rattle.mb_storing.proofs.RestLemmas.{nothing_pending}
 use Rattle.mb_slot.specs.Slots.{IsSameButOther}
@@ -24,7 +24,7 @@ use Rattle.mb_area.specs.declared.state.Unsettled.{Unsettled}
 use Rattle.mb_area.specs.declared.state.Unwiped.{Unwiped}
 use Rattle.mb_area.specs.Look.{IsLooked}
 use Rattle.mb_area.specs.Roots.{HasSomeRoot}
-use Rattle.mb_boot.specs.Settling.{IsLive, KeepsMeaning, IsAtRest, Settles}
+use Rattle.mb_boot.specs.Settling.{IsLive, IsAtRest, Settles}
 use Rattle.mb_boot.specs.Booting.{StandsForValid, KeepsState, IsFoundAs, Rests, IsWiped, Cleans, IsQuiet}
 use Rattle.mb_boot.proofs.Settled.{some_root}
 
