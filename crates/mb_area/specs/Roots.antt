@@ -4,17 +4,15 @@ use Rattle.std.specs.Prelude.{◌≡◌, ℕ, ◌-◌, ◌⊎◌, List, [], None
 use Rattle.mb_model.specs.declared.entry.Entry.{Entry}
 use Rattle.mb_model.specs.declared.entry.SignedEntry.{SignedEntry}
 use Rattle.mb_model.specs.declared.state.Codes.{Codes}
-use Rattle.mb_model.specs.declared.state.State.{State}
 use Rattle.mb_model.specs.declared.stored.Root.{Root}
 use Rattle.mb_model.specs.RootFormat.{root_format}
 use Rattle.mb_model.specs.Board.{Memory}
 use Rattle.mb_model.specs.Memory.{HoldsRecord}
 use Rattle.mb_model.specs.Flash.{HoldsPublic}
-use Rattle.mb_model.specs.StoredLog.{HasIndex}
 use Rattle.mb_model.specs.Meaning.{RootIn, Contents, meant}
 use Rattle.mb_model.specs.Clean.{root_of}
 use Rattle.mb_storing.specs.Commits.{both_done, at_rest}
-use Rattle.mb_storing.specs.Holding.{Holds, Means, KeepsContents}
+use Rattle.mb_storing.specs.Holding.{Holds, KeepsContents}
 
 -- an area holds some root
 pub record HoldsSomeRoot (area : List ℕ) : Type 0 where
@@ -56,27 +54,6 @@ finished contents = at_rest (meant contents) (1 - contents.root.area)
 -- contents that were ready to be finished are finished
 pub record Finishes (before after : Memory) : Type 0 where
   pub finishes : (contents : Contents) → IsReadyToFinish before contents → Holds after (finished contents)
-
--- whatever the memory holds is ready to be finished
-pub record IsReady (memory : Memory) : Type 0 where
-  pub ready : (contents : Contents) → Holds memory contents → IsReadyToFinish memory contents
-
--- The root, over these bytes, stands for this state: the memory holds it with this root, and with the codes and entries
--- that the flash holds for the root.
-pub record StandsWith (new_root : Root) (memory : Memory) (state : State) : Type 0 where
-  pub contents : Contents
-  pub codes : Codes
-  pub signed : List SignedEntry
-  pub unsigned : List Entry
-  pub holds : Holds memory contents
-  pub public : HoldsPublic memory.flash new_root codes signed unsigned
-  pub index : HasIndex new_root new_root.pending
-  pub means : state
-      ≡ meant (record contents { root = new_root; codes = codes; signed = signed; unsigned = unsigned })
-
--- for whatever state the root stood over the memory before, the memory stands now
-pub record CommitsState (new_root : Root) (before after : Memory) : Type 0 where
-  pub committed : (state : State) → StandsWith new_root before state → Means after state
 
 -- contents that were ready to be finished are so still, or are finished
 abbrev pub KeepsOrFinishes : Memory → Memory → Type 0
