@@ -22,10 +22,6 @@ pub record IsOnlyRoot (bbram : List ℕ) (root : Root) : Type 0 where
   pub holds : RootIn bbram root
   pub only : (any : Root) → RootIn bbram any → any ≡ root
 
--- whatever state the memory stood for, it stands for
-pub record KeepsMeaning (before after : Memory) : Type 0 where
-  pub kept : (state : State) → Means before state → Means after state
-
 -- whatever the memory held, it holds with what is to be done to both regions done
 pub record AppliesBoth (before after : Memory) : Type 0 where
   pub applied : (contents : Contents) → Holds before contents → Holds after (both_done contents)
