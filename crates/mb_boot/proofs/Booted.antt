@@ -1,5 +1,5 @@
 -- How the steps of a boot join.
-use Rattle.std.proofs.Common.{◌≡◌, ◌≢◌, ℕ, ◌==◌, ◌≤◌, Bool, true, false, List, [], ◌∷◌, length, Option, None, Some, Result, Ok, Err, refl, sym, ap, subst, ◌∙◌, arith}
+use Rattle.std.proofs.Common.{◌≡◌, ℕ, ◌==◌, Bool, true, false, List, [], ◌∷◌, length, Option, None, Some, refl, sym, ap, subst, ◌∙◌, arith}
 use Rattle.std.specs.Option.{is_none}
 use Rattle.std.proofs.lemmas.Bool.{eqb-true}
 use Rattle.mb_ratchet.specs.declared.state.Up.{Up}
@@ -8,10 +8,9 @@ use Rattle.mb_model.specs.declared.state.State.{State}
 use Rattle.mb_model.specs.declared.stored.Root.{Root}
 use Rattle.mb_model.specs.Board.{Memory, Meter, IsLoaded}
 use Rattle.mb_model.specs.Memory.{IsBlank, life_byte, other}
-use Rattle.mb_model.specs.Meaning.{RootIn, Contents, HoldsContents, meant, HasMeaning, is_dead, is_live, StandsFor}
-use Rattle.mb_model.specs.Clean.{root_of, IsCleanFor, Clean}
-use Rattle.mb_model.specs.Valid.{Valid, IsValidState}
-use Rattle.mb_lemmas.proofs.MeaningLemmas.{not_blank}
+use Rattle.mb_model.specs.Meaning.{RootIn, Contents, meant, HasMeaning, is_dead, is_live, StandsFor}
+use Rattle.mb_model.specs.Clean.{root_of}
+use Rattle.mb_model.specs.Valid.{Valid}
 use Rattle.mb_storing.specs.Commits.{at_rest}
 use Rattle.mb_storing.specs.Holding.{Holds, Means, KeepsContents, KeepsMeaning}
 use Rattle.mb_storing.proofs.CommitLemmas.{live_contents}
@@ -23,7 +22,6 @@ use Rattle.mb_area.specs.declared.first_look.Looked.TheVariants as looked
 use Rattle.mb_area.specs.declared.state.Unsettled.{Unsettled}
 use Rattle.mb_area.specs.declared.state.Unwiped.{Unwiped}
 use Rattle.mb_area.specs.Look.{IsLooked}
-use Rattle.mb_area.specs.Roots.{HasSomeRoot}
 use Rattle.mb_boot.specs.Settling.{IsLive, IsAtRest, Settles}
 use Rattle.mb_boot.specs.Booting.{StandsForValid, KeepsState, IsFoundAs, Rests, IsWiped, Cleans, IsQuiet}
 use Rattle.mb_boot.proofs.Settled.{some_root}

@@ -1,5 +1,5 @@
 -- How the steps of settling join.
-use Rattle.std.proofs.Common.{◌≡◌, ◌≢◌, ℕ, zero, suc, ◌+◌, ◌-◌, ◌≤◌, ◌⊎◌, inl, inr, List, [], length, Option, None, Some, refl, sym, ap, subst, ◌∙◌, arith}
+use Rattle.std.proofs.Common.{◌≡◌, ◌≢◌, ℕ, ◌-◌, ◌≤◌, inl, inr, List, [], length, Option, None, Some, refl, sym, ap, subst, ◌∙◌, arith}
 use Rattle.mb_format.specs.Format.{Spells}
 use Rattle.mb_model.specs.declared.state.State.{State}
 use Rattle.mb_model.specs.declared.stored.Root.{Root}
@@ -8,26 +8,24 @@ use Rattle.mb_model.specs.declared.stored.Outgoing.{Outgoing}
 use Rattle.mb_model.specs.declared.stored.Pending.{Pending}
 use Rattle.std.specs.Option.{IfSome}
 use Rattle.std.specs.Global.{Vec}
-use Rattle.std.specs.Vec.{vec_len, vec_capacity}
+use Rattle.std.specs.Vec.{vec_capacity}
 use Rattle.mb_format.specs.Combinators.{optional}
 use Rattle.mb_model.proofs.FormatBounds.{public_short}
-use Rattle.mb_model.specs.declared.region.Region.{Region}
 use Rattle.mb_model.specs.declared.entry.SignedEntry.{SignedEntry}
 use Rattle.mb_model.specs.Log.{entries_of, layers_of}
 use Rattle.mb_model.specs.RootFormat.{outgoing_format, pending_format, root_format}
 use Rattle.mb_model.specs.Board.{Memory, IsLoaded}
-use Rattle.mb_model.specs.Memory.{IsBlank, current, HoldsRecord}
+use Rattle.mb_model.specs.Memory.{IsBlank, HoldsRecord}
 use Rattle.mb_model.specs.StoredLog.{unsigned_by, outgoing_of, completed, AreCounted}
-use Rattle.mb_model.specs.Flash.{public_format, public_of_parts, flash_area, BeginsArea, BeginsWithRecord, HoldsPublic}
-use Rattle.mb_model.specs.Meaning.{RootIn, Contents, HoldsContents, meant, fated, fate_of_two, fate_of_three}
-use Rattle.mb_model.specs.Clean.{root_of}
+use Rattle.mb_model.specs.Flash.{public_format, public_of_parts, flash_area, BeginsArea}
+use Rattle.mb_model.specs.Meaning.{RootIn, Contents, meant, fated, fate_of_two, fate_of_three}
 use Rattle.mb_model.specs.Valid.{IsValidState}
-use Rattle.mb_storing.specs.Commits.{two_done, three_done, both_done, at_rest, has_both}
+use Rattle.mb_storing.specs.Commits.{two_done, both_done, at_rest, has_both}
 use Rattle.mb_storing.specs.Holding.{Holds, Means, KeepsContents, KeepsMeaning}
 use Rattle.mb_storing.specs.InForce.{AgreeBesides}
 use Rattle.mb_storing.specs.Storable.{IsStorableState, HasRegionRecord}
 use Rattle.mb_storing.proofs.HoldingLemmas.{contents_keep, keeps_then}
-use Rattle.mb_storing.proofs.CommitLemmas.{live_contents, stands_for_meant, both_done_means, work_ends}
+use Rattle.mb_storing.proofs.CommitLemmas.{live_contents, both_done_means, work_ends}
 use Rattle.mb_storing.proofs.RestLemmas.{rest_stands, meant_layers}
 use Rattle.mb_storing.proofs.StorableMemories.{stands_storable}
 use Rattle.mb_storing.proofs.StorableRecords.{region_record, public_room}
@@ -35,7 +33,7 @@ use Rattle.mb_area.specs.Roots.{HasSomeRoot, Finishes, KeepsOrFinishes, IsReadyT
 use Rattle.mb_area.specs.Records.{BeginsSome}
 use Rattle.mb_region.specs.Fates.{IsPending, AppliesFate}
 use Rattle.mb_completion.specs.Completions.{HasLog, PendingIsSigned}
-use Rattle.mb_boot.specs.Settling.{IsLive, IsOnlyRoot, AppliesBoth, SpellsSigned, SignsRecord, IsAtRest, Settles}
+use Rattle.mb_boot.specs.Settling.{IsLive, IsOnlyRoot, AppliesBoth, SpellsSigned, SignsRecord, Settles}
 
 -- ---- the meaning
 

@@ -35,7 +35,12 @@ pub record SpellsSigned (memory : Memory) (bytes : List ℕ) : Type 0 where
 -- signed
 pub record SignsRecord (before after : Memory) : Type 0 where
   pub signed : (contents : Contents) → Holds before contents
-      → HoldsPublic after.flash (root_of (meant contents) (1 - contents.root.area)) contents.codes (meant contents).log []
+      → HoldsPublic
+      after.flash
+      (root_of (meant contents) (1 - contents.root.area))
+      contents.codes
+      (meant contents).log
+      []
 
 -- the memory holds this state with nothing pending
 pub record IsAtRest (memory : Memory) (state : State) : Type 0 where
