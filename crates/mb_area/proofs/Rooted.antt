@@ -1,5 +1,5 @@
 -- Roots as they are read, written and put in force.
-use Rattle.std.proofs.Common.{◌≡◌, ◌≢◌, ◌↔◌, ℕ, ◌+◌, ◌-◌, ◌<◌, ◌≤◌, ◌⊎◌, inl, inr, Bool, true, false, List, [], ◌∷◌, ◌++◌, length, Option, None, Some, Result, Ok, Err, refl, sym, ap, subst, ◌∙◌, arith}
+use Rattle.std.proofs.Common.{◌≡◌, ◌↔◌, ℕ, ◌-◌, ◌≤◌, ◌⊎◌, inl, inr, true, false, List, [], ◌++◌, length, Option, None, Some, Result, Ok, Err, refl, sym, ap, subst, ◌∙◌, arith}
 use Rattle.std.specs.Bool.{IsTrue}
 use Rattle.std.specs.Option.{is_some}
 use Rattle.std.specs.Global.{Vec}
@@ -16,13 +16,13 @@ use Rattle.mb_model.specs.Meaning.{RootIn, Contents, HoldsContents, meant}
 use Rattle.mb_model.specs.Clean.{root_of}
 use Rattle.mb_lemmas.proofs.MeaningLemmas.{one_root}
 use Rattle.mb_storing.specs.Commits.{both_done, at_rest}
-use Rattle.mb_storing.specs.Holding.{Holds, KeepsContents}
-use Rattle.mb_storing.specs.InForce.{AgreeInForce, AgreeBesides}
+use Rattle.mb_storing.specs.Holding.{KeepsContents}
+use Rattle.mb_storing.specs.InForce.{AgreeBesides}
 use Rattle.mb_storing.proofs.FrameLemmas.{contents_agree, root_replaced}
 use Rattle.mb_storing.proofs.RestLemmas.{work_finished}
 use Rattle.mb_storing.proofs.StorableFormats.{none_allowed}
 use Rattle.mb_storing.proofs.StorableRecords.{root_room}
-use Rattle.mb_area.specs.Roots.{HoldsSomeRoot, HasSomeRoot, CommitsRoot, settled_root, IsReadyToFinish, finished, Finishes}
+use Rattle.mb_area.specs.Roots.{HoldsSomeRoot, HasSomeRoot, CommitsRoot, settled_root, Finishes}
 
 -- ---- reading
 

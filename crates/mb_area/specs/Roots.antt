@@ -31,7 +31,7 @@ pub record CommitsRoot (new_root : Root) (before after : Memory) : Type 0 where
       → Holds after
       (record contents { root = new_root; codes = codes; signed = signed; unsigned = unsigned })
 
--- the root of a device with nothing pending, with the public record in the area of the flash that this root does not name
+-- the root of a device with nothing pending, with the public record in the flash area that this root does not name
 abbrev pub settled_root : Root → Root
 settled_root root = record root { area = 1 - root.area; pending = None }
 

@@ -1,5 +1,6 @@
 -- What a write call of a board leaves. What can a power loss do in the middle of a write?
-use Rattle.std.specs.Prelude.{◌≡◌, ℕ, ◌+◌, ◌≤◌, nat_lt, List, length, Bool, true, false, Result, Ok, Err, OnErr, if◌then◌else◌}
+use Rattle.std.specs.Prelude.{◌≡◌, ℕ, ◌+◌, ◌≤◌, nat_lt, List, length, Bool, true, false, if◌then◌else◌}
+use Rattle.std.specs.Prelude.{Result, Ok, Err, OnErr}
 use Rattle.mb_model.specs.Board.{Memory, Meter, Held, phase_at, put}
 
 -- after a stop power is off

@@ -1,5 +1,6 @@
 -- When a power loss stops a write call of a board that simulates a device, and what the call's range then holds.
-use Rattle.std.specs.Prelude.{◌≡◌, ℕ, zero, suc, ◌+◌, ◌-◌, ◌<◌, ◌%◌, ◌≤◌, ◌==◌, ◌&&◌, nat_lt, List, ◌++◌, length, take, map, slice_index}
+use Rattle.std.specs.Prelude.{◌≡◌, ℕ, zero, suc, ◌+◌, ◌-◌, ◌<◌, ◌%◌, ◌≤◌, ◌==◌, ◌&&◌, nat_lt}
+use Rattle.std.specs.Prelude.{List, ◌++◌, length, take, map, slice_index}
 use Rattle.std.specs.Prelude.{Bool, true, false, Option, None, Some, Result, Ok, Err, if◌then◌else◌}
 use Rattle.std.specs.List.{range_with_len}
 use Rattle.mb_model.specs.declared.event.Event.{Event}
@@ -36,8 +37,8 @@ meter_of fuse = record { armed = is_armed fuse.cut; stops = fuse.stops; writes =
 abbrev pub last_count : ℕ
 last_count = 18446744073709551615
 
--- A write call passes, or fails with the tear of a power loss: the one that is armed, where this is the call that it was
--- set for.
+-- A write call passes, or fails with the tear of a power loss: the one that is armed, where this is the call for which
+-- it was set.
 abbrev pub passes_by : Option Cut → ℕ → Result (Unit {0}) Tear
 passes_by None stops = Ok tt
 passes_by (Some cut) stops = if cut.count == 1 && nat_lt stops last_count then Err cut.tear else Ok tt
@@ -64,11 +65,12 @@ abbrev pub cut_in : ℕ → Option Cut → Option Cut
 cut_in zero cut = cut
 cut_in (suc n) cut = cut_in n (passed_one cut)
 
--- A power loss falls into the call that it was set for: those before it pass, and it fails. None falls into a call where
--- the count of stops is at its last value.
+-- A power loss falls into the call for which it was set: those before it pass, and it fails. None falls into a call
+-- where the count of stops is at its last value.
 pub record FallsInItsCall (cut : Cut) : Type 0 where
   pub before : (n stops : ℕ) → n + 1 < cut.count → passes_by (cut_in n (Some cut)) stops ≡ Ok tt
-  pub there : (n stops : ℕ) → n + 1 ≡ cut.count → stops < last_count → passes_by (cut_in n (Some cut)) stops ≡ Err cut.tear
+  pub there : (n stops : ℕ) → n + 1 ≡ cut.count → stops < last_count
+      → passes_by (cut_in n (Some cut)) stops ≡ Err cut.tear
   pub never : (n : ℕ) → passes_by (cut_in n (Some cut)) last_count ≡ Ok tt
 
 -- ---- what the range of a call holds

@@ -1,4 +1,4 @@
--- What holds of the fields of a memory: a sector in which nothing was written since the bytes were kept stands as it is.
+-- What holds of the fields of a memory: a sector in which nothing was written since the bytes were kept is as it was.
 use Rattle.std.specs.Prelude.{◌≡◌, ℕ, ◌*◌, ◌<◌, Bool, false, List, length, get_or}
 use Rattle.mb_model.specs.Pieces.{part}
 use Rattle.mb_board.specs.declared.bank.Bank.TheInside.{Inside}

@@ -12,7 +12,7 @@ use Rattle.mb_model.specs.Meaning.{RootIn, Contents, meant, HasMeaning, is_dead,
 use Rattle.mb_model.specs.Clean.{root_of}
 use Rattle.mb_model.specs.Valid.{Valid}
 use Rattle.mb_storing.specs.Commits.{at_rest}
-use Rattle.mb_storing.specs.Holding.{Holds, Means, KeepsContents}
+use Rattle.mb_storing.specs.Holding.{Holds, Means, KeepsContents, KeepsMeaning}
 use Rattle.mb_storing.proofs.CommitLemmas.{live_contents}
 use Rattle.mb_storing.proofs.RestLemmas.{nothing_pending}
 use Rattle.mb_slot.specs.Slots.{IsSameButOther}
@@ -22,7 +22,7 @@ use Rattle.mb_area.specs.declared.first_look.Looked.TheVariants as looked
 use Rattle.mb_area.specs.declared.state.Unsettled.{Unsettled}
 use Rattle.mb_area.specs.declared.state.Unwiped.{Unwiped}
 use Rattle.mb_area.specs.Look.{IsLooked}
-use Rattle.mb_boot.specs.Settling.{IsLive, KeepsMeaning, IsAtRest, Settles}
+use Rattle.mb_boot.specs.Settling.{IsLive, IsAtRest, Settles}
 use Rattle.mb_boot.specs.Booting.{StandsForValid, KeepsState, IsFoundAs, Rests, IsWiped, Cleans, IsQuiet}
 use Rattle.mb_boot.proofs.Settled.{some_root}
 

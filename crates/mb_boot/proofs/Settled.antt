@@ -21,10 +21,11 @@ use Rattle.mb_model.specs.Flash.{public_format, public_of_parts, flash_area, Beg
 use Rattle.mb_model.specs.Meaning.{RootIn, Contents, meant, fated, fate_of_two, fate_of_three}
 use Rattle.mb_model.specs.Valid.{IsValidState}
 use Rattle.mb_storing.specs.Commits.{two_done, both_done, at_rest, has_both}
-use Rattle.mb_storing.specs.Holding.{Holds, Means, KeepsContents}
+use Rattle.mb_storing.specs.Holding.{Holds, Means, KeepsContents, KeepsMeaning}
 use Rattle.mb_storing.specs.InForce.{AgreeBesides}
 use Rattle.mb_storing.specs.Storable.{IsStorableState, HasRegionRecord}
-use Rattle.mb_storing.proofs.CommitLemmas.{live_contents, stands_for_meant, both_done_means, work_ends}
+use Rattle.mb_storing.proofs.HoldingLemmas.{contents_keep, keeps_then}
+use Rattle.mb_storing.proofs.CommitLemmas.{live_contents, both_done_means, work_ends}
 use Rattle.mb_storing.proofs.RestLemmas.{rest_stands, meant_layers}
 use Rattle.mb_storing.proofs.StorableMemories.{stands_storable}
 use Rattle.mb_storing.proofs.StorableRecords.{region_record, public_room}
@@ -32,26 +33,15 @@ use Rattle.mb_area.specs.Roots.{HasSomeRoot, Finishes, KeepsOrFinishes, IsReadyT
 use Rattle.mb_area.specs.Records.{BeginsSome}
 use Rattle.mb_region.specs.Fates.{IsPending, AppliesFate}
 use Rattle.mb_completion.specs.Completions.{HasLog, PendingIsSigned}
-use Rattle.mb_boot.specs.Settling.{IsLive, IsOnlyRoot, KeepsMeaning, AppliesBoth, SpellsSigned, SignsRecord, Settles}
+use Rattle.mb_boot.specs.Settling.{IsLive, IsOnlyRoot, AppliesBoth, SpellsSigned, SignsRecord, Settles}
 
 -- ---- the meaning
 
 pub keeps : (before after : Memory) → ((state : State) → Means before state → Means after state) → KeepsMeaning before after
 keeps before after kept = record { kept = kept }
 
-pub keeps_then : (before between after : Memory) → KeepsMeaning before between → KeepsMeaning between after → KeepsMeaning before after
-keeps_then before between after first second = record { kept = λ state means. second.kept state (first.kept state means) }
-
 pub live_still : (before after : Memory) → IsLive before → KeepsMeaning before after → IsLive after
 live_still before after live keep = record { state = live.state; means = keep.kept live.state live.means; valid = live.valid }
-
--- what keeps the contents keeps the meaning
-pub contents_keep : (before after : Memory) → IsLoaded after → KeepsContents before after → KeepsMeaning before after
-contents_keep before after sized keep = record {
-  kept = λ state means. (
-      let live = live_contents before.flash before.bbram state means in
-      stands_for_meant after.flash after.bbram live.contents state sized (keep.kept live.contents live.holds) live.index (sym live.means));
-}
 
 -- ---- the root
 

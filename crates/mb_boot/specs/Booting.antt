@@ -22,7 +22,8 @@ pub record StandsForValid (memory : Memory) : Type 0 where
 
 -- whatever it stood for, it stands for
 pub record KeepsState (before after : Memory) : Type 0 where
-  pub kept : (state : Option State) → StandsFor before.flash before.bbram state → StandsFor after.flash after.bbram state
+  pub kept : (state : Option State) → StandsFor before.flash before.bbram state
+      → StandsFor after.flash after.bbram state
 
 -- what was found is what is left to be done by the root in force and its other area
 pub record IsFoundAs (looked : Looked) (bbram : List ℕ) : Type 0 where

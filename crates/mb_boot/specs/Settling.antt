@@ -22,10 +22,6 @@ pub record IsOnlyRoot (bbram : List ℕ) (root : Root) : Type 0 where
   pub holds : RootIn bbram root
   pub only : (any : Root) → RootIn bbram any → any ≡ root
 
--- whatever state the memory stood for, it stands for
-pub record KeepsMeaning (before after : Memory) : Type 0 where
-  pub kept : (state : State) → Means before state → Means after state
-
 -- whatever the memory held, it holds with what is to be done to both regions done
 pub record AppliesBoth (before after : Memory) : Type 0 where
   pub applied : (contents : Contents) → Holds before contents → Holds after (both_done contents)
@@ -39,7 +35,12 @@ pub record SpellsSigned (memory : Memory) (bytes : List ℕ) : Type 0 where
 -- signed
 pub record SignsRecord (before after : Memory) : Type 0 where
   pub signed : (contents : Contents) → Holds before contents
-      → HoldsPublic after.flash (root_of (meant contents) (1 - contents.root.area)) contents.codes (meant contents).log []
+      → HoldsPublic
+      after.flash
+      (root_of (meant contents) (1 - contents.root.area))
+      contents.codes
+      (meant contents).log
+      []
 
 -- the memory holds this state with nothing pending
 pub record IsAtRest (memory : Memory) (state : State) : Type 0 where

@@ -8,8 +8,8 @@ ghost use Rattle.mb_model.specs.Meaning.{StandsFor};
 ghost use Rattle.mb_model.specs.Board.{IsLoaded};
 ghost use Rattle.mb_board.specs.Calls.{power_of, level_of, IsMetered};
 ghost use Rattle.mb_layout.specs.Rooms.{HasRoom};
-ghost use Rattle.mb_storing.specs.Holding.{KeepsContents};
-ghost use Rattle.mb_boot.specs.Settling.{IsLive, KeepsMeaning};
+ghost use Rattle.mb_storing.specs.Holding.{KeepsContents, KeepsMeaning};
+ghost use Rattle.mb_boot.specs.Settling.{IsLive};
 ghost use Rattle.mb_boot.specs.Booting.{IsFoundAs, Rests, IsWiped, Cleans, IsQuiet, StandsForValid, KeepsState, IfUnwritten, stop_of, power_at, HasLevel, is_zeroised};
 
 use crate::work::settle;
@@ -47,7 +47,7 @@ fn is_dead<B: Board>(b: &B) -> bool
 
 /// Does what is left to be done in a device that is alive, and wipes the root's area that is not in force. There are at
 /// most 237 write calls.
-#[tactic(auto, using(crate::proofs::Booted::already_rests, crate::proofs::Booted::wiped_rests, crate::proofs::Booted::settled_rests, crate::proofs::Booted::already_quiet, crate::proofs::Booted::unwiped_quiet, crate::proofs::Booted::unsettled_quiet, crate::proofs::Settled::contents_keep, crate::proofs::Settled::keeps_then, crate::proofs::Booted::keeps_all))]
+#[tactic(auto, using(crate::proofs::Booted::already_rests, crate::proofs::Booted::wiped_rests, crate::proofs::Booted::settled_rests, crate::proofs::Booted::already_quiet, crate::proofs::Booted::unwiped_quiet, crate::proofs::Booted::unsettled_quiet, mb_storing::proofs::HoldingLemmas::contents_keep, mb_storing::proofs::HoldingLemmas::keeps_then, crate::proofs::Booted::keeps_all))]
 fn bring_to_rest<B: Board, L: Ledger>(
     looked: Looked,
     b: &mut B,
@@ -104,7 +104,7 @@ fn wipe_regions<B: Board>(up: Up<R1>, b: &mut B) -> Result<Up<R1>, Off>
 }
 
 /// Does all that is left to be done in a device that is alive. There are at most 239 write calls.
-#[tactic(auto, using(crate::proofs::Booted::found_as, crate::proofs::Settled::some_root, crate::proofs::Booted::cleaned, crate::proofs::Settled::contents_keep, crate::proofs::Settled::keeps_then, crate::proofs::Booted::quiet_then))]
+#[tactic(auto, using(crate::proofs::Booted::found_as, crate::proofs::Settled::some_root, crate::proofs::Booted::cleaned, mb_storing::proofs::HoldingLemmas::contents_keep, mb_storing::proofs::HoldingLemmas::keeps_then, crate::proofs::Booted::quiet_then))]
 fn come_up<B: Board, L: Ledger>(
     up: Up<R1>,
     b: &mut B,

@@ -6,45 +6,58 @@ mod limits;
 use crate::{OrderEnd, body_length, read_order, signed_part, write_order};
 use mb_model::{Act, Bytes, Items, Order, Target};
 use std::alloc::Global;
+use std::process::Abort;
 use std::test::Fail;
 
 /// A signature of no bytes, and no countersignatures.
 const UNSIGNED: &str = "000000";
 
-/// Whether the body and the signatures are read as an order, are written again, and the body is what is signed.
-fn goes_both_ways(alloc: Global, body: &str, signatures: &str) -> Result<bool, Fail> {
+/// The body and the signatures are read as an order, are written again, and the body is what is signed.
+fn goes_both_ways(
+    rt: &impl Abort,
+    alloc: Global,
+    body: &str,
+    signatures: &str,
+) -> Result<(), Fail> {
     let body = hex::decode(alloc, body)?;
     let mut bytes = Vec::from_slice(alloc, &body)?;
     bytes.extend_from_slice(&hex::decode(alloc, signatures)?)?;
     let order = read_order(alloc, &bytes)?;
     let mut out = Vec::new(alloc);
     write_order(&order, &mut out)?;
+    assert!(rt; out.as_slice() == bytes.as_slice());
     let part = signed_part(alloc, &order)?;
-    Ok(
-        out.as_slice() == bytes.as_slice()
-            && part.as_slice() == body.as_slice()
-            && body_length(&order) as usize == body.len(),
-    )
+    assert!(rt; part.as_slice() == body.as_slice());
+    assert_eq!(rt; body_length(&order) as usize, body.len());
+    Ok(())
 }
 
-/// The place at which the bytes in hexadecimal fail.
-fn place(alloc: Global, text: &str) -> Result<Option<u32>, Fail> {
+/// The bytes fail at this place.
+fn fails(rt: &impl Abort, alloc: Global, text: &str, at: u32) -> Result<(), Fail> {
     let bytes = hex::decode(alloc, text)?;
-    match read_order(alloc, &bytes) {
-        Ok(_) | Err(OrderEnd::NoMemory) => Ok(None),
-        Err(OrderEnd::BadText { at }) => Ok(Some(at)),
-    }
+    let end = read_order(alloc, &bytes).err();
+    assert_eq!(rt; end, Some(OrderEnd::BadText { at }));
+    Ok(())
 }
+
+/// Bodies and signatures of orders.
+const ORDERS: &[(&str, &str)] = &[
+    ("0202010200000007", UNSIGNED),
+    ("05030001", UNSIGNED),
+    ("030300000001020100000003616263", UNSIGNED),
+    (LOAD_OF_ONE, UNSIGNED),
+    (EMERGENCY, UNSIGNED),
+    (ESTABLISH, UNSIGNED),
+    (LOAD_OF_ONE, "0003a1a2a3020200011103000122"),
+    (LOAD_OF_ONE, "0000010300012f"),
+    (EMERGENCY, "0001ff01030000"),
+];
 
 #[test]
-fn bodies_go_both_ways(rt: HostRuntime) -> Result<(), Fail> {
-    let alloc = rt.alloc();
-    assert!(rt; goes_both_ways(alloc, "0202010200000007", UNSIGNED)?);
-    assert!(rt; goes_both_ways(alloc, "05030001", UNSIGNED)?);
-    assert!(rt; goes_both_ways(alloc, "030300000001020100000003616263", UNSIGNED)?);
-    assert!(rt; goes_both_ways(alloc, LOAD_OF_ONE, UNSIGNED)?);
-    assert!(rt; goes_both_ways(alloc, EMERGENCY, UNSIGNED)?);
-    assert!(rt; goes_both_ways(alloc, ESTABLISH, UNSIGNED)?);
+fn orders_go_both_ways(rt: HostRuntime) -> Result<(), Fail> {
+    for (body, signatures) in ORDERS {
+        goes_both_ways(&rt, rt.alloc(), body, signatures)?;
+    }
     Ok(())
 }
 
@@ -60,56 +73,38 @@ const EMERGENCY: &str = "0402020301111111111111111111111111111111111111111111111
 const ESTABLISH: &str = "010300000000090000000133333333333333333333333333333333\
     444444444444444444444444444444444444444444444444444444444444444401";
 
-#[test]
-fn signatures_go_both_ways(rt: HostRuntime) -> Result<(), Fail> {
-    let alloc = rt.alloc();
-    assert!(rt; goes_both_ways(alloc, LOAD_OF_ONE, "0003a1a2a3020200011103000122")?);
-    assert!(rt; goes_both_ways(alloc, LOAD_OF_ONE, "0000010300012f")?);
-    assert!(rt; goes_both_ways(alloc, EMERGENCY, "0001ff01030000")?);
-    Ok(())
-}
+/// Bytes that are no order, and the place at which each fails.
+const NO_ORDERS: &[(&str, u32)] = &[
+    // a surrender has no countersignatures
+    ("0202010200000007000001", 10),
+    // no field is left, and a byte is
+    ("0202010200000007000000ff", 11),
+    // a field lacks bytes
+    ("", 0),
+    ("02020102000000", 4),
+    ("02020102000000070002aa", 10),
+    // no such kind, layer, number of targets, tag, kind of key
+    ("0602", 0),
+    ("0201", 1),
+    ("020209", 2),
+    ("02020105", 3),
+    ("05030002", 3),
+    // two countersignatures for layer 1 are of 2 and of 3
+    ("030100000000000000000000000002030000", 15),
+    ("030100000000000000000000000002020000020000", 18),
+    // three are too many
+    ("030100000000000000000000000003", 14),
+    // the order's own layer
+    ("030200000000000000000000000001020000", 15),
+    // none stands above layer 3
+    ("030300000000000000000000000001", 14),
+];
 
 #[test]
 fn failing_places_are_named(rt: HostRuntime) -> Result<(), Fail> {
-    let alloc = rt.alloc();
-    // a surrender has no countersignatures
-    assert_eq!(rt; place(alloc, "0202010200000007000001")?, Some(10));
-    // no field is left, and a byte is
-    assert_eq!(rt; place(alloc, "0202010200000007000000ff")?, Some(11));
-    // a field lacks bytes
-    assert_eq!(rt; place(alloc, "")?, Some(0));
-    assert_eq!(rt; place(alloc, "02020102000000")?, Some(4));
-    assert_eq!(rt; place(alloc, "02020102000000070002aa")?, Some(10));
-    // no such kind, layer, number of targets, tag, kind of key
-    assert_eq!(rt; place(alloc, "0602")?, Some(0));
-    assert_eq!(rt; place(alloc, "0201")?, Some(1));
-    assert_eq!(rt; place(alloc, "020209")?, Some(2));
-    assert_eq!(rt; place(alloc, "02020105")?, Some(3));
-    assert_eq!(rt; place(alloc, "05030002")?, Some(3));
-    Ok(())
-}
-
-#[test]
-fn countersignatures_ascend(rt: HostRuntime) -> Result<(), Fail> {
-    let alloc = rt.alloc();
-    // two for layer 1 are of 2 and of 3
-    assert_eq!(rt;
-        place(alloc, "030100000000000000000000000002030000")?,
-        Some(15)
-    );
-    assert_eq!(rt;
-        place(alloc, "030100000000000000000000000002020000020000")?,
-        Some(18)
-    );
-    // three are too many
-    assert_eq!(rt; place(alloc, "030100000000000000000000000003")?, Some(14));
-    // the order's own layer
-    assert_eq!(rt;
-        place(alloc, "030200000000000000000000000001020000")?,
-        Some(15)
-    );
-    // none stands above layer 3
-    assert_eq!(rt; place(alloc, "030300000000000000000000000001")?, Some(14));
+    for (text, at) in NO_ORDERS {
+        fails(&rt, rt.alloc(), text, *at)?;
+    }
     Ok(())
 }
 

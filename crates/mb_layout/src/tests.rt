@@ -6,7 +6,7 @@ mod public;
 mod values;
 mod vectors;
 
-ghost use Rattle.std.specs.Prelude.{◌≡◌, ◌≤◌, vec_len, IfOk};
+ghost use Rattle.std.specs.Prelude.{◌≡◌, ◌≤◌, length, vec_len, IfOk};
 
 use crate::{
     BadRecord, LayoutEnd, Root, fill_area, read_entry, read_layer, read_region, read_root,
@@ -14,8 +14,9 @@ use crate::{
     write_region, write_root,
 };
 use mb_bytes::Cursor;
-use mb_model::{Entry, Layer};
+use mb_model::{Entry, Layer, Region, RegionKey, Secret};
 use std::alloc::Global;
+use std::process::Abort;
 use std::test::Fail;
 use values::{
     birth, change, emergency, emptying, key_nine, key_two, loaded, new_key, owned, pending,
@@ -88,78 +89,109 @@ fn roots_go_both_ways(rt: HostRuntime) -> Result<(), Fail> {
     Ok(())
 }
 
+fn is_secret(secret: &Secret, name: &[u8], value: &[u8], born: u32) -> bool {
+    secret.name.as_slice() == name && secret.value.as_slice() == value && secret.born == born
+}
+
+/// Whether the region is that of the vectors.
+fn is_expected(region: &Region) -> bool {
+    let [pin, empty] = region.secrets.as_slice() else {
+        return false;
+    };
+    is_secret(pin, b"pin", b"1234", 258)
+        && is_secret(empty, b"t", b"", 3)
+        && region.keys.as_slice() == [key_two(), key_nine(3)].as_slice()
+}
+
 #[test]
 fn a_region_goes_both_ways(rt: HostRuntime) -> Result<(), Fail> {
     let alloc = rt.alloc();
     let bytes = bytes_of(alloc, vectors::REGION)?;
     let region = region_of_bytes(alloc, bytes.as_slice())?;
-    let again = read_region(alloc, &mut Cursor::new(bytes.as_slice()))?;
+    assert!(rt; is_expected(&region));
     let mut out = Vec::new(alloc);
     write_region(&region, &mut out)?;
     assert!(rt; out.as_slice() == bytes.as_slice());
-    assert!(rt; again.keys.as_slice() == [key_two(), key_nine(3)].as_slice());
-    match region.secrets.as_slice() {
-        [pin, empty] => {
-            assert!(rt;
-                pin.name.as_slice() == b"pin".as_slice()
-                    && pin.value.as_slice() == b"1234".as_slice()
-            );
-            assert!(rt; pin.born == 258 && empty.born == 3);
-            assert!(rt;
-                empty.name.as_slice() == b"t".as_slice() && empty.value.as_slice().is_empty()
-            );
-        }
-        _ => assert!(rt; false),
-    }
-    assert!(rt; region.keys.as_slice() == [key_two(), key_nine(3)].as_slice());
     Ok(())
 }
 
-fn entry_place(alloc: Global, text: &str) -> Result<Option<u32>, Fail> {
-    let bytes = bytes_of(alloc, text)?;
-    match read_entry(&mut Cursor::new(bytes.as_slice())) {
-        Ok(_) => Ok(None),
-        Err(BadRecord { at }) => Ok(Some(at)),
-    }
+#[test]
+fn a_region_is_read_at_a_cursor(rt: HostRuntime) -> Result<(), Fail> {
+    let alloc = rt.alloc();
+    let bytes = bytes_of(alloc, vectors::REGION)?;
+    let region = read_region(alloc, &mut Cursor::new(bytes.as_slice()))?;
+    assert!(rt; is_expected(&region));
+    Ok(())
 }
 
-fn root_place(alloc: Global, text: &str) -> Result<Option<u32>, Fail> {
-    let bytes = bytes_of(alloc, text)?;
-    match root_of_bytes(bytes.as_slice()) {
-        Ok(_) => Ok(None),
-        Err(BadRecord { at }) => Ok(Some(at)),
-    }
-}
+/// Bytes that are no entry, and the place at which they fail.
+const NO_ENTRIES: &[(&str, u32)] = &[
+    (vectors::LAYER_TRUST_MISSING, 170),
+    (vectors::NO_SUCH_ENTRY, 0),
+    (vectors::NO_SUCH_CHANGE, 9),
+    (vectors::CODE_WITHOUT_OWNER, 13),
+];
 
-fn region_place(alloc: Global, text: &str) -> Result<Option<u32>, Fail> {
+/// The same of roots.
+const NO_ROOTS: &[(&str, u32)] = &[
+    (vectors::NO_SUCH_AREA, 1),
+    (vectors::USES_BEYOND_32, 66),
+    (vectors::THREE_UNSIGNED, 68),
+    (vectors::KEY_CUT_SHORT, 174),
+];
+
+/// The same of regions.
+const NO_REGIONS: &[(&str, u32)] = &[
+    (vectors::NEITHER_SECRET_NOR_KEY, 2),
+    (vectors::NAME_WITH_A_SPACE, 3),
+    (vectors::NO_SUCH_VERSION, 0),
+    (vectors::BYTE_LEFT_OVER, 131),
+];
+
+fn entry_fails(rt: &impl Abort, alloc: Global, text: &str, at: u32) -> Result<(), Fail> {
     let bytes = bytes_of(alloc, text)?;
-    match region_of_bytes(alloc, bytes.as_slice()) {
-        Ok(_) | Err(LayoutEnd::NoMemory) => Ok(None),
-        Err(LayoutEnd::Bad(BadRecord { at })) => Ok(Some(at)),
-    }
+    let end = read_entry(&mut Cursor::new(bytes.as_slice())).err();
+    assert_eq!(rt; end, Some(BadRecord { at }));
+    Ok(())
 }
 
 #[test]
-fn failing_places_are_named(rt: HostRuntime) -> Result<(), Fail> {
-    let alloc = rt.alloc();
+fn entries_fail_at_their_places(rt: HostRuntime) -> Result<(), Fail> {
+    for (text, at) in NO_ENTRIES {
+        entry_fails(&rt, rt.alloc(), text, *at)?;
+    }
+    Ok(())
+}
+
+fn root_fails(rt: &impl Abort, alloc: Global, text: &str, at: u32) -> Result<(), Fail> {
+    let bytes = bytes_of(alloc, text)?;
     assert_eq!(rt;
-        entry_place(alloc, vectors::LAYER_TRUST_MISSING)?,
-        Some(170)
+        root_of_bytes(bytes.as_slice()).err(),
+        Some(BadRecord { at })
     );
-    assert_eq!(rt; entry_place(alloc, vectors::NO_SUCH_ENTRY)?, Some(0));
-    assert_eq!(rt; entry_place(alloc, vectors::NO_SUCH_CHANGE)?, Some(9));
-    assert_eq!(rt; entry_place(alloc, vectors::CODE_WITHOUT_OWNER)?, Some(13));
-    assert_eq!(rt; root_place(alloc, vectors::NO_SUCH_AREA)?, Some(1));
-    assert_eq!(rt; root_place(alloc, vectors::USES_BEYOND_32)?, Some(66));
-    assert_eq!(rt; root_place(alloc, vectors::THREE_UNSIGNED)?, Some(68));
-    assert_eq!(rt; root_place(alloc, vectors::KEY_CUT_SHORT)?, Some(174));
-    assert_eq!(rt;
-        region_place(alloc, vectors::NEITHER_SECRET_NOR_KEY)?,
-        Some(2)
-    );
-    assert_eq!(rt; region_place(alloc, vectors::NAME_WITH_A_SPACE)?, Some(3));
-    assert_eq!(rt; region_place(alloc, vectors::NO_SUCH_VERSION)?, Some(0));
-    assert_eq!(rt; region_place(alloc, vectors::BYTE_LEFT_OVER)?, Some(131));
+    Ok(())
+}
+
+#[test]
+fn roots_fail_at_their_places(rt: HostRuntime) -> Result<(), Fail> {
+    for (text, at) in NO_ROOTS {
+        root_fails(&rt, rt.alloc(), text, *at)?;
+    }
+    Ok(())
+}
+
+fn region_fails(rt: &impl Abort, alloc: Global, text: &str, at: u32) -> Result<(), Fail> {
+    let bytes = bytes_of(alloc, text)?;
+    let end = region_of_bytes(alloc, bytes.as_slice()).err();
+    assert_eq!(rt; end, Some(LayoutEnd::Bad(BadRecord { at })));
+    Ok(())
+}
+
+#[test]
+fn regions_fail_at_their_places(rt: HostRuntime) -> Result<(), Fail> {
+    for (text, at) in NO_REGIONS {
+        region_fails(&rt, rt.alloc(), text, *at)?;
+    }
     Ok(())
 }
 
@@ -174,6 +206,16 @@ fn used_area(alloc: Global) -> Result<Vec<u8>, Fail>
     Ok(area)
 }
 
+/// Whether the area holds a region of these keys and of no secrets.
+fn holds_keys(alloc: Global, area: &[u8], keys: &[RegionKey]) -> Result<bool, Fail>
+    requires { length area.now ≡ 4096 }
+{
+    match region_in(alloc, area)? {
+        Some(region) => Ok(region.secrets.as_slice().is_empty() && region.keys.as_slice() == keys),
+        None => Ok(false),
+    }
+}
+
 #[test]
 fn an_area_holds_a_record(rt: HostRuntime) -> Result<(), Fail> {
     let alloc = rt.alloc();
@@ -183,10 +225,7 @@ fn an_area_holds_a_record(rt: HostRuntime) -> Result<(), Fail> {
     fill_area(bytes.as_slice(), area.as_mut_slice());
     assert!(rt; area.as_slice().starts_with(start.as_slice()));
     assert!(rt; area.as_slice()[64..].iter().all(|byte| *byte == 0));
-    match region_in(alloc, area.as_slice())? {
-        Some(region) => assert!(rt; region.keys.as_slice() == [key_nine(3)].as_slice()),
-        None => assert!(rt; false),
-    }
+    assert!(rt; holds_keys(alloc, area.as_slice(), &[key_nine(3)])?);
     assert!(rt; root_in(area.as_slice()) == None);
     area[4_095] = 1;
     assert!(rt; record_in(area.as_slice()).is_none());
@@ -200,13 +239,7 @@ fn an_area_holds_a_root_or_an_empty_region(rt: HostRuntime) -> Result<(), Fail> 
     let mut area = used_area(alloc)?;
     fill_area(bytes.as_slice(), area.as_mut_slice());
     assert!(rt; root_in(area.as_slice()) == Some(pending()));
-    assert!(rt; region_in(alloc, area.as_slice())?.is_none());
     fill_area(b"", area.as_mut_slice());
-    match region_in(alloc, area.as_slice())? {
-        Some(region) => {
-            assert!(rt; region.secrets.as_slice().is_empty() && region.keys.as_slice().is_empty())
-        }
-        None => assert!(rt; false),
-    }
+    assert!(rt; holds_keys(alloc, area.as_slice(), &[])?);
     Ok(())
 }

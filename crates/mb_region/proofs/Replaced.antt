@@ -134,7 +134,7 @@ done_means slot fate contents (inr same) is =
     subst (λ (f : Fate). meant (fated_in slot f contents) ≡ meant contents) is
     (subst (λ (n : ℕ). meant (fated_in n (fate_in_slot n contents.root.pending) contents) ≡ meant contents) (sym same) (three_done_means contents))
 
-root_in : (b : Bool) (region other_region : Region) (contents : Contents) → ◌≡◌ {A = Root} (if b then record contents { two = region } else record contents { three = other_region }).root contents.root
+pub root_in : (b : Bool) (region other_region : Region) (contents : Contents) → ◌≡◌ {A = Root} (if b then record contents { two = region } else record contents { three = other_region }).root contents.root
 root_in true region other_region contents = refl
 root_in false region other_region contents = refl
 

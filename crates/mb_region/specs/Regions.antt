@@ -1,9 +1,10 @@
 -- What becomes of the contents of a memory as a region is replaced. Can a power loss leave a part of the new region?
 use Rattle.std.specs.Prelude.{◌≡◌, ℕ, ◌⊎◌, List}
 use Rattle.mb_model.specs.declared.region.Region.{Region}
+use Rattle.mb_model.specs.declared.stored.Fate.TheVariants.{Keep}
 use Rattle.mb_model.specs.Board.{Memory}
 use Rattle.mb_model.specs.Meaning.{HoldsRegion, Contents}
-use Rattle.mb_storing.specs.Holding.{Holds, KeepsContents, with_region_in}
+use Rattle.mb_storing.specs.Holding.{Holds, KeepsContents, with_region_in, fate_in_slot}
 
 -- these slots are those of regions
 abbrev pub IsRegionSlot : ℕ → Type 0
@@ -17,6 +18,10 @@ pub record HoldsSomeRegion (area : List ℕ) : Type 0 where
 -- whatever the memory held, it holds with this region in the slot
 pub record ReplacesRegion (slot : ℕ) (region : Region) (before after : Memory) : Type 0 where
   pub replaced : (contents : Contents) → Holds before contents → Holds after (with_region_in slot region contents)
+
+-- nothing is to be done to the region in the slot, whatever the memory holds
+pub record HasNoFate (slot : ℕ) (memory : Memory) : Type 0 where
+  pub none : (contents : Contents) → Holds memory contents → fate_in_slot slot contents.root.pending ≡ Keep
 
 -- it does the one or the other
 abbrev pub KeepsOrReplaces : ℕ → Region → Memory → Memory → Type 0

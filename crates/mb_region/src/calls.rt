@@ -1,19 +1,20 @@
 //! Regions by their places, and by the states that reach them.
 
-ghost use Rattle.std.specs.Prelude.{◌≡◌, ◌≤◌, length, OnOk, IfOk, IsOk, true, vec_capacity};
+ghost use Rattle.std.specs.Prelude.{◌≡◌, ◌≤◌, ◌⊎◌, length, OnOk, IfOk, IsOk, true, vec_capacity};
 ghost use Rattle.mb_model.specs.declared.region.Region.{Region};
 ghost use Rattle.mb_model.specs.declared.state.State.{State};
 ghost use Rattle.mb_model.specs.Board.{IsLoaded};
 ghost use Rattle.mb_model.specs.Memory.{IsBlank, current, other};
 ghost use Rattle.mb_model.specs.Meaning.{HoldsRegion};
 ghost use Rattle.mb_model.specs.RegionFormat.{SpellsRegion};
+ghost use Rattle.mb_model.specs.OrderStep.{with_region};
 ghost use Rattle.mb_board.specs.Calls.{power_of, level_of, IsMetered};
 ghost use Rattle.mb_layout.specs.Rooms.{HasRoom};
 ghost use Rattle.mb_storing.specs.Holding.{Means, KeepsContents};
 ghost use Rattle.mb_storing.specs.InForce.{AgreeBesides};
 ghost use Rattle.mb_storing.specs.Storable.{HasRegionRecord};
 ghost use Rattle.mb_slot.specs.Slots.{IsSameBut, IsSameButOther};
-ghost use Rattle.mb_region.specs.Regions.{HoldsSomeRegion, ReplacesRegion, KeepsOrReplaces};
+ghost use Rattle.mb_region.specs.Regions.{HoldsSomeRegion, HasNoFate, ReplacesRegion, KeepsOrReplaces};
 ghost use Rattle.mb_region.specs.Fates.{IsPending, AppliesFate, KeepsOrApplies};
 
 use crate::named::Named;
@@ -94,6 +95,10 @@ pub fn commit_region<S: Reaches<L>, L: Named, B: Board>(
     requires room { HasRoom room.old }
     ensures done { OnOk result (ReplacesRegion L.place region.now (B.memory b.old) (B.memory b.new)) }
     ensures either { KeepsOrReplaces L.place region.now (B.memory b.old) (B.memory b.new) }
+    ensures means { HasNoFate L.place (B.memory b.old) → (state : State) → Means (B.memory b.old) state
+        → OnOk result (Means (B.memory b.new) (with_region state L.place region.now)) }
+    ensures means_either { HasNoFate L.place (B.memory b.old) → (state : State) → Means (B.memory b.old) state
+        → Means (B.memory b.new) state ⊎ Means (B.memory b.new) (with_region state L.place region.now) }
     ensures left { OnOk result (other (B.memory b.new).bbram L.place ≡ current (B.memory b.old).bbram L.place) }
     ensures besides { AgreeBesides L.place (B.memory b.old).bbram (B.memory b.new).bbram }
     ensures rest { IsSameBut L.place (B.memory b.old).bbram (B.memory b.new).bbram }

@@ -5,6 +5,7 @@ mod limits;
 use crate::{ScriptEnd, place_draws, read_script, write_reply};
 use mb_model::{Bytes, Event, Events, NoMemory, Reply, Standing, Tear};
 use std::alloc::Global;
+use std::process::Abort;
 use std::test::Fail;
 
 /// The number of the first line that is wrong, or 0 where the text is a script.
@@ -58,20 +59,6 @@ fn is_put(alloc: Global, line: &[u8], region: u8, name: &[u8], value: &[u8]) -> 
     }
 }
 
-fn is_get(alloc: Global, line: &[u8], region: u8, name: &[u8]) -> bool {
-    match only_event(alloc, line) {
-        Some(Event::Get { region: r, name: n }) => r == region && n.as_slice() == name,
-        _ => false,
-    }
-}
-
-fn is_drop(alloc: Global, line: &[u8], region: u8, name: &[u8]) -> bool {
-    match only_event(alloc, line) {
-        Some(Event::Drop { region: r, name: n }) => r == region && n.as_slice() == name,
-        _ => false,
-    }
-}
-
 fn is_sign(alloc: Global, line: &[u8], region: u8, key: u32, message: &[u8]) -> bool {
     match only_event(alloc, line) {
         Some(
@@ -85,80 +72,53 @@ fn is_sign(alloc: Global, line: &[u8], region: u8, key: u32, message: &[u8]) -> 
     }
 }
 
+/// Texts, and the number of the first line of each that is wrong, or 0 where the text is a script.
+const SCRIPTS: &[(&str, u32)] = &[
+    ("boot\n\njump", 3),
+    ("", 0),
+    ("# jump\n\nboot\ngo\nstatus\ntamper\noff\n", 0),
+    ("boot \n", 1),
+    ("off\n #\njump\n", 2),
+    ("cut 100000 keep 1048576 fill 00", 0),
+    ("cut 100001 fill 00", 1),
+    ("cut 0 fill 00", 1),
+    ("cut 1 keep 1048577 fill 00", 1),
+    ("cut 1 fill -", 1),
+    ("cut 1 fill 000102030405060708090a0b0c0d0e0f10", 1),
+    ("cut 01 fill 00", 1),
+    ("cut 1 keep fill 00", 1),
+    ("sign 2 4294967295 -", 0),
+    ("sign 2 4294967296 -", 1),
+    ("get 2 abcdefghijklmnopqrstuvwxyz012345", 0),
+    ("get 2 abcdefghijklmnopqrstuvwxyz0123456", 1),
+    ("get 4 pin", 1),
+];
+
 #[test]
-fn the_first_bad_line_is_named(rt: HostRuntime) -> Result<(), Fail> {
-    assert_eq!(rt; bad_line(rt.alloc(), b"boot\n\njump"), 3);
-    assert_eq!(rt; bad_line(rt.alloc(), b""), 0);
-    assert_eq!(rt;
-        bad_line(rt.alloc(), b"# jump\n\nboot\ngo\nstatus\ntamper\noff\n"),
-        0
-    );
-    assert_eq!(rt; bad_line(rt.alloc(), b"boot \n"), 1);
-    assert_eq!(rt; bad_line(rt.alloc(), b"off\n #\njump\n"), 2);
-    Ok(())
+fn first_bad_lines_are_named(rt: HostRuntime) {
+    for (text, line) in SCRIPTS {
+        is_bad_at(&rt, rt.alloc(), text, *line);
+    }
+}
+
+fn is_bad_at(rt: &impl Abort, alloc: Global, text: &str, line: u32) {
+    assert_eq!(rt; bad_line(alloc, text.as_bytes()), line, "{text}");
 }
 
 #[test]
-fn words_have_limits(rt: HostRuntime) -> Result<(), Fail> {
-    assert_eq!(rt; bad_line(rt.alloc(), b"cut 100000 keep 1048576 fill 00"), 0);
-    assert_eq!(rt; bad_line(rt.alloc(), b"cut 100001 fill 00"), 1);
-    assert_eq!(rt; bad_line(rt.alloc(), b"cut 0 fill 00"), 1);
-    assert_eq!(rt; bad_line(rt.alloc(), b"cut 1 keep 1048577 fill 00"), 1);
-    assert_eq!(rt; bad_line(rt.alloc(), b"cut 1 fill -"), 1);
-    assert_eq!(rt;
-        bad_line(rt.alloc(), b"cut 1 fill 000102030405060708090a0b0c0d0e0f10"),
-        1
-    );
-    assert_eq!(rt; bad_line(rt.alloc(), b"cut 01 fill 00"), 1);
-    assert_eq!(rt; bad_line(rt.alloc(), b"cut 1 keep fill 00"), 1);
-    assert_eq!(rt; bad_line(rt.alloc(), b"sign 2 4294967295 -"), 0);
-    assert_eq!(rt; bad_line(rt.alloc(), b"sign 2 4294967296 -"), 1);
-    assert_eq!(rt;
-        bad_line(rt.alloc(), b"get 2 abcdefghijklmnopqrstuvwxyz012345"),
-        0
-    );
-    assert_eq!(rt;
-        bad_line(rt.alloc(), b"get 2 abcdefghijklmnopqrstuvwxyz0123456"),
-        1
-    );
-    assert_eq!(rt; bad_line(rt.alloc(), b"get 4 pin"), 1);
-    Ok(())
-}
-
-#[test]
-fn lines_say_events(rt: HostRuntime) -> Result<(), Fail> {
+fn lines_say_events(rt: HostRuntime) {
     assert!(rt; matches!(only_event(rt.alloc(), b"boot"), Some(Event::Boot)));
-    assert!(rt; matches!(only_event(rt.alloc(), b"off\n"), Some(Event::Off)));
-    assert!(rt; matches!(only_event(rt.alloc(), b"tamper"), Some(Event::Tamper)));
-    assert!(rt; matches!(only_event(rt.alloc(), b"status"), Some(Event::Status)));
-    assert!(rt; matches!(only_event(rt.alloc(), b"go"), Some(Event::Go)));
-    assert!(rt; is_command(rt.alloc(), b"command -", b""));
     assert!(rt; is_command(rt.alloc(), b"command 0aFF", b"\x0A\xFF"));
     assert!(rt; is_put(rt.alloc(), b"put 2 pin 31323334", 2, b"pin", b"1234"));
-    assert!(rt; is_get(rt.alloc(), b"get 3 ~!", 3, b"~!"));
-    assert!(rt; is_drop(rt.alloc(), b"drop 2 pin", 2, b"pin"));
     assert!(rt; is_sign(rt.alloc(), b"sign 3 1 68656c6c6f", 3, 1, b"hello"));
-    Ok(())
-}
-
-#[test]
-fn cuts_are_read(rt: HostRuntime) -> Result<(), Fail> {
     let mut fill = [0; 16];
     fill[0] = 0xFF;
-    let fill_length = 1;
     let tear = Tear {
         keep: 5,
         fill,
-        fill_length,
+        fill_length: 1,
     };
     assert!(rt; is_cut(rt.alloc(), b"cut 3 keep 5 fill fF", 3, tear));
-    let none_kept = Tear {
-        keep: 0,
-        fill,
-        fill_length,
-    };
-    assert!(rt; is_cut(rt.alloc(), b"cut 100000 fill FF", 100_000, none_kept));
-    Ok(())
 }
 
 /// Two commands, and a boot between them.

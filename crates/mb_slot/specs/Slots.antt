@@ -1,6 +1,7 @@
 -- What a call on a slot of the battery-backed memory may need, and what it may change. Can a write to one slot reach
 -- another?
-use Rattle.std.specs.Prelude.{◌≡◌, ◌≢◌, ℕ, ◌+◌, ◌<◌, ◌≤◌, ◌%◌, ◌==◌, ◌⊎◌, List, length, slice_index, Bool, true, not, if◌then◌else◌}
+use Rattle.std.specs.Prelude.{◌≡◌, ◌≢◌, ℕ, ◌+◌, ◌<◌, ◌≤◌, ◌%◌, ◌==◌, ◌⊎◌, List, length, slice_index}
+use Rattle.std.specs.Prelude.{Bool, true, not, if◌then◌else◌}
 use Rattle.mb_model.specs.Memory.{slots, area_length, selector_of, current, other}
 use Rattle.mb_board.specs.Reach.{Reached}
 use Rattle.mb_model.specs.Board.{Memory, IsLoaded}

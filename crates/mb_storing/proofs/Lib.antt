@@ -6,3 +6,4 @@ pub mod StorableOrders
 pub mod StorableSteps
 pub mod StorableMemories
 pub mod StorableRecords
+pub mod HoldingLemmas

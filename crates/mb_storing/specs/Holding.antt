@@ -19,6 +19,10 @@ pub record KeepsContents (before after : Memory) : Type 0 where
 abbrev pub Means : Memory → State → Type 0
 Means memory state = StandsFor memory.flash memory.bbram (Some state)
 
+-- whatever state the memory stood for, it stands for
+pub record KeepsMeaning (before after : Memory) : Type 0 where
+  pub kept : (state : State) → Means before state → Means after state
+
 -- the region in slot 2 or 3
 abbrev pub region_in_slot : ℕ → Contents → Region
 region_in_slot slot contents = if slot == 2 then contents.two else contents.three

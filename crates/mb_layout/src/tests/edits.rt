@@ -1,25 +1,42 @@
 //! Stored bytes that are edited.
 
+ghost use Rattle.std.specs.Prelude.{◌≤◌, length, vec_len, IfOk};
+
 use super::values::key_nine;
 use super::{bytes_of, vectors};
 use crate::{Fate, NotUsed, fate_record, use_in_record};
-use mb_model::RegionKey;
 use std::alloc::Global;
+use std::process::Abort;
 use std::test::Fail;
 
 /// The longest record of a region.
 const RECORD: usize = 3_091;
 
-/// Whether a region becomes this one by its fate, and stays it when the fate comes again.
-fn becomes(alloc: Global, text: &str, fate: &Fate, expected: &str) -> Result<bool, Fail> {
-    let bytes = bytes_of(alloc, text)?;
+/// A region becomes this one by its fate, and stays it when the fate comes again.
+fn becomes(
+    rt: &impl Abort,
+    alloc: Global,
+    text: &str,
+    fate: &Fate,
+    expected: &str,
+) -> Result<(), Fail> {
     let wanted = bytes_of(alloc, expected)?;
-    let mut once = Vec::with_capacity(alloc, RECORD)?;
-    fate_record(bytes.as_slice(), fate, &mut once);
-    once.truncate(RECORD);
-    let mut twice = Vec::with_capacity(alloc, RECORD)?;
-    fate_record(once.as_slice(), fate, &mut twice);
-    Ok(once.as_slice() == wanted.as_slice() && twice.as_slice() == wanted.as_slice())
+    let once = fated(alloc, bytes_of(alloc, text)?.as_slice(), fate)?;
+    let twice = fated(alloc, once.as_slice(), fate)?;
+    assert!(rt; once.as_slice() == wanted.as_slice());
+    assert!(rt; twice.as_slice() == wanted.as_slice());
+    Ok(())
+}
+
+/// The record after its fate.
+fn fated(alloc: Global, record: &[u8], fate: &Fate) -> Result<Vec<u8>, Fail>
+    requires { length record.now ≤ 4000 }
+    ensures { IfOk result (λ bytes. vec_len bytes ≤ 4000) }
+{
+    let mut out = Vec::with_capacity(alloc, RECORD)?;
+    fate_record(record, fate, &mut out);
+    out.truncate(RECORD);
+    Ok(out)
 }
 
 /// The region of the vectors without its configuration key.
@@ -31,49 +48,48 @@ const EPOCH_ALONE: &str = "01020370696e04313233340000010201740000000003010000000
 fn regions_take_their_fates(rt: HostRuntime) -> Result<(), Fail> {
     let alloc = rt.alloc();
     let nine = Fate::AddKey(key_nine(3));
-    assert!(rt; becomes(alloc, vectors::REGION, &Fate::Keep, vectors::REGION)?);
-    assert!(rt; becomes(alloc, vectors::REGION, &Fate::Empty, "")?);
-    assert!(rt;
-        becomes(
-            alloc,
-            vectors::REGION,
-            &Fate::DropConfiguration,
-            EPOCH_ALONE
-        )?
-    );
-    assert!(rt; becomes(alloc, vectors::LONE_KEY, &Fate::DropConfiguration, "")?);
-    assert!(rt; becomes(alloc, EPOCH_ALONE, &nine, vectors::REGION)?);
-    assert!(rt;
-        becomes(
-            alloc,
-            vectors::REGION,
-            &Fate::AddKey(key_nine(0)),
-            vectors::REGION
-        )?
-    );
-    assert!(rt; becomes(alloc, "", &nine, vectors::LONE_KEY)?);
+    becomes(&rt, alloc, vectors::REGION, &Fate::Keep, vectors::REGION)?;
+    becomes(&rt, alloc, vectors::REGION, &Fate::Empty, "")?;
+    let drop = Fate::DropConfiguration;
+    becomes(&rt, alloc, vectors::REGION, &drop, EPOCH_ALONE)?;
+    becomes(&rt, alloc, vectors::LONE_KEY, &drop, "")?;
+    becomes(&rt, alloc, EPOCH_ALONE, &nine, vectors::REGION)?;
+    let unused = Fate::AddKey(key_nine(0));
+    becomes(&rt, alloc, vectors::REGION, &unused, vectors::REGION)?;
+    becomes(&rt, alloc, "", &nine, vectors::LONE_KEY)
+}
+
+/// Using a key of a region answers this key, and the record afterwards ends with this byte.
+fn is_used(rt: &impl Abort, alloc: Global, text: &str, last: u8) -> Result<(), Fail> {
+    let bytes = bytes_of(alloc, text)?;
+    let mut out = Vec::with_capacity(alloc, RECORD)?;
+    let used = use_in_record(bytes.as_slice(), 9, &mut out);
+    assert!(rt; used == Ok(key_nine(3)));
+    assert_eq!(rt; out.as_slice().last().copied(), Some(last));
     Ok(())
 }
 
-/// What using a key of a region answers, and the last byte of the record afterwards.
-fn uses(
+/// Using the key of this number is refused so.
+fn is_refused(
+    rt: &impl Abort,
     alloc: Global,
     text: &str,
     number: u32,
-) -> Result<(Result<RegionKey, NotUsed>, Option<u8>), Fail> {
+    end: NotUsed,
+) -> Result<(), Fail> {
     let bytes = bytes_of(alloc, text)?;
     let mut out = Vec::with_capacity(alloc, RECORD)?;
-    let answer = use_in_record(bytes.as_slice(), number, &mut out);
-    Ok((answer, out.as_slice().last().copied()))
+    let used = use_in_record(bytes.as_slice(), number, &mut out);
+    assert!(rt; used == Err(end));
+    Ok(())
 }
 
 #[test]
 fn a_key_is_used(rt: HostRuntime) -> Result<(), Fail> {
     let alloc = rt.alloc();
-    assert!(rt; uses(alloc, vectors::REGION, 9)? == (Ok(key_nine(3)), Some(4)));
-    assert!(rt; uses(alloc, vectors::LONE_KEY, 9)? == (Ok(key_nine(3)), Some(4)));
-    assert!(rt; uses(alloc, vectors::REGION, 2)?.0 == Err(NotUsed::Spent));
-    assert!(rt; uses(alloc, vectors::REGION, 3)?.0 == Err(NotUsed::NoKey));
-    assert!(rt; uses(alloc, "", 9)?.0 == Err(NotUsed::NoKey));
-    Ok(())
+    is_used(&rt, alloc, vectors::REGION, 4)?;
+    is_used(&rt, alloc, vectors::LONE_KEY, 4)?;
+    is_refused(&rt, alloc, vectors::REGION, 2, NotUsed::Spent)?;
+    is_refused(&rt, alloc, vectors::REGION, 3, NotUsed::NoKey)?;
+    is_refused(&rt, alloc, "", 9, NotUsed::NoKey)
 }

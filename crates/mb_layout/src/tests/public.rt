@@ -23,6 +23,14 @@ fn append(out: &mut Vec<u8>, alloc: Global, text: &str, times: usize) -> Result<
     Ok(())
 }
 
+/// Appends each piece in turn.
+fn append_all(out: &mut Vec<u8>, alloc: Global, pieces: &[(&str, usize)]) -> Result<(), Fail> {
+    for (text, times) in pieces {
+        append(out, alloc, text, *times)?;
+    }
+    Ok(())
+}
+
 /// A signature filled with the byte.
 fn signature_of(alloc: Global, byte: &str) -> Result<[u8; 2348], Fail>
     ensures { IfOk result (λ signature. length signature ≡ 2348) }
@@ -36,25 +44,29 @@ fn signature_of(alloc: Global, byte: &str) -> Result<[u8; 2348], Fail>
 /// The codes, and the number of three entries.
 const CODES_OF_THREE: &str = "0101000000010a0001000000036162630003";
 
-/// Appends the record of the vectors up to its second entry: the birth and the new key, both signed.
-fn append_signed(out: &mut Vec<u8>, alloc: Global) -> Result<(), Fail> {
-    append(out, alloc, CODES_OF_THREE, 1)?;
-    append(out, alloc, vectors::BIRTH, 1)?;
-    append(out, alloc, "01", 1)?;
-    append(out, alloc, "61", 2_348)?;
-    append(out, alloc, vectors::NEW_KEY, 1)?;
-    append(out, alloc, "01", 1)?;
-    append(out, alloc, "62", 2_348)
-}
+/// The record of the vectors up to its second entry: the birth and the new key, both signed.
+const SIGNED: &[(&str, usize)] = &[
+    (CODES_OF_THREE, 1),
+    (vectors::BIRTH, 1),
+    ("01", 1),
+    ("61", 2_348),
+    (vectors::NEW_KEY, 1),
+    ("01", 1),
+    ("62", 2_348),
+];
+
+/// A succession that is not signed, and one that is.
+const UNSIGNED_LAST: &[(&str, usize)] = &[(vectors::SUCCESSION, 1), ("00", 1)];
+
+const SIGNED_LAST: &[(&str, usize)] = &[(vectors::SUCCESSION, 1), ("01", 1), ("63", 2_348)];
 
 /// The record of the vectors, whose last entry, the succession, is not signed.
 fn stored(alloc: Global) -> Result<Vec<u8>, Fail>
     ensures { IfOk result (λ bytes. vec_len bytes ≤ 6000) }
 {
     let mut out = Vec::with_capacity(alloc, 8_348)?;
-    append_signed(&mut out, alloc)?;
-    append(&mut out, alloc, vectors::SUCCESSION, 1)?;
-    append(&mut out, alloc, "00", 1)?;
+    append_all(&mut out, alloc, SIGNED)?;
+    append_all(&mut out, alloc, UNSIGNED_LAST)?;
     out.truncate(6_000);
     Ok(out)
 }
@@ -146,10 +158,8 @@ fn one_entry_is_completed(rt: HostRuntime) -> Result<(), Fail> {
     assert!(rt; bytes.capacity() >= bytes.len() + 2_348);
     complete_record(&mut bytes, &signatures);
     let mut expected = Vec::new(alloc);
-    append_signed(&mut expected, alloc)?;
-    append(&mut expected, alloc, vectors::SUCCESSION, 1)?;
-    append(&mut expected, alloc, "01", 1)?;
-    append(&mut expected, alloc, "63", 2_348)?;
+    append_all(&mut expected, alloc, SIGNED)?;
+    append_all(&mut expected, alloc, SIGNED_LAST)?;
     assert!(rt; bytes.as_slice() == expected.as_slice());
     Ok(())
 }

@@ -1,5 +1,4 @@
-use Rattle.std.proofs.Common.{rules, ◌≡◌, true, false, Option, None, Some, ap, sym, refl, ◌∙◌, arith}
-use Rattle.mb_model.specs.declared.stored.Root.{Root}
+use Rattle.std.proofs.Common.{refl}
 use Rattle.mb_area.proofs.Rooted.{is_pending, none_pending, is_not}
 use Rattle.mb_area.proofs.first_look.look.Goals as goal
 

@@ -1,4 +1,4 @@
-use Rattle.std.proofs.Common.{ap, ◌∙◌, Vec, ℕ}
+use Rattle.std.proofs.Common.{ap, ◌∙◌}
 use Rattle.mb_area.proofs.Published.{written_to}
 use Rattle.mb_area.proofs.public.write_public.Goals as goal
 
