@@ -4,4 +4,6 @@ mod board;
 mod boots;
 mod calls;
 mod images;
+mod regions;
+mod roots;
 mod states;
