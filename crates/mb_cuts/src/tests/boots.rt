@@ -109,6 +109,45 @@ fn expect_boots<L: Ledger>(
     Ok(())
 }
 
+/// The device has the state that the other program tells wherever power fails as it comes up, and wherever it fails again
+/// as it comes up after that.
+fn expect_second_boots<L: Ledger>(
+    rt: &impl Abort,
+    alloc: Global,
+    left: &Left,
+    steps: &mut Steps<L>,
+) -> Result<(), Fail> {
+    let image = image_of(alloc, left, steps)?;
+    let state = state_of(alloc, &image, steps)?;
+    for count in 1..MANY {
+        let after = stopped(alloc, &image, Call::Boot, count, 0xff, steps)?;
+        let _state = state_of(alloc, &after.image, steps)?;
+        comes_up_at_last(rt, alloc, &after.image, &state, 0xff, steps)?;
+        if !after.stopped {
+            return Ok(());
+        }
+    }
+    panic!(rt; "the writes do not end");
+}
+
+fn second_counted<L: Ledger>(
+    rt: &impl Abort,
+    alloc: Global,
+    left: &Left,
+    blank: Blank,
+) -> Result<(), Fail>
+    requires name { blank.name ≡ L.name }
+    requires parts { blank.parts ≡ L.parts }
+    requires some { 0 < blank.parts }
+{
+    expect_second_boots(rt, alloc, left, &mut Steps::<L>::begin(alloc, blank))
+}
+
+/// The same, on a count of its own.
+fn expect_second(rt: &impl Abort, alloc: Global, left: &Left) -> Result<(), Fail> {
+    second_counted::<Brand>(rt, alloc, left, Blank::new(1))
+}
+
 fn expect_counted<L: Ledger>(
     rt: &impl Abort,
     alloc: Global,
@@ -142,6 +181,11 @@ fn new_device_writes_nothing(rt: HostRuntime) -> Result<(), Fail> {
 #[test]
 fn one_entry_is_signed(rt: HostRuntime) -> Result<(), Fail> {
     expect(&rt, rt.alloc(), &ENTRY, 16)
+}
+
+#[test]
+fn boot_after_a_stop_is_stopped_too(rt: HostRuntime) -> Result<(), Fail> {
+    expect_second(&rt, rt.alloc(), &ENTRY)
 }
 
 #[test]
