@@ -14,7 +14,6 @@ use Rattle.mb_model.specs.declared.order.Act.TheVariants as act
 use Rattle.mb_model.specs.declared.order.Order.{Order}
 use Rattle.mb_model.specs.declared.reply.Reply.TheVariants as reply
 use Rattle.mb_model.specs.Replies.{reply_line}
-use Rattle.mb_model.specs.FirstTexts.{first_reply_line as first_line}
 use Rattle.mb_model.specs.Texts.{IsHex}
 use Rattle.mb_model.specs.Lines.{IsLine, IsBeginning, ends_early, Reads, TextFailsAtLine}
 use Rattle.mb_model.specs.Script.{IsName, SaysEvent, is_skipped, IsScript, with_before, commands_in, drawn_events}
@@ -174,9 +173,6 @@ draws = record { drawn = λ text draw. refl }
 
 -- ---- replies
 
-first_done : (number log : ℕ) → first_line (reply.Done number log) ≡ reply_line (reply.Done number log)
-first_done number log = append_assoc (codes "done " ++ decimal number) (codes " ") (decimal log)
-
 pub replies : ReplyExamples
 unfolding digits encode_with
 replies = record {
@@ -189,13 +185,6 @@ replies = record {
   text = refl;
   log_full = refl;
   no_memory = refl;
-  first_booted = refl;
-  first_off = refl;
-  first_done = first_done;
-  first_text = refl;
-  first_state = refl;
-  first_signature = refl;
-  first_no_memory = refl;
 }
 
 -- ---- drafts

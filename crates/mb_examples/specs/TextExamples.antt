@@ -16,7 +16,6 @@ use Rattle.mb_model.specs.Drafts.{IsDraft}
 use Rattle.mb_model.specs.OrderLines.{IsOrderLine, order_line}
 use Rattle.mb_model.specs.Listing.{layer_line, summary}
 use Rattle.mb_lemmas.specs.SampleOrder.{surrender, surrender_line}
-use Rattle.mb_model.specs.FirstTexts.{first_reply_line as first_line}
 
 -- ---- lines
 
@@ -73,14 +72,6 @@ pub record ReplyExamples : Type 0 where
   pub text : reply_line (reply.Refused 10) ≡ codes "refused 10 text"
   pub log_full : reply_line (reply.Refused 15) ≡ codes "refused 15 log full"
   pub no_memory : reply_line reply.NoMemory ≡ codes "no memory"
-  -- the first path prints the same lines
-  pub first_booted : first_line reply.Booted ≡ reply_line reply.Booted
-  pub first_off : first_line reply.Off ≡ reply_line reply.Off
-  pub first_done : (number log : ℕ) → first_line (reply.Done number log) ≡ reply_line (reply.Done number log)
-  pub first_text : first_line (reply.Refused 10) ≡ reply_line (reply.Refused 10)
-  pub first_state : first_line (reply.Refused 12) ≡ reply_line (reply.Refused 12)
-  pub first_signature : first_line (reply.Refused 13) ≡ reply_line (reply.Refused 13)
-  pub first_no_memory : first_line reply.NoMemory ≡ reply_line reply.NoMemory
 
 -- ---- drafts
 

@@ -1,10 +1,8 @@
 //! Laws of the inputs of commands.
 
 ghost use Rattle.std.specs.Prelude.{ℕ, List};
-ghost use Rattle.mb_model.specs.declared.role.Role.TheVariants.{Image, Script, Noise};
-ghost use Rattle.mb_model.specs.FirstTexts.{IsFirstScript};
-ghost use Rattle.mb_model.specs.FirstCommand.{formed_input, IsFirstImage, IsFirstDrawn};
-ghost use Rattle.mb_model.specs.Inputs.{IsClearInput, key_noise_input, key_input, draft_input, order_input};
+ghost use Rattle.mb_model.specs.declared.event.Event.{Event};
+ghost use Rattle.mb_model.specs.Inputs.{IsClearInput, key_noise_input, key_input, draft_input, order_input, image_input, script_input, draws_input};
 
 /// No input of a command both stands for a value and is at fault.
 pub fn inputs_are_clear()
@@ -12,8 +10,7 @@ pub fn inputs_are_clear()
     ensures key { (name : List ℕ) → IsClearInput (key_input name) }
     ensures draft { (name : List ℕ) → IsClearInput (draft_input name) }
     ensures order { (name : List ℕ) → IsClearInput (order_input name) }
-    ensures image { (name : List ℕ) → IsClearInput (formed_input Image IsFirstImage name) }
-    ensures script { (name : List ℕ) → IsClearInput (formed_input Script IsFirstScript name) }
-    ensures noise { (orders : List (List ℕ)) (name : List ℕ) →
-        IsClearInput (formed_input Noise (IsFirstDrawn orders) name) }
+    ensures image { (name : List ℕ) → IsClearInput (image_input name) }
+    ensures script { (name : List ℕ) → IsClearInput (script_input name) }
+    ensures noise { (events : List Event) (name : List ℕ) → IsClearInput (draws_input events name) }
 {}

@@ -1,5 +1,4 @@
 pub mod KeyLemmas
-pub mod FirstPathLemmas
 pub mod Places
 pub mod KeyFormatLaws
 pub mod EntryFormatLaws

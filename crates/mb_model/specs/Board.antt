@@ -1,5 +1,5 @@
--- What a board is for those who use it: its memory, its power, the events that it hands out and takes back answered, and
--- what it counts.
+-- What a board is for those who use it: its memory, its power, the events that it hands out and takes back answered,
+-- and what it counts.
 use Rattle.std.specs.Prelude.{ℕ, zero, suc, ◌+◌, List, [], ◌++◌, length, take, drop, replicate, Bool, true, false}
 use Rattle.std.specs.Prelude.{Option, None, Some}
 use Rattle.mb_model.specs.declared.event.Event.{Event}
@@ -19,12 +19,6 @@ image_of memory = memory.flash ++ memory.bbram
 -- both memories have the lengths of a loaded board's
 abbrev pub IsLoaded : Memory → Type 0
 IsLoaded memory = AreSized memory.flash memory.bbram
-
--- what a board shows when a command has ended
-pub record Final : Type 0 where
-  pub memory : Memory
-  pub power : Bool
-  pub armed : Bool
 
 -- the memory with these bytes from the offset at on
 unfoldable pub put : ℕ → List ℕ → List ℕ → List ℕ
@@ -56,8 +50,8 @@ pub record Ledger : Type 0 where
   pub answered : List Answered
   pub standing : Held
 
--- whether a power loss is armed; how many calls power losses have stopped; how many write calls were made since the last
--- event was taken, of which no more than 1,000 are counted
+-- whether a power loss is armed; how many calls power losses have stopped; how many write calls were made since the
+-- last event was taken, of which no more than 1,000 are counted
 pub record Meter : Type 0 where
   pub armed : Bool
   pub stops : ℕ

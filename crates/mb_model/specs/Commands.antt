@@ -10,7 +10,7 @@ use Rattle.mb_model.specs.declared.role.Place.TheVariants as fault
 use Rattle.mb_model.specs.Texts.{ended}
 use Rattle.mb_model.specs.Outside.{Outside, HasRisen, file_limit, HoldsFile, HoldsTooMuch, read_once, FailsToRead}
 use Rattle.mb_model.specs.Outside.{Writes, FailsToWrite, Prints, FailsToPrint}
-use Rattle.mb_model.specs.Board.{Final}
+use Rattle.mb_model.specs.Board.{Held}
 
 -- ---- words
 
@@ -39,7 +39,6 @@ place_words fault.Root = codes "root"
 place_words fault.Public = codes "public"
 place_words (fault.Region n) = codes "region " ++ decimal n
 place_words fault.State = codes "state"
-place_words fault.Form = codes "form"
 
 -- ---- what a command does
 
@@ -65,8 +64,8 @@ pub data Command : Type 1 where
   find : {A : Type 0} → (A → Type 0) → (A → Command) → Command
   -- where this holds it does the first, and else the second
   either : Type 0 → Command → Command → Command
-  -- it serves the board's events, so that this holds of what was answered and of what the board shows then
-  serve : (List Answered → Final → Type 0) → (List Answered → Final → Command) → Command
+  -- it serves the board's events, so that this holds of what was answered and of what the board holds then
+  serve : (List Answered → Held → Type 0) → (List Answered → Held → Command) → Command
   -- it writes an output
   write : Output → Command → Command
   -- it prints a text and is done
@@ -87,12 +86,12 @@ abbrev pub at_first : Past
 at_first = record { answered = []; wrote = false }
 
 -- A command from one of its steps to its end: what is outside before the step and after the end, the events that the
--- board has answered and what it shows then, and the status.
+-- board has answered and what it holds then, and the status.
 pub record Ended : Type 0 where
   pub before : Outside
   pub after : Outside
   pub answered : List Answered
-  pub final : Final
+  pub final : Held
   pub status : ℕ
 
 -- the same, seen from a later step
@@ -192,7 +191,7 @@ HasInputsFor (find {A = A} Is rest) files = (value : A) → Is value → HasInpu
 HasInputsFor (either If first second) files =
     (If → HasInputsFor first files) × ((If → ⊥) → HasInputsFor second files)
 HasInputsFor (serve IsServed rest) files =
-    (answered : List Answered) (final : Final) → IsServed answered final → HasInputsFor (rest answered final) files
+    (answered : List Answered) (final : Held) → IsServed answered final → HasInputsFor (rest answered final) files
 -- a file that was written may hold anything
 HasInputsFor (write output rest) files =
     (now : List ℕ → Option (List ℕ)) → ((other : List ℕ) → other ≢ output.name → now other ≡ files other)
@@ -210,7 +209,7 @@ ComesToRefusal (find {A = A} Is rest) files = (value : A) × Is value × ComesTo
 ComesToRefusal (either If first second) files =
     (If × ComesToRefusal first files) ⊎ ((If → ⊥) × ComesToRefusal second files)
 ComesToRefusal (serve IsServed rest) files =
-    (answered : List Answered) × (final : Final) × IsServed answered final × ComesToRefusal (rest answered final) files
+    (answered : List Answered) × (final : Held) × IsServed answered final × ComesToRefusal (rest answered final) files
 ComesToRefusal (write output rest) files =
     (now : List ℕ → Option (List ℕ)) × ((other : List ℕ) → other ≢ output.name → now other ≡ files other)
     × ComesToRefusal rest now

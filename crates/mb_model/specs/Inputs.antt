@@ -1,18 +1,24 @@
 -- The inputs of commands: for which value the bytes of each stand, and at which place they are at fault. Is each input
 -- read in one way only?
-use Rattle.std.specs.Prelude.{◌≡◌, ℕ, ◌<◌, ◌≤◌, List, length, take}
+use Rattle.std.specs.Prelude.{◌≡◌, ℕ, ◌<◌, ◌≤◌, List, length, take, Option}
 use Rattle.mb_format.specs.Format.{Format, IsBytes, Spells, FailsWhole}
 use Rattle.mb_model.specs.declared.role.Role.{Role}
 use Rattle.mb_model.specs.declared.role.Role.TheVariants as role
 use Rattle.mb_model.specs.declared.role.Place.{Place}
 use Rattle.mb_model.specs.declared.role.Place.TheVariants as fault
 use Rattle.mb_model.specs.declared.key.PublicKey.{PublicKey}
+use Rattle.mb_model.specs.declared.event.Event.{Event}
+use Rattle.mb_model.specs.declared.state.State.{State}
 use Rattle.mb_model.specs.declared.order.Order.{Order}
 use Rattle.mb_model.specs.declared.tools.Keyfile.{Keyfile}
 use Rattle.mb_model.specs.KeyFormat.{public_key_format, keyfile_format}
 use Rattle.mb_model.specs.Lines.{Reads, TextFailsAtLine}
 use Rattle.mb_model.specs.Drafts.{IsDraft}
 use Rattle.mb_model.specs.OrderLines.{IsOrderLine}
+use Rattle.mb_model.specs.Script.{IsScript, IsShortNoise, Drawn}
+use Rattle.mb_model.specs.Meaning.{IsWellFormed}
+use Rattle.mb_model.specs.Faults.{Fault, HasFault, bad_length, bad_root, bad_public, bad_region_two}
+use Rattle.mb_model.specs.Faults.{bad_region_three, bad_state}
 use Rattle.mb_model.specs.Commands.{Input}
 
 -- A value and a fault exclude each other, so that an input that is at fault ends its command.
@@ -89,3 +95,34 @@ draft_input name = text_input role.Draft IsDraft name
 -- an order that was signed, as a line
 abbrev pub order_input : List ℕ → Input Order
 order_input name = text_input role.Order IsOrderLine name
+
+-- the place where an image has a fault
+abbrev pub fault_place : Fault → Place
+fault_place bad_length = fault.Length
+fault_place bad_root = fault.Root
+fault_place bad_public = fault.Public
+fault_place bad_region_two = fault.Region 2
+fault_place bad_region_three = fault.Region 3
+fault_place bad_state = fault.State
+
+-- the image of a device, which stands for its state
+abbrev pub image_input : List ℕ → Input (Option State)
+image_input name = record {
+  role = role.Image;
+  name = name;
+  Is = IsWellFormed;
+  FaultyAt = λ bytes place. (faulty : Fault) × (place ≡ fault_place faulty) × HasFault bytes faulty;
+}
+
+-- a script, which stands for events
+abbrev pub script_input : List ℕ → Input (List Event)
+script_input name = text_input role.Script IsScript name
+
+-- the noise that gives the commands among the events their draws
+abbrev pub draws_input : List Event → List ℕ → Input (List Event)
+draws_input events name = record {
+  role = role.Noise;
+  name = name;
+  Is = Drawn events;
+  FaultyAt = λ bytes place. (place ≡ fault.Length) × IsShortNoise events bytes;
+}

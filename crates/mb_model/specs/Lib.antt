@@ -4,16 +4,14 @@ pub mod Merkle
 pub mod Signing
 pub mod Pieces
 pub mod Texts
-pub mod FirstPath
-pub mod FirstTexts
 pub mod Outside
 pub mod Board
 pub mod Commands
-pub mod FirstCommand
 pub mod Inputs
 pub mod Keygen
 pub mod Sign
 pub mod FactoryCommand
+pub mod RunCommand
 pub mod Top
 pub mod Layers
 pub mod Rules
@@ -43,6 +41,7 @@ pub mod Meaning
 pub mod Faults
 pub mod Clean
 pub mod Acknowledged
+pub mod Runs
 pub mod Factory
 pub mod Lines
 pub mod Script

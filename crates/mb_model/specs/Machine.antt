@@ -26,6 +26,10 @@ pub record World : Type 0 where
   pub phase : Phase
   pub armed : Bool
 
+-- a device before its first event: power is off, and no power loss is armed
+abbrev pub opening : Option State → World
+opening state = record { state = state; phase = off; armed = false }
+
 -- what an event comes to in a world
 abbrev pub Told : Type 0
 Told = Reply × World

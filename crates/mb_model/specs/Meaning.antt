@@ -1,5 +1,5 @@
 -- For which state a device's memory stands. What is a memory worth, as it lies, whatever work was broken off?
-use Rattle.std.specs.Prelude.{◌≡◌, ℕ, false, List, [], ◌∷◌, ◌++◌, filter, Option, None, Some, if◌then◌else◌}
+use Rattle.std.specs.Prelude.{◌≡◌, ℕ, List, [], ◌∷◌, ◌++◌, filter, Option, None, Some, if◌then◌else◌}
 use Rattle.std.specs.List.{list_any}
 use Rattle.mb_model.specs.declared.entry.Entry.{Entry}
 use Rattle.mb_model.specs.declared.entry.SignedEntry.{SignedEntry}
@@ -21,7 +21,6 @@ use Rattle.mb_model.specs.Memory.{AreSized, IsImage, IsBlank, life_byte, spare, 
 use Rattle.mb_model.specs.StoredLog.{HasIndex, completed}
 use Rattle.mb_model.specs.Flash.{HoldsPublic}
 use Rattle.mb_model.specs.Valid.{Valid}
-use Rattle.mb_model.specs.Machine.{World, off}
 
 -- ---- what a memory holds
 
@@ -121,9 +120,3 @@ pub record IsWellFormed (image : List ℕ) (state : Option State) : Type 0 where
   pub image_is : IsImage image flash bbram
   pub stands : StandsFor flash bbram state
   pub valid : Valid state
-
--- a device with this image, before its first event
-pub record IsOpening (image : List ℕ) (world : World) : Type 0 where
-  pub well_formed : IsWellFormed image world.state
-  pub phase : world.phase ≡ off
-  pub unarmed : world.armed ≡ false

@@ -3,7 +3,7 @@ use Rattle.std.specs.Prelude.{◌≡◌, ◌≢◌, ℕ, List, [], ◌∷◌, co
 use Rattle.std.specs.Fmt.{decimal}
 use Rattle.mb_model.specs.Layers.{is_upper}
 use Rattle.mb_model.specs.Commands.{Command, Ended, Stops, CommandEnds, at_first}
-use Rattle.mb_model.specs.FirstCommand.{RunNames, run}
+use Rattle.mb_model.specs.RunCommand.{RunNames, run}
 use Rattle.mb_model.specs.Keygen.{KeygenNames, keygen}
 use Rattle.mb_model.specs.Sign.{SignNames, CountersignNames, sign, countersign}
 use Rattle.mb_model.specs.FactoryCommand.{FactoryNames, factory}

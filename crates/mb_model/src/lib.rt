@@ -10,11 +10,9 @@
 mod bytes;
 mod entry;
 mod event;
-mod first;
 mod formats;
 mod items;
 mod key;
-mod laws;
 mod layer;
 mod limits;
 mod memory;
@@ -31,14 +29,12 @@ mod tools;
 pub use bytes::Bytes;
 pub use entry::{Chain, Entries, Entry, Log, PublicEntries, PublicEntry, SignedEntry, Statement};
 pub use event::{Answered, Event, Events, Tear};
-pub use first::{FirstState, Ownership};
 pub use formats::{
     formats_are_clear, formats_are_short, keys_are_spelled, orders_are_local,
     whole_formats_are_clear,
 };
 pub use items::{Calls, File, Files, Items};
 pub use key::{Chains, KeySeed, PublicKey, Tree, Trust};
-pub use laws::{one_order, one_state};
 pub use layer::{CodeName, Layer, Layers, Pair};
 pub use limits::{
     BBRAM_LENGTH, EVENT_LIMIT, FILE_LIMIT, FLASH_LENGTH, IMAGE_LENGTH, SECTOR_LENGTH,

@@ -35,6 +35,4 @@ pub enum Place {
     Region(u8),
     /// The state for which an image stands.
     State,
-    /// Anywhere in an input of the first path.
-    Form,
 }

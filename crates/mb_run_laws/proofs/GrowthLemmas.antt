@@ -14,7 +14,7 @@ use Rattle.mb_model.specs.Signing.{public_of}
 use Rattle.mb_model.specs.OrderStep.{needs_succession, signed_by, log_with, next_key, succeeded, ready_for, own_entry, obeyed}
 use Rattle.mb_model.specs.Machine.{World, Run}
 use Rattle.mb_lemmas.proofs.OwnEntries.{appends_own}
-use Rattle.mb_run_laws.specs.RunLaws.{BeginsWith, LogGoesOn, worlds_of}
+use Rattle.mb_model.specs.Runs.{BeginsWith, LogGoesOn, worlds_of}
 use Rattle.mb_run_laws.proofs.KeptByRuns.{IsKept, run_kept, runs_lead_there}
 
 pub begins_same : (log : List SignedEntry) → BeginsWith log log

@@ -14,7 +14,7 @@ use Rattle.mb_model.specs.SignedTexts.{entry_text, IsSignedBy}
 use Rattle.mb_model.specs.Valid.{IsValidState}
 use Rattle.mb_lemmas.proofs.LogLemmas.{used-split}
 use Rattle.mb_lemmas.proofs.ReaderLemmas.{none_of_two}
-use Rattle.mb_run_laws.specs.IndexLaws.{NamesDevice, HasInCharge}
+use Rattle.mb_model.specs.Runs.{NamesDevice, HasInCharge, SignsEntriesOnce}
 
 -- the entry of a signed one
 abbrev entry_in : SignedEntry → Entry
@@ -124,3 +124,6 @@ each_has_in_charge state before signed rest valid split some =
         none = found.none;
       },
     )
+
+pub signs_entries_once : (state : State) → IsValidState state → SignsEntriesOnce state.log
+signs_entries_once state valid front namer sooner later a b of_a of_b less = no_index_twice state front namer sooner later a b valid of_a of_b less

@@ -18,7 +18,7 @@ use Rattle.mb_model.specs.OrderStep.{region_of, with_region, obeyed, OrderStep, 
 use Rattle.mb_model.specs.LayerEvents.{Outcome, on_region, has_name, has_number, with_use, put_event, get_event, drop_event, sign_with, sign_event}
 use Rattle.mb_model.specs.Machine.{Phase, off, dead, ratchet, World, Told, boot_event, awake, awake_in, status_event, go_event, region_event, CommandStep, Machine, Step, answered, lacks_memory, loses_power, Run}
 use Rattle.mb_lemmas.proofs.RefusalLemmas.{awake_state}
-use Rattle.mb_run_laws.specs.RunLaws.{worlds_of}
+use Rattle.mb_model.specs.Runs.{worlds_of}
 
 -- ---- what each step keeps
 

@@ -7,3 +7,4 @@ pub mod SignedSteps
 pub mod KeyLemmas
 pub mod SpentLemmas
 pub mod StatementLemmas
+pub mod SoundLemmas

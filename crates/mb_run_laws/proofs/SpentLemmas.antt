@@ -32,7 +32,7 @@ use Rattle.mb_lemmas.proofs.RegionLemmas.{at_upper}
 use Rattle.mb_lemmas.proofs.ValidLogs.{entries_of-signed}
 use Rattle.mb_lemmas.proofs.ValidSteps.{step_valid}
 use Rattle.mb_lemmas.proofs.ValidRegions.{used_if}
-use Rattle.mb_run_laws.specs.RunLaws.{IsSignedAt}
+use Rattle.mb_model.specs.Runs.{IsSignedAt}
 use Rattle.mb_run_laws.proofs.KeptByRuns.{with_secrets, with_one_use, IsKept, step_kept}
 use Rattle.mb_run_laws.proofs.KeyLemmas.{one_in, upper_of, key_born, one_region, numbers_increase}
 use Rattle.mb_run_laws.proofs.SignedSteps.{SignsIn, StepSigns, step_signs}

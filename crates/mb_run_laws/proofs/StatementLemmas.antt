@@ -33,7 +33,7 @@ use Rattle.mb_lemmas.proofs.ValidStates.{valid_is_ruled}
 use Rattle.mb_lemmas.proofs.ValidSteps.{run_valid}
 use Rattle.mb_lemmas.proofs.ReaderLemmas.{living_is_flagged, not_true}
 use Rattle.mb_lemmas.proofs.SignatureLemmas.{signature_verifies}
-use Rattle.mb_run_laws.specs.RunLaws.{BeginsWith, worlds_of}
+use Rattle.mb_model.specs.Runs.{BeginsWith, worlds_of}
 use Rattle.mb_run_laws.specs.BirthLaws.{IsBornOf}
 use Rattle.mb_model.specs.Attach.{is_change_above, cut_at, stated_chain}
 use Rattle.mb_run_laws.specs.StatementLaws.{IsStatedIn, entry_of, StaysAccepted}

@@ -18,7 +18,7 @@ use Rattle.mb_model.specs.Valid.{Valid}
 use Rattle.mb_model.specs.Attach.{stated_chain}
 use Rattle.mb_model.specs.Acceptance.{KeyEntry, report_of, Accepts}
 use Rattle.mb_run_laws.specs.BirthLaws.{IsBornOf}
-use Rattle.mb_run_laws.specs.RunLaws.{worlds_of}
+use Rattle.mb_model.specs.Runs.{worlds_of}
 
 -- ---- statements
 

@@ -14,5 +14,5 @@ mod statements;
 pub use chains::device_chains_are_accepted;
 pub use indices::device_indices_are_used_once;
 pub use officers::{right_officers_are_obeyed, tools_make_right_orders};
-pub use runs::{logs_only_grow, region_indices_are_used_once};
+pub use runs::{logs_only_grow, runs_are_sound};
 pub use statements::{statements_are_accepted, statements_are_of_keys};

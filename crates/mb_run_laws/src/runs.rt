@@ -1,6 +1,6 @@
 //! Laws of runs of the machine.
 
-ghost use Rattle.mb_run_laws.specs.RunLaws.{LogsOnlyGrow, LogsGrowOverRuns, IndicesIncrease, IndicesStartAtTheUses};
+ghost use Rattle.mb_run_laws.specs.RunLaws.{LogsOnlyGrow, LogsGrowOverRuns, RunsAreSound};
 
 /// Whatever happens, also a power loss: a log only grows, and a dead device stays dead.
 pub fn logs_only_grow()
@@ -8,8 +8,8 @@ pub fn logs_only_grow()
     ensures ends { LogsGrowOverRuns }
 {}
 
-/// No key of a region signs two statements with one index in a run, nor with one that was used before the run.
-pub fn region_indices_are_used_once()
-    ensures increase { IndicesIncrease }
-    ensures start { IndicesStartAtTheUses }
+/// Each world of a run from a valid state is valid, and no device key signs two entries of its log with one index. No key
+/// of a region signs two statements of the run with one index, nor with one that was used before the run.
+pub fn runs_are_sound()
+    ensures { RunsAreSound }
 {}

@@ -1,0 +1,57 @@
+-- What the command `run` does. Do the answers and the new image tell of one and the same run?
+use Rattle.std.specs.Prelude.{◌≡◌, ◌≢◌, ℕ, List, map, Option}
+use Rattle.mb_model.specs.declared.event.Event.{Event}
+use Rattle.mb_model.specs.declared.event.Answered.{Answered}
+use Rattle.mb_model.specs.declared.role.Role.TheVariants as role
+use Rattle.mb_model.specs.declared.state.State.{State}
+use Rattle.mb_model.specs.Machine.{World, Run, opening, off}
+use Rattle.mb_model.specs.Board.{Held, image_of}
+use Rattle.mb_model.specs.Acknowledged.{Shows}
+use Rattle.mb_model.specs.Clean.{Clean}
+use Rattle.mb_model.specs.Regions.{KeptRightly}
+use Rattle.mb_model.specs.Runs.{IsSoundRun}
+use Rattle.mb_model.specs.Replies.{replies_text}
+use Rattle.mb_model.specs.Inputs.{image_input, script_input, draws_input}
+use Rattle.mb_model.specs.Commands.{Command, read, serve, write, print}
+
+-- the names of the files
+pub record RunNames : Type 0 where
+  pub image : List ℕ
+  pub script : List ℕ
+  pub noise : List ℕ
+
+-- The events were answered, all and in order, by a run of the machine from the device's state. What the board holds
+-- then shows the world to which that run led.
+pub record IsServed
+    (first : Option State)
+    (events : List Event)
+    (answered : List Answered)
+    (final : Held) : Type 0 where
+  pub all : map (λ a. a.event) answered ≡ events
+  pub last : World
+  pub run : Run (opening first) answered last
+  pub shown : Shows final last
+  -- while power is on, no secret lies in the memory but those of the state
+  pub clean : final.phase ≢ off → Clean final.memory.bbram last.state
+  -- each secret and key of the state was admitted by its layer at each change since it came into its region
+  pub kept : KeptRightly last.state
+  pub sound : IsSoundRun (opening first) answered last run
+
+-- the new image is written over the old one, and then the replies are printed
+abbrev pub write_image : RunNames → List Answered → Held → Command
+write_image names answered final =
+    write (record { role = role.Image; name = names.image; bytes = image_of final.memory })
+    (print (replies_text answered))
+
+abbrev pub serve_events : RunNames → Option State → List Event → Command
+serve_events names state events = serve (IsServed state events) (write_image names)
+
+abbrev pub read_noise : RunNames → Option State → List Event → Command
+read_noise names state events = read (draws_input events names.noise) (serve_events names state)
+
+abbrev pub read_script : RunNames → Option State → Command
+read_script names state = read (script_input names.script) (read_noise names state)
+
+-- image, script and noise are read, and the events are served
+unfoldable pub run : RunNames → Command
+run names = read (image_input names.image) (read_script names)

@@ -1,0 +1,5 @@
+use Rattle.mb_run_laws.proofs.SoundLemmas as lemmas
+use Rattle.mb_run_laws.proofs.runs.runs_are_sound.Goals as goal
+
+pub returns : goal.returns
+returns c = lemmas.run_is_sound
