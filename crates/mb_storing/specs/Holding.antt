@@ -6,6 +6,8 @@ use Rattle.mb_model.specs.declared.stored.Fate.{Fate}
 use Rattle.mb_model.specs.declared.stored.Pending.{Pending}
 use Rattle.mb_model.specs.Board.{Memory}
 use Rattle.mb_model.specs.Meaning.{Contents, HoldsContents, StandsFor, fate_of_two, fate_of_three}
+use Rattle.mb_model.specs.Clean.{IsCleanFor}
+use Rattle.mb_model.specs.Valid.{IsValidState}
 
 -- the memory holds these contents
 abbrev pub Holds : Memory → Contents → Type 0
@@ -22,6 +24,18 @@ Means memory state = StandsFor memory.flash memory.bbram (Some state)
 -- whatever state the memory stood for, it stands for
 pub record KeepsMeaning (before after : Memory) : Type 0 where
   pub kept : (state : State) → Means before state → Means after state
+
+-- A device with this memory is ready for an event: the memory stands for this state, which a device can have, and it is
+-- clean, so that no work is pending and no secret lies in it but those of the state.
+pub record IsReady (memory : Memory) (state : State) : Type 0 where
+  pub means : Means memory state
+  pub valid : IsValidState state
+  pub clean : IsCleanFor memory.bbram state
+
+-- so is one with this memory, for some state
+pub record HasReady (memory : Memory) : Type 0 where
+  pub state : State
+  pub ready : IsReady memory state
 
 -- the region in slot 2 or 3
 abbrev pub region_in_slot : ℕ → Contents → Region

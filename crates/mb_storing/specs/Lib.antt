@@ -4,3 +4,4 @@ pub mod CommitLaws
 pub mod Storable
 pub mod StorableLaws
 pub mod Holding
+pub mod Answering
