@@ -1,10 +1,8 @@
 -- The entries of a public record whose every entry is signed, one after another.
-use Rattle.std.proofs.Common.{◌≡◌, ℕ, ◌+◌, ◌-◌, List, [], ◌∷◌, ◌++◌, length, map, drop, refl, sym, ap, subst, ◌∙◌, append-nil, arith}
-use Rattle.std.proofs.lemmas.List.{length-map}
+use Rattle.std.proofs.Common.{◌≡◌, ℕ, ◌-◌, List, [], ◌∷◌, ◌++◌, length, map, refl, ap, subst, ◌∙◌, append-nil, arith}
 use Rattle.mb_format.specs.Format.{Spells}
 use Rattle.mb_format.specs.Combinators.{mark, between, times}
 use Rattle.std.specs.Int.{w16}
-use Rattle.std.specs.Option.{IfSome}
 use Rattle.mb_bytes.specs.declared.cursor.Cursor.{Cursor}
 use Rattle.mb_bytes.specs.Reads.{ReadsOk, ReadsErr}
 use Rattle.mb_model.specs.declared.entry.PublicEntry.{PublicEntry}

@@ -99,10 +99,12 @@ impl<'a> StoredEntries<'a> {
         if self.left == 0 {
             return None;
         }
-        let Ok(stored) = stored_entry_at(&mut self.cursor) else {
+        let mut cursor = self.cursor;
+        let Ok(StoredEntry { entry, .. }) = stored_entry_at(&mut cursor) else {
             return None;
         };
+        self.cursor = cursor;
         self.left -= 1;
-        Some(stored.entry)
+        Some(entry)
     }
 }
