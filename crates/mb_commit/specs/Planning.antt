@@ -68,6 +68,12 @@ pub record SpellsRecord (bytes : List ℕ) : Type 0 where
   pub public : Public
   pub spelled : Spells public_format bytes public
 
+-- a public record is spelled that has a spelling with the codes and entries of an order of layer k too
+pub record CanTake (k : ℕ) (does : Act) (entries : List Entry) (bytes : List ℕ) : Type 0 where
+  pub public : Public
+  pub spelled : Spells public_format bytes public
+  pub allowed : public_format.Allowed (with_order k does entries public)
+
 -- The memory is ready with this state, in which the order passes. The root commits the order, with the public record in
 -- the flash area that is not in force, and the bytes spell that record.
 pub record IsCommit
@@ -77,7 +83,7 @@ pub record IsCommit
   pub passes : Passes state order
   pub area : ℕ
   pub holds : Holds memory (at_rest state area)
-  pub root : root ≡ root_for state order draw (1 - area)
+  pub root_is : root ≡ root_for state order draw (1 - area)
   pub spelled : Spells
       public_format
       bytes

@@ -23,6 +23,7 @@ use std::sync::ledger::Ledger;
 /// done: the record is written into the flash area that is not in force, the root is put in force, and then the order
 /// counts. Where power fails, the memory stands for the state before the order or for the state after it. There are at
 /// most 471 write calls, and 70,946 steps. No memory is taken.
+#[tactic(auto, using(crate::proofs::Committed::root_there))]
 pub fn commit<B: Board, L: Ledger>(
     up: Up<R1>,
     b: &mut B,

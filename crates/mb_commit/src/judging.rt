@@ -65,7 +65,7 @@ fn refusal(end: JudgeEnd) -> Reply
     }
 }
 
-/// How many keys a stored region has, of which no valid one has more than 8.
+/// How many keys a stored region has.
 fn count_keys<L: Named, B: Board>(
     alloc: Global,
     up: &Up<R1>,
@@ -77,7 +77,7 @@ fn count_keys<L: Named, B: Board>(
     requires loaded { IsLoaded (B.memory b.now) }
     requires held { HoldsSomeRegion (current (B.memory b.now).bbram L.place) }
     requires room { HasRoom room.old }
-    ensures count { (region : Region) → HoldsRegion (current (B.memory b.now).bbram L.place) region → length region.keys ≤ 8
+    ensures count { (region : Region) → HoldsRegion (current (B.memory b.now).bbram L.place) region
         → IfOk result (λ count. count ≡ length region.keys) }
     ensures room { HasRoom room.new }
 {
@@ -86,6 +86,7 @@ fn count_keys<L: Named, B: Board>(
 }
 
 /// What of the state an order is judged by.
+#[tactic(auto, using(crate::proofs::Judgement::region_two, crate::proofs::Judgement::region_three))]
 fn view_now<B: Board>(
     alloc: Global,
     up: &Up<R1>,
@@ -125,6 +126,7 @@ fn view_now<B: Board>(
 
 /// The order that the bytes spell, with all that it comes to, where it passes every check. Else the answer to it. Nothing
 /// is written.
+#[tactic(auto, using(crate::proofs::Remembered::remembered_root, crate::proofs::Remembered::only_root, crate::proofs::Judgement::none_step))]
 pub fn judge_text<B: Board, L: Ledger>(
     alloc: Global,
     up: &Up<R1>,

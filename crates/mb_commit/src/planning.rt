@@ -16,7 +16,7 @@ ghost use Rattle.mb_layout.specs.Rooms.{HasRoom};
 ghost use Rattle.mb_storing.specs.Commits.{root_for};
 ghost use Rattle.mb_storing.specs.Holding.{IsReady};
 ghost use Rattle.mb_commit.specs.Remembering.{Knows};
-ghost use Rattle.mb_commit.specs.Planning.{with_order, SpellsRecord, IsPassed, HasPassed, IsCommit};
+ghost use Rattle.mb_commit.specs.Planning.{with_order, SpellsRecord, CanTake, IsPassed, HasPassed, IsCommit};
 
 use crate::judging::Judged;
 use crate::remembering::Known;
@@ -30,6 +30,7 @@ use mb_orders::Plan;
 use std::alloc::Global;
 
 /// The commit of an order, whose public record stands in the room.
+#[derive(Drop)]
 pub struct Planned {
     /// The root that commits the order.
     pub root: Root,
@@ -119,9 +120,7 @@ fn next_record(
     room: &mut Room,
 ) -> Result<(), NoMemory>
     requires short { length room.old.public.items ≤ 4194304 }
-    requires some { SpellsRecord room.old.public.items }
-    requires allowed { (public : Public) → Spells public_format room.old.public.items public
-        → public_format.Allowed (with_order order.layer order.act entries.now public) }
+    requires takes { CanTake order.layer order.act entries.now room.old.public.items }
     requires room { HasRoom room.old }
     ensures spelled { (public : Public) → Spells public_format room.old.public.items public
         → OnOk result (Spells public_format room.new.public.items (with_order order.layer order.act entries.now public)) }
@@ -137,6 +136,7 @@ fn next_record(
 /// The root that commits the plan, with the public record in the flash area that is not in force.
 fn next_root(root: &Root, plan: &Plan) -> Root
     requires area { root.now.area ≤ 1 }
+    requires few { length plan.now.bodies.entries ≤ 2 }
     ensures { (state : State) (order : Order) (draw : List ℕ) → root.now ≡ root_of state root.now.area
         → plan.now ≡ plan_of state order draw → result ≡ root_for state order draw (1 - root.now.area) }
 {

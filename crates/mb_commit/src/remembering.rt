@@ -45,6 +45,7 @@ fn figures_in(bytes: &[u8]) -> Figures
 }
 
 /// What the memory of a device that is ready tells of its state. Nothing is written, and no memory is taken.
+#[tactic(auto, using(crate::proofs::Remembered::ready_root, crate::proofs::Remembered::some_begins))]
 pub fn remember<B: Board>(_up: &Up<R1>, b: &B, room: &mut Room) -> Known
     requires on { B.power b.now ≡ true }
     requires level { B.level b.now ≡ 1 }
@@ -57,8 +58,7 @@ pub fn remember<B: Board>(_up: &Up<R1>, b: &B, room: &mut Room) -> Known
 {
     let root = read_root(b, room);
     read_public(b, root.area, room);
-    Known {
-        serial: root.serial,
-        figures: figures_in(&room.public),
-    }
+    let serial = root.serial;
+    let figures = figures_in(&room.public);
+    Known { serial, figures }
 }
