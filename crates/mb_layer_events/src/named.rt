@@ -30,12 +30,13 @@ pub(crate) fn put_in(region: &mut Region, secret: Secret) -> Result<(), NotPut>
     requires { IsKeptRegion region.old }
     ensures { PutOf region.old secret result region.new }
 {
+    let count = region.secrets.as_slice().len();
     match place_of(region.secrets.as_slice(), secret.name.as_slice()) {
         Some(at) => {
             let _old = region.secrets.set(at as u32, secret);
             Ok(())
         }
-        None if region.secrets.as_slice().len() >= SECRETS => Err(NotPut::Full),
+        None if count >= SECRETS => Err(NotPut::Full),
         None => Ok(region.secrets.push(secret)?),
     }
 }
