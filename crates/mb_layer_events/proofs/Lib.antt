@@ -1,3 +1,5 @@
 pub mod Names
-pub mod Readied
 pub mod Outcomes
+pub mod Readied
+pub mod Signed
+pub mod Stated

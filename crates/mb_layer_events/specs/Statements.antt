@@ -11,6 +11,7 @@ use Rattle.mb_layer_events.specs.declared.signing.Prepared.{Prepared}
 pub record IsPrepared (message : List ℕ) (prepared : Prepared) : Type 0 where
   pub copied : prepared.message ≡ message
   pub empty : prepared.bytes.items ≡ []
+  pub none : vec_len prepared.bytes ≡ 0
   pub room : 2481 ≤ vec_capacity prepared.bytes
 
 -- the bytes of the statement that this key signs at the index, in the device with this serial

@@ -88,10 +88,10 @@ fn state<Lg: Ledger>(
         message,
         signature,
     };
-    if write_statement(&statement, &mut bytes).is_err() {
-        unreachable!()
+    match write_statement(&statement, &mut bytes) {
+        Ok(()) => Bytes::from_vec(bytes),
+        Err(NoMemory) => unreachable!(),
     }
-    Bytes::from_vec(bytes)
 }
 
 /// Answers a request to sign: the statement of the message by the key with this number at its next index, or a refusal
