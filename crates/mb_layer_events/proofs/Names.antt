@@ -1,9 +1,9 @@
 -- Secrets that are found, put and dropped by their names.
-use Rattle.std.proofs.Common.{◌≡◌, ◌≢◌, ◌<◌, ◌≤◌, ℕ, zero, suc, List, [], ◌∷◌, ◌++◌, length, map, Bool, true, false, cond, Option, None, Some, refl, sym, ap, subst, ◌∙◌, arith, get_or, nat_lt}
+use Rattle.std.proofs.Common.{◌≡◌, ◌≢◌, ◌<◌, ◌≤◌, ℕ, zero, suc, List, [], ◌∷◌, ◌++◌, length, map, Bool, true, false, cond, None, Some, refl, sym, ap, subst, ◌∙◌, arith, get_or, nat_lt}
 use Rattle.std.specs.Prelude.{not, ◌&&◌, nat_le, All, AllPairs, find, filter, position, remove, slice_set, slice_get, ◌==◌, if◌then◌else◌}
 use Rattle.std.specs.List.{list_any, position_or_len}
 use Rattle.std.specs.Str.{bytes_eq}
-use Rattle.std.proofs.lemmas.Bool.{leb-false, le-leb}
+use Rattle.std.proofs.lemmas.Bool.{le-leb}
 use Rattle.std.proofs.lemmas.List.Elements.{All-head, All-tail}
 use Rattle.std.proofs.lemmas.List.Folds.{list_any_at, list_any_none, find_at}
 use Rattle.std.proofs.lemmas.List.Quantifiers.{position-Some}
@@ -13,10 +13,9 @@ use Rattle.mb_format.specs.Combinators.{same_bytes}
 use Rattle.mb_format.proofs.Fields.{same_bytes-true}
 use Rattle.mb_model.specs.declared.region.Region.{Region}
 use Rattle.mb_model.specs.declared.region.Secret.{Secret}
-use Rattle.mb_model.specs.declared.reply.Reply.{Reply}
 use Rattle.mb_model.specs.declared.reply.Reply.TheVariants as reply
 use Rattle.mb_model.specs.LayerEvents.{has_name, with_secret, value_reply}
-use Rattle.mb_layer_events.specs.Secrets.{IsKeptRegion, is_full_for, put, without, IsPut, IsDropped}
+use Rattle.mb_layer_events.specs.Secrets.{IsKeptRegion, is_full_for, IsPut, IsDropped}
 
 -- ---- a test that one element of a list passes
 

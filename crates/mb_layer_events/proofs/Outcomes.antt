@@ -1,6 +1,6 @@
 -- What the events of a layer come to in a memory.
-use Rattle.std.proofs.Common.{◌≡◌, ◌<◌, ◌≤◌, ◌+◌, ℕ, ◌⊎◌, inl, inr, List, [], ◌∷◌, length, Bool, true, false, Option, None, Some, Result, Ok, Err, refl, sym, ap, subst, ◌∙◌, arith}
-use Rattle.std.specs.Prelude.{not, ◌&&◌, nat_le, find, IfOk, IfSome, IsTrue, if◌then◌else◌}
+use Rattle.std.proofs.Common.{◌≡◌, ◌<◌, ℕ, ◌⊎◌, List, Bool, true, false, Err, refl, sym, ap, subst, ◌∙◌}
+use Rattle.std.specs.Prelude.{find, if◌then◌else◌}
 use Rattle.std.specs.List.{list_any}
 use Rattle.mb_model.specs.declared.region.Region.{Region}
 use Rattle.mb_model.specs.declared.region.Secret.{Secret}
@@ -28,7 +28,7 @@ use Rattle.mb_format.specs.Combinators.{limit}
 use Rattle.std.specs.Int.{w32}
 use Rattle.mb_layer_events.specs.declared.end.NotPut.{NotPut}
 use Rattle.mb_layer_events.specs.declared.end.NotPut.TheVariants.{Full, NoMemory}
-use Rattle.mb_layer_events.specs.Secrets.{IsKeptRegion, is_full_for, put, without, IsPut, IsDropped, PutOf, DropOf, PutsInto, DropsFrom, secret_of}
+use Rattle.mb_layer_events.specs.Secrets.{IsKeptRegion, is_full_for, put, without, IsPut, IsDropped, PutOf, PutsInto, secret_of}
 
 -- an answer is to the outcome that an event has
 pub answered_as : {outcome known : Outcome} {answer : Reply} {before after : Memory} → outcome ≡ known → IsAnswered known answer before after → IsAnswered outcome answer before after

@@ -1,11 +1,10 @@
 -- What a memory stands for once the region of a ready device was edited.
-use Rattle.std.proofs.Common.{◌≡◌, ◌≢◌, ◌≤◌, ℕ, ◌==◌, ◌⊎◌, inl, inr, Bool, true, false, if◌then◌else◌, Option, None, List, Result, Ok, Err, OnOk, refl, sym, ap, subst, ◌∙◌, arith}
+use Rattle.std.proofs.Common.{◌≡◌, ◌≢◌, ◌≤◌, ℕ, ◌==◌, ◌⊎◌, inl, inr, Bool, true, false, if◌then◌else◌, None, List, Result, Ok, Err, OnOk, refl, sym, ap, subst, ◌∙◌, arith}
 use Rattle.std.specs.Prelude.{IfOk, IsTrue}
 use Rattle.mb_format.specs.Format.{IsBytes}
 use Rattle.mb_model.specs.declared.region.Region.{Region}
 use Rattle.mb_model.specs.declared.state.State.{State}
 use Rattle.mb_model.specs.declared.stored.Root.{Root}
-use Rattle.mb_model.specs.declared.stored.Fate.{Fate}
 use Rattle.mb_model.specs.declared.stored.Fate.TheVariants.{Keep}
 use Rattle.mb_model.specs.Board.{Memory, IsLoaded}
 use Rattle.mb_model.specs.Clean.{root_of}
@@ -18,7 +17,7 @@ use Rattle.mb_model.specs.Valid.{IsValidRegion, IsValidState}
 use Rattle.mb_lemmas.proofs.MeaningLemmas.{one_root_in}
 use Rattle.mb_lemmas.proofs.ValidStates.{region_is_valid}
 use Rattle.mb_storing.specs.Commits.{at_rest}
-use Rattle.mb_storing.specs.Holding.{Holds, Means, IsReady, HasReady, region_in_slot, with_region_in, fate_in_slot}
+use Rattle.mb_storing.specs.Holding.{Holds, Means, IsReady, region_in_slot, with_region_in, fate_in_slot}
 use Rattle.mb_storing.proofs.RestLemmas.{rest_stands, clean_and_stands}
 use Rattle.mb_storing.proofs.StorableMemories.{stands_storable}
 use Rattle.mb_storing.proofs.StorableOrders.{region_of-storable}

@@ -1,5 +1,5 @@
 -- What becomes of the secrets of a region in memory. Is a secret of another name ever lost?
-use Rattle.std.specs.Prelude.{◌≡◌, ◌≢◌, ℕ, ◌<◌, nat_le, Bool, true, false, not, ◌&&◌, List, length, filter, AllPairs}
+use Rattle.std.specs.Prelude.{◌≡◌, ◌≢◌, ℕ, nat_le, Bool, true, false, not, ◌&&◌, List, length, filter, AllPairs}
 use Rattle.std.specs.Prelude.{Result, Ok, Err, Option, Some, None}
 use Rattle.std.specs.List.{list_any}
 use Rattle.mb_model.specs.declared.region.Region.{Region}

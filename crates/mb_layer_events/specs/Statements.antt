@@ -1,5 +1,5 @@
 -- What is prepared for a statement, and its bytes. Does signing find the memory that it needs?
-use Rattle.std.specs.Prelude.{◌≡◌, ℕ, ◌≤◌, List, [], length}
+use Rattle.std.specs.Prelude.{◌≡◌, ℕ, ◌≤◌, List, []}
 use Rattle.std.specs.Vec.{vec_len, vec_capacity}
 use Rattle.mb_model.specs.declared.key.KeySeed.{KeySeed}
 use Rattle.mb_model.specs.ChainFormat.{statement_format}
