@@ -54,14 +54,17 @@ fn use_region<S: Reaches<L>, L: Named, B: Board, C: Ledger>(
     ensures level { B.level b.new ≡ level_of result (B.level b.old) }
     ensures ledger { B.ledger b.new ≡ B.ledger b.old }
     ensures meter { IsMetered 3 result (B.meter b.old) (B.meter b.new) }
-    ensures cost { steps.new ≤ steps.old + 139744 }
+    ensures cost { steps.new ≤ steps.old + 35473 }
 {
     let number = running.known.figures.number;
     let serial = running.known.serial;
     let room = &mut running.room;
     match event {
         Event::Put { name, value, .. } => put_secret::<S, L, B>(alloc, s, b, name, value, number, room),
-        Event::Get { name, .. } => get_secret::<S, L, B>(alloc, s, b, name, room),
+        Event::Get { name, .. } => {
+            let reply = get_secret::<S, L, B>(alloc, &s, b, name, room);
+            Ok((s, reply))
+        }
         Event::Drop { name, .. } => drop_secret::<S, L, B>(alloc, s, b, name, room),
         Event::Sign { key, message, .. } => {
             sign_message::<S, L, B, C>(alloc, s, b, *key, message, &serial, number, room, steps)
@@ -90,7 +93,7 @@ fn use_at_one<B: Board, C: Ledger>(
     ensures untold { IfNothingTold result.1 (B.memory b.old) (B.memory b.new) (B.meter b.old) (B.meter b.new) }
     ensures ledger { B.ledger b.new ≡ B.ledger b.old }
     ensures meter { IsMetered 3 (stop_told result.1) (B.meter b.old) (B.meter b.new) }
-    ensures cost { steps.new ≤ steps.old + 139744 }
+    ensures cost { steps.new ≤ steps.old + 35473 }
 {
     let mut running = running;
     if !running.may_run(region) {
@@ -128,7 +131,7 @@ fn use_at_two<B: Board, C: Ledger>(
     ensures untold { IfNothingTold result.1 (B.memory b.old) (B.memory b.new) (B.meter b.old) (B.meter b.new) }
     ensures ledger { B.ledger b.new ≡ B.ledger b.old }
     ensures meter { IsMetered 3 (stop_told result.1) (B.meter b.old) (B.meter b.new) }
-    ensures cost { steps.new ≤ steps.old + 139744 }
+    ensures cost { steps.new ≤ steps.old + 35473 }
 {
     let mut running = running;
     if !running.may_run(region) {
@@ -166,7 +169,7 @@ fn use_at_three<B: Board, C: Ledger>(
     ensures untold { IfNothingTold result.1 (B.memory b.old) (B.memory b.new) (B.meter b.old) (B.meter b.new) }
     ensures ledger { B.ledger b.new ≡ B.ledger b.old }
     ensures meter { IsMetered 3 (stop_told result.1) (B.meter b.old) (B.meter b.new) }
-    ensures cost { steps.new ≤ steps.old + 139744 }
+    ensures cost { steps.new ≤ steps.old + 35473 }
 {
     let mut running = running;
     if !running.may_run(region) {
@@ -201,7 +204,7 @@ impl Device {
         ensures untold { IfNothingTold result.1 (B.memory b.old) (B.memory b.new) (B.meter b.old) (B.meter b.new) }
         ensures ledger { B.ledger b.new ≡ B.ledger b.old }
         ensures meter { IsMetered 3 (stop_told result.1) (B.meter b.old) (B.meter b.new) }
-        ensures cost { steps.new ≤ steps.old + 139744 }
+        ensures cost { steps.new ≤ steps.old + 35473 }
     {
         match self {
             Device::Off(off) => (Device::Off(off), Refusal::Off.reply()),
