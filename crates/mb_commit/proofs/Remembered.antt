@@ -14,7 +14,7 @@ use Rattle.mb_log.specs.declared.figures.Figures.{Figures}
 use Rattle.mb_log.specs.Figures.{figures_of}
 use Rattle.mb_storing.specs.Commits.{at_rest}
 use Rattle.mb_storing.specs.Holding.{Holds, IsReady, HasReady}
-use Rattle.mb_storing.proofs.RestLemmas.{clean_and_stands}
+use Rattle.mb_storing.proofs.RestLemmas.{clean_and_stands, rests_by_root}
 use Rattle.mb_area.specs.Roots.{HasSomeRoot}
 use Rattle.mb_area.specs.Records.{BeginsSome}
 use Rattle.mb_boot.specs.Settling.{IsOnlyRoot}
@@ -27,6 +27,9 @@ use Rattle.mb_commit.specs.Remembering.{Knows, IsRemembered}
 -- a memory that is ready holds its state with nothing pending
 pub rest_in : (memory : Memory) (state : State) (ready : IsReady memory state) → IsBytes memory.bbram → Holds memory (at_rest state ready.clean.area)
 rest_in memory state ready are = clean_and_stands memory.flash memory.bbram state ready.clean are ready.means
+
+pub rests_in : (memory : Memory) (root : Root) (state : State) (ready : IsReady memory state) → ((any : Root) → RootIn memory.bbram any → any ≡ root) → Holds memory (at_rest state ready.clean.area)
+rests_in memory root state ready only = rests_by_root memory.flash memory.bbram state ready.clean root only ready.means
 
 pub ready_root : (memory : Memory) → HasReady memory → HasSomeRoot memory
 ready_root memory has = record { root = root_of has.state has.ready.clean.area; holds = has.ready.clean.root }
@@ -42,37 +45,37 @@ pub root_is : (memory : Memory) (root : Root) (state : State) (ready : IsReady m
 root_is memory root state ready only = only (root_of state ready.clean.area) ready.clean.root
 
 -- the flash area that it names begins with the record of the state
-pub record_begins : (memory : Memory) (root : Root) (state : State) → IsReady memory state → IsBytes memory.bbram → ((any : Root) → RootIn memory.bbram any → any ≡ root)
+pub record_begins : (memory : Memory) (root : Root) (state : State) → IsReady memory state → ((any : Root) → RootIn memory.bbram any → any ≡ root)
     → BeginsWithRecord public_format (flash_area memory.flash root.area) (public_of_parts state.codes state.log [])
-record_begins memory root state ready are only =
+record_begins memory root state ready only =
     subst (λ (r : Root). BeginsWithRecord public_format (flash_area memory.flash r.area) (public_of_parts state.codes state.log []))
-    (root_is memory root state ready only) (rest_in memory state ready are).public.begins
+    (root_is memory root state ready only) (rests_in memory root state ready only).public.begins
 
-pub some_begins : (memory : Memory) (root : Root) → HasReady memory → IsBytes memory.bbram → ((any : Root) → RootIn memory.bbram any → any ≡ root) → BeginsSome (flash_area memory.flash root.area)
-some_begins memory root has are only =
-    let begun = record_begins memory root has.state has.ready are only in
+pub some_begins : (memory : Memory) (root : Root) → HasReady memory → ((any : Root) → RootIn memory.bbram any → any ≡ root) → BeginsSome (flash_area memory.flash root.area)
+some_begins memory root has only =
+    let begun = record_begins memory root has.state has.ready only in
     record { bytes = begun.bytes; begins = begun.begins }
 
 -- what was read of it spells that record
-pub read_spells : (memory : Memory) (root : Root) (read : List ℕ) (state : State) → IsReady memory state → IsBytes memory.bbram → ((any : Root) → RootIn memory.bbram any → any ≡ root)
+pub read_spells : (memory : Memory) (root : Root) (read : List ℕ) (state : State) → IsReady memory state → ((any : Root) → RootIn memory.bbram any → any ≡ root)
     → ((bytes : List ℕ) → BeginsArea (flash_area memory.flash root.area) bytes → read ≡ bytes) → Spells public_format read (public_of_parts state.codes state.log [])
-read_spells memory root read state ready are only reads =
-    let begun = record_begins memory root state ready are only in
+read_spells memory root read state ready only reads =
+    let begun = record_begins memory root state ready only in
     subst (λ (bytes : List ℕ). Spells public_format bytes (public_of_parts state.codes state.log [])) (sym (reads begun.bytes begun.begins)) begun.spelled
 
-pub read_short : (memory : Memory) (root : Root) (read : List ℕ) → HasReady memory → IsBytes memory.bbram → ((any : Root) → RootIn memory.bbram any → any ≡ root)
+pub read_short : (memory : Memory) (root : Root) (read : List ℕ) → HasReady memory → ((any : Root) → RootIn memory.bbram any → any ≡ root)
     → ((bytes : List ℕ) → BeginsArea (flash_area memory.flash root.area) bytes → read ≡ bytes) → length read ≤ 470000
-read_short memory root read has are only reads =
-    let begun = record_begins memory root has.state has.ready are only in
+read_short memory root read has only reads =
+    let begun = record_begins memory root has.state has.ready only in
     omega (arith, ap length (reads begun.bytes begun.begins), begun.begins.short)
 
-pub knows_of : (memory : Memory) (root : Root) (read : List ℕ) (figures : Figures) (state : State) → IsReady memory state → IsBytes memory.bbram → ((any : Root) → RootIn memory.bbram any → any ≡ root)
+pub knows_of : (memory : Memory) (root : Root) (read : List ℕ) (figures : Figures) (state : State) → IsReady memory state → ((any : Root) → RootIn memory.bbram any → any ≡ root)
     → ((bytes : List ℕ) → BeginsArea (flash_area memory.flash root.area) bytes → read ≡ bytes)
     → ((codes : Codes) (log : List SignedEntry) → Spells public_format read (public_of_parts codes log []) → figures ≡ figures_of (entries_of log))
     → Knows (record { serial = root.serial; figures = figures }) state
-knows_of memory root read figures state ready are only reads counts = record {
+knows_of memory root read figures state ready only reads counts = record {
   serial = sym (ap (λ (r : Root). r.serial) (root_is memory root state ready only));
-  figures = counts state.codes state.log (read_spells memory root read state ready are only reads);
+  figures = counts state.codes state.log (read_spells memory root read state ready only reads);
 }
 
 pub only_root : (bbram : List ℕ) (root : Root) → RootIn bbram root → ((any : Root) → RootIn bbram any → any ≡ root) → IsOnlyRoot bbram root

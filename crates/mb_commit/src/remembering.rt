@@ -1,7 +1,7 @@
 //! What a device remembers.
 
 ghost use Rattle.std.specs.Prelude.{◌≡◌, ◌≤◌, [], List, length, true};
-ghost use Rattle.mb_format.specs.Format.{IsBytes, Spells};
+ghost use Rattle.mb_format.specs.Format.{Spells};
 ghost use Rattle.mb_model.specs.declared.entry.SignedEntry.{SignedEntry};
 ghost use Rattle.mb_model.specs.declared.state.Codes.{Codes};
 ghost use Rattle.mb_model.specs.declared.state.State.{State};
@@ -50,7 +50,6 @@ pub fn remember<B: Board>(_up: &Up<R1>, b: &B, room: &mut Room) -> Known
     requires on { B.power b.now ≡ true }
     requires level { B.level b.now ≡ 1 }
     requires loaded { IsLoaded (B.memory b.now) }
-    requires bytes { IsBytes (B.memory b.now).bbram }
     requires ready { HasReady (B.memory b.now) }
     requires room { HasRoom room.old }
     ensures knows { (state : State) → IsReady (B.memory b.now) state → Knows result state }
