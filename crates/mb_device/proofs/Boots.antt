@@ -62,7 +62,7 @@ the_off world state armed is live same =
     ∙ ap (λ (b : Bool). let w : World = record { state = Some state; phase = off; armed = b } in w) same
 
 module _ (state : Off) (before : Memory) (power : Bool) (level : ℕ) (meter : Meter) (world : World)
-         (sound : IsSound (device.Off state) (held_by before power level meter) world) where
+    (sound : IsSound (device.Off state) (held_by before power level meter) world) where
   pub is_booted : (after : Memory) → Cleans before after → KeepsState before after
       → ((o : Option State) → StandsFor before.flash before.bbram o → false ≡ is_none o) → IsBooted world after
   is_booted after clean kept found =

@@ -29,7 +29,7 @@ use Rattle.mb_device.proofs.Uses.{known_layers, known_runs}
 
 -- ---- status
 
-known_number : (known : Known) (state : State) → Knows known state → known.figures.number ≡ number_of (entries_of state.log)
+pub known_number : (known : Known) (state : State) → Knows known state → known.figures.number ≡ number_of (entries_of state.log)
 unfolding figures_of
 known_number known state knows = ap (λ f. f.number) knows.figures
 
@@ -65,8 +65,8 @@ goes_on before after r running memory new power power_new level level_new meter 
     let armed : world.armed ≡ meter_new.armed = sound.shown.armed ∙ sym (ap (λ (m : Meter). m.armed) counts) in
     let next : World = live_world (r + 1) own.state meter_new.armed in
     let there : record world { phase = ratchet (r + 1) } ≡ next =
-        ap (λ (o : Option State). let w : World = record { state = o; phase = ratchet (r + 1); armed = world.armed } in w) own.live
-        ∙ ap (λ (b : Bool). let w : World = live_world (r + 1) own.state b in w) armed in
+    ap (λ (o : Option State). let w : World = record { state = o; phase = ratchet (r + 1); armed = world.armed } in w) own.live
+    ∙ ap (λ (b : Bool). let w : World = live_world (r + 1) own.state b in w) armed in
     record {
       next = next;
       step = answered (subst (λ (w : World). Machine world event.Go (reply.At (r + 1)) w) there machine);

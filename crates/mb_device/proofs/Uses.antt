@@ -1,22 +1,26 @@
 -- A layer's use of its region, as a step of the machine.
 use Rattle.std.proofs.Common.{◌≡◌, ◌≢◌, ℕ, ◌≤◌, ◌<◌, ◌+◌, Bool, true, false, Option, None, Some, refl, sym, ap, subst, ◌∙◌, inl, inr, arith, List, length}
-use Rattle.std.specs.Prelude.{find, Result, Ok, Err, IsTrue, ◌⊎◌, not, ◌||◌, nat_lt, if◌then◌else◌}
-use Rattle.std.proofs.lemmas.Bool.{le-ltb}
+use Rattle.std.specs.Prelude.{find, filter, ◌&&◌, nat_le, ◌==◌, Result, Ok, Err, IsTrue, ◌⊎◌, not, ◌||◌, nat_lt, if◌then◌else◌}
+use Rattle.std.proofs.lemmas.Bool.{le-ltb, eqb-true}
 use Rattle.mb_ratchet.specs.declared.state.Off.{Off}
 use Rattle.mb_model.specs.declared.event.Event.{Event}
 use Rattle.mb_model.specs.declared.event.Event.TheVariants as event
 use Rattle.mb_model.specs.declared.reply.Reply.{Reply}
 use Rattle.mb_model.specs.declared.reply.Reply.TheVariants as reply
 use Rattle.mb_model.specs.declared.region.RegionKey.{RegionKey}
+use Rattle.mb_model.specs.declared.region.Region.{Region}
 use Rattle.mb_model.specs.declared.region.Secret.{Secret}
+use Rattle.mb_model.specs.ChainFormat.{statement_format}
+use Rattle.std.specs.List.{list_any}
 use Rattle.mb_model.specs.declared.state.State.{State}
 use Rattle.mb_model.specs.Board.{Memory, Meter, Held, phase_at, IsLoaded}
-use Rattle.mb_model.specs.Layers.{is_runnable}
-use Rattle.mb_model.specs.LayerEvents.{Outcome, on_region, put_event, get_event, drop_event, sign_event, sign_with, value_reply, has_name, has_number}
-use Rattle.mb_model.specs.Log.{entries_of, layers_of}
+use Rattle.mb_model.specs.Layers.{is_runnable, is_upper}
+use Rattle.mb_model.specs.Script.{IsScriptEvent}
+use Rattle.mb_model.specs.LayerEvents.{Outcome, on_region, put_event, get_event, drop_event, sign_event, sign_with, value_reply, has_name, has_number, with_secret, with_use, statement_of}
+use Rattle.mb_model.specs.Log.{entries_of, layers_of, number_of}
 use Rattle.mb_model.specs.Machine.{ratchet, World, Told, awake_in, region_event, Machine, answered, may_want_memory, may_be_cut}
-use Rattle.mb_model.specs.OrderStep.{OrderStep, region_of}
-use Rattle.mb_model.specs.Refusals.{wrong_layer, refused}
+use Rattle.mb_model.specs.OrderStep.{region_of, with_region}
+use Rattle.mb_model.specs.Refusals.{Refusal, wrong_layer, region_full, key_spent, refused}
 use Rattle.mb_model.specs.Valid.{Valid, IsValidState}
 use Rattle.mb_board.specs.Calls.{held_by, IsMetered}
 use Rattle.mb_layout.specs.Rooms.{HasRoom}
@@ -32,7 +36,7 @@ use Rattle.mb_device.specs.declared.device.Running.{Running}
 use Rattle.mb_device.specs.Sound.{IsSound, IsRunning, Fits, Steps}
 use Rattle.mb_device.specs.Stepping.{stop_told}
 use Rattle.mb_device.specs.Regions.{IsLayerEvent, region_named, layer_outcome}
-use Rattle.mb_device.proofs.Worlds.{by_region}
+use Rattle.mb_device.proofs.Worlds.{at_ratchet, by_region}
 use Rattle.mb_device.proofs.Taken.{same_parts}
 use Rattle.mb_device.proofs.Steps as steps
 use Rattle.mb_device.proofs.Steps.{live_world, the_world, live_sound, running_ready, cut_short, refuses}
@@ -83,7 +87,7 @@ use_refused after r L running held world e answer is named told sound own fits w
     ] in
     let same : world ≡ live_world r state world.armed = the_world world r state own.phase own.live in
     let machine : Machine world e (refused wrong_layer) world =
-        subst (λ (w : World). Machine w e (refused wrong_layer) w) (sym same) (region_barred r L state world.armed e is named past) in
+    subst (λ (w : World). Machine w e (refused wrong_layer) w) (sym same) (region_barred r L state world.armed e is named past) in
     refuses after after held world e answer wrong_layer told machine sound fits
 
 -- ---- a use that is answered
@@ -139,8 +143,8 @@ keeps_known known L event.Go state is knows = absurd is
 keeps_known known L (event.Cut count tear) state is knows = absurd is
 keeps_known known L (event.Command text draw) state is knows = absurd is
 
--- what a running device has before and after a use of its region
-pub record IsUse (r L : ℕ) (before after : Device) (running : Running) (e : Event) (old new : Memory) (power power_new : Bool) (level level_new : ℕ) (meter meter_new : Meter) (world : World) : Type 0 where
+-- a running device that may use its region
+pub record IsUse (r L : ℕ) (before : Device) (running : Running) (e : Event) (old : Memory) (power : Bool) (level : ℕ) (meter : Meter) (world : World) : Type 0 where
   pub sound : IsSound before (held_by old power level meter) world
   pub own : IsRunning r running world
   pub layer : IsLayerEvent e
@@ -149,8 +153,33 @@ pub record IsUse (r L : ℕ) (before after : Device) (running : Running) (e : Ev
   pub some : 1 ≤ r
   pub runs : is_runnable running.known.figures.layers L ≡ true
 
-module _ (r L : ℕ) (before after : Device) (running : Running) (e : Event) (old new : Memory) (power power_new : Bool) (level level_new : ℕ) (meter meter_new : Meter) (world : World)
-         (use_is : IsUse r L before after running e old new power power_new level level_new meter meter_new world) where
+either_so : (b c : Bool) → (b || c) ≡ true → (b ≡ true) ⊎ (c ≡ true)
+either_so true c e = inl refl
+either_so false c e = inr e
+
+upper_three : (L M : ℕ) → L ≡ M → IsTrue (is_upper M) → L ≢ 2 → L ≡ 3
+upper_three L M same upper not_two =
+    elim (either_so (M == 2) (M == 3) upper) [
+      | inl two ↦ absurd (not_two (same ∙ eqb-true M 2 two))
+      | inr three ↦ same ∙ eqb-true M 3 three
+    ]
+
+-- a region that is not region 2 is region 3
+pub upper_named : (L : ℕ) (e : Event) → IsLayerEvent e → IsScriptEvent e → L ≡ region_named e → L ≢ 2 → L ≡ 3
+upper_named L (event.Put M name value) is script named not_two = upper_three L M named (script.0) not_two
+upper_named L (event.Get M name) is script named not_two = upper_three L M named (script.0) not_two
+upper_named L (event.Drop M name) is script named not_two = upper_three L M named (script.0) not_two
+upper_named L (event.Sign M key message) is script named not_two = upper_three L M named (script.0) not_two
+upper_named L event.Boot is script named not_two = absurd is
+upper_named L event.Off is script named not_two = absurd is
+upper_named L event.Tamper is script named not_two = absurd is
+upper_named L event.Status is script named not_two = absurd is
+upper_named L event.Go is script named not_two = absurd is
+upper_named L (event.Cut count tear) is script named not_two = absurd is
+upper_named L (event.Command text draw) is script named not_two = absurd is
+
+module _ (r L : ℕ) (before : Device) (running : Running) (e : Event) (old : Memory) (power : Bool) (level : ℕ) (meter : Meter) (world : World)
+    (use_is : IsUse r L before running e old power level meter world) where
   pub use_ready : IsReady old use_is.own.state
   use_ready = running_ready before r (held_by old power level meter) world use_is.own.state use_is.sound use_is.own.phase use_is.own.live
 
@@ -164,21 +193,19 @@ module _ (r L : ℕ) (before after : Device) (running : Running) (e : Event) (ol
   use_machine = subst (λ (w : World). Machine w e (layer_outcome L e use_is.own.state).0 (live_world r (layer_outcome L e use_is.own.state).1 world.armed)) (sym use_world)
       (region_machine r L use_is.own.state world.armed e use_is.layer use_is.named use_is.here use_runs)
 
-  use_armed : meter_new.armed ≡ meter.armed → world.armed ≡ meter_new.armed
-  use_armed same = use_is.sound.shown.armed ∙ sym same
-
-  pub use_told : (running_new : Running) (answer : Reply) → IsAnswered (layer_outcome L e use_is.own.state) answer old new → power_new ≡ power → level_new ≡ level
+  pub use_told : (after : Device) (running_new : Running) (answer : Reply) (new : Memory) (power_new : Bool) (level_new : ℕ) (meter_new : Meter)
+      → IsAnswered (layer_outcome L e use_is.own.state) answer old new → power_new ≡ power → level_new ≡ level
       → meter_new.armed ≡ meter.armed → power ≡ true → level ≡ r → ((w : World) → IsRunning r running_new w → Fits after w) → running_new.known ≡ running.known → HasRoom running_new.room
       → Steps world e answer after (held_by new power_new level_new meter_new)
-  use_told running_new answer (lacks wanted same) same_power same_level same_armed on at fits known room =
+  use_told after running_new answer new power_new level_new meter_new (lacks wanted same) same_power same_level same_armed on at fits known room =
       let held_same : held_by new power_new level_new meter_new ≡ held_by old power level meter = same_parts old new power power_new level level_new meter meter_new same same_power same_level same_armed in
       steps.lacks before after (held_by old power level meter) (held_by new power_new level_new meter_new) world e answer wanted (wants e use_is.layer) held_same use_is.sound
       (fits world (record { phase = use_is.own.phase; room = room; state = use_is.own.state; live = use_is.own.live; knows = subst (λ (k : Known). Knows k use_is.own.state) (sym known) use_is.own.knows }))
-  use_told running_new answer (tells told ready) same_power same_level same_armed on at fits known room =
+  use_told after running_new answer new power_new level_new meter_new (tells told ready) same_power same_level same_armed on at fits known room =
       let next : State = (layer_outcome L e use_is.own.state).1 in
       let knows : Knows running_new.known next =
-          subst (λ (k : Known). Knows k next) (sym known) (keeps_known running.known L e use_is.own.state use_is.layer use_is.own.knows) in
-      let armed : world.armed ≡ meter_new.armed = use_armed same_armed in
+      subst (λ (k : Known). Knows k next) (sym known) (keeps_known running.known L e use_is.own.state use_is.layer use_is.own.knows) in
+      let armed : world.armed ≡ meter_new.armed = use_is.sound.shown.armed ∙ sym same_armed in
       record {
         next = live_world r next meter_new.armed;
         step = answered (subst (λ (a : Reply). Machine world e a (live_world r next meter_new.armed)) (sym told)
@@ -188,9 +215,9 @@ module _ (r L : ℕ) (before after : Device) (running : Running) (e : Event) (ol
       }
 
   -- power failed
-  pub use_cut : (state : Off) → IsCutShort use_is.own.state (layer_outcome L e use_is.own.state) new → IsLoaded new → power_new ≡ false → meter_new.armed ≡ false → meter.armed ≡ true
-      → Steps world e reply.Stopped (device.Off state) (held_by new power_new level_new meter_new)
-  use_cut state cut sized gone disarmed armed =
+  pub use_cut : (state : Off) (new : Memory) (power_new : Bool) (level_new : ℕ) (meter_new : Meter) → IsCutShort use_is.own.state (layer_outcome L e use_is.own.state) new
+      → power_new ≡ false → meter_new.armed ≡ false → meter.armed ≡ true → Steps world e reply.Stopped (device.Off state) (held_by new power_new level_new meter_new)
+  use_cut state new power_new level_new meter_new cut gone disarmed armed =
       let next : State = (layer_outcome L e use_is.own.state).1 in
       let whole : World = live_world r next world.armed in
       let is_armed : world.armed ≡ true = use_is.sound.shown.armed ∙ armed in
@@ -201,3 +228,86 @@ module _ (r L : ℕ) (before after : Device) (running : Running) (e : Event) (ol
         | inr after_it ↦ cut_short state world e (layer_outcome L e use_is.own.state).0 whole (Some next) new power_new level_new meter_new machine is_armed cut.writes
             (inr refl) after_it (machine_valid world e (layer_outcome L e use_is.own.state).0 whole use_is.sound.valid machine) gone disarmed
       ]
+
+-- a device that is not awake refuses it
+pub use_asleep : (world : World) (e : Event) (refusal : Refusal) → IsLayerEvent e → awake_in world ≡ Err refusal → Machine world e (refused refusal) world
+use_asleep world e refusal is asleep =
+    by_region world e (refused refusal) world is
+    (subst (λ (on : Result (ℕ × State) Refusal). ◌≡◌ {A = Told} (refused refusal, world) (region_event world (region_named e) (layer_outcome (region_named e) e) on)) (sym asleep) refl)
+
+-- ---- what is counted
+
+picked_goes_on : (b : Bool) (x y : Outcome) → stop_told x.0 ≡ Ok tt → stop_told y.0 ≡ Ok tt → stop_told (if b then x else y).0 ≡ Ok tt
+picked_goes_on true x y first second = first
+picked_goes_on false x y first second = second
+
+value_goes_on : (found : Option Secret) → stop_told (value_reply found) ≡ Ok tt
+value_goes_on None = refl
+value_goes_on (Some secret) = refl
+
+put_goes_on : (L : ℕ) (name value : List ℕ) (state : State) → stop_told (put_event L name value state).0 ≡ Ok tt
+unfolding put_event
+put_goes_on L name value state =
+    let region : Region = region_of state L in
+    let new : Secret = record { name = name; value = value; born = number_of (entries_of state.log) } in
+    picked_goes_on (not (list_any (has_name name) region.secrets) && nat_le 16 (length region.secrets)) (refused region_full, state)
+    (reply.Kept, with_region state L (record region { secrets = with_secret new region.secrets })) refl refl
+
+get_goes_on : (L : ℕ) (name : List ℕ) (state : State) → stop_told (get_event L name state).0 ≡ Ok tt
+unfolding get_event
+get_goes_on L name state = value_goes_on (find (has_name name) (region_of state L).secrets)
+
+drop_goes_on : (L : ℕ) (name : List ℕ) (state : State) → stop_told (drop_event L name state).0 ≡ Ok tt
+unfolding drop_event
+drop_goes_on L name state =
+    let region : Region = region_of state L in
+    picked_goes_on (list_any (has_name name) region.secrets) (reply.Dropped, with_region state L (record region { secrets = filter (λ secret. not (has_name name secret)) region.secrets }))
+    (reply.Absent, state) refl refl
+
+sign_with_goes_on : (L : ℕ) (key : Option RegionKey) (message : List ℕ) (state : State) → stop_told (sign_with L key message state).0 ≡ Ok tt
+sign_with_goes_on L None message state = refl
+sign_with_goes_on L (Some key) message state =
+    let region : Region = region_of state L in
+    picked_goes_on (nat_le 32 key.uses) (refused key_spent, state)
+    (reply.Signed key.number key.uses (statement_format.spelling (statement_of state key message)), with_region state L (record region { keys = with_use key.number region.keys })) refl refl
+
+sign_goes_on : (L number : ℕ) (message : List ℕ) (state : State) → stop_told (sign_event L number message state).0 ≡ Ok tt
+unfolding sign_event
+sign_goes_on L number message state = sign_with_goes_on L (find (has_number number) (region_of state L).keys) message state
+
+pub outcome_goes_on : (L : ℕ) (e : Event) (state : State) → IsLayerEvent e → stop_told (layer_outcome L e state).0 ≡ Ok tt
+outcome_goes_on L (event.Put M name value) state is = put_goes_on L name value state
+outcome_goes_on L (event.Get M name) state is = get_goes_on L name state
+outcome_goes_on L (event.Drop M name) state is = drop_goes_on L name state
+outcome_goes_on L (event.Sign M key message) state is = sign_goes_on L key message state
+outcome_goes_on L event.Boot state is = absurd is
+outcome_goes_on L event.Off state is = absurd is
+outcome_goes_on L event.Tamper state is = absurd is
+outcome_goes_on L event.Status state is = absurd is
+outcome_goes_on L event.Go state is = absurd is
+outcome_goes_on L (event.Cut count tear) state is = absurd is
+outcome_goes_on L (event.Command text draw) state is = absurd is
+
+pub answer_goes_on : (L : ℕ) (e : Event) (state : State) (answer : Reply) (old new : Memory) → IsLayerEvent e → IsAnswered (layer_outcome L e state) answer old new → stop_told answer ≡ Ok tt
+answer_goes_on L e state answer old new is (lacks wanted same) = ap stop_told wanted
+answer_goes_on L e state answer old new is (tells told ready) = ap stop_told told ∙ outcome_goes_on L e state is
+
+-- calls that were counted and ended well count as much for the answer
+pub metered_by : {S E : Type 0} (n : ℕ) (told : S) (answer : Reply) (before after : Meter) → stop_told answer ≡ Ok tt → IsMetered n {A = S} {E = E} (Ok told) before after
+    → IsMetered n {A = Unit {0}} {E = Unit {0}} (stop_told answer) before after
+metered_by {S} {E} n told answer before after goes_on metered =
+    subst (λ (x : Result (Unit {0}) (Unit {0})). IsMetered n {A = Unit {0}} {E = Unit {0}} x before after) (sym goes_on)
+    (record { armed = metered.armed; stops = metered.stops; writes = metered.writes; cut = tt })
+
+-- and none are counted where none were made
+pub unmetered : (n : ℕ) (answer : Reply) (before after : Meter) → stop_told answer ≡ Ok tt → after ≡ before → IsMetered n {A = Unit {0}} {E = Unit {0}} (stop_told answer) before after
+unmetered n answer before after goes_on same =
+    subst (λ (x : Result (Unit {0}) (Unit {0})). IsMetered n {A = Unit {0}} {E = Unit {0}} x before after) (sym goes_on)
+    (record { armed = ap (λ (m : Meter). m.armed) same; stops = ap (λ (m : Meter). m.stops) same; writes = omega (arith, ap (λ (m : Meter). m.writes) same); cut = tt })
+
+-- ---- for the calls
+
+-- power is on, and the level is that of the layer
+pub running_on : (device : Device) (r : ℕ) (memory : Memory) (power : Bool) (level : ℕ) (meter : Meter) (world : World) → IsSound device (held_by memory power level meter) world
+    → world.phase ≡ ratchet r → (power ≡ true) × (level ≡ r)
+running_on device r memory power level meter world sound is = at_ratchet power level r (sym is ∙ sound.shown.phase)

@@ -1,5 +1,7 @@
 -- How single events are answered. Is nothing written that is not told?
 use Rattle.std.specs.Prelude.{◌≡◌, false, Result, Ok, Err}
+use Rattle.mb_model.specs.declared.event.Event.{Event}
+use Rattle.mb_model.specs.declared.event.Event.TheVariants as event
 use Rattle.mb_model.specs.declared.reply.Reply.{Reply}
 use Rattle.mb_model.specs.declared.reply.Reply.TheVariants as reply
 use Rattle.mb_model.specs.Layers.{standing}
@@ -44,3 +46,8 @@ IsOff (device.Dead state) = ⊥
 IsOff (device.One state running) = ⊥
 IsOff (device.Two state running) = ⊥
 IsOff (device.Three state running) = ⊥
+
+-- at a boot this holds
+abbrev pub IfBoot : Event → Type 0 → Type 0
+IfBoot event.Boot P = P
+IfBoot other P = Unit {0}

@@ -1,11 +1,12 @@
 //! Control that goes from a layer to the next.
 
-ghost use Rattle.std.specs.Prelude.{◌≡◌};
+ghost use Rattle.std.specs.Prelude.{◌≡◌, Ok};
 ghost use Rattle.mb_model.specs.declared.event.Event.TheVariants as event;
 ghost use Rattle.mb_model.specs.Layers.{is_runnable};
 ghost use Rattle.mb_model.specs.Machine.{World};
 ghost use Rattle.mb_board.specs.Calls.{held_by};
 ghost use Rattle.mb_device.specs.Sound.{IsSound, HasSound, Steps};
+ghost use Rattle.mb_device.specs.Stepping.{stop_told};
 
 use crate::device::{Device, Running};
 use crate::refusal::Refusal;
@@ -28,6 +29,7 @@ impl Device {
         requires sound { HasSound self (held_by (B.memory b.old) (B.power b.old) (B.level b.old) (B.meter b.old)) }
         ensures steps { (world : World) → IsSound self (held_by (B.memory b.old) (B.power b.old) (B.level b.old) (B.meter b.old)) world
             → Steps world event.Go result.1 result.0 (held_by (B.memory b.new) (B.power b.new) (B.level b.new) (B.meter b.new)) }
+        ensures goes_on { stop_told result.1 ≡ Ok tt }
         ensures memory { B.memory b.new ≡ B.memory b.old }
         ensures ledger { B.ledger b.new ≡ B.ledger b.old }
         ensures meter { B.meter b.new ≡ B.meter b.old }
@@ -49,9 +51,7 @@ impl Device {
                     (Device::Two(up, running), Refusal::Layer.reply())
                 }
             }
-            Device::Three(up, running) => {
-                (Device::Three(up, running), Refusal::Phase.reply())
-            }
+            Device::Three(up, running) => { (Device::Three(up, running), Refusal::Phase.reply()) }
         }
     }
 }

@@ -49,6 +49,7 @@ fn use_region<S: Reaches<L>, L: Named, B: Board, C: Ledger>(
         → ComesTo state (layer_outcome L.place event.now state) (B.memory b.old) (B.memory b.new) result }
     ensures writes { TellsOfWrites result (B.memory b.old) (B.memory b.new) (B.meter b.old) (B.meter b.new) }
     ensures known { running.new.known ≡ running.old.known }
+    ensures sized { IsLoaded (B.memory b.new) }
     ensures room { HasRoom running.new.room }
     ensures power { B.power b.new ≡ power_of result }
     ensures level { B.level b.new ≡ level_of result (B.level b.old) }
@@ -60,7 +61,9 @@ fn use_region<S: Reaches<L>, L: Named, B: Board, C: Ledger>(
     let serial = running.known.serial;
     let room = &mut running.room;
     match event {
-        Event::Put { name, value, .. } => put_secret::<S, L, B>(alloc, s, b, name, value, number, room),
+        Event::Put { name, value, .. } => put_secret::<S, L, B>(
+            alloc, s, b, name, value, number, room,
+        ),
         Event::Get { name, .. } => {
             let reply = get_secret::<S, L, B>(alloc, &s, b, name, room);
             Ok((s, reply))
@@ -96,18 +99,20 @@ fn use_at_one<B: Board, C: Ledger>(
     ensures cost { steps.new ≤ steps.old + 35473 }
 {
     let mut running = running;
-    if !running.may_run(region) {
-        return (Device::One(up, running), Refusal::Layer.reply());
-    }
-    if region == 2 {
-        return match use_region::<Up<R1>, Two, B, C>(alloc, up, &mut running, b, event, steps) {
-            Ok((up, reply)) => (Device::One(up, running), reply),
-            Err(off) => (Device::Off(off), Reply::Stopped),
-        };
-    }
-    match use_region::<Up<R1>, Three, B, C>(alloc, up, &mut running, b, event, steps) {
-        Ok((up, reply)) => (Device::One(up, running), reply),
-        Err(off) => (Device::Off(off), Reply::Stopped),
+    if running.may_run(region) {
+        if region == 2 {
+            match use_region::<Up<R1>, Two, B, C>(alloc, up, &mut running, b, event, steps) {
+                Ok((up, reply)) => (Device::One(up, running), reply),
+                Err(off) => (Device::Off(off), Reply::Stopped),
+            }
+        } else {
+            match use_region::<Up<R1>, Three, B, C>(alloc, up, &mut running, b, event, steps) {
+                Ok((up, reply)) => (Device::One(up, running), reply),
+                Err(off) => (Device::Off(off), Reply::Stopped),
+            }
+        }
+    } else {
+        (Device::One(up, running), Refusal::Layer.reply())
     }
 }
 
@@ -134,18 +139,20 @@ fn use_at_two<B: Board, C: Ledger>(
     ensures cost { steps.new ≤ steps.old + 35473 }
 {
     let mut running = running;
-    if !running.may_run(region) {
-        return (Device::Two(up, running), Refusal::Layer.reply());
-    }
-    if region == 2 {
-        return match use_region::<Up<R2>, Two, B, C>(alloc, up, &mut running, b, event, steps) {
-            Ok((up, reply)) => (Device::Two(up, running), reply),
-            Err(off) => (Device::Off(off), Reply::Stopped),
-        };
-    }
-    match use_region::<Up<R2>, Three, B, C>(alloc, up, &mut running, b, event, steps) {
-        Ok((up, reply)) => (Device::Two(up, running), reply),
-        Err(off) => (Device::Off(off), Reply::Stopped),
+    if running.may_run(region) {
+        if region == 2 {
+            match use_region::<Up<R2>, Two, B, C>(alloc, up, &mut running, b, event, steps) {
+                Ok((up, reply)) => (Device::Two(up, running), reply),
+                Err(off) => (Device::Off(off), Reply::Stopped),
+            }
+        } else {
+            match use_region::<Up<R2>, Three, B, C>(alloc, up, &mut running, b, event, steps) {
+                Ok((up, reply)) => (Device::Two(up, running), reply),
+                Err(off) => (Device::Off(off), Reply::Stopped),
+            }
+        }
+    } else {
+        (Device::Two(up, running), Refusal::Layer.reply())
     }
 }
 
@@ -172,15 +179,16 @@ fn use_at_three<B: Board, C: Ledger>(
     ensures cost { steps.new ≤ steps.old + 35473 }
 {
     let mut running = running;
-    if !running.may_run(region) {
-        return (Device::Three(up, running), Refusal::Layer.reply());
-    }
     if region == 2 {
         return (Device::Three(up, running), Refusal::Layer.reply());
     }
-    match use_region::<Up<R3>, Three, B, C>(alloc, up, &mut running, b, event, steps) {
-        Ok((up, reply)) => (Device::Three(up, running), reply),
-        Err(off) => (Device::Off(off), Reply::Stopped),
+    if running.may_run(region) {
+        match use_region::<Up<R3>, Three, B, C>(alloc, up, &mut running, b, event, steps) {
+            Ok((up, reply)) => (Device::Three(up, running), reply),
+            Err(off) => (Device::Off(off), Reply::Stopped),
+        }
+    } else {
+        (Device::Three(up, running), Refusal::Layer.reply())
     }
 }
 

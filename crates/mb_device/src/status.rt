@@ -1,11 +1,11 @@
 //! How a device stands.
 
-ghost use Rattle.std.specs.Prelude.{◌≡◌, ◌≤◌};
+ghost use Rattle.std.specs.Prelude.{◌≡◌, ◌≤◌, Ok};
 ghost use Rattle.mb_model.specs.Layers.{standing};
 ghost use Rattle.mb_model.specs.Machine.{World, status_event, awake_in};
 ghost use Rattle.mb_model.specs.Valid.{Valid};
 ghost use Rattle.mb_device.specs.Sound.{Fits};
-ghost use Rattle.mb_device.specs.Stepping.{status_known};
+ghost use Rattle.mb_device.specs.Stepping.{status_known, stop_told};
 
 use crate::device::{Device, Running};
 use crate::refusal::Refusal;
@@ -49,7 +49,8 @@ impl Running {
 impl Device {
     /// Answers `status`, from what is remembered.
     pub(crate) fn status(&self) -> Reply
-        ensures { (world : World) → Fits self.now world → Valid world.state → (result, world) ≡ status_event world (awake_in world) }
+        ensures told { (world : World) → Fits self.now world → Valid world.state → (result, world) ≡ status_event world (awake_in world) }
+        ensures goes_on { stop_told result ≡ Ok tt }
     {
         match self {
             Device::Off(_) => Refusal::Off.reply(),

@@ -2,13 +2,13 @@
 
 ghost use Rattle.std.specs.Prelude.{◌≡◌, ◌+◌, ◌≤◌, ◌++◌, All, None};
 ghost use Rattle.mb_format.specs.Format.{IsBytes};
-ghost use Rattle.mb_model.specs.Acknowledged.{Shows};
 ghost use Rattle.mb_model.specs.Board.{Held, IsLoaded};
 ghost use Rattle.mb_model.specs.Machine.{World};
 ghost use Rattle.mb_model.specs.Script.{IsScriptEvent};
 ghost use Rattle.mb_board.specs.Calls.{held_by, IsMetered};
+ghost use Rattle.mb_boot.specs.Booting.{IsQuiet};
 ghost use Rattle.mb_device.specs.Sound.{IsSound, HasSound, taken, CanStep, Steps};
-ghost use Rattle.mb_device.specs.Stepping.{stop_told, IfNothingTold};
+ghost use Rattle.mb_device.specs.Stepping.{stop_told, IfNothingTold, IfBoot};
 ghost use Rattle.mb_device.specs.Served.{IsServedFrom};
 
 use crate::device::Device;
@@ -19,7 +19,10 @@ use std::alloc::Global;
 use std::sync::ledger::Ledger;
 
 impl Device {
-    /// Answers an event that the board has handed out.
+    /// Answers an event that the board has handed out. Together with the handing out, the answer is one step of the
+    /// machine, from the world that the board held before. Nothing is written for an event that is refused, for which an
+    /// allocation fails, or whose answer tells of no change; and nothing for the boot of a clean memory. There are at most
+    /// 471 write calls, and 139,744 steps. `Stopped` is answered exactly where a write call was stopped.
     pub fn step<B: Board, L: Ledger>(
         self,
         alloc: Global,
@@ -34,6 +37,7 @@ impl Device {
             → held_by (B.memory b.old) (B.power b.old) (B.level b.old) (B.meter b.old) ≡ taken event.now before
             → Steps world event.now result.1 result.0 (held_by (B.memory b.new) (B.power b.new) (B.level b.new) (B.meter b.new)) }
         ensures untold { IfNothingTold result.1 (B.memory b.old) (B.memory b.new) (B.meter b.old) (B.meter b.new) }
+        ensures quiet { IfBoot event.now (IsQuiet (B.memory b.old) (B.memory b.new) (B.meter b.old) (B.meter b.new)) }
         ensures ledger { B.ledger b.new ≡ B.ledger b.old }
         ensures meter { IsMetered 471 (stop_told result.1) (B.meter b.old) (B.meter b.new) }
         ensures cost { steps.new ≤ steps.old + 139744 }
@@ -56,8 +60,8 @@ impl Device {
         }
     }
 
-    /// Answers every event that waits, each by one step of the machine from the world that the board held at the answer
-    /// before.
+    /// Answers every event that waits, in order, each by one step of the machine from the world that the board held at
+    /// the answer before.
     pub fn serve<B: Board, L: Ledger>(
         self,
         alloc: Global,

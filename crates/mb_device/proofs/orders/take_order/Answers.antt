@@ -1,20 +1,28 @@
-use Rattle.std.proofs.Common.{rules, ◌≡◌, ◌+◌, ◌≤◌, ℕ, ◌-◌, ◌*◌, ◌<◌, length, ◌/◌, ◌%◌, Bool, true, false, nat_eq, nat_lt, List, [], ◌∷◌, ◌++◌, slice_index_or, slice_set, bit_and, bit_or, Fits, w8, w32, w64, Bor, MutBor}
-use Rattle.mb_format.specs.Format.{IsBytes}
-use Rattle.mb_model.specs.declared.event.Event.TheVariants as event
-use Rattle.mb_model.specs.Machine.{World}
-use Rattle.mb_board.specs.Calls.{held_by, IsMetered}
-use Rattle.mb_device.specs.Sound.{IsSound, HasSound, Steps}
-use Rattle.mb_device.specs.Stepping.{stop_told, IfNothingTold}
+use Rattle.std.proofs.Common.{sym, ◌∙◌}
+use Rattle.mb_device.specs.declared.device.Device.TheVariants as device
+use Rattle.mb_device.proofs.Uses.{running_on, metered_by}
+use Rattle.mb_device.proofs.Steps.{running_ready}
+use Rattle.mb_device.proofs.Ordered.{order_told, order_cut, order_goes_on}
 use Rattle.mb_device.proofs.orders.take_order.Goals as goal
 
--- src/orders.rt:22:1
 pub returns-in-Ok-clause-steps : goal.returns-in-Ok-clause-steps
-returns-in-Ok-clause-steps g c = ?
+returns-in-Ok-clause-steps g c = λ world sound.
+    let on = running_on (device.One c.args.up c.args.running) 1 (g.B.Board.memory c.args.b.now) (g.B.Register.power c.args.b.now) (g.B.Register.level c.args.b.now) (g.B.Board.meter c.args.b.now) world sound sound.fits.phase in
+    let ready = running_ready (device.One c.args.up c.args.running) 1 _ world sound.fits.state sound sound.fits.phase sound.fits.live in
+    order_told (device.One c.args.up c.args.running) c.args.running c.args.text.now c.args.draw.now (g.B.Board.memory c.args.b.now) (g.B.Register.power c.args.b.now) (g.B.Register.level c.args.b.now) (g.B.Board.meter c.args.b.now) world sound sound.fits
+    (device.One c.in-Ok.up (record { known = c.obey.new.known; room = c.obey.new.room })) (record { known = c.obey.new.known; room = c.obey.new.room }) c.in-Ok.reply (g.B.Board.memory c.obey.new.b) (g.B.Register.power c.obey.new.b) (g.B.Register.level c.obey.new.b) (g.B.Board.meter c.obey.new.b)
+    (c.in-Ok.ensures.told sound.fits.state ready sound.fits.knows) (c.in-Ok.ensures.power ∙ sym on.0) c.in-Ok.ensures.level c.in-Ok.ensures.meter.armed on.0 on.1 (λ w fits. fits) c.obey.ensures.room
 
--- src/orders.rt:22:1
 pub returns-in-Ok-clause-meter : goal.returns-in-Ok-clause-meter
-returns-in-Ok-clause-meter g c = ?
+returns-in-Ok-clause-meter g c =
+    let world = c.requires.sound.world in
+    let sound = c.requires.sound.sound in
+    let ready = running_ready (device.One c.args.up c.args.running) 1 _ world sound.fits.state sound sound.fits.phase sound.fits.live in
+    metered_by 471 (c.in-Ok.up, c.in-Ok.reply) c.in-Ok.reply (g.B.Board.meter c.args.b.now) (g.B.Board.meter c.obey.new.b)
+    (order_goes_on sound.fits.state c.args.text.now c.args.draw.now c.obey.new.known c.in-Ok.reply (g.B.Board.memory c.args.b.now) (g.B.Board.memory c.obey.new.b) (c.in-Ok.ensures.told sound.fits.state ready sound.fits.knows)) c.in-Ok.ensures.meter
 
--- src/orders.rt:22:1
 pub returns-in-Err-clause-steps : goal.returns-in-Err-clause-steps
-returns-in-Err-clause-steps g c = ?
+returns-in-Err-clause-steps g c = λ world sound.
+    let ready = running_ready (device.One c.args.up c.args.running) 1 _ world sound.fits.state sound sound.fits.phase sound.fits.live in
+    order_cut (device.One c.args.up c.args.running) c.args.running c.args.text.now c.args.draw.now (g.B.Board.memory c.args.b.now) (g.B.Register.power c.args.b.now) (g.B.Register.level c.args.b.now) (g.B.Board.meter c.args.b.now) world sound sound.fits
+    c.in-Err.off (g.B.Board.memory c.obey.new.b) (g.B.Register.power c.obey.new.b) (g.B.Register.level c.obey.new.b) (g.B.Board.meter c.obey.new.b) (c.in-Err.ensures.told sound.fits.state ready sound.fits.knows) c.in-Err.ensures.power c.in-Err.ensures.meter.armed c.in-Err.ensures.meter.cut

@@ -3,9 +3,6 @@ use Rattle.mb_model.specs.Board.{Meter}
 use Rattle.mb_device.proofs.Boots.{is_booted, boots, boot_stopped, boot_found_dead, boot_lacks}
 use Rattle.mb_device.proofs.power.come_up.Goals as goal
 
-pub remember-known-requires-clause-stub : goal.remember-known-requires-clause-stub
-remember-known-requires-clause-stub g c = ?
-
 pub remember-known-requires-clause-loaded : goal.remember-known-requires-clause-loaded
 remember-known-requires-clause-loaded g c =
     let has = c.requires.sound in

@@ -22,11 +22,11 @@ returns-in-Dead-clause-steps g c = λ world sound.
 pub returns-then-may_run-clause-steps : goal.returns-then-may_run-clause-steps
 returns-then-may_run-clause-steps g c = λ world sound.
     let own : IsSound (device.One c.in-One.up c.in-One.running) (held_by (g.B.Board.memory c.args.b.now) (g.B.Register.power c.args.b.now) (g.B.Register.level c.args.b.now) (g.B.Board.meter c.args.b.now)) world =
-        subst (λ (d : Device). IsSound d (held_by (g.B.Board.memory c.args.b.now) (g.B.Register.power c.args.b.now) (g.B.Register.level c.args.b.now) (g.B.Board.meter c.args.b.now)) world) c.in-One.is sound in
+    subst (λ (d : Device). IsSound d (held_by (g.B.Board.memory c.args.b.now) (g.B.Register.power c.args.b.now) (g.B.Register.level c.args.b.now) (g.B.Board.meter c.args.b.now)) world) c.in-One.is sound in
     goes_on (device.One c.in-One.up c.in-One.running) (device.Two c.advance.result c.in-One.running) 1 c.in-One.running (g.B.Board.memory c.args.b.now) (g.B.Board.memory c.advance.new.r)
     (g.B.Register.power c.args.b.now) (g.B.Register.power c.advance.new.r) (g.B.Register.level c.args.b.now) (g.B.Register.level c.advance.new.r) (g.B.Board.meter c.args.b.now) (g.B.Board.meter c.advance.new.r)
     world own own.fits (second_runs world c.in-One.running own.fits own.valid (sym c.may_run.ensures ∙ c.if-may_run.true))
-    (search rules) (search rules) c.advance.ensures.power c.advance.ensures.level (λ w running. running)
+    (g.met.B.Board.keeps_memory c.advance.new.r c.args.b.now c.advance.ensures.rest) (g.met.B.Board.keeps_meter c.advance.new.r c.args.b.now c.advance.ensures.rest) c.advance.ensures.power c.advance.ensures.level (λ w running. running)
 
 pub returns-else-may_run-clause-steps : goal.returns-else-may_run-clause-steps
 returns-else-may_run-clause-steps g c = λ world sound.
@@ -36,11 +36,11 @@ returns-else-may_run-clause-steps g c = λ world sound.
 pub returns-then-may_run-2-clause-steps : goal.returns-then-may_run-2-clause-steps
 returns-then-may_run-2-clause-steps g c = λ world sound.
     let own : IsSound (device.Two c.in-Two.up c.in-Two.running) (held_by (g.B.Board.memory c.args.b.now) (g.B.Register.power c.args.b.now) (g.B.Register.level c.args.b.now) (g.B.Board.meter c.args.b.now)) world =
-        subst (λ (d : Device). IsSound d (held_by (g.B.Board.memory c.args.b.now) (g.B.Register.power c.args.b.now) (g.B.Register.level c.args.b.now) (g.B.Board.meter c.args.b.now)) world) c.in-Two.is sound in
+    subst (λ (d : Device). IsSound d (held_by (g.B.Board.memory c.args.b.now) (g.B.Register.power c.args.b.now) (g.B.Register.level c.args.b.now) (g.B.Board.meter c.args.b.now)) world) c.in-Two.is sound in
     goes_on (device.Two c.in-Two.up c.in-Two.running) (device.Three c.advance-then-may_run-2.result c.in-Two.running) 2 c.in-Two.running (g.B.Board.memory c.args.b.now) (g.B.Board.memory c.advance-then-may_run-2.new.r)
     (g.B.Register.power c.args.b.now) (g.B.Register.power c.advance-then-may_run-2.new.r) (g.B.Register.level c.args.b.now) (g.B.Register.level c.advance-then-may_run-2.new.r) (g.B.Board.meter c.args.b.now) (g.B.Board.meter c.advance-then-may_run-2.new.r)
     world own own.fits (third_runs world c.in-Two.running own.fits own.valid (sym c.may_run-in-Two.ensures ∙ c.if-may_run-2.true))
-    (search rules) (search rules) c.advance-then-may_run-2.ensures.power c.advance-then-may_run-2.ensures.level (λ w running. running)
+    (g.met.B.Board.keeps_memory c.advance-then-may_run-2.new.r c.args.b.now c.advance-then-may_run-2.ensures.rest) (g.met.B.Board.keeps_meter c.advance-then-may_run-2.new.r c.args.b.now c.advance-then-may_run-2.ensures.rest) c.advance-then-may_run-2.ensures.power c.advance-then-may_run-2.ensures.level (λ w running. running)
 
 pub returns-else-may_run-2-clause-steps : goal.returns-else-may_run-2-clause-steps
 returns-else-may_run-2-clause-steps g c = λ world sound.

@@ -27,8 +27,8 @@ answer-requires-clause-step g c =
     may_answer _ _ _ c.events.device c.step-next.result.0 (g.B.Board.ledger c.events.b) (g.B.Board.ledger c.take.new.self) (g.B.Board.ledger c.step-next.new.b) before after c.in-Some.event some.0 c.step-next.result.1
     c.events.invariant some.2 c.step-next.ensures.ledger
     (λ world sound. c.step-next.ensures.steps before world sound
-        (taken_by c.in-Some.event (g.B.Board.memory c.events.b) (g.B.Board.memory c.take.new.self) (g.B.Register.power c.events.b) (g.B.Register.power c.take.new.self) (g.B.Register.level c.events.b) (g.B.Register.level c.take.new.self) (g.B.Board.meter c.events.b) (g.B.Board.meter c.take.new.self)
-        c.in-Some.ensures.memory c.in-Some.ensures.power c.in-Some.ensures.level (ap (λ (m : Meter). m.armed) c.in-Some.ensures.meter)))
+    (taken_by c.in-Some.event (g.B.Board.memory c.events.b) (g.B.Board.memory c.take.new.self) (g.B.Register.power c.events.b) (g.B.Register.power c.take.new.self) (g.B.Register.level c.events.b) (g.B.Register.level c.take.new.self) (g.B.Board.meter c.events.b) (g.B.Board.meter c.take.new.self)
+    c.in-Some.ensures.memory c.in-Some.ensures.power c.in-Some.ensures.level (ap (λ (m : Meter). m.armed) c.in-Some.ensures.meter)))
 
 pub events-smaller : goal.events-smaller
 events-smaller g c =
@@ -45,8 +45,8 @@ events-preserved g c =
     serves_more _ _ _ c.events.device c.step-next.result.0 (g.B.Board.ledger c.events.b) (g.B.Board.ledger c.take.new.self) (g.B.Board.ledger c.step-next.new.b) (g.B.Board.ledger c.answer.new.self) before after now c.in-Some.event some.0 c.step-next.result.1
     c.events.invariant some.1 some.2 c.step-next.ensures.ledger
     (λ world sound. c.step-next.ensures.steps before world sound
-        (taken_by c.in-Some.event (g.B.Board.memory c.events.b) (g.B.Board.memory c.take.new.self) (g.B.Register.power c.events.b) (g.B.Register.power c.take.new.self) (g.B.Register.level c.events.b) (g.B.Register.level c.take.new.self) (g.B.Board.meter c.events.b) (g.B.Board.meter c.take.new.self)
-        c.in-Some.ensures.memory c.in-Some.ensures.power c.in-Some.ensures.level (ap (λ (m : Meter). m.armed) c.in-Some.ensures.meter)))
+    (taken_by c.in-Some.event (g.B.Board.memory c.events.b) (g.B.Board.memory c.take.new.self) (g.B.Register.power c.events.b) (g.B.Register.power c.take.new.self) (g.B.Register.level c.events.b) (g.B.Register.level c.take.new.self) (g.B.Board.meter c.events.b) (g.B.Board.meter c.take.new.self)
+    c.in-Some.ensures.memory c.in-Some.ensures.power c.in-Some.ensures.level (ap (λ (m : Meter). m.armed) c.in-Some.ensures.meter)))
     c.answer.ensures.ledger
     (same_parts (g.B.Board.memory c.step-next.new.b) (g.B.Board.memory c.answer.new.self) (g.B.Register.power c.step-next.new.b) (g.B.Register.power c.answer.new.self) (g.B.Register.level c.step-next.new.b) (g.B.Register.level c.answer.new.self) (g.B.Board.meter c.step-next.new.b) (g.B.Board.meter c.answer.new.self)
     c.answer.ensures.memory c.answer.ensures.power c.answer.ensures.level (ap (λ (m : Meter). m.armed) c.answer.ensures.meter))

@@ -1,35 +1,45 @@
-use Rattle.std.proofs.Common.{rules, ◌≡◌, ◌+◌, ◌≤◌, ◌++◌, All, None, ℕ, ◌-◌, ◌*◌, ◌<◌, length, ◌/◌, ◌%◌, Bool, true, false, nat_eq, nat_lt, List, [], ◌∷◌, slice_index_or, slice_set, bit_and, bit_or, Fits, w8, w32, w64, Bor, MutBor}
-use Rattle.mb_format.specs.Format.{IsBytes}
-use Rattle.mb_model.specs.Acknowledged.{Shows}
-use Rattle.mb_model.specs.Board.{Held, IsLoaded}
-use Rattle.mb_model.specs.Machine.{World}
-use Rattle.mb_model.specs.Script.{IsScriptEvent}
-use Rattle.mb_board.specs.Calls.{held_by, IsMetered}
-use Rattle.mb_device.specs.Sound.{IsSound, HasSound, taken, CanStep, Steps}
-use Rattle.mb_device.specs.Stepping.{stop_told, IfNothingTold}
-use Rattle.mb_device.specs.Served.{IsServedFrom}
+use Rattle.std.proofs.Common.{◌≡◌, sym, subst, refl}
+use Rattle.mb_model.specs.declared.event.Event.{Event}
+use Rattle.mb_model.specs.declared.event.Event.TheVariants as event
+use Rattle.mb_model.specs.declared.reply.Reply.TheVariants as reply
+use Rattle.mb_model.specs.Board.{Held}
+use Rattle.mb_board.specs.Calls.{held_by}
+use Rattle.mb_device.specs.Sound.{IsSound, taken, Steps}
+use Rattle.mb_device.proofs.Steps.{stays}
+use Rattle.mb_device.proofs.Taken.{goes_off, is_tampered, is_armed, off_same}
+use Rattle.mb_device.proofs.Uses.{unmetered}
 use Rattle.mb_device.proofs.device.Device.step.Goals as goal
 
--- src/step.rt:23:5
 pub returns-in-Off-clause-steps : goal.returns-in-Off-clause-steps
-returns-in-Off-clause-steps g c = ?
+returns-in-Off-clause-steps g c = λ before world sound same.
+    let at : (held_by (g.B.Board.memory c.args.b.now) (g.B.Register.power c.args.b.now) (g.B.Register.level c.args.b.now) (g.B.Board.meter c.args.b.now)) ≡ taken event.Off before = subst (λ (e : Event). (held_by (g.B.Board.memory c.args.b.now) (g.B.Register.power c.args.b.now) (g.B.Register.level c.args.b.now) (g.B.Board.meter c.args.b.now)) ≡ taken e before) c.in-Off.is same in
+    subst (λ (e : Event). Steps world e reply.Off c.power_off.result (held_by (g.B.Board.memory c.power_off.new.b) (g.B.Register.power c.power_off.new.b) (g.B.Register.level c.power_off.new.b) (g.B.Board.meter c.power_off.new.b))) (sym c.in-Off.is)
+    (goes_off c.args.self c.power_off.result before (held_by (g.B.Board.memory c.power_off.new.b) (g.B.Register.power c.power_off.new.b) (g.B.Register.level c.power_off.new.b) (g.B.Board.meter c.power_off.new.b)) world sound c.power_off.ensures.device
+    (off_same (g.B.Board.memory c.args.b.now) (g.B.Board.memory c.power_off.new.b) (g.B.Register.power c.args.b.now) (g.B.Register.power c.power_off.new.b) (g.B.Register.level c.args.b.now) (g.B.Register.level c.power_off.new.b) (g.B.Board.meter c.args.b.now) (g.B.Board.meter c.power_off.new.b)
+    (taken event.Off before) at refl c.power_off.ensures.memory c.power_off.ensures.power c.power_off.ensures.meter))
 
--- src/step.rt:23:5
 pub returns-in-Tamper-clause-steps : goal.returns-in-Tamper-clause-steps
-returns-in-Tamper-clause-steps g c = ?
+returns-in-Tamper-clause-steps g c = λ before world sound same.
+    let at : (held_by (g.B.Board.memory c.args.b.now) (g.B.Register.power c.args.b.now) (g.B.Register.level c.args.b.now) (g.B.Board.meter c.args.b.now)) ≡ taken event.Tamper before = subst (λ (e : Event). (held_by (g.B.Board.memory c.args.b.now) (g.B.Register.power c.args.b.now) (g.B.Register.level c.args.b.now) (g.B.Board.meter c.args.b.now)) ≡ taken e before) c.in-Tamper.is same in
+    subst (λ (e : Event). Steps world e reply.Tampered c.power_off-in-Tamper.result (held_by (g.B.Board.memory c.power_off-in-Tamper.new.b) (g.B.Register.power c.power_off-in-Tamper.new.b) (g.B.Register.level c.power_off-in-Tamper.new.b) (g.B.Board.meter c.power_off-in-Tamper.new.b))) (sym c.in-Tamper.is)
+    (is_tampered c.args.self c.power_off-in-Tamper.result before (held_by (g.B.Board.memory c.power_off-in-Tamper.new.b) (g.B.Register.power c.power_off-in-Tamper.new.b) (g.B.Register.level c.power_off-in-Tamper.new.b) (g.B.Board.meter c.power_off-in-Tamper.new.b)) world sound c.power_off-in-Tamper.ensures.device
+    (off_same (g.B.Board.memory c.args.b.now) (g.B.Board.memory c.power_off-in-Tamper.new.b) (g.B.Register.power c.args.b.now) (g.B.Register.power c.power_off-in-Tamper.new.b) (g.B.Register.level c.args.b.now) (g.B.Register.level c.power_off-in-Tamper.new.b) (g.B.Board.meter c.args.b.now) (g.B.Board.meter c.power_off-in-Tamper.new.b)
+    (taken event.Tamper before) at refl c.power_off-in-Tamper.ensures.memory c.power_off-in-Tamper.ensures.power c.power_off-in-Tamper.ensures.meter))
 
--- src/step.rt:23:5
 pub returns-in-Cut-clause-steps : goal.returns-in-Cut-clause-steps
-returns-in-Cut-clause-steps g c = ?
+returns-in-Cut-clause-steps g c = λ before world sound same.
+    let at : (held_by (g.B.Board.memory c.args.b.now) (g.B.Register.power c.args.b.now) (g.B.Register.level c.args.b.now) (g.B.Board.meter c.args.b.now)) ≡ taken (event.Cut c.in-Cut.count c.in-Cut.tear) before = subst (λ (e : Event). (held_by (g.B.Board.memory c.args.b.now) (g.B.Register.power c.args.b.now) (g.B.Register.level c.args.b.now) (g.B.Board.meter c.args.b.now)) ≡ taken e before) c.in-Cut.is same in
+    subst (λ (e : Event). Steps world e reply.Armed c.args.self (held_by (g.B.Board.memory c.args.b.now) (g.B.Register.power c.args.b.now) (g.B.Register.level c.args.b.now) (g.B.Board.meter c.args.b.now))) (sym c.in-Cut.is) (is_armed c.args.self before (held_by (g.B.Board.memory c.args.b.now) (g.B.Register.power c.args.b.now) (g.B.Register.level c.args.b.now) (g.B.Board.meter c.args.b.now)) world c.in-Cut.count c.in-Cut.tear sound at)
 
--- src/step.rt:23:5
 pub returns-in-Status-clause-steps : goal.returns-in-Status-clause-steps
-returns-in-Status-clause-steps g c = ?
+returns-in-Status-clause-steps g c = λ before world sound same.
+    let at : (held_by (g.B.Board.memory c.args.b.now) (g.B.Register.power c.args.b.now) (g.B.Register.level c.args.b.now) (g.B.Board.meter c.args.b.now)) ≡ before = subst (λ (e : Event). (held_by (g.B.Board.memory c.args.b.now) (g.B.Register.power c.args.b.now) (g.B.Register.level c.args.b.now) (g.B.Board.meter c.args.b.now)) ≡ taken e before) c.in-Status.is same in
+    let own : IsSound c.args.self (held_by (g.B.Board.memory c.args.b.now) (g.B.Register.power c.args.b.now) (g.B.Register.level c.args.b.now) (g.B.Board.meter c.args.b.now)) world = subst (λ (h : Held). IsSound c.args.self h world) (sym at) sound in
+    subst (λ (e : Event). Steps world e c.status-reply.result c.args.self (held_by (g.B.Board.memory c.args.b.now) (g.B.Register.power c.args.b.now) (g.B.Register.level c.args.b.now) (g.B.Board.meter c.args.b.now))) (sym c.in-Status.is)
+    (stays c.args.self c.args.self (held_by (g.B.Board.memory c.args.b.now) (g.B.Register.power c.args.b.now) (g.B.Register.level c.args.b.now) (g.B.Board.meter c.args.b.now)) world event.Status c.status-reply.result (c.status-reply.ensures.told world sound.fits sound.valid) own own.fits)
 
--- src/step.rt:23:5
 pub returns-in-Status-clause-meter : goal.returns-in-Status-clause-meter
-returns-in-Status-clause-meter g c = ?
+returns-in-Status-clause-meter g c = unmetered 471 c.status-reply.result _ _ c.status-reply.ensures.goes_on refl
 
--- src/step.rt:23:5
 pub returns-in-Go-clause-meter : goal.returns-in-Go-clause-meter
-returns-in-Go-clause-meter g c = ?
+returns-in-Go-clause-meter g c = unmetered 471 c.go.result.1 _ _ c.go.ensures.goes_on c.go.ensures.meter

@@ -1,24 +1,14 @@
-use Rattle.std.proofs.Common.{rules, ◌≡◌, ◌+◌, ◌≤◌, true, IsTrue, ℕ, ◌-◌, ◌*◌, ◌<◌, length, ◌/◌, ◌%◌, Bool, false, nat_eq, nat_lt, List, [], ◌∷◌, ◌++◌, slice_index_or, slice_set, bit_and, bit_or, Fits, w8, w32, w64, Bor, MutBor}
-use Rattle.mb_format.specs.Format.{IsBytes}
-use Rattle.mb_model.specs.declared.state.State.{State}
-use Rattle.mb_model.specs.Board.{IsLoaded}
-use Rattle.mb_model.specs.Layers.{is_runnable}
-use Rattle.mb_model.specs.Machine.{World}
-use Rattle.mb_model.specs.Script.{IsScriptEvent}
-use Rattle.mb_board.specs.Calls.{held_by, power_of, level_of, IsMetered}
-use Rattle.mb_layout.specs.Rooms.{HasRoom}
-use Rattle.mb_storing.specs.Holding.{IsReady}
-use Rattle.mb_storing.specs.Answering.{ComesTo, TellsOfWrites}
-use Rattle.mb_commit.specs.Remembering.{Knows, IsRemembered}
-use Rattle.mb_device.specs.Sound.{IsSound, HasSound, Steps}
-use Rattle.mb_device.specs.Stepping.{stop_told, IfNothingTold}
-use Rattle.mb_device.specs.Regions.{IsLayerEvent, region_named, layer_outcome}
+use Rattle.mb_model.specs.Refusals.{powered_off, zeroised}
+use Rattle.mb_device.specs.declared.device.Device.TheVariants as device
+use Rattle.mb_device.proofs.Worlds.{awake_off, awake_dead}
+use Rattle.mb_device.proofs.Steps.{refuses_as}
+use Rattle.mb_device.proofs.Uses.{use_asleep}
 use Rattle.mb_device.proofs.device.Device.use_region.Goals as goal
 
--- src/regions.rt:189:5
 pub returns-in-Off-clause-steps : goal.returns-in-Off-clause-steps
-returns-in-Off-clause-steps g c = ?
+returns-in-Off-clause-steps g c = λ world sound.
+    refuses_as c.args.self (device.Off c.in-Off.off) _ world c.args.event.now c.reply.result powered_off c.in-Off.is c.reply.ensures sound (λ fits. use_asleep world c.args.event.now powered_off c.requires.event (awake_off world fits))
 
--- src/regions.rt:189:5
 pub returns-in-Dead-clause-steps : goal.returns-in-Dead-clause-steps
-returns-in-Dead-clause-steps g c = ?
+returns-in-Dead-clause-steps g c = λ world sound.
+    refuses_as c.args.self (device.Dead c.in-Dead.dead) _ world c.args.event.now c.reply-in-Dead.result zeroised c.in-Dead.is c.reply-in-Dead.ensures sound (λ fits. use_asleep world c.args.event.now zeroised c.requires.event (awake_dead world fits))
