@@ -1,4 +1,4 @@
--- How bytes are judged, and the commit that is planned of an order. Is all that will be written fixed before anything is?
+-- How bytes are judged, and the commit that is planned of an order. Is all that is written fixed before any write?
 use Rattle.std.specs.Prelude.{◌≡◌, ℕ, ◌-◌, ◌⊎◌, List, ◌++◌, map, Option, None, Some, Result, Ok, Err}
 use Rattle.mb_format.specs.Format.{Spells}
 use Rattle.mb_model.specs.declared.entry.Entry.{Entry}
