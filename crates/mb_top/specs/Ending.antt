@@ -1,4 +1,5 @@
--- What carries out a part of a command, before the line of its status is printed.
+-- What carries out a part of a command, before the line of its status is printed. Does each end have its line and its
+-- status?
 use Rattle.std.specs.Prelude.{◌≡◌, ℕ, List, [], ◌++◌, codes, Result, Ok, Err}
 use Rattle.mb_model.specs.declared.event.Answered.{Answered}
 use Rattle.mb_model.specs.declared.role.Role.{Role}

@@ -1,4 +1,4 @@
--- Which request the words are.
+-- Which request the words are. Can words be two requests?
 use Rattle.std.specs.Prelude.{◌≡◌, ◌≢◌, ℕ, List, [], ◌∷◌, All, IsTrue}
 use Rattle.std.specs.Fmt.{decimal}
 use Rattle.mb_model.specs.Layers.{is_upper}
