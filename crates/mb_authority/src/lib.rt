@@ -14,7 +14,7 @@ mod targets;
 
 pub use changes::{admits, after, kept_regions, may_cosign, placed};
 pub use kinds::{change_by, renews};
-pub use layers::{is_in, layer_of};
+pub use layers::{is_in, is_owned, is_runnable, layer_of};
 pub use rights::{authority, condition};
 pub use targets::target_fails;
 

@@ -13,7 +13,7 @@ ghost use Rattle.mb_boot.specs.Settling.{IsLive};
 ghost use Rattle.mb_boot.specs.Booting.{IsFoundAs, Rests, IsWiped, Cleans, IsQuiet, StandsForValid, KeepsState, IfUnwritten, stop_of, power_at, HasLevel, is_zeroised};
 
 use crate::work::settle;
-use mb_area::{LookEnd, Looked, look, wipe_root};
+use mb_area::{LookEnd, Looked, Unsettled, look, wipe_root};
 use mb_board::Board;
 use mb_layout::Room;
 use mb_lms::Steps;
@@ -45,9 +45,37 @@ fn is_dead<B: Board>(b: &B) -> bool
     life[0] == 0
 }
 
+/// Does the pending work, and wipes the root's area that is not in force. There are at most 237 write calls.
+#[tactic(auto, using(crate::proofs::Booted::settled_rests, mb_storing::proofs::HoldingLemmas::contents_keep, mb_storing::proofs::HoldingLemmas::keeps_then))]
+fn settle_and_wipe<B: Board, L: Ledger>(
+    u: Unsettled,
+    b: &mut B,
+    room: &mut Room,
+    steps: &mut Steps<L>,
+) -> Result<Up<R1>, Off>
+    requires on { B.power b.old ≡ true }
+    requires level { B.level b.old ≡ 1 }
+    requires loaded { IsLoaded (B.memory b.old) }
+    requires live { IsLive (B.memory b.old) }
+    requires room { HasRoom room.old }
+    ensures rests { OnOk result (Rests (B.memory b.old) (B.memory b.new)) }
+    ensures meaning { KeepsMeaning (B.memory b.old) (B.memory b.new) }
+    ensures sized { IsLoaded (B.memory b.new) }
+    ensures power { B.power b.new ≡ power_of result }
+    ensures level { B.level b.new ≡ level_of result (B.level b.old) }
+    ensures ledger { B.ledger b.new ≡ B.ledger b.old }
+    ensures meter { IsMetered 237 result (B.meter b.old) (B.meter b.new) }
+    ensures room { HasRoom room.new }
+    ensures cost { steps.new ≤ steps.old + 70946 }
+{
+    let w = settle(u, b, room, steps)?;
+    let up = wipe_root(w, b)?;
+    Ok(up)
+}
+
 /// Does what is left to be done in a device that is alive, and wipes the root's area that is not in force. There are at
 /// most 237 write calls.
-#[tactic(auto, using(crate::proofs::Booted::already_rests, crate::proofs::Booted::wiped_rests, crate::proofs::Booted::settled_rests, crate::proofs::Booted::already_quiet, crate::proofs::Booted::unwiped_quiet, crate::proofs::Booted::unsettled_quiet, mb_storing::proofs::HoldingLemmas::contents_keep, mb_storing::proofs::HoldingLemmas::keeps_then, crate::proofs::Booted::keeps_all))]
+#[tactic(auto, using(crate::proofs::Booted::already_rests, crate::proofs::Booted::wiped_rests, crate::proofs::Booted::already_quiet, crate::proofs::Booted::unwiped_quiet, crate::proofs::Booted::unsettled_quiet, mb_storing::proofs::HoldingLemmas::contents_keep, mb_storing::proofs::HoldingLemmas::keeps_then, crate::proofs::Booted::keeps_all))]
 fn bring_to_rest<B: Board, L: Ledger>(
     looked: Looked,
     b: &mut B,
@@ -74,10 +102,7 @@ fn bring_to_rest<B: Board, L: Ledger>(
     match looked {
         Looked::Settled(up) => Ok(up),
         Looked::Unwiped(w) => wipe_root(w, b),
-        Looked::Unsettled(u) => {
-            let w = settle(u, b, room, steps)?;
-            wipe_root(w, b)
-        }
+        Looked::Unsettled(u) => settle_and_wipe(u, b, room, steps),
     }
 }
 
@@ -132,6 +157,36 @@ fn come_up<B: Board, L: Ledger>(
         Err(LookEnd::NoMemory(_up)) => unreachable!(),
     };
     let up = bring_to_rest(looked, b, room, steps)?;
+    let up = wipe_regions(up, b)?;
+    Ok(up)
+}
+
+/// Does what a committed order has left to be done, and wipes what it replaced. The memory stands for the same state
+/// wherever power fails, and afterwards it is clean. The memory stands for a state that a device can have. There are at
+/// most 239 write calls, and 70,946 steps.
+#[tactic(auto, using(crate::proofs::Booted::cleaned, mb_storing::proofs::HoldingLemmas::contents_keep, mb_storing::proofs::HoldingLemmas::keeps_then))]
+pub fn finish_order<B: Board, L: Ledger>(
+    u: Unsettled,
+    b: &mut B,
+    room: &mut Room,
+    steps: &mut Steps<L>,
+) -> Result<Up<R1>, Off>
+    requires on { B.power b.old ≡ true }
+    requires level { B.level b.old ≡ 1 }
+    requires loaded { IsLoaded (B.memory b.old) }
+    requires live { IsLive (B.memory b.old) }
+    requires room { HasRoom room.old }
+    ensures clean { OnOk result (Cleans (B.memory b.old) (B.memory b.new)) }
+    ensures meaning { KeepsMeaning (B.memory b.old) (B.memory b.new) }
+    ensures sized { IsLoaded (B.memory b.new) }
+    ensures power { B.power b.new ≡ power_of result }
+    ensures level { B.level b.new ≡ level_of result (B.level b.old) }
+    ensures ledger { B.ledger b.new ≡ B.ledger b.old }
+    ensures meter { IsMetered 239 result (B.meter b.old) (B.meter b.new) }
+    ensures room { HasRoom room.new }
+    ensures cost { steps.new ≤ steps.old + 70946 }
+{
+    let up = settle_and_wipe(u, b, room, steps)?;
     let up = wipe_regions(up, b)?;
     Ok(up)
 }

@@ -144,11 +144,11 @@ first_of : (entries others : List PublicEntry) (i : ℕ) (d : SignedEntry) (sign
     → entries ≡ with_signature (get_or signed i d) ∷ (drop (i + 1) (map with_signature signed) ++ others)
 first_of entries others i d signed lt e = e ∙ ap (λ (xs : List PublicEntry). xs ++ others) (mapped_item with_signature signed i d lt)
 
-spelled_first : (entry : PublicEntry) (entries all : List PublicEntry) → all ≡ entry ∷ entries → entries_bytes all ≡ public_entry_format.spelling entry ++ entries_bytes entries
+pub spelled_first : (entry : PublicEntry) (entries all : List PublicEntry) → all ≡ entry ∷ entries → entries_bytes all ≡ public_entry_format.spelling entry ++ entries_bytes entries
 unfolding items
 spelled_first entry entries all e = rw e refl
 
-allowed_first : (entry : PublicEntry) (entries all : List PublicEntry) → all ≡ entry ∷ entries → (times (length all) public_entry_format).Allowed all → public_entry_format.Allowed entry × (times (length entries) public_entry_format).Allowed entries
+pub allowed_first : (entry : PublicEntry) (entries all : List PublicEntry) → all ≡ entry ∷ entries → (times (length all) public_entry_format).Allowed all → public_entry_format.Allowed entry × (times (length entries) public_entry_format).Allowed entries
 unfolding items
 allowed_first entry entries all e h = rw e at h
 

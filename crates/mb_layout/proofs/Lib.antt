@@ -1,5 +1,6 @@
 pub mod Areas
 pub mod Completing
+mod NextEntries
 pub mod Unsigned
 pub mod Entries
 pub mod LayerBytes

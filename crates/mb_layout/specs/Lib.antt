@@ -5,6 +5,7 @@ pub mod Found
 pub mod LastEntries
 pub mod Parts
 pub mod StoredRegion
+pub mod StoredEntries
 pub mod Uncopied
 pub mod Walks
 pub mod Rooms

@@ -14,7 +14,7 @@ use Rattle.mb_model.specs.OrderStep.{obeyed}
 use Rattle.mb_model.specs.Flash.{HoldsPublic}
 use Rattle.mb_model.specs.Memory.{AreSized, current, HoldsRecord}
 use Rattle.mb_model.specs.StoredLog.{unsigned_by, AreCounted, signed_for, outgoing_of, completed}
-use Rattle.mb_model.specs.Meaning.{Contents, HoldsContents, fated, fate_of_two, fate_of_three, meant, StandsFor}
+use Rattle.mb_model.specs.Meaning.{RootIn, Contents, HoldsContents, fated, fate_of_two, fate_of_three, meant, StandsFor}
 use Rattle.mb_model.specs.Clean.{root_of, IsCleanFor}
 use Rattle.mb_lemmas.proofs.FateLemmas.{kept_as_before}
 use Rattle.mb_lemmas.proofs.MeaningLemmas.{one_root_in, contents_of}
@@ -91,10 +91,9 @@ nothing_pending c none are =
 
 -- ---- clean memories
 
-held_at_rest : (flash bbram : List ℕ) (state : State) (clean : IsCleanFor bbram state) (contents : Contents) → IsBytes bbram → HoldsContents flash bbram contents
+held_at_rest : (flash bbram : List ℕ) (state : State) (clean : IsCleanFor bbram state) (contents : Contents) → contents.root ≡ root_of state clean.area → HoldsContents flash bbram contents
     → state ≡ meant contents → HoldsContents flash bbram (at_rest state clean.area)
-held_at_rest flash bbram state clean contents are holds means =
-    let root : contents.root ≡ root_of state clean.area = one_root_in bbram contents.root (root_of state clean.area) are holds.root clean.root in
+held_at_rest flash bbram state clean contents root holds means =
     let none : contents.root.pending ≡ None = ap (λ (r : Root). r.pending) root in
     let area : contents.root.area ≡ clean.area = ap (λ (r : Root). r.area) root in
     let rest : contents ≡ at_rest (meant contents) contents.root.area = nothing_pending contents none holds.public.counted in
@@ -104,7 +103,15 @@ pub clean_and_stands : (flash bbram : List ℕ) (state : State) (clean : IsClean
     → HoldsContents flash bbram (at_rest state clean.area)
 clean_and_stands flash bbram state clean are stands =
     let live = live_contents flash bbram state stands in
-    held_at_rest flash bbram state clean live.contents are live.holds live.means
+    let root : live.contents.root ≡ root_of state clean.area = one_root_in bbram live.contents.root (root_of state clean.area) are live.holds.root clean.root in
+    held_at_rest flash bbram state clean live.contents root live.holds live.means
+
+-- the same where only one root is in force
+pub rests_by_root : (flash bbram : List ℕ) (state : State) (clean : IsCleanFor bbram state) (only : Root) → ((root : Root) → RootIn bbram root → root ≡ only) → StandsFor flash bbram (Some state)
+    → HoldsContents flash bbram (at_rest state clean.area)
+rests_by_root flash bbram state clean only is stands =
+    let live = live_contents flash bbram state stands in
+    held_at_rest flash bbram state clean live.contents (is live.contents.root live.holds.root ∙ sym (is (root_of state clean.area) clean.root)) live.holds live.means
 
 -- ---- an order from rest to rest
 

@@ -69,7 +69,7 @@ put_few new secrets true full is room few = omega (arith, few, length-map secret
 put_few new secrets false true is room few = absurd (grind (arith, room))
 put_few new secrets false false is room few = omega (arith, leb-false 16 (length secrets) is, length-append secrets (new ∷ []))
 
-put_region : (new : Secret) (region : Region) → secret_format.Allowed new → IsStorableRegion region → (not (list_any (has_name new.name) region.secrets) && nat_le 16 (length region.secrets)) ≡ false
+pub put_region : (new : Secret) (region : Region) → secret_format.Allowed new → IsStorableRegion region → (not (list_any (has_name new.name) region.secrets) && nat_le 16 (length region.secrets)) ≡ false
     → IsStorableRegion (record region { secrets = with_secret new region.secrets })
 unfolding with_secret
 put_region new region own is room = record {
@@ -82,7 +82,7 @@ put_region new region own is room = record {
 name_byte : (byte : ℕ) → (0x21 ≤ byte) × (byte ≤ 0x7E) → is_name_byte byte ≡ true
 name_byte byte within = and_from (nat_le 0x21 byte) (nat_le byte 0x7E) (le-leb 0x21 byte within.0) (le-leb byte 0x7E within.1)
 
-named : (name : List ℕ) → IsName name → is_name name ≡ true
+pub named : (name : List ℕ) → IsName name → is_name name ≡ true
 named name is = list_all-from_AllPass is_name_byte name (All-weaker (λ (byte : ℕ). (0x21 ≤ byte) × (byte ≤ 0x7E)) (λ (byte : ℕ). is_name_byte byte ≡ true) name_byte name is.printed)
 
 put_keeps : (L : ℕ) (name value : List ℕ) → IsName name → FitsMessage value → KeepsStorable (put_event L name value)
@@ -98,7 +98,7 @@ get_keeps : (L : ℕ) (name : List ℕ) → KeepsStorable (get_event L name)
 unfolding get_event
 get_keeps L name state valid is = is
 
-drop_region : (name : List ℕ) (region : Region) → IsStorableRegion region → IsStorableRegion (record region { secrets = filter (λ secret. not (has_name name secret)) region.secrets })
+pub drop_region : (name : List ℕ) (region : Region) → IsStorableRegion region → IsStorableRegion (record region { secrets = filter (λ secret. not (has_name name secret)) region.secrets })
 drop_region name region is = record {
   secrets = All-filter (λ (secret : Secret). not (has_name name secret)) secret_format.Allowed region.secrets is.secrets;
   few_secrets =
@@ -171,7 +171,7 @@ found_by number key keys found true e is rest =
     ap (λ (k : RegionKey). k.number) (sym own) ∙ eqb-true key.number number e
 found_by number key keys found false e is rest = rest (ap (λ (b : Bool). cond b (Some key) (find (has_number number) keys)) (sym e) ∙ is)
 
-found_number : (number : ℕ) (keys : List RegionKey) (found : RegionKey) → find (has_number number) keys ≡ Some found → found.number ≡ number
+pub found_number : (number : ℕ) (keys : List RegionKey) (found : RegionKey) → find (has_number number) keys ≡ Some found → found.number ≡ number
 found_number number [] found is = absurd (grind (arith, is))
 found_number number (key ∷ keys) found is = found_by number key keys found (has_number number key) refl is (found_number number keys found)
 

@@ -1,0 +1,50 @@
+//! Why no statement was read.
+
+ghost use Rattle.std.specs.Prelude.{◌≡◌};
+
+use mb_bytes::Short;
+use mb_model::{BadRecord, NoMemory};
+
+/// Why no statement was read.
+#[derive(Clone, Copy, Debug, PartialEq, Eq)]
+pub enum ChainEnd {
+    /// The bytes spell none.
+    BadChain {
+        /// The place at which the first field begins that lacks bytes or is not allowed, or of the first byte after the
+        /// last field, in bytes from 0.
+        at: u32,
+    },
+    /// An allocation failed. No clause of a reader says when, so one that always answers this is proved too: the tests
+    /// read statements where there is enough.
+    NoMemory,
+}
+
+impl From<Short> for ChainEnd {
+    ghost use Rattle.mb_cert.specs.declared.end.ChainEnd.TheVariants.{BadChain};
+
+    ghost from_gives = { λ short e. e ≡ BadChain short.at };
+
+    fn from(short: Short) -> ChainEnd {
+        ChainEnd::BadChain { at: short.at }
+    }
+}
+
+impl From<BadRecord> for ChainEnd {
+    ghost use Rattle.mb_cert.specs.declared.end.ChainEnd.TheVariants.{BadChain};
+
+    ghost from_gives = { λ bad e. e ≡ BadChain bad.at };
+
+    fn from(bad: BadRecord) -> ChainEnd {
+        ChainEnd::BadChain { at: bad.at }
+    }
+}
+
+impl From<NoMemory> for ChainEnd {
+    ghost use Rattle.mb_cert.specs.declared.end.ChainEnd.TheVariants.{NoMemory};
+
+    ghost from_gives = { λ _ e. e ≡ NoMemory };
+
+    fn from(_error: NoMemory) -> ChainEnd {
+        ChainEnd::NoMemory
+    }
+}

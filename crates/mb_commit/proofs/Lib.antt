@@ -1,0 +1,6 @@
+mod Remembered
+mod Counting
+mod Judgement
+mod Planned
+mod Committed
+mod Answered

@@ -1,0 +1,135 @@
+-- What holds while events are served.
+use Rattle.std.proofs.Common.{◌≡◌, ◌≢◌, ℕ, List, [], ◌∷◌, ◌++◌, map, length, Bool, Option, None, Some, refl, sym, ◌∙◌, ap, subst, append_assoc, arith}
+use Rattle.std.specs.Prelude.{All, ◌<◌}
+use Rattle.std.proofs.lemmas.List.{map-append, append-nil}
+use Rattle.std.proofs.lemmas.List.Elements.{All-head, All-tail}
+use Rattle.mb_model.specs.declared.event.Event.{Event}
+use Rattle.mb_model.specs.declared.event.Answered.{Answered}
+use Rattle.mb_model.specs.declared.reply.Reply.{Reply}
+use Rattle.mb_model.specs.declared.state.State.{State}
+use Rattle.mb_model.specs.Acknowledged.{Shows, MayAnswer}
+use Rattle.mb_model.specs.Board.{Memory, Held, Ledger, IsLoaded}
+use Rattle.mb_model.specs.Clean.{Clean}
+use Rattle.mb_model.specs.Machine.{off, World, Step, Run}
+use Rattle.mb_model.specs.Regions.{KeptRightly}
+use Rattle.mb_model.specs.Script.{IsScriptEvent}
+use Rattle.mb_model.specs.Valid.{Valid}
+use Rattle.mb_device.specs.declared.device.Device.{Device}
+use Rattle.mb_device.specs.Sound.{IsSound, HasSound, taken, CanStep, Steps}
+use Rattle.mb_device.specs.Served.{IsServedFrom}
+
+-- a run so far, from a world to that which the board holds
+pub record IsRunSo (world : World) (start : Ledger) (device : Device) (ledger : Ledger) (held : Held) : Type 0 where
+  pub more : List Answered
+  pub grown : ledger.answered ≡ start.answered ++ more
+  pub all : map (λ a. a.event) more ++ ledger.waiting ≡ start.waiting
+  pub last : World
+  pub run : Run world more last
+  pub sound : IsSound device held last
+
+-- between two events
+pub record Serves (start : Ledger) (first : Device) (at_first : Held) (device : Device) (ledger : Ledger) (held : Held) : Type 0 where
+  pub none_out : ledger.out ≡ None
+  pub standing : ledger.standing ≡ held
+  pub script : All IsScriptEvent ledger.waiting
+  pub some : HasSound device held
+  pub runs : (world : World) → IsSound first at_first world → IsRunSo world start device ledger held
+
+pub serves_first : (start : Ledger) (first : Device) (held : Held) → start.out ≡ None → start.standing ≡ held → All IsScriptEvent start.waiting → HasSound first held → Serves start first held first start held
+serves_first start first held none standing script some = record {
+  none_out = none;
+  standing = standing;
+  script = script;
+  some = some;
+  runs = λ world sound. record { more = []; grown = sym (append-nil start.answered); all = refl; last = world; run = refl; sound = sound };
+}
+
+pub can_step : (start : Ledger) (first : Device) (at_first : Held) (device : Device) (ledger : Ledger) (held now : Held) (e : Event) (rest : List Event) → Serves start first at_first device ledger held
+    → ledger.waiting ≡ e ∷ rest → now ≡ taken e held → CanStep device e now
+can_step start first at_first device ledger held now e rest inv waits same = record {
+  before = held;
+  has = inv.some;
+  taken_so = same;
+  script = All-head IsScriptEvent e rest (subst (All IsScriptEvent) waits inv.script);
+}
+
+-- a run goes on by a step
+run_more : (answered : List Answered) (one : Answered) (first mid last : World) → Run first answered mid → Step mid one.event one.reply last → Run first (answered ++ one ∷ []) last
+run_more [] one first mid last run step = (last, subst (λ (w : World). Step w one.event one.reply last) run step, refl)
+run_more (answer ∷ answered) one first mid last run step = (run.0, run.1, run_more answered one run.0 mid last run.2 step)
+
+-- in a valid state each secret and key was kept rightly
+kept_rightly : (state : Option State) → Valid state → KeptRightly state
+kept_rightly None valid = tt
+kept_rightly (Some state) valid = record { two = valid.two.kept; three = valid.three.kept }
+
+-- what is asked of an answer
+pub may_answer : (start : Ledger) (first : Device) (at_first : Held) (device next : Device) (ledger out kept : Ledger) (held stepped : Held) (e : Event) (rest : List Event) (reply : Reply)
+    → Serves start first at_first device ledger held → out ≡ record ledger { waiting = rest; out = Some e } → kept ≡ out
+    → ((world : World) → IsSound device held world → Steps world e reply next stepped) → MayAnswer kept.standing stepped e reply
+may_answer start first at_first device next ledger out kept held stepped e rest reply inv is_out is_kept steps =
+    let has = inv.some in
+    let done = steps has.world has.sound in
+    let stood : kept.standing ≡ held = ap (λ (l : Ledger). l.standing) (is_kept ∙ is_out) ∙ inv.standing in
+    record {
+      before = has.world;
+      after = done.next;
+      stood = subst (λ (h : Held). Shows h has.world) (sym stood) has.sound.shown;
+      shown = done.sound.shown;
+      step = done.step;
+      clean = done.sound.clean;
+      kept = kept_rightly done.next.state done.sound.valid;
+    }
+
+-- an event is taken, stepped and answered
+pub serves_more : (start : Ledger) (first : Device) (at_first : Held) (device next : Device) (ledger out kept after : Ledger) (held stepped now : Held) (e : Event) (rest : List Event) (reply : Reply)
+    → Serves start first at_first device ledger held → ledger.waiting ≡ e ∷ rest → out ≡ record ledger { waiting = rest; out = Some e } → kept ≡ out
+    → ((world : World) → IsSound device held world → Steps world e reply next stepped)
+    → after ≡ record kept { out = None; answered = kept.answered ++ record { event = e; reply = reply } ∷ []; standing = stepped } → now ≡ stepped
+    → Serves start first at_first next after now
+serves_more start first at_first device next ledger out kept after held stepped now e rest reply inv waits is_out is_kept steps is_answered is_now =
+    let one : Answered = record { event = e; reply = reply } in
+    let answered_is : after.answered ≡ ledger.answered ++ one ∷ [] = ap (λ (l : Ledger). l.answered) is_answered ∙ ap (λ (l : Ledger). l.answered ++ one ∷ []) (is_kept ∙ is_out) in
+    let waiting_is : after.waiting ≡ rest = ap (λ (l : Ledger). l.waiting) is_answered ∙ ap (λ (l : Ledger). l.waiting) (is_kept ∙ is_out) in
+    let sound_now : (w : World) → IsSound next stepped w → IsSound next now w = λ w sound. subst (λ (h : Held). IsSound next h w) (sym is_now) sound in
+    record {
+      none_out = ap (λ (l : Ledger). l.out) is_answered;
+      standing = ap (λ (l : Ledger). l.standing) is_answered ∙ sym is_now;
+      script = subst (All IsScriptEvent) (sym waiting_is) (All-tail IsScriptEvent e rest (subst (All IsScriptEvent) waits inv.script));
+      some = (let done = steps inv.some.world inv.some.sound in record { world = done.next; sound = sound_now done.next done.sound });
+      runs = λ world sound. (
+          let so = inv.runs world sound in
+          let done = steps so.last so.sound in
+          record {
+            more = so.more ++ one ∷ [];
+            grown = answered_is ∙ ap (λ (a : List Answered). a ++ one ∷ []) so.grown ∙ append_assoc start.answered so.more (one ∷ []);
+            all =
+                ap (λ (w : List Event). map (λ a. a.event) (so.more ++ one ∷ []) ++ w) waiting_is
+                ∙ ap (λ (m : List Event). m ++ rest) (map-append (λ a. a.event) so.more (one ∷ []))
+                ∙ append_assoc (map (λ a. a.event) so.more) (e ∷ []) rest
+                ∙ ap (λ (w : List Event). map (λ a. a.event) so.more ++ w) (sym waits)
+                ∙ so.all;
+            last = done.next;
+            run = run_more so.more one world so.last done.next so.run done.step;
+            sound = sound_now done.next done.sound;
+          });
+    }
+
+-- nothing waits any more
+pub served : (start : Ledger) (first : Device) (at_first : Held) (device : Device) (ledger after : Ledger) (held now : Held) (world : World) → Serves start first at_first device ledger held
+    → IsSound first at_first world → ledger.waiting ≡ [] → after ≡ ledger → now ≡ held → IsServedFrom world start after now
+served start first at_first device ledger after held now world inv sound none is_after is_now =
+    let so = inv.runs world sound in
+    record {
+      more = so.more;
+      grown = ap (λ (l : Ledger). l.answered) is_after ∙ so.grown;
+      all = sym (append-nil (map (λ a. a.event) so.more)) ∙ ap (λ (w : List Event). map (λ a. a.event) so.more ++ w) (sym none) ∙ so.all;
+      none_waits = ap (λ (l : Ledger). l.waiting) is_after ∙ none;
+      none_out = ap (λ (l : Ledger). l.out) is_after ∙ inv.none_out;
+      standing = ap (λ (l : Ledger). l.standing) is_after ∙ inv.standing ∙ sym is_now;
+      last = so.last;
+      run = so.run;
+      shown = subst (λ (h : Held). Shows h so.last) (sym is_now) so.sound.shown;
+      valid = so.sound.valid;
+      clean = λ on. subst (λ (h : Held). Clean h.memory.bbram so.last.state) (sym is_now) (so.sound.clean (λ e. on (ap (λ (h : Held). h.phase) is_now ∙ e)));
+    }

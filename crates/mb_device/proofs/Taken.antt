@@ -1,0 +1,143 @@
+-- Events that the board has done by itself as it handed them out: power that goes, tamper, and a cut that is armed.
+use Rattle.std.proofs.Common.{◌≡◌, ◌≢◌, ℕ, ◌≤◌, ◌<◌, Bool, true, false, Option, None, Some, refl, sym, ap, subst, ◌∙◌, inl, inr, arith, List, length}
+use Rattle.std.specs.Prelude.{All, replicate}
+use Rattle.std.proofs.lemmas.List.{length-replicate}
+use Rattle.std.proofs.lemmas.List.Elements.{All-replicate}
+use Rattle.mb_ratchet.specs.declared.state.Off.{Off}
+use Rattle.mb_model.specs.declared.event.Event.{Event}
+use Rattle.mb_model.specs.declared.event.Event.TheVariants as event
+use Rattle.mb_model.specs.declared.event.Tear.{Tear}
+use Rattle.mb_model.specs.declared.reply.Reply.{Reply}
+use Rattle.mb_model.specs.declared.reply.Reply.TheVariants as reply
+use Rattle.mb_model.specs.declared.state.State.{State}
+use Rattle.mb_model.specs.Acknowledged.{Shows}
+use Rattle.mb_model.specs.Board.{Memory, Meter, Held, phase_at, zeros, power_after, memory_after, armed_after}
+use Rattle.mb_model.specs.Clean.{Clean}
+use Rattle.mb_model.specs.Machine.{Phase, off, World, Machine, answered}
+use Rattle.mb_model.specs.Meaning.{StandsFor, is_dead}
+use Rattle.mb_model.specs.Memory.{IsBlank}
+use Rattle.mb_model.specs.Valid.{Valid}
+use Rattle.mb_board.specs.Calls.{held_by}
+use Rattle.mb_device.specs.declared.device.Device.{Device}
+use Rattle.mb_device.specs.declared.device.Device.TheVariants as device
+use Rattle.mb_device.specs.declared.device.Running.{Running}
+use Rattle.mb_device.specs.Sound.{IsSound, IsRunning, Fits, taken, Steps}
+use Rattle.mb_device.specs.Stepping.{IsOff}
+
+-- ---- what a board holds that has handed out an event
+
+armed_is : {armed armed_new : Bool} (memory : Memory) (phase : Phase) → armed_new ≡ armed
+    → ◌≡◌ {A = Held} (record { memory = memory; phase = phase; armed = armed_new }) (record { memory = memory; phase = phase; armed = armed })
+armed_is memory phase same = ap (λ (b : Bool). let h : Held = record { memory = memory; phase = phase; armed = b } in h) same
+
+pub taken_is : (e : Event) (memory : Memory) (power : Bool) (level : ℕ) (meter meter_new : Meter) → meter_new.armed ≡ armed_after (Some e) meter.armed
+    → held_by (memory_after (Some e) memory) (power_after (Some e) power) level meter_new ≡ taken e (held_by memory power level meter)
+taken_is event.Boot memory power level meter meter_new armed = armed_is memory (phase_at power level) armed
+taken_is event.Off memory power level meter meter_new armed = armed_is memory off armed
+taken_is event.Tamper memory power level meter meter_new armed = armed_is (memory_after (Some event.Tamper) memory) off armed
+taken_is event.Status memory power level meter meter_new armed = armed_is memory (phase_at power level) armed
+taken_is event.Go memory power level meter meter_new armed = armed_is memory (phase_at power level) armed
+taken_is (event.Cut count tear) memory power level meter meter_new armed = armed_is memory (phase_at power level) armed
+taken_is (event.Command text draw) memory power level meter meter_new armed = armed_is memory (phase_at power level) armed
+taken_is (event.Put L name value) memory power level meter meter_new armed = armed_is memory (phase_at power level) armed
+taken_is (event.Get L name) memory power level meter meter_new armed = armed_is memory (phase_at power level) armed
+taken_is (event.Drop L name) memory power level meter meter_new armed = armed_is memory (phase_at power level) armed
+taken_is (event.Sign L key message) memory power level meter meter_new armed = armed_is memory (phase_at power level) armed
+
+-- ---- power that goes
+
+-- a device whose power is off, whatever it was
+off_fits : (device : Device) (world : World) → IsOff device → world.phase ≡ off → Fits device world
+off_fits (device.Off state) world is at = at
+off_fits (device.Dead state) world is at = absurd is
+off_fits (device.One state running) world is at = absurd is
+off_fits (device.Two state running) world is at = absurd is
+off_fits (device.Three state running) world is at = absurd is
+
+pub goes_off : (before after : Device) (held now : Held) (world : World) → IsSound before held world → IsOff after → now ≡ taken event.Off held → Steps world event.Off reply.Off after now
+goes_off before after held now world sound is_off same = record {
+  next = record world { phase = off };
+  step = answered (refl, refl);
+  sound = subst (λ (h : Held). IsSound after h (record world { phase = off })) (sym same) (record {
+    shown = record { stands = sound.shown.stands; phase = refl; armed = sound.shown.armed };
+    valid = sound.valid;
+    clean = λ on. absurd (on refl);
+    fits = off_fits after (record world { phase = off }) is_off refl;
+  });
+}
+
+-- ---- tamper
+
+zeros_blank : (n : ℕ) → IsBlank (zeros n)
+unfolding zeros
+zeros_blank n = All-replicate (λ byte. byte ≡ 0) n 0 refl
+
+zeros_length : (n : ℕ) → length (zeros n) ≡ n
+unfolding zeros
+zeros_length n = length-replicate n 0
+
+pub is_tampered : (before after : Device) (held now : Held) (world : World) → IsSound before held world → IsOff after → now ≡ taken event.Tamper held
+    → Steps world event.Tamper reply.Tampered after now
+is_tampered before after held now world sound is_off same =
+    let next : World = record world { phase = off; state = None } in
+    let memory : Memory = memory_after (Some event.Tamper) held.memory in
+    record {
+      next = next;
+      step = answered (refl, refl);
+      sound = subst (λ (h : Held). IsSound after h next) (sym same) (record {
+        shown = record {
+          stands = record {
+            sized = record { flash = sound.shown.stands.sized.flash; bbram = zeros_length (length held.memory.bbram) ∙ sound.shown.stands.sized.bbram };
+            meaning = is_dead (zeros_blank (length held.memory.bbram)) refl;
+          };
+          phase = refl;
+          armed = sound.shown.armed;
+        };
+        valid = tt;
+        clean = λ on. absurd (on refl);
+        fits = off_fits after next is_off refl;
+      });
+    }
+
+-- ---- a cut
+
+still_runs : (r : ℕ) (running : Running) (world : World) → IsRunning r running world → IsRunning r running (record world { armed = true })
+still_runs r running world own = record { phase = own.phase; room = own.room; state = own.state; live = own.live; knows = own.knows }
+
+still_fits : (device : Device) (world : World) → Fits device world → Fits device (record world { armed = true })
+still_fits (device.Off state) world fits = fits
+still_fits (device.Dead state) world fits = fits
+still_fits (device.One state running) world fits = still_runs 1 running world fits
+still_fits (device.Two state running) world fits = still_runs 2 running world fits
+still_fits (device.Three state running) world fits = still_runs 3 running world fits
+
+pub is_armed : (device : Device) (held now : Held) (world : World) (count : ℕ) (tear : Tear) → IsSound device held world → now ≡ taken (event.Cut count tear) held
+    → Steps world (event.Cut count tear) reply.Armed device now
+is_armed device held now world count tear sound same = record {
+  next = record world { armed = true };
+  step = answered (refl, refl);
+  sound = subst (λ (h : Held). IsSound device h (record world { armed = true })) (sym same) (record {
+    shown = record { stands = sound.shown.stands; phase = sound.shown.phase; armed = refl };
+    valid = sound.valid;
+    clean = sound.clean;
+    fits = still_fits device world sound.fits;
+  });
+}
+
+-- ---- by the clauses of the board
+
+-- what a board holds whose parts are as they were
+pub same_parts : (old new : Memory) (power power_new : Bool) (level level_new : ℕ) (meter meter_new : Meter) → new ≡ old → power_new ≡ power → level_new ≡ level → meter_new.armed ≡ meter.armed
+    → held_by new power_new level_new meter_new ≡ held_by old power level meter
+same_parts old new power power_new level level_new meter meter_new memory is_power is_level armed =
+    ap (λ (m : Memory). let h : Held = record { memory = m; phase = phase_at power_new level_new; armed = meter_new.armed } in h) memory
+    ∙ ap (λ (p : Bool). let h : Held = record { memory = old; phase = phase_at p level_new; armed = meter_new.armed } in h) is_power
+    ∙ ap (λ (l : ℕ). let h : Held = record { memory = old; phase = phase_at power l; armed = meter_new.armed } in h) is_level
+    ∙ ap (λ (b : Bool). let h : Held = record { memory = old; phase = phase_at power level; armed = b } in h) armed
+
+pub taken_by : (e : Event) (old new : Memory) (power power_new : Bool) (level level_new : ℕ) (meter meter_new : Meter) → new ≡ memory_after (Some e) old → power_new ≡ power_after (Some e) power
+    → level_new ≡ level → meter_new.armed ≡ armed_after (Some e) meter.armed → held_by new power_new level_new meter_new ≡ taken e (held_by old power level meter)
+taken_by e old new power power_new level level_new meter meter_new memory is_power is_level armed =
+    let between : Meter = record meter { armed = armed_after (Some e) meter.armed } in
+    same_parts (memory_after (Some e) old) new (power_after (Some e) power) power_new level level_new between meter_new memory is_power is_level armed
+    ∙ taken_is e old power level meter between refl

@@ -1,0 +1,203 @@
+-- A layer's use of its region, as a step of the machine.
+use Rattle.std.proofs.Common.{◌≡◌, ◌≢◌, ℕ, ◌≤◌, ◌<◌, ◌+◌, Bool, true, false, Option, None, Some, refl, sym, ap, subst, ◌∙◌, inl, inr, arith, List, length}
+use Rattle.std.specs.Prelude.{find, Result, Ok, Err, IsTrue, ◌⊎◌, not, ◌||◌, nat_lt, if◌then◌else◌}
+use Rattle.std.proofs.lemmas.Bool.{le-ltb}
+use Rattle.mb_ratchet.specs.declared.state.Off.{Off}
+use Rattle.mb_model.specs.declared.event.Event.{Event}
+use Rattle.mb_model.specs.declared.event.Event.TheVariants as event
+use Rattle.mb_model.specs.declared.reply.Reply.{Reply}
+use Rattle.mb_model.specs.declared.reply.Reply.TheVariants as reply
+use Rattle.mb_model.specs.declared.region.RegionKey.{RegionKey}
+use Rattle.mb_model.specs.declared.region.Secret.{Secret}
+use Rattle.mb_model.specs.declared.state.State.{State}
+use Rattle.mb_model.specs.Board.{Memory, Meter, Held, phase_at, IsLoaded}
+use Rattle.mb_model.specs.Layers.{is_runnable}
+use Rattle.mb_model.specs.LayerEvents.{Outcome, on_region, put_event, get_event, drop_event, sign_event, sign_with, value_reply, has_name, has_number}
+use Rattle.mb_model.specs.Log.{entries_of, layers_of}
+use Rattle.mb_model.specs.Machine.{ratchet, World, Told, awake_in, region_event, Machine, answered, may_want_memory, may_be_cut}
+use Rattle.mb_model.specs.OrderStep.{OrderStep, region_of}
+use Rattle.mb_model.specs.Refusals.{wrong_layer, refused}
+use Rattle.mb_model.specs.Valid.{Valid, IsValidState}
+use Rattle.mb_board.specs.Calls.{held_by, IsMetered}
+use Rattle.mb_layout.specs.Rooms.{HasRoom}
+use Rattle.mb_lemmas.proofs.ValidSteps.{machine_valid}
+use Rattle.mb_log.specs.Figures.{figures_of}
+use Rattle.mb_storing.specs.Holding.{Means, IsReady}
+use Rattle.mb_storing.specs.Answering.{IsAnswered, lacks, tells, IsCutShort}
+use Rattle.mb_commit.specs.Remembering.{Knows}
+use Rattle.mb_commit.specs.declared.remembering.Known.{Known}
+use Rattle.mb_device.specs.declared.device.Device.{Device}
+use Rattle.mb_device.specs.declared.device.Device.TheVariants as device
+use Rattle.mb_device.specs.declared.device.Running.{Running}
+use Rattle.mb_device.specs.Sound.{IsSound, IsRunning, Fits, Steps}
+use Rattle.mb_device.specs.Stepping.{stop_told}
+use Rattle.mb_device.specs.Regions.{IsLayerEvent, region_named, layer_outcome}
+use Rattle.mb_device.proofs.Worlds.{by_region}
+use Rattle.mb_device.proofs.Taken.{same_parts}
+use Rattle.mb_device.proofs.Steps as steps
+use Rattle.mb_device.proofs.Steps.{live_world, the_world, live_sound, running_ready, cut_short, refuses}
+
+-- ---- what is remembered of the layers
+
+pub known_layers : (known : Known) (state : State) → Knows known state → IsValidState state → known.figures.layers ≡ state.layers
+unfolding figures_of
+known_layers known state knows valid = ap (λ f. f.layers) knows.figures ∙ sym valid.layers
+
+pub known_runs : (known : Known) (state : State) (L : ℕ) (b : Bool) → Knows known state → IsValidState state → is_runnable known.figures.layers L ≡ b → is_runnable state.layers L ≡ b
+known_runs known state L b knows valid runs = subst (λ layers. is_runnable layers L ≡ b) (known_layers known state knows valid) runs
+
+-- ---- what the machine makes of it
+
+-- control is no further than at the layer, which may run
+pub region_machine : (r L : ℕ) (state : State) (armed : Bool) (e : Event) → IsLayerEvent e → L ≡ region_named e → r ≤ L → is_runnable state.layers L ≡ true
+    → Machine (live_world r state armed) e (layer_outcome L e state).0 (live_world r (layer_outcome L e state).1 armed)
+region_machine r L state armed e is named here runs =
+    by_region (live_world r state armed) e (layer_outcome L e state).0 (live_world r (layer_outcome L e state).1 armed) is
+    (subst (λ (m : ℕ). ◌≡◌ {A = Told} ((layer_outcome L e state).0, live_world r (layer_outcome L e state).1 armed) (region_event (live_world r state armed) m (layer_outcome m e) (Ok (r, state)))) named
+    (rw (le-ltb L r here, runs) refl))
+
+-- control is past it, or it may not run
+pub region_barred : (r L : ℕ) (state : State) (armed : Bool) (e : Event) → IsLayerEvent e → L ≡ region_named e → (nat_lt L r || not (is_runnable state.layers L)) ≡ true
+    → Machine (live_world r state armed) e (refused wrong_layer) (live_world r state armed)
+region_barred r L state armed e is named barred_so =
+    by_region (live_world r state armed) e (refused wrong_layer) (live_world r state armed) is
+    (subst (λ (m : ℕ). ◌≡◌ {A = Told} (refused wrong_layer, live_world r state armed) (region_event (live_world r state armed) m (layer_outcome m e) (Ok (r, state)))) named
+    (rw barred_so refl))
+
+or_true : (past : Bool) → (past || true) ≡ true
+or_true true = refl
+or_true false = refl
+
+pub cannot_run : (b : Bool) (past : Bool) → b ≡ false → (past || not b) ≡ true
+cannot_run b past e = rw e (or_true past)
+
+-- a use that a running device refuses
+pub use_refused : (after : Device) (r L : ℕ) (running : Running) (held : Held) (world : World) (e : Event) (answer : Reply) → IsLayerEvent e → L ≡ region_named e → answer ≡ refused wrong_layer
+    → IsSound after held world → (own : IsRunning r running world) → Fits after world → (nat_lt L r ≡ true) ⊎ (is_runnable running.known.figures.layers L ≡ false) → Steps world e answer after held
+use_refused after r L running held world e answer is named told sound own fits why =
+    let valid : IsValidState own.state = subst Valid own.live sound.valid in
+    let state : State = own.state in
+    let past : (nat_lt L r || not (is_runnable state.layers L)) ≡ true = elim why [
+      | inl over ↦ rw over refl
+      | inr still ↦ cannot_run (is_runnable state.layers L) (nat_lt L r) (known_runs running.known state L false own.knows valid still)
+    ] in
+    let same : world ≡ live_world r state world.armed = the_world world r state own.phase own.live in
+    let machine : Machine world e (refused wrong_layer) world =
+        subst (λ (w : World). Machine w e (refused wrong_layer) w) (sym same) (region_barred r L state world.armed e is named past) in
+    refuses after after held world e answer wrong_layer told machine sound fits
+
+-- ---- a use that is answered
+
+wants : (e : Event) → IsLayerEvent e → IsTrue (may_want_memory e)
+wants (event.Put L name value) is = refl
+wants (event.Get L name) is = refl
+wants (event.Drop L name) is = refl
+wants (event.Sign L key message) is = refl
+wants event.Boot is = absurd is
+wants event.Off is = absurd is
+wants event.Tamper is = absurd is
+wants event.Status is = absurd is
+wants event.Go is = absurd is
+wants (event.Cut count tear) is = absurd is
+wants (event.Command text draw) is = absurd is
+
+-- a use of a region leaves serial and log
+pick : (P : State → Type 0) (b : Bool) (x y : Outcome) → P x.1 → P y.1 → P (if b then x else y).1
+pick P true x y first second = first
+pick P false x y first second = second
+
+put_keeps : (known : Known) (L : ℕ) (name value : List ℕ) (state : State) → Knows known state → Knows known (put_event L name value state).1
+unfolding put_event
+put_keeps known L name value state knows = pick (Knows known) _ _ _ knows (record { serial = knows.serial; figures = knows.figures })
+
+get_keeps : (known : Known) (L : ℕ) (name : List ℕ) (state : State) → Knows known state → Knows known (get_event L name state).1
+unfolding get_event
+get_keeps known L name state knows = knows
+
+drop_keeps : (known : Known) (L : ℕ) (name : List ℕ) (state : State) → Knows known state → Knows known (drop_event L name state).1
+unfolding drop_event
+drop_keeps known L name state knows = pick (Knows known) _ _ _ (record { serial = knows.serial; figures = knows.figures }) knows
+
+sign_with_keeps : (known : Known) (L : ℕ) (key : Option RegionKey) (message : List ℕ) (state : State) → Knows known state → Knows known (sign_with L key message state).1
+sign_with_keeps known L None message state knows = knows
+sign_with_keeps known L (Some key) message state knows = pick (Knows known) _ _ _ knows (record { serial = knows.serial; figures = knows.figures })
+
+sign_keeps : (known : Known) (L number : ℕ) (message : List ℕ) (state : State) → Knows known state → Knows known (sign_event L number message state).1
+unfolding sign_event
+sign_keeps known L number message state knows = sign_with_keeps known L (find (has_number number) (region_of state L).keys) message state knows
+
+pub keeps_known : (known : Known) (L : ℕ) (e : Event) (state : State) → IsLayerEvent e → Knows known state → Knows known (layer_outcome L e state).1
+keeps_known known L (event.Put M name value) state is knows = put_keeps known L name value state knows
+keeps_known known L (event.Get M name) state is knows = get_keeps known L name state knows
+keeps_known known L (event.Drop M name) state is knows = drop_keeps known L name state knows
+keeps_known known L (event.Sign M key message) state is knows = sign_keeps known L key message state knows
+keeps_known known L event.Boot state is knows = absurd is
+keeps_known known L event.Off state is knows = absurd is
+keeps_known known L event.Tamper state is knows = absurd is
+keeps_known known L event.Status state is knows = absurd is
+keeps_known known L event.Go state is knows = absurd is
+keeps_known known L (event.Cut count tear) state is knows = absurd is
+keeps_known known L (event.Command text draw) state is knows = absurd is
+
+-- what a running device has before and after a use of its region
+pub record IsUse (r L : ℕ) (before after : Device) (running : Running) (e : Event) (old new : Memory) (power power_new : Bool) (level level_new : ℕ) (meter meter_new : Meter) (world : World) : Type 0 where
+  pub sound : IsSound before (held_by old power level meter) world
+  pub own : IsRunning r running world
+  pub layer : IsLayerEvent e
+  pub named : L ≡ region_named e
+  pub here : r ≤ L
+  pub some : 1 ≤ r
+  pub runs : is_runnable running.known.figures.layers L ≡ true
+
+module _ (r L : ℕ) (before after : Device) (running : Running) (e : Event) (old new : Memory) (power power_new : Bool) (level level_new : ℕ) (meter meter_new : Meter) (world : World)
+         (use_is : IsUse r L before after running e old new power power_new level level_new meter meter_new world) where
+  pub use_ready : IsReady old use_is.own.state
+  use_ready = running_ready before r (held_by old power level meter) world use_is.own.state use_is.sound use_is.own.phase use_is.own.live
+
+  use_runs : is_runnable use_is.own.state.layers L ≡ true
+  use_runs = known_runs running.known use_is.own.state L true use_is.own.knows use_ready.valid use_is.runs
+
+  use_world : world ≡ live_world r use_is.own.state world.armed
+  use_world = the_world world r use_is.own.state use_is.own.phase use_is.own.live
+
+  use_machine : Machine world e (layer_outcome L e use_is.own.state).0 (live_world r (layer_outcome L e use_is.own.state).1 world.armed)
+  use_machine = subst (λ (w : World). Machine w e (layer_outcome L e use_is.own.state).0 (live_world r (layer_outcome L e use_is.own.state).1 world.armed)) (sym use_world)
+      (region_machine r L use_is.own.state world.armed e use_is.layer use_is.named use_is.here use_runs)
+
+  use_armed : meter_new.armed ≡ meter.armed → world.armed ≡ meter_new.armed
+  use_armed same = use_is.sound.shown.armed ∙ sym same
+
+  pub use_told : (running_new : Running) (answer : Reply) → IsAnswered (layer_outcome L e use_is.own.state) answer old new → power_new ≡ power → level_new ≡ level
+      → meter_new.armed ≡ meter.armed → power ≡ true → level ≡ r → ((w : World) → IsRunning r running_new w → Fits after w) → running_new.known ≡ running.known → HasRoom running_new.room
+      → Steps world e answer after (held_by new power_new level_new meter_new)
+  use_told running_new answer (lacks wanted same) same_power same_level same_armed on at fits known room =
+      let held_same : held_by new power_new level_new meter_new ≡ held_by old power level meter = same_parts old new power power_new level level_new meter meter_new same same_power same_level same_armed in
+      steps.lacks before after (held_by old power level meter) (held_by new power_new level_new meter_new) world e answer wanted (wants e use_is.layer) held_same use_is.sound
+      (fits world (record { phase = use_is.own.phase; room = room; state = use_is.own.state; live = use_is.own.live; knows = subst (λ (k : Known). Knows k use_is.own.state) (sym known) use_is.own.knows }))
+  use_told running_new answer (tells told ready) same_power same_level same_armed on at fits known room =
+      let next : State = (layer_outcome L e use_is.own.state).1 in
+      let knows : Knows running_new.known next =
+          subst (λ (k : Known). Knows k next) (sym known) (keeps_known running.known L e use_is.own.state use_is.layer use_is.own.knows) in
+      let armed : world.armed ≡ meter_new.armed = use_armed same_armed in
+      record {
+        next = live_world r next meter_new.armed;
+        step = answered (subst (λ (a : Reply). Machine world e a (live_world r next meter_new.armed)) (sym told)
+            (subst (λ (b : Bool). Machine world e (layer_outcome L e use_is.own.state).0 (live_world r next b)) armed use_machine));
+        sound = live_sound after r new power_new level_new meter_new next ready (same_power ∙ on) (same_level ∙ at) use_is.some
+            (fits (live_world r next meter_new.armed) (record { phase = refl; room = room; state = next; live = refl; knows = knows }));
+      }
+
+  -- power failed
+  pub use_cut : (state : Off) → IsCutShort use_is.own.state (layer_outcome L e use_is.own.state) new → IsLoaded new → power_new ≡ false → meter_new.armed ≡ false → meter.armed ≡ true
+      → Steps world e reply.Stopped (device.Off state) (held_by new power_new level_new meter_new)
+  use_cut state cut sized gone disarmed armed =
+      let next : State = (layer_outcome L e use_is.own.state).1 in
+      let whole : World = live_world r next world.armed in
+      let is_armed : world.armed ≡ true = use_is.sound.shown.armed ∙ armed in
+      let machine : Machine world e (layer_outcome L e use_is.own.state).0 whole = use_machine in
+      elim (cut.counts) [
+        | inl before_it ↦ cut_short state world e (layer_outcome L e use_is.own.state).0 whole (Some use_is.own.state) new power_new level_new meter_new machine is_armed cut.writes
+            (inl (sym use_is.own.live)) before_it (subst Valid use_is.own.live use_is.sound.valid) gone disarmed
+        | inr after_it ↦ cut_short state world e (layer_outcome L e use_is.own.state).0 whole (Some next) new power_new level_new meter_new machine is_armed cut.writes
+            (inr refl) after_it (machine_valid world e (layer_outcome L e use_is.own.state).0 whole use_is.sound.valid machine) gone disarmed
+      ]

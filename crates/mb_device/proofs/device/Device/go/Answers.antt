@@ -1,0 +1,53 @@
+use Rattle.std.proofs.Common.{subst, sym, ◌∙◌, rules}
+use Rattle.mb_model.specs.declared.event.Event.TheVariants as event
+use Rattle.mb_model.specs.Machine.{World}
+use Rattle.mb_model.specs.Refusals.{powered_off, zeroised, wrong_phase, wrong_layer}
+use Rattle.mb_board.specs.Calls.{held_by}
+use Rattle.mb_device.specs.declared.device.Device.{Device}
+use Rattle.mb_device.specs.declared.device.Device.TheVariants as device
+use Rattle.mb_device.specs.Sound.{IsSound}
+use Rattle.mb_device.proofs.Worlds.{awake_off, awake_dead, awake_at, go_refused, go_past}
+use Rattle.mb_device.proofs.Steps.{refuses_as}
+use Rattle.mb_device.proofs.Told.{goes_on, second_runs, third_runs, no_second, no_third}
+use Rattle.mb_device.proofs.device.Device.go.Goals as goal
+
+pub returns-in-Off-clause-steps : goal.returns-in-Off-clause-steps
+returns-in-Off-clause-steps g c = λ world sound.
+    refuses_as c.args.self (device.Off c.in-Off.off) _ world event.Go c.reply.result powered_off c.in-Off.is c.reply.ensures sound (λ fits. go_refused world powered_off (awake_off world fits))
+
+pub returns-in-Dead-clause-steps : goal.returns-in-Dead-clause-steps
+returns-in-Dead-clause-steps g c = λ world sound.
+    refuses_as c.args.self (device.Dead c.in-Dead.dead) _ world event.Go c.reply-in-Dead.result zeroised c.in-Dead.is c.reply-in-Dead.ensures sound (λ fits. go_refused world zeroised (awake_dead world fits))
+
+pub returns-then-may_run-clause-steps : goal.returns-then-may_run-clause-steps
+returns-then-may_run-clause-steps g c = λ world sound.
+    let own : IsSound (device.One c.in-One.up c.in-One.running) (held_by (g.B.Board.memory c.args.b.now) (g.B.Register.power c.args.b.now) (g.B.Register.level c.args.b.now) (g.B.Board.meter c.args.b.now)) world =
+        subst (λ (d : Device). IsSound d (held_by (g.B.Board.memory c.args.b.now) (g.B.Register.power c.args.b.now) (g.B.Register.level c.args.b.now) (g.B.Board.meter c.args.b.now)) world) c.in-One.is sound in
+    goes_on (device.One c.in-One.up c.in-One.running) (device.Two c.advance.result c.in-One.running) 1 c.in-One.running (g.B.Board.memory c.args.b.now) (g.B.Board.memory c.advance.new.r)
+    (g.B.Register.power c.args.b.now) (g.B.Register.power c.advance.new.r) (g.B.Register.level c.args.b.now) (g.B.Register.level c.advance.new.r) (g.B.Board.meter c.args.b.now) (g.B.Board.meter c.advance.new.r)
+    world own own.fits (second_runs world c.in-One.running own.fits own.valid (sym c.may_run.ensures ∙ c.if-may_run.true))
+    (search rules) (search rules) c.advance.ensures.power c.advance.ensures.level (λ w running. running)
+
+pub returns-else-may_run-clause-steps : goal.returns-else-may_run-clause-steps
+returns-else-may_run-clause-steps g c = λ world sound.
+    refuses_as c.args.self (device.One c.in-One.up c.in-One.running) _ world event.Go c.reply-else-may_run.result wrong_layer c.in-One.is c.reply-else-may_run.ensures sound
+    (λ fits. no_second world c.in-One.running fits sound.valid (sym c.may_run.ensures ∙ c.if-may_run.false))
+
+pub returns-then-may_run-2-clause-steps : goal.returns-then-may_run-2-clause-steps
+returns-then-may_run-2-clause-steps g c = λ world sound.
+    let own : IsSound (device.Two c.in-Two.up c.in-Two.running) (held_by (g.B.Board.memory c.args.b.now) (g.B.Register.power c.args.b.now) (g.B.Register.level c.args.b.now) (g.B.Board.meter c.args.b.now)) world =
+        subst (λ (d : Device). IsSound d (held_by (g.B.Board.memory c.args.b.now) (g.B.Register.power c.args.b.now) (g.B.Register.level c.args.b.now) (g.B.Board.meter c.args.b.now)) world) c.in-Two.is sound in
+    goes_on (device.Two c.in-Two.up c.in-Two.running) (device.Three c.advance-then-may_run-2.result c.in-Two.running) 2 c.in-Two.running (g.B.Board.memory c.args.b.now) (g.B.Board.memory c.advance-then-may_run-2.new.r)
+    (g.B.Register.power c.args.b.now) (g.B.Register.power c.advance-then-may_run-2.new.r) (g.B.Register.level c.args.b.now) (g.B.Register.level c.advance-then-may_run-2.new.r) (g.B.Board.meter c.args.b.now) (g.B.Board.meter c.advance-then-may_run-2.new.r)
+    world own own.fits (third_runs world c.in-Two.running own.fits own.valid (sym c.may_run-in-Two.ensures ∙ c.if-may_run-2.true))
+    (search rules) (search rules) c.advance-then-may_run-2.ensures.power c.advance-then-may_run-2.ensures.level (λ w running. running)
+
+pub returns-else-may_run-2-clause-steps : goal.returns-else-may_run-2-clause-steps
+returns-else-may_run-2-clause-steps g c = λ world sound.
+    refuses_as c.args.self (device.Two c.in-Two.up c.in-Two.running) _ world event.Go c.reply-else-may_run-2.result wrong_layer c.in-Two.is c.reply-else-may_run-2.ensures sound
+    (λ fits. no_third world c.in-Two.running fits sound.valid (sym c.may_run-in-Two.ensures ∙ c.if-may_run-2.false))
+
+pub returns-in-Three-clause-steps : goal.returns-in-Three-clause-steps
+returns-in-Three-clause-steps g c = λ world sound.
+    refuses_as c.args.self (device.Three c.in-Three.up c.in-Three.running) _ world event.Go c.reply-in-Three.result wrong_phase c.in-Three.is c.reply-in-Three.ensures sound
+    (λ fits. go_past world fits.state (awake_at world 3 fits.state fits.phase fits.live))

@@ -1,0 +1,4 @@
+pub mod Sound
+pub mod Stepping
+pub mod Regions
+pub mod Served

@@ -1,0 +1,77 @@
+-- What a device remembers between two events, and when that fits what its board holds. Does the device itself ever know
+-- better than what is stored?
+use Rattle.std.specs.Prelude.{◌≡◌, ◌≢◌, ℕ, true, Option, Some}
+use Rattle.mb_model.specs.declared.event.Event.{Event}
+use Rattle.mb_model.specs.declared.event.Event.TheVariants as event
+use Rattle.mb_model.specs.declared.reply.Reply.{Reply}
+use Rattle.mb_model.specs.declared.state.State.{State}
+use Rattle.mb_model.specs.Acknowledged.{Shows}
+use Rattle.mb_model.specs.Board.{Held, memory_after}
+use Rattle.mb_model.specs.Clean.{Clean}
+use Rattle.mb_model.specs.Machine.{World, Step, off, dead, ratchet}
+use Rattle.mb_model.specs.Script.{IsScriptEvent}
+use Rattle.mb_model.specs.Valid.{Valid}
+use Rattle.mb_layout.specs.Rooms.{HasRoom}
+use Rattle.mb_commit.specs.Remembering.{Knows}
+use Rattle.mb_device.specs.declared.device.Device.{Device}
+use Rattle.mb_device.specs.declared.device.Device.TheVariants as device
+use Rattle.mb_device.specs.declared.device.Running.{Running}
+
+-- layer r runs in a live device, whose state is remembered
+pub record IsRunning (r : ℕ) (running : Running) (world : World) : Type 0 where
+  pub phase : world.phase ≡ ratchet r
+  pub room : HasRoom running.room
+  pub state : State
+  pub live : world.state ≡ Some state
+  pub knows : Knows running.known state
+
+-- what a device remembers fits a world
+abbrev pub Fits : Device → World → Type 0
+Fits (device.Off state) world = world.phase ≡ off
+Fits (device.Dead state) world = world.phase ≡ dead
+Fits (device.One state running) world = IsRunning 1 running world
+Fits (device.Two state running) world = IsRunning 2 running world
+Fits (device.Three state running) world = IsRunning 3 running world
+
+-- The board holds this world, which a device can have. While power is on, its memory is clean. And what the device
+-- remembers fits.
+pub record IsSound (device : Device) (held : Held) (world : World) : Type 0 where
+  pub shown : Shows held world
+  pub valid : Valid world.state
+  pub clean : held.phase ≢ off → Clean held.memory.bbram world.state
+  pub fits : Fits device world
+
+-- so it is for some world
+pub record HasSound (device : Device) (held : Held) : Type 0 where
+  pub world : World
+  pub sound : IsSound device held world
+
+-- ---- one event
+
+-- what a board holds that has handed out an event
+abbrev pub taken : Event → Held → Held
+taken event.Off held = record held { phase = off }
+taken event.Tamper held =
+    record { memory = memory_after (Some event.Tamper) held.memory; phase = off; armed = held.armed }
+taken (event.Cut count tear) held = record held { armed = true }
+taken event.Boot held = held
+taken event.Status held = held
+taken event.Go held = held
+taken (event.Command text draw) held = held
+taken (event.Put L name value) held = held
+taken (event.Get L name) held = held
+taken (event.Drop L name) held = held
+taken (event.Sign L key message) held = held
+
+-- the event has been handed out by a board that held a world before, and is one of a script
+pub record CanStep (device : Device) (event : Event) (now : Held) : Type 0 where
+  pub before : Held
+  pub has : HasSound device before
+  pub taken_so : now ≡ taken event before
+  pub script : IsScriptEvent event
+
+-- the answer makes one step of the machine to the world that the board now holds
+pub record Steps (world : World) (event : Event) (answer : Reply) (device : Device) (now : Held) : Type 0 where
+  pub next : World
+  pub step : Step world event answer next
+  pub sound : IsSound device now next

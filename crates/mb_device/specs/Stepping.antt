@@ -1,0 +1,46 @@
+-- How single events are answered. Is nothing written that is not told?
+use Rattle.std.specs.Prelude.{◌≡◌, false, Result, Ok, Err}
+use Rattle.mb_model.specs.declared.reply.Reply.{Reply}
+use Rattle.mb_model.specs.declared.reply.Reply.TheVariants as reply
+use Rattle.mb_model.specs.Layers.{standing}
+use Rattle.mb_model.specs.Refusals.{Refusal, powered_off, wrong_phase, zeroised, wrong_layer}
+use Rattle.mb_model.specs.Board.{Memory, Meter}
+use Rattle.mb_storing.specs.Answering.{may_have_written}
+use Rattle.mb_commit.specs.declared.remembering.Known.{Known}
+use Rattle.mb_device.specs.declared.device.Device.{Device}
+use Rattle.mb_device.specs.declared.device.Device.TheVariants as device
+use Rattle.mb_device.specs.declared.refusal.Refusal.{Refusal as Why}
+use Rattle.mb_device.specs.declared.refusal.Refusal.TheVariants as why
+
+-- the refusal that is told
+abbrev pub refusal_told : Why → Refusal
+refusal_told why.Off = powered_off
+refusal_told why.Phase = wrong_phase
+refusal_told why.Zeroised = zeroised
+refusal_told why.Layer = wrong_layer
+
+-- what is told of how a device stands that remembers this
+abbrev pub status_known : Known → Reply
+status_known known =
+    let layers = known.figures.layers in
+    let one = standing layers 1 in
+    let two = standing layers 2 in
+    let three = standing layers 3 in
+    reply.Status known.serial known.figures.number known.figures.length one two three
+
+-- whether power failed in an event that was answered so
+abbrev pub stop_told : Reply → Result (Unit {0}) (Unit {0})
+stop_told reply.Stopped = Err tt
+stop_told other = Ok tt
+
+-- Where the answer is none to an event that writes, and power did not fail, nothing was written.
+abbrev pub IfNothingTold : Reply → Memory → Memory → Meter → Meter → Type 0
+IfNothingTold answer before after old new = may_have_written answer ≡ false → (after ≡ before) × (new ≡ old)
+
+-- power of the device is off
+abbrev pub IsOff : Device → Type 0
+IsOff (device.Off state) = Unit {0}
+IsOff (device.Dead state) = ⊥
+IsOff (device.One state running) = ⊥
+IsOff (device.Two state running) = ⊥
+IsOff (device.Three state running) = ⊥

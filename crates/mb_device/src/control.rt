@@ -1,0 +1,57 @@
+//! Control that goes from a layer to the next.
+
+ghost use Rattle.std.specs.Prelude.{◌≡◌};
+ghost use Rattle.mb_model.specs.declared.event.Event.TheVariants as event;
+ghost use Rattle.mb_model.specs.Layers.{is_runnable};
+ghost use Rattle.mb_model.specs.Machine.{World};
+ghost use Rattle.mb_board.specs.Calls.{held_by};
+ghost use Rattle.mb_device.specs.Sound.{IsSound, HasSound, Steps};
+
+use crate::device::{Device, Running};
+use crate::refusal::Refusal;
+use mb_authority::is_runnable;
+use mb_board::Board;
+use mb_model::Reply;
+
+impl Running {
+    /// Whether the layer may run.
+    pub(crate) fn may_run(&self, layer: u8) -> bool
+        ensures { result ≡ is_runnable self.now.known.figures.layers layer }
+    {
+        is_runnable(&self.known.figures.layers, layer)
+    }
+}
+
+impl Device {
+    /// Answers `go`: the next layer runs, where it may. There is no way back but a boot.
+    pub(crate) fn go<B: Board>(self, b: &mut B) -> (Device, Reply)
+        requires sound { HasSound self (held_by (B.memory b.old) (B.power b.old) (B.level b.old) (B.meter b.old)) }
+        ensures steps { (world : World) → IsSound self (held_by (B.memory b.old) (B.power b.old) (B.level b.old) (B.meter b.old)) world
+            → Steps world event.Go result.1 result.0 (held_by (B.memory b.new) (B.power b.new) (B.level b.new) (B.meter b.new)) }
+        ensures memory { B.memory b.new ≡ B.memory b.old }
+        ensures ledger { B.ledger b.new ≡ B.ledger b.old }
+        ensures meter { B.meter b.new ≡ B.meter b.old }
+    {
+        match self {
+            Device::Off(off) => (Device::Off(off), Refusal::Off.reply()),
+            Device::Dead(dead) => (Device::Dead(dead), Refusal::Zeroised.reply()),
+            Device::One(up, running) => {
+                if running.may_run(2) {
+                    (Device::Two(up.advance(b), running), Reply::At(2))
+                } else {
+                    (Device::One(up, running), Refusal::Layer.reply())
+                }
+            }
+            Device::Two(up, running) => {
+                if running.may_run(3) {
+                    (Device::Three(up.advance(b), running), Reply::At(3))
+                } else {
+                    (Device::Two(up, running), Refusal::Layer.reply())
+                }
+            }
+            Device::Three(up, running) => {
+                (Device::Three(up, running), Refusal::Phase.reply())
+            }
+        }
+    }
+}

@@ -1,0 +1,49 @@
+//! A device between two events.
+
+ghost use Rattle.std.specs.Prelude.{◌≡◌, false};
+ghost use Rattle.mb_model.specs.Acknowledged.{Shows};
+ghost use Rattle.mb_model.specs.Machine.{World};
+ghost use Rattle.mb_model.specs.Valid.{Valid};
+ghost use Rattle.mb_board.specs.Calls.{held_by};
+ghost use Rattle.mb_device.specs.Sound.{IsSound};
+
+use mb_board::Board;
+use mb_commit::Known;
+use mb_layout::Room;
+use mb_ratchet::{Dead, Off, R1, R2, R3, Up};
+
+/// What a device has while a layer runs.
+#[derive(Drop)]
+pub struct Running {
+    /// What it remembers of its state.
+    pub known: Known,
+    /// The buffers in which it works.
+    pub room: Room,
+}
+
+/// A device between two events: where control is, and what is remembered.
+#[derive(Drop)]
+pub enum Device {
+    /// Power is off.
+    Off(Off),
+    /// Power is on, and the device is dead.
+    Dead(Dead),
+    /// Layer 1 runs.
+    One(Up<R1>, Running),
+    /// Layer 2 runs.
+    Two(Up<R2>, Running),
+    /// Layer 3 runs.
+    Three(Up<R3>, Running),
+}
+
+impl Device {
+    /// The device on a board whose power is off.
+    pub fn start<B: Board>(b: &B) -> Device
+        requires off { B.power b.now ≡ false }
+        ensures started { (world : World) → Shows (held_by (B.memory b.now) (B.power b.now) (B.level b.now) (B.meter b.now)) world
+            → Valid world.state
+            → IsSound result (held_by (B.memory b.now) (B.power b.now) (B.level b.now) (B.meter b.now)) world }
+    {
+        Device::Off(Off::first(b))
+    }
+}

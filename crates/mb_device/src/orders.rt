@@ -1,0 +1,77 @@
+//! Orders.
+
+ghost use Rattle.std.specs.Prelude.{◌≡◌, ◌+◌, ◌≤◌};
+ghost use Rattle.mb_format.specs.Format.{IsBytes};
+ghost use Rattle.mb_model.specs.declared.event.Event.TheVariants as event;
+ghost use Rattle.mb_model.specs.Machine.{World};
+ghost use Rattle.mb_board.specs.Calls.{held_by, IsMetered};
+ghost use Rattle.mb_device.specs.Sound.{IsSound, HasSound, Steps};
+ghost use Rattle.mb_device.specs.Stepping.{stop_told, IfNothingTold};
+
+use crate::device::{Device, Running};
+use crate::refusal::Refusal;
+use mb_board::Board;
+use mb_commit::obey;
+use mb_lms::Steps as HashCount;
+use mb_model::Reply;
+use mb_ratchet::{R1, Up};
+use std::alloc::Global;
+use std::sync::ledger::Ledger;
+
+/// Answers an order while layer 1 runs.
+fn take_order<B: Board, L: Ledger>(
+    alloc: Global,
+    up: Up<R1>,
+    running: Running,
+    b: &mut B,
+    text: &[u8],
+    draw: &[u8; 32],
+    steps: &mut HashCount<L>,
+) -> (Device, Reply)
+    requires flash_bytes { IsBytes (B.memory b.old).flash }
+    requires bbram_bytes { IsBytes (B.memory b.old).bbram }
+    requires sound { HasSound (Device.One up running) (held_by (B.memory b.old) (B.power b.old) (B.level b.old) (B.meter b.old)) }
+    ensures steps { (world : World) → IsSound (Device.One up running) (held_by (B.memory b.old) (B.power b.old) (B.level b.old) (B.meter b.old)) world
+        → Steps world (event.Command text.now draw.now) result.1 result.0 (held_by (B.memory b.new) (B.power b.new) (B.level b.new) (B.meter b.new)) }
+    ensures untold { IfNothingTold result.1 (B.memory b.old) (B.memory b.new) (B.meter b.old) (B.meter b.new) }
+    ensures ledger { B.ledger b.new ≡ B.ledger b.old }
+    ensures meter { IsMetered 471 (stop_told result.1) (B.meter b.old) (B.meter b.new) }
+    ensures cost { steps.new ≤ steps.old + 139744 }
+{
+    let mut known = running.known;
+    let mut room = running.room;
+    match obey(alloc, up, b, &mut known, text, draw, &mut room, steps) {
+        Ok((up, reply)) => (Device::One(up, Running { known, room }), reply),
+        Err(off) => (Device::Off(off), Reply::Stopped),
+    }
+}
+
+impl Device {
+    /// Answers an order. Only layer 1 takes one.
+    pub(crate) fn command<B: Board, L: Ledger>(
+        self,
+        alloc: Global,
+        b: &mut B,
+        text: &[u8],
+        draw: &[u8; 32],
+        steps: &mut HashCount<L>,
+    ) -> (Device, Reply)
+        requires flash_bytes { IsBytes (B.memory b.old).flash }
+        requires bbram_bytes { IsBytes (B.memory b.old).bbram }
+        requires sound { HasSound self (held_by (B.memory b.old) (B.power b.old) (B.level b.old) (B.meter b.old)) }
+        ensures steps { (world : World) → IsSound self (held_by (B.memory b.old) (B.power b.old) (B.level b.old) (B.meter b.old)) world
+            → Steps world (event.Command text.now draw.now) result.1 result.0 (held_by (B.memory b.new) (B.power b.new) (B.level b.new) (B.meter b.new)) }
+        ensures untold { IfNothingTold result.1 (B.memory b.old) (B.memory b.new) (B.meter b.old) (B.meter b.new) }
+        ensures ledger { B.ledger b.new ≡ B.ledger b.old }
+        ensures meter { IsMetered 471 (stop_told result.1) (B.meter b.old) (B.meter b.new) }
+        ensures cost { steps.new ≤ steps.old + 139744 }
+    {
+        match self {
+            Device::Off(off) => (Device::Off(off), Refusal::Off.reply()),
+            Device::Dead(dead) => (Device::Dead(dead), Refusal::Zeroised.reply()),
+            Device::One(up, running) => take_order(alloc, up, running, b, text, draw, steps),
+            Device::Two(up, running) => (Device::Two(up, running), Refusal::Phase.reply()),
+            Device::Three(up, running) => (Device::Three(up, running), Refusal::Phase.reply()),
+        }
+    }
+}

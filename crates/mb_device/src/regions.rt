@@ -1,0 +1,217 @@
+//! What layers do with their regions.
+
+ghost use Rattle.std.specs.Prelude.{◌≡◌, ◌+◌, ◌≤◌, true, IsTrue};
+ghost use Rattle.mb_format.specs.Format.{IsBytes};
+ghost use Rattle.mb_model.specs.declared.state.State.{State};
+ghost use Rattle.mb_model.specs.Board.{IsLoaded};
+ghost use Rattle.mb_model.specs.Layers.{is_runnable};
+ghost use Rattle.mb_model.specs.Machine.{World};
+ghost use Rattle.mb_model.specs.Script.{IsScriptEvent};
+ghost use Rattle.mb_board.specs.Calls.{held_by, power_of, level_of, IsMetered};
+ghost use Rattle.mb_layout.specs.Rooms.{HasRoom};
+ghost use Rattle.mb_storing.specs.Holding.{IsReady};
+ghost use Rattle.mb_storing.specs.Answering.{ComesTo, TellsOfWrites};
+ghost use Rattle.mb_commit.specs.Remembering.{Knows, IsRemembered};
+ghost use Rattle.mb_device.specs.Sound.{IsSound, HasSound, Steps};
+ghost use Rattle.mb_device.specs.Stepping.{stop_told, IfNothingTold};
+ghost use Rattle.mb_device.specs.Regions.{IsLayerEvent, region_named, layer_outcome};
+
+use crate::device::{Device, Running};
+use crate::refusal::Refusal;
+use mb_board::Board;
+use mb_layer_events::{drop_secret, get_secret, put_secret, sign_message};
+use mb_lms::Steps as HashCount;
+use mb_model::{Event, Reply};
+use mb_ratchet::{Off, R1, R2, R3, Reaches, Three, Two, Up};
+use mb_region::Named;
+use std::alloc::Global;
+use std::sync::ledger::Ledger;
+
+/// Does what a layer that may run does with the region of `L`.
+fn use_region<S: Reaches<L>, L: Named, B: Board, C: Ledger>(
+    alloc: Global,
+    s: S,
+    running: &mut Running,
+    b: &mut B,
+    event: &Event,
+    steps: &mut HashCount<C>,
+) -> Result<(S, Reply), Off>
+    requires on { B.power b.old ≡ true }
+    requires level { B.level b.old ≡ S.stage }
+    requires loaded { IsLoaded (B.memory b.old) }
+    requires bytes { IsBytes (B.memory b.old).bbram }
+    requires room { HasRoom running.old.room }
+    requires remembered { IsRemembered running.old.known (B.memory b.old) }
+    requires runs { is_runnable running.old.known.figures.layers L.place ≡ true }
+    requires event { IsLayerEvent event.now }
+    requires script { IsScriptEvent event.now }
+    ensures told { (state : State) → IsReady (B.memory b.old) state → Knows running.old.known state
+        → ComesTo state (layer_outcome L.place event.now state) (B.memory b.old) (B.memory b.new) result }
+    ensures writes { TellsOfWrites result (B.memory b.old) (B.memory b.new) (B.meter b.old) (B.meter b.new) }
+    ensures known { running.new.known ≡ running.old.known }
+    ensures room { HasRoom running.new.room }
+    ensures power { B.power b.new ≡ power_of result }
+    ensures level { B.level b.new ≡ level_of result (B.level b.old) }
+    ensures ledger { B.ledger b.new ≡ B.ledger b.old }
+    ensures meter { IsMetered 3 result (B.meter b.old) (B.meter b.new) }
+    ensures cost { steps.new ≤ steps.old + 35473 }
+{
+    let number = running.known.figures.number;
+    let serial = running.known.serial;
+    let room = &mut running.room;
+    match event {
+        Event::Put { name, value, .. } => put_secret::<S, L, B>(alloc, s, b, name, value, number, room),
+        Event::Get { name, .. } => {
+            let reply = get_secret::<S, L, B>(alloc, &s, b, name, room);
+            Ok((s, reply))
+        }
+        Event::Drop { name, .. } => drop_secret::<S, L, B>(alloc, s, b, name, room),
+        Event::Sign { key, message, .. } => {
+            sign_message::<S, L, B, C>(alloc, s, b, *key, message, &serial, number, room, steps)
+        }
+        _ => unreachable!(),
+    }
+}
+
+/// Answers a layer's use of its region while layer 1 runs.
+fn use_at_one<B: Board, C: Ledger>(
+    alloc: Global,
+    up: Up<R1>,
+    running: Running,
+    b: &mut B,
+    region: u8,
+    event: &Event,
+    steps: &mut HashCount<C>,
+) -> (Device, Reply)
+    requires bytes { IsBytes (B.memory b.old).bbram }
+    requires event { IsLayerEvent event.now }
+    requires region { region ≡ region_named event.now }
+    requires script { IsScriptEvent event.now }
+    requires sound { HasSound (Device.One up running) (held_by (B.memory b.old) (B.power b.old) (B.level b.old) (B.meter b.old)) }
+    ensures steps { (world : World) → IsSound (Device.One up running) (held_by (B.memory b.old) (B.power b.old) (B.level b.old) (B.meter b.old)) world
+        → Steps world event.now result.1 result.0 (held_by (B.memory b.new) (B.power b.new) (B.level b.new) (B.meter b.new)) }
+    ensures untold { IfNothingTold result.1 (B.memory b.old) (B.memory b.new) (B.meter b.old) (B.meter b.new) }
+    ensures ledger { B.ledger b.new ≡ B.ledger b.old }
+    ensures meter { IsMetered 3 (stop_told result.1) (B.meter b.old) (B.meter b.new) }
+    ensures cost { steps.new ≤ steps.old + 35473 }
+{
+    let mut running = running;
+    if !running.may_run(region) {
+        return (Device::One(up, running), Refusal::Layer.reply());
+    }
+    if region == 2 {
+        return match use_region::<Up<R1>, Two, B, C>(alloc, up, &mut running, b, event, steps) {
+            Ok((up, reply)) => (Device::One(up, running), reply),
+            Err(off) => (Device::Off(off), Reply::Stopped),
+        };
+    }
+    match use_region::<Up<R1>, Three, B, C>(alloc, up, &mut running, b, event, steps) {
+        Ok((up, reply)) => (Device::One(up, running), reply),
+        Err(off) => (Device::Off(off), Reply::Stopped),
+    }
+}
+
+/// Answers a layer's use of its region while layer 2 runs.
+fn use_at_two<B: Board, C: Ledger>(
+    alloc: Global,
+    up: Up<R2>,
+    running: Running,
+    b: &mut B,
+    region: u8,
+    event: &Event,
+    steps: &mut HashCount<C>,
+) -> (Device, Reply)
+    requires bytes { IsBytes (B.memory b.old).bbram }
+    requires event { IsLayerEvent event.now }
+    requires region { region ≡ region_named event.now }
+    requires script { IsScriptEvent event.now }
+    requires sound { HasSound (Device.Two up running) (held_by (B.memory b.old) (B.power b.old) (B.level b.old) (B.meter b.old)) }
+    ensures steps { (world : World) → IsSound (Device.Two up running) (held_by (B.memory b.old) (B.power b.old) (B.level b.old) (B.meter b.old)) world
+        → Steps world event.now result.1 result.0 (held_by (B.memory b.new) (B.power b.new) (B.level b.new) (B.meter b.new)) }
+    ensures untold { IfNothingTold result.1 (B.memory b.old) (B.memory b.new) (B.meter b.old) (B.meter b.new) }
+    ensures ledger { B.ledger b.new ≡ B.ledger b.old }
+    ensures meter { IsMetered 3 (stop_told result.1) (B.meter b.old) (B.meter b.new) }
+    ensures cost { steps.new ≤ steps.old + 35473 }
+{
+    let mut running = running;
+    if !running.may_run(region) {
+        return (Device::Two(up, running), Refusal::Layer.reply());
+    }
+    if region == 2 {
+        return match use_region::<Up<R2>, Two, B, C>(alloc, up, &mut running, b, event, steps) {
+            Ok((up, reply)) => (Device::Two(up, running), reply),
+            Err(off) => (Device::Off(off), Reply::Stopped),
+        };
+    }
+    match use_region::<Up<R2>, Three, B, C>(alloc, up, &mut running, b, event, steps) {
+        Ok((up, reply)) => (Device::Two(up, running), reply),
+        Err(off) => (Device::Off(off), Reply::Stopped),
+    }
+}
+
+/// Answers a layer's use of its region while layer 3 runs.
+fn use_at_three<B: Board, C: Ledger>(
+    alloc: Global,
+    up: Up<R3>,
+    running: Running,
+    b: &mut B,
+    region: u8,
+    event: &Event,
+    steps: &mut HashCount<C>,
+) -> (Device, Reply)
+    requires bytes { IsBytes (B.memory b.old).bbram }
+    requires event { IsLayerEvent event.now }
+    requires region { region ≡ region_named event.now }
+    requires script { IsScriptEvent event.now }
+    requires sound { HasSound (Device.Three up running) (held_by (B.memory b.old) (B.power b.old) (B.level b.old) (B.meter b.old)) }
+    ensures steps { (world : World) → IsSound (Device.Three up running) (held_by (B.memory b.old) (B.power b.old) (B.level b.old) (B.meter b.old)) world
+        → Steps world event.now result.1 result.0 (held_by (B.memory b.new) (B.power b.new) (B.level b.new) (B.meter b.new)) }
+    ensures untold { IfNothingTold result.1 (B.memory b.old) (B.memory b.new) (B.meter b.old) (B.meter b.new) }
+    ensures ledger { B.ledger b.new ≡ B.ledger b.old }
+    ensures meter { IsMetered 3 (stop_told result.1) (B.meter b.old) (B.meter b.new) }
+    ensures cost { steps.new ≤ steps.old + 35473 }
+{
+    let mut running = running;
+    if !running.may_run(region) {
+        return (Device::Three(up, running), Refusal::Layer.reply());
+    }
+    if region == 2 {
+        return (Device::Three(up, running), Refusal::Layer.reply());
+    }
+    match use_region::<Up<R3>, Three, B, C>(alloc, up, &mut running, b, event, steps) {
+        Ok((up, reply)) => (Device::Three(up, running), reply),
+        Err(off) => (Device::Off(off), Reply::Stopped),
+    }
+}
+
+impl Device {
+    /// Answers a layer's use of its region: control has to be no further than at the layer, which may run.
+    pub(crate) fn use_region<B: Board, C: Ledger>(
+        self,
+        alloc: Global,
+        b: &mut B,
+        region: u8,
+        event: &Event,
+        steps: &mut HashCount<C>,
+    ) -> (Device, Reply)
+        requires bytes { IsBytes (B.memory b.old).bbram }
+        requires event { IsLayerEvent event.now }
+        requires region { region ≡ region_named event.now }
+        requires script { IsScriptEvent event.now }
+        requires sound { HasSound self (held_by (B.memory b.old) (B.power b.old) (B.level b.old) (B.meter b.old)) }
+        ensures steps { (world : World) → IsSound self (held_by (B.memory b.old) (B.power b.old) (B.level b.old) (B.meter b.old)) world
+            → Steps world event.now result.1 result.0 (held_by (B.memory b.new) (B.power b.new) (B.level b.new) (B.meter b.new)) }
+        ensures untold { IfNothingTold result.1 (B.memory b.old) (B.memory b.new) (B.meter b.old) (B.meter b.new) }
+        ensures ledger { B.ledger b.new ≡ B.ledger b.old }
+        ensures meter { IsMetered 3 (stop_told result.1) (B.meter b.old) (B.meter b.new) }
+        ensures cost { steps.new ≤ steps.old + 35473 }
+    {
+        match self {
+            Device::Off(off) => (Device::Off(off), Refusal::Off.reply()),
+            Device::Dead(dead) => (Device::Dead(dead), Refusal::Zeroised.reply()),
+            Device::One(up, running) => use_at_one(alloc, up, running, b, region, event, steps),
+            Device::Two(up, running) => use_at_two(alloc, up, running, b, region, event, steps),
+            Device::Three(up, running) => use_at_three(alloc, up, running, b, region, event, steps),
+        }
+    }
+}

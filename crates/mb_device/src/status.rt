@@ -1,0 +1,62 @@
+//! How a device stands.
+
+ghost use Rattle.std.specs.Prelude.{◌≡◌, ◌≤◌};
+ghost use Rattle.mb_model.specs.Layers.{standing};
+ghost use Rattle.mb_model.specs.Machine.{World, status_event, awake_in};
+ghost use Rattle.mb_model.specs.Valid.{Valid};
+ghost use Rattle.mb_device.specs.Sound.{Fits};
+ghost use Rattle.mb_device.specs.Stepping.{status_known};
+
+use crate::device::{Device, Running};
+use crate::refusal::Refusal;
+use mb_authority::{is_owned, is_runnable, layer_of};
+use mb_model::{Layers, Reply, Standing};
+
+/// How a layer stands.
+fn standing(layers: &Layers, layer: u8) -> Standing
+    requires least { 1 ≤ layer }
+    requires most { layer ≤ 3 }
+    ensures { result ≡ standing layers.now layer }
+{
+    if !is_owned(layers, layer) {
+        Standing::Unowned
+    } else if !layer_of(layers, layer).reliable {
+        Standing::Unreliable
+    } else if !is_runnable(layers, layer) {
+        Standing::Reliable
+    } else {
+        Standing::Runnable
+    }
+}
+
+impl Running {
+    /// What is told of how the device stands.
+    fn status(&self) -> Reply
+        ensures { result ≡ status_known self.now.known }
+    {
+        let figures = &self.known.figures;
+        Reply::Status {
+            serial: self.known.serial,
+            number: figures.number,
+            length: figures.length,
+            one: standing(&figures.layers, 1),
+            two: standing(&figures.layers, 2),
+            three: standing(&figures.layers, 3),
+        }
+    }
+}
+
+impl Device {
+    /// Answers `status`, from what is remembered.
+    pub(crate) fn status(&self) -> Reply
+        ensures { (world : World) → Fits self.now world → Valid world.state → (result, world) ≡ status_event world (awake_in world) }
+    {
+        match self {
+            Device::Off(_) => Refusal::Off.reply(),
+            Device::Dead(_) => Refusal::Zeroised.reply(),
+            Device::One(_, running) => running.status(),
+            Device::Two(_, running) => running.status(),
+            Device::Three(_, running) => running.status(),
+        }
+    }
+}

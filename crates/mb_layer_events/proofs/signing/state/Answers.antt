@@ -1,0 +1,10 @@
+use Rattle.mb_layer_events.proofs.Stated.{statement_allowed, finds_room}
+use Rattle.mb_layer_events.proofs.signing.state.Goals as goal
+
+pub write_statement-requires : goal.write_statement-requires
+write_statement-requires g c = statement_allowed c.args.number c.args.prepared.message c.state_text.new.out c.ranges.number.fits c.requires.short c.state_text.array_long
+
+pub unreachable-requires : goal.unreachable-requires
+unreachable-requires g c =
+    finds_room (record { number = c.args.number; message = c.args.prepared.message; signature = c.state_text.new.out })
+    (statement_allowed c.args.number c.args.prepared.message c.state_text.new.out c.ranges.number.fits c.requires.short c.state_text.array_long) c.in-Err.ensures c.requires.prepared.none c.requires.prepared.room

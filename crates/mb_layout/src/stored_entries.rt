@@ -1,0 +1,110 @@
+//! The entries of a stored public record, of which none is copied but the one that is looked at.
+
+ghost use Rattle.std.specs.Prelude.{◌≡◌, ◌≤◌, [], ◌∷◌, List, length, Some, None};
+ghost use Rattle.std.specs.Option.{option_copied};
+ghost use Rattle.mb_format.specs.Format.{Spells};
+ghost use Rattle.mb_format.specs.Combinators.{optional};
+ghost use Rattle.mb_model.specs.declared.entry.SignedEntry.{SignedEntry};
+ghost use Rattle.mb_model.specs.declared.state.Codes.{Codes};
+ghost use Rattle.mb_model.specs.EntryFormat.{signature_format};
+ghost use Rattle.mb_model.specs.Flash.{public_entry_format, public_format, public_of_parts};
+ghost use Rattle.mb_bytes.specs.Reads.{bad_at, ReadsAs};
+ghost use Rattle.mb_layout.specs.StoredEntries.{entry_in, AreNext, FindsEntries};
+
+use crate::entry::entry_at;
+use crate::public::{ENTRIES, stored_codes_at};
+use crate::root::version_at;
+use mb_bytes::{Cursor, flag_at, u16_between};
+use mb_model::{BadRecord, Entry};
+
+/// The number of bytes of a signature.
+const SIGNATURE: u32 = 2_348;
+
+/// An entry with its signature where it stands, not copied.
+#[derive(Drop)]
+pub struct StoredEntry<'a> {
+    pub entry: Entry,
+    pub signature: Option<&'a [u8]>,
+}
+
+/// The entries of a public record where they stand, from some entry on.
+#[derive(Drop)]
+pub struct StoredEntries<'a> {
+    cursor: Cursor<'a>,
+    left: u16,
+}
+
+/// A signature where there is one, not copied.
+fn stored_signature_at<'a>(cursor: &mut Cursor<'a>) -> Result<Option<&'a [u8]>, BadRecord>
+    ensures { ReadsAs option_copied bad_at (optional signature_format) cursor.old result cursor.new }
+{
+    if flag_at(cursor)? {
+        Ok(Some(cursor.take_slice(SIGNATURE)?))
+    } else {
+        Ok(None)
+    }
+}
+
+/// An entry and its signature, which is not copied.
+#[tactic(auto, unfolding(mb_model::specs::Flash::public_entry_format))]
+fn stored_entry_at<'a>(cursor: &mut Cursor<'a>) -> Result<StoredEntry<'a>, BadRecord>
+    ensures { ReadsAs entry_in bad_at public_entry_format cursor.old result cursor.new }
+{
+    let entry = entry_at(cursor)?;
+    let signature = stored_signature_at(cursor)?;
+    Ok(StoredEntry { entry, signature })
+}
+
+/// The entries of the public record that the bytes spell.
+fn entries_in(bytes: &[u8]) -> Result<StoredEntries<'_>, BadRecord>
+    requires { length bytes.now ≤ 4194304 }
+    ensures { FindsEntries bytes.now result }
+{
+    let mut cursor = Cursor::new(bytes);
+    version_at(&mut cursor)?;
+    stored_codes_at(&mut cursor)?;
+    let left = u16_between(&mut cursor, 1, ENTRIES)?;
+    Ok(StoredEntries { cursor, left })
+}
+
+impl<'a> StoredEntries<'a> {
+    /// The entries of the public record that the bytes spell, each of which is signed. Nothing is said where the bytes
+    /// spell no such record.
+    pub fn of(bytes: &'a [u8]) -> StoredEntries<'a>
+        requires { length bytes.now ≤ 4194304 }
+        ensures { (codes : Codes) (log : List SignedEntry) → Spells public_format bytes.now (public_of_parts codes log [])
+            → AreNext result log }
+    {
+        match entries_in(bytes) {
+            Ok(entries) => entries,
+            Err(_) => StoredEntries {
+                cursor: Cursor::new(&[]),
+                left: 0,
+            },
+        }
+    }
+
+    /// How many entries are left.
+    pub fn left(&self) -> u16
+        ensures { result ≡ self.now.left }
+    {
+        self.left
+    }
+
+    /// The entry that comes next, which is passed.
+    pub fn next(&mut self) -> Option<Entry>
+        ensures { (first : SignedEntry) (rest : List SignedEntry) → AreNext self.old (first ∷ rest)
+            → (result ≡ Some first.entry) × AreNext self.new rest }
+    {
+        if self.left == 0 {
+            return None;
+        }
+        let mut cursor = self.cursor;
+        let Ok(StoredEntry { entry, .. }) = stored_entry_at(&mut cursor) else {
+            return None;
+        };
+        self.cursor = cursor;
+        self.left -= 1;
+        Some(entry)
+    }
+}
