@@ -16,10 +16,10 @@ use Rattle.mb_model.specs.Replies.{replies_text}
 use Rattle.mb_model.specs.RunCommand.{RunNames, IsServed, write_image, serve_events}
 use Rattle.mb_model.specs.Commands.{print, at_first}
 use Rattle.mb_board.specs.Calls.{held_by}
+use Rattle.mb_device.specs.Served.{IsServedFrom}
 use Rattle.mb_lemmas.proofs.FaultLemmas.{image_parts}
 use Rattle.mb_run_laws.proofs.SoundLemmas.{run_is_sound}
 use Rattle.mb_top.specs.declared.end.End.{End}
-use Rattle.mb_top.specs.Device.{IsServedFrom}
 use Rattle.mb_top.specs.Ending.{CarriesOutAfter, CarriesOutRest}
 use Rattle.mb_top.specs.Outputs.{writes}
 use Rattle.mb_top.proofs.CommandLemmas.{serve_goes}

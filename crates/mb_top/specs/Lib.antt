@@ -2,6 +2,5 @@ pub mod Words
 pub mod Ending
 pub mod Outputs
 pub mod Images
-pub mod Device
 pub mod Program
 pub mod Signing

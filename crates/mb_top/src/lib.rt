@@ -6,7 +6,6 @@
 #![tactic(auto)]
 
 mod commands;
-mod device;
 mod end;
 mod factory;
 mod input;

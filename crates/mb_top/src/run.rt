@@ -11,13 +11,13 @@ ghost use Rattle.mb_board.specs.Calls.{held_by};
 ghost use Rattle.mb_top.specs.Words.{run_files};
 ghost use Rattle.mb_top.specs.Ending.{CarriesOutRest};
 
-use crate::device::Device;
 use crate::end::End;
 use crate::output::{Output, finish};
 use crate::replies::write_replies;
 use crate::run_input::{read_draws, read_events, read_image};
 use crate::words::RunNames;
 use mb_board::Board;
+use mb_device::Device;
 use mb_host::Host;
 use mb_lms::Steps;
 use mb_model::{Events, Role};
