@@ -9,7 +9,7 @@ use Rattle.mb_bytes.specs.Puts.{Writes}
 use Rattle.mb_model.specs.declared.stored.Pending.{Pending}
 use Rattle.mb_model.specs.declared.stored.Root.{Root}
 use Rattle.mb_model.specs.RootFormat.{pending_format, root_format}
-use Rattle.mb_model.specs.Board.{Memory}
+use Rattle.mb_model.specs.Board.{Memory, IsLoaded}
 use Rattle.mb_model.specs.Memory.{IsBlank, current, HoldsRecord}
 use Rattle.mb_model.specs.Flash.{flash_area}
 use Rattle.mb_model.specs.Meaning.{RootIn, Contents, HoldsContents, meant}
@@ -17,12 +17,14 @@ use Rattle.mb_model.specs.Clean.{root_of}
 use Rattle.mb_lemmas.proofs.MeaningLemmas.{one_root}
 use Rattle.mb_storing.specs.Commits.{both_done, at_rest}
 use Rattle.mb_storing.specs.Holding.{KeepsContents}
+use Rattle.mb_storing.proofs.CommitLemmas.{stands_for_meant}
+use Rattle.mb_storing.proofs.HoldingLemmas.{contents_keep}
 use Rattle.mb_storing.specs.InForce.{AgreeBesides}
 use Rattle.mb_storing.proofs.FrameLemmas.{contents_agree, root_replaced}
-use Rattle.mb_storing.proofs.RestLemmas.{work_finished}
+use Rattle.mb_storing.proofs.RestLemmas.{work_finished, rest_stands, meant_layers}
 use Rattle.mb_storing.proofs.StorableFormats.{none_allowed}
 use Rattle.mb_storing.proofs.StorableRecords.{root_room}
-use Rattle.mb_area.specs.Roots.{HoldsSomeRoot, HasSomeRoot, CommitsRoot, settled_root, Finishes}
+use Rattle.mb_area.specs.Roots.{HoldsSomeRoot, HasSomeRoot, CommitsRoot, settled_root, Finishes, KeepsOrFinishes, MeansByRoot, KeepsOrMeansByRoot, MeansAsReady}
 
 -- ---- reading
 
@@ -133,3 +135,23 @@ none_pending root any same none = ap (λ (r : Root). r.pending) same ∙ none_in
 -- what would make a false test true does not hold
 pub is_not : {P : Type 0} → (IsTrue false ↔ P) → P → ⊥
 is_not both p = let clash : false ≡ true = both.1 p in cc
+
+-- ---- the state
+
+pub committed_means : (root : Root) (before after : Memory) → IsLoaded after → CommitsRoot root before after → MeansByRoot root before after
+committed_means root before after sized commits = record {
+  means = λ contents codes signed unsigned holds public index. (
+      let next : Contents = record contents { root = root; codes = codes; signed = signed; unsigned = unsigned } in
+      stands_for_meant after.flash after.bbram next (meant next) sized (commits.committed contents codes signed unsigned holds public) index refl);
+}
+
+pub committed_means_or_kept : (root : Root) (before after : Memory) → IsLoaded after → KeepsContents before after ⊎ CommitsRoot root before after → KeepsOrMeansByRoot root before after
+committed_means_or_kept root before after sized (inl keeps) = inl (contents_keep before after sized keeps)
+committed_means_or_kept root before after sized (inr commits) = inr (committed_means root before after sized commits)
+
+pub finished_means : (before after : Memory) → IsLoaded after → KeepsOrFinishes before after → MeansAsReady before after
+finished_means before after sized (inl keeps) = record { means = λ contents ready means. (contents_keep before after sized keeps).kept (meant contents) means }
+finished_means before after sized (inr done) = record {
+  means = λ contents ready means.
+      rest_stands after.flash after.bbram (meant contents) (1 - contents.root.area) sized (meant_layers contents) (done.finishes contents ready);
+}

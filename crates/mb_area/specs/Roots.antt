@@ -12,7 +12,8 @@ use Rattle.mb_model.specs.Flash.{HoldsPublic}
 use Rattle.mb_model.specs.Meaning.{RootIn, Contents, meant}
 use Rattle.mb_model.specs.Clean.{root_of}
 use Rattle.mb_storing.specs.Commits.{both_done, at_rest}
-use Rattle.mb_storing.specs.Holding.{Holds, KeepsContents}
+use Rattle.mb_model.specs.StoredLog.{HasIndex}
+use Rattle.mb_storing.specs.Holding.{Holds, Means, KeepsContents, KeepsMeaning}
 
 -- an area holds some root
 pub record HoldsSomeRoot (area : List ℕ) : Type 0 where
@@ -31,6 +32,16 @@ pub record CommitsRoot (new_root : Root) (before after : Memory) : Type 0 where
       → Holds after
       (record contents { root = new_root; codes = codes; signed = signed; unsigned = unsigned })
 
+-- Whatever the memory held, it stands for what that means with this root, and with the codes and entries that the flash
+-- holds for the root.
+pub record MeansByRoot (new_root : Root) (before after : Memory) : Type 0 where
+  pub means : (contents : Contents) (codes : Codes) (signed : List SignedEntry) (unsigned : List Entry)
+      → Holds before contents → HoldsPublic before.flash new_root codes signed unsigned
+      → HasIndex new_root new_root.pending
+      → Means
+      after
+      (meant (record contents { root = new_root; codes = codes; signed = signed; unsigned = unsigned }))
+
 -- the root of a device with nothing pending, with the public record in the flash area that this root does not name
 abbrev pub settled_root : Root → Root
 settled_root root = record root { area = 1 - root.area; pending = None }
@@ -47,6 +58,11 @@ pub record IsReadyToFinish (memory : Memory) (contents : Contents) : Type 0 wher
       (meant contents).log
       []
 
+-- The state for which contents that were ready to be finished stood is that for which the memory stands.
+pub record MeansAsReady (before after : Memory) : Type 0 where
+  pub means : (contents : Contents) → IsReadyToFinish before contents → Means before (meant contents)
+      → Means after (meant contents)
+
 -- what the memory holds once that is finished
 abbrev pub finished : Contents → Contents
 finished contents = at_rest (meant contents) (1 - contents.root.area)
@@ -58,3 +74,7 @@ pub record Finishes (before after : Memory) : Type 0 where
 -- contents that were ready to be finished are so still, or are finished
 abbrev pub KeepsOrFinishes : Memory → Memory → Type 0
 KeepsOrFinishes before after = KeepsContents before after ⊎ Finishes before after
+
+-- each state for which the memory stood it stands for, or it stands for what this root makes of it
+abbrev pub KeepsOrMeansByRoot : Root → Memory → Memory → Type 0
+KeepsOrMeansByRoot new_root before after = KeepsMeaning before after ⊎ MeansByRoot new_root before after

@@ -13,7 +13,7 @@ ghost use Rattle.mb_storing.specs.InForce.{AgreeBesides};
 ghost use Rattle.mb_slot.specs.Slots.{CanUse, IsSameBut, IsSameButOther};
 ghost use Rattle.mb_layout.specs.Rooms.{HasRoom};
 ghost use Rattle.mb_storing.specs.Holding.{KeepsContents};
-ghost use Rattle.mb_area.specs.Roots.{HoldsSomeRoot, HasSomeRoot, CommitsRoot, Finishes, KeepsOrFinishes, settled_root};
+ghost use Rattle.mb_area.specs.Roots.{HoldsSomeRoot, HasSomeRoot, CommitsRoot, Finishes, KeepsOrFinishes, MeansByRoot, KeepsOrMeansByRoot, MeansAsReady, settled_root};
 
 use crate::state::{Unsettled, Unwiped};
 use mb_board::{Board, Stopped};
@@ -95,7 +95,7 @@ fn store_root<B: Board>(b: &mut B, root: &Root, room: &mut Room) -> Result<(), S
 
 /// Puts the root in force, with whose public record the flash area that it names begins, as an order leaves it. Where
 /// power fails, this one or the one before is in force. There are at most two write calls.
-#[tactic(auto, using(crate::proofs::Rooted::root_committed, crate::proofs::Rooted::committed_or_kept))]
+#[tactic(auto, using(crate::proofs::Rooted::root_committed, crate::proofs::Rooted::committed_or_kept, crate::proofs::Rooted::committed_means, crate::proofs::Rooted::committed_means_or_kept))]
 pub fn commit_root<B: Board>(
     up: Up<R1>,
     b: &mut B,
@@ -110,6 +110,8 @@ pub fn commit_root<B: Board>(
     ensures done { OnOk result (CommitsRoot root.now (B.memory b.old) (B.memory b.new)) }
     ensures either { KeepsContents (B.memory b.old) (B.memory b.new)
         ⊎ CommitsRoot root.now (B.memory b.old) (B.memory b.new) }
+    ensures means { OnOk result (MeansByRoot root.now (B.memory b.old) (B.memory b.new)) }
+    ensures means_either { KeepsOrMeansByRoot root.now (B.memory b.old) (B.memory b.new) }
     ensures rest { IsSameBut 1 (B.memory b.old).bbram (B.memory b.new).bbram }
     ensures sized { IsLoaded (B.memory b.new) }
     ensures flash { (B.memory b.new).flash ≡ (B.memory b.old).flash }
@@ -143,7 +145,7 @@ fn settled_root(root: &Root) -> Root
 /// Puts the root in force that says that nothing is pending, where the fates stand applied and the signed public record
 /// stands in the flash area that is not in force. Where power fails, this root or the one before is in force. There are at
 /// most two write calls.
-#[tactic(auto, using(crate::proofs::Rooted::root_finished, crate::proofs::Rooted::finished_or_kept, crate::proofs::Rooted::settled_allowed))]
+#[tactic(auto, using(crate::proofs::Rooted::root_finished, crate::proofs::Rooted::finished_or_kept, crate::proofs::Rooted::finished_means, crate::proofs::Rooted::settled_allowed))]
 pub fn finish_root<B: Board>(u: Unsettled, b: &mut B, room: &mut Room) -> Result<Unwiped, Off>
     requires on { B.power b.old ≡ true }
     requires level { B.level b.old ≡ 1 }
@@ -152,6 +154,7 @@ pub fn finish_root<B: Board>(u: Unsettled, b: &mut B, room: &mut Room) -> Result
     requires room { HasRoom room.old }
     ensures done { OnOk result (Finishes (B.memory b.old) (B.memory b.new)) }
     ensures either { KeepsOrFinishes (B.memory b.old) (B.memory b.new) }
+    ensures means { MeansAsReady (B.memory b.old) (B.memory b.new) }
     ensures rest { IsSameBut 1 (B.memory b.old).bbram (B.memory b.new).bbram }
     ensures sized { IsLoaded (B.memory b.new) }
     ensures flash { (B.memory b.new).flash ≡ (B.memory b.old).flash }

@@ -1,10 +1,11 @@
 -- What is stored once a key of a region was used.
 use Rattle.std.proofs.Common.{◌≡◌, ℕ, ◌≤◌, ◌<◌, inr, List, length, Result, Ok, Err, OnOk, OnErr, sym, subst}
-use Rattle.std.specs.Prelude.{AllPairs}
+use Rattle.std.specs.Prelude.{AllPairs, ◌⊎◌}
 use Rattle.mb_format.specs.Format.{IsBytes}
 use Rattle.mb_model.specs.declared.region.Region.{Region}
 use Rattle.mb_model.specs.declared.region.RegionKey.{RegionKey}
-use Rattle.mb_model.specs.Board.{Memory}
+use Rattle.mb_model.specs.declared.state.State.{State}
+use Rattle.mb_model.specs.Board.{Memory, IsLoaded}
 use Rattle.mb_model.specs.Memory.{current}
 use Rattle.mb_model.specs.RegionFormat.{SpellsRegion}
 use Rattle.mb_model.specs.Meaning.{HoldsRegion}
@@ -14,10 +15,11 @@ use Rattle.mb_layout.specs.Edits.{CanBeStored, used, UseOf}
 use Rattle.mb_storing.proofs.StorableMemories.{spelled_storable}
 use Rattle.mb_storing.proofs.StorableRecords.{region_record}
 use Rattle.mb_storing.proofs.StorableSteps.{use_region}
-use Rattle.mb_storing.specs.Holding.{KeepsContents}
-use Rattle.mb_region.specs.Regions.{IsRegionSlot, HoldsSomeRegion, ReplacesRegion, KeepsOrReplaces}
+use Rattle.mb_storing.specs.Holding.{KeepsContents, Means}
+use Rattle.mb_region.specs.Regions.{IsRegionSlot, HasNoFate, HoldsSomeRegion, ReplacesRegion, KeepsOrReplaces}
 use Rattle.mb_region.proofs.Replaced.{region_found, can_be_stored, record_short, edited_holds, edited_either}
-use Rattle.mb_outbound.specs.Binding.{HoldsOrdered, HasUse, StoresUse, KeepsOrStoresUse}
+use Rattle.mb_outbound.specs.Binding.{HoldsOrdered, HasUse, StoresUse, KeepsOrStoresUse, state_used}
+use Rattle.mb_region.proofs.Meant.{edited_stands, edited_or_kept}
 use Rattle.mb_outbound.specs.Using.{IsUsable, FindsUse}
 
 -- ---- the use of a key
@@ -90,3 +92,13 @@ stands_still region same stands = subst (λ (xs : List ℕ). SpellsRegion xs reg
 
 pub refused_as : {end known : NotUsed} (region : Region) (number : ℕ) (bytes : List ℕ) → end ≡ known → FindsUse region number (Err end) bytes → FindsUse region number (Err known) bytes
 refused_as region number bytes same outcome = subst (λ (e : NotUsed). FindsUse region number (Err e) bytes) same outcome
+
+-- ---- the state
+
+pub means_used : (slot number : ℕ) (before after : Memory) → IsRegionSlot slot → IsLoaded after → HasNoFate slot before → StoresUse slot number before after
+    → (state : State) → Means before state → Means after (state_used slot number state)
+means_used slot number before after which sized none stores = edited_stands slot (used number) before after which sized none stores.stored
+
+pub means_kept_or_used : (slot number : ℕ) (before after : Memory) → IsRegionSlot slot → IsLoaded after → HasNoFate slot before → KeepsOrStoresUse slot number before after
+    → (state : State) → Means before state → Means after state ⊎ Means after (state_used slot number state)
+means_kept_or_used slot number before after which sized none either = edited_or_kept slot (used number) before after which sized none either

@@ -4,8 +4,10 @@ use Rattle.std.specs.Prelude.{◌≡◌, ℕ, ◌<◌, ◌⊎◌, List, find, Al
 use Rattle.mb_model.specs.declared.key.KeySeed.{KeySeed}
 use Rattle.mb_model.specs.declared.region.Region.{Region}
 use Rattle.mb_model.specs.declared.region.RegionKey.{RegionKey}
+use Rattle.mb_model.specs.declared.state.State.{State}
 use Rattle.mb_model.specs.Board.{Memory, Meter}
 use Rattle.mb_model.specs.LayerEvents.{has_number}
+use Rattle.mb_model.specs.OrderStep.{region_of, with_region}
 use Rattle.mb_model.specs.Meaning.{HoldsRegion, Contents}
 use Rattle.mb_storing.specs.Holding.{Holds, region_in_slot, with_region_in}
 use Rattle.mb_layout.specs.Edits.{used, IsSpent}
@@ -63,3 +65,7 @@ pub record StoresUse (slot number : ℕ) (before after : Memory) : Type 0 where
 abbrev pub KeepsOrStoresUse : ℕ → ℕ → Memory → Memory → Type 0
 KeepsOrStoresUse slot number before after =
     (contents : Contents) → Holds before contents → Holds after contents ⊎ Holds after (used_in slot number contents)
+
+-- the state with one more use of the key in the region of this layer
+abbrev pub state_used : ℕ → ℕ → State → State
+state_used L number state = with_region state L (used number (region_of state L))

@@ -1,7 +1,8 @@
 //! Binding of the keys of regions.
 
-ghost use Rattle.std.specs.Prelude.{◌≡◌, ◌≤◌, ◌<◌, length, OnOk, IfOk, OnErr, true, vec_capacity};
+ghost use Rattle.std.specs.Prelude.{◌≡◌, ◌≤◌, ◌<◌, ◌⊎◌, length, OnOk, IfOk, OnErr, true, vec_capacity};
 ghost use Rattle.mb_model.specs.declared.region.Region.{Region};
+ghost use Rattle.mb_model.specs.declared.state.State.{State};
 ghost use Rattle.mb_model.specs.Board.{IsLoaded};
 ghost use Rattle.mb_model.specs.Memory.{IsBlank, current, other};
 ghost use Rattle.mb_model.specs.Meaning.{HoldsRegion};
@@ -9,10 +10,11 @@ ghost use Rattle.mb_model.specs.RegionFormat.{SpellsRegion};
 ghost use Rattle.mb_board.specs.Calls.{power_of, level_of, IsMetered};
 ghost use Rattle.mb_layout.specs.Rooms.{HasRoom};
 ghost use Rattle.mb_layout.specs.Edits.{UseOf};
+ghost use Rattle.mb_storing.specs.Holding.{Means};
 ghost use Rattle.mb_storing.specs.InForce.{AgreeBesides};
 ghost use Rattle.mb_slot.specs.Slots.{CanUse, IsSameBut};
-ghost use Rattle.mb_region.specs.Regions.{ReplacesRegion, KeepsOrReplaces};
-ghost use Rattle.mb_outbound.specs.Binding.{HoldsOrdered, BindOf, power_in, IsUnwritten, StoresUse, KeepsOrStoresUse};
+ghost use Rattle.mb_region.specs.Regions.{HasNoFate, ReplacesRegion, KeepsOrReplaces};
+ghost use Rattle.mb_outbound.specs.Binding.{HoldsOrdered, BindOf, power_in, IsUnwritten, StoresUse, KeepsOrStoresUse, state_used};
 ghost use Rattle.mb_outbound.specs.Using.{FindsUse};
 
 use mb_board::Board;
@@ -108,6 +110,10 @@ pub fn bind<S: Reaches<L>, L: Named, B: Board>(
     ensures bound { (region : Region) → HoldsRegion (current (B.memory b.old).bbram L.place) region → BindOf region key result }
     ensures done { OnOk result (StoresUse L.place key (B.memory b.old) (B.memory b.new)) }
     ensures either { KeepsOrStoresUse L.place key (B.memory b.old) (B.memory b.new) }
+    ensures means { HasNoFate L.place (B.memory b.old) → (state : State) → Means (B.memory b.old) state
+        → OnOk result (Means (B.memory b.new) (state_used L.place key state)) }
+    ensures means_either { HasNoFate L.place (B.memory b.old) → (state : State) → Means (B.memory b.old) state
+        → Means (B.memory b.new) state ⊎ Means (B.memory b.new) (state_used L.place key state) }
     ensures blank { OnOk result (IsBlank (other (B.memory b.new).bbram L.place)) }
     ensures unwritten { IsUnwritten result (B.memory b.old) (B.memory b.new) (B.meter b.old) (B.meter b.new) }
     ensures besides { AgreeBesides L.place (B.memory b.old).bbram (B.memory b.new).bbram }

@@ -1,4 +1,5 @@
-use Rattle.mb_outbound.proofs.Bound.{stores_use, keeps_or_stores, at_place, refused_as}
+use Rattle.std.proofs.Common.{inl}
+use Rattle.mb_outbound.proofs.Bound.{means_used, means_kept_or_used, stores_use, keeps_or_stores, at_place, refused_as}
 use Rattle.mb_outbound.proofs.binding.bind.Goals as goal
 
 pub returns-in-Err-NoKey-clause-bound : goal.returns-in-Err-NoKey-clause-bound
@@ -30,3 +31,21 @@ pub returns-in-Err-clause-either : goal.returns-in-Err-clause-either
 returns-in-Err-clause-either g c =
     keeps_or_stores g.L.Place.place c.args.key _ _ c.next_use.new.room.other.items c.in-Ok.found g.met.L.Named.named
     (λ region has. c.in-Ok.ensures.used region (at_place _ c.number.result g.L.Place.place c.number.ensures has)) c.store.ensures.either
+
+pub returns-in-Ok-store-clause-means : goal.returns-in-Ok-store-clause-means
+returns-in-Ok-store-clause-means g c = λ none state means.
+    means_used g.L.Place.place c.args.key _ _ g.met.L.Named.named c.store.ensures.sized none (returns-in-Ok-store-clause-done g c) state means
+
+pub returns-in-Ok-store-clause-means_either : goal.returns-in-Ok-store-clause-means_either
+returns-in-Ok-store-clause-means_either g c = λ none state means.
+    means_kept_or_used g.L.Place.place c.args.key _ _ g.met.L.Named.named c.store.ensures.sized none (returns-in-Ok-store-clause-either g c) state means
+
+pub returns-in-Err-clause-means_either : goal.returns-in-Err-clause-means_either
+returns-in-Err-clause-means_either g c = λ none state means.
+    means_kept_or_used g.L.Place.place c.args.key _ _ g.met.L.Named.named c.store.ensures.sized none (returns-in-Err-clause-either g c) state means
+
+pub returns-in-Err-NoKey-clause-means_either : goal.returns-in-Err-NoKey-clause-means_either
+returns-in-Err-NoKey-clause-means_either g c = λ none state means. inl means
+
+pub returns-in-Err-Spent-clause-means_either : goal.returns-in-Err-Spent-clause-means_either
+returns-in-Err-Spent-clause-means_either g c = λ none state means. inl means

@@ -1,0 +1,18 @@
+use Rattle.std.proofs.Common.{◌≡◌, ◌⊎◌, subst}
+use Rattle.mb_model.specs.declared.stored.Root.{Root}
+use Rattle.mb_model.specs.RootFormat.{root_format}
+use Rattle.mb_model.specs.Memory.{current, HoldsRecord}
+use Rattle.mb_area.proofs.Rooted.{finished_or_kept, finished_means}
+use Rattle.mb_area.proofs.root.finish_root.Goals as goal
+
+pub returns-in-Ok-clause-means : goal.returns-in-Ok-clause-means
+returns-in-Ok-clause-means g c =
+    finished_means (g.B.Board.memory c.args.b.now) (g.B.Board.memory c.store_root.new.b) c.store_root.ensures.sized
+    (finished_or_kept c.read_root.result (g.B.Board.memory c.args.b.now) (g.B.Board.memory c.store_root.new.b) c.read_root.ensures.root c.store_root.ensures.besides c.store_root.ensures.flash
+    (subst (λ (r : Root). (current (g.B.Board.memory c.store_root.new.b).bbram 1 ≡ current (g.B.Board.memory c.args.b.now).bbram 1) ⊎ HoldsRecord root_format (current (g.B.Board.memory c.store_root.new.b).bbram 1) r) c.settled_root-root.ensures c.store_root.ensures.either))
+
+pub returns-in-Err-clause-means : goal.returns-in-Err-clause-means
+returns-in-Err-clause-means g c =
+    finished_means (g.B.Board.memory c.args.b.now) (g.B.Board.memory c.store_root.new.b) c.store_root.ensures.sized
+    (finished_or_kept c.read_root.result (g.B.Board.memory c.args.b.now) (g.B.Board.memory c.store_root.new.b) c.read_root.ensures.root c.store_root.ensures.besides c.store_root.ensures.flash
+    (subst (λ (r : Root). (current (g.B.Board.memory c.store_root.new.b).bbram 1 ≡ current (g.B.Board.memory c.args.b.now).bbram 1) ⊎ HoldsRecord root_format (current (g.B.Board.memory c.store_root.new.b).bbram 1) r) c.settled_root-root.ensures c.store_root.ensures.either))
