@@ -35,7 +35,7 @@ READERS = {
     "crates/mb_top/src/tests/keys.rt": top_readers.plays,
     "crates/mb_top/src/tests/life.rt": top_readers.plays,
     "crates/mb_top/src/tests/once.rt": top_readers.once,
-    "crates/mb_top/src/tests/runs.rt": top_readers.runs,
+    "crates/mb_top/src/tests/runs.rt": top_readers.plays,
     "crates/mb_top/src/tests/sign.rt": top_readers.signed_orders,
     "examples/first-order/expected.txt": readers.first_order,
     "examples/two-officers/expected.txt": readers.officers,

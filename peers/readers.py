@@ -132,14 +132,18 @@ def next_root(source):
 
 
 def first_order(source):
-    """The owner in the image signed the order of the script, which names the owner that the example shows."""
-    data = source.root / "crates/miniboot/data"
-    owner = (data / "image").read_bytes()[17:73]
-    word = re.search("^command ([0-9a-f]*)$", (data / "script").read_text(), re.MULTILINE)[1]
-    text = bytes.fromhex(word)
-    verifies(source, "the order of crates/miniboot/data", owner, b"\1" + text[:60], text[62:-1])
-    shown = "".join(re.search(r"new  ([0-9a-f]+)\n\s+([0-9a-f]+)", source.text).groups())
-    source.compare("owner and trust of layer 2", "01" + text[3:60].hex(), shown)
+    """The example's keys, serial and order, by the noise in its script. The stored script begins with that order."""
+    script = (source.root / "examples/first-order/run.sh").read_text()
+    noise = {name: bytes.fromhex(word) for word, name in re.findall(r"bytes ([0-9a-f]+) >(\w+)\.noise", script)}
+    maker, first, second = (Officer(noise[name]) for name in ("maker", "first", "second"))
+    owners = re.findall("owner ([0-9a-f]{64})", source.text)
+    source.compare("owners", [officer.owner().hex() for officer in (maker, first, second)], owners)
+    source.compare("serial", noise["birth"][32:].hex(), re.search("serial ([0-9a-f]+)", source.text)[1])
+    text = body(f"order establish 2\nowner {second.public().hex()}\ntrust countersigned\n")
+    signed = order(text, first.sign(signed_text(text)))
+    source.compare("order", sha256(signed).hex(), re.search("order  SHA-256 ([0-9a-f]+)", source.text)[1])
+    stored = (source.root / "crates/miniboot/data/script").read_text()
+    source.compare("stored order", signed.hex(), re.search("^command ([0-9a-f]*)$", stored, re.MULTILINE)[1])
 
 
 def officers(source):

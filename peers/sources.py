@@ -37,7 +37,12 @@ class Source:
 
     def argument(self, word):
         """A word that stands in quotes, or the constant of this name."""
-        return word.strip('"') if '"' in word else self.constant(word)
+        return word.strip('"') if '"' in word else self.owner(word).constant(word)
+
+    def owner(self, name):
+        """The file where the constant of this name stands: this one, or one beside it from which it is imported."""
+        found = re.search(rf"use super::(\w+)::{{[^}}]*\b{name}\b", self.text)
+        return Source(self.root, f"{self.name.rsplit('/', 1)[0]}/{found[1]}.rt") if found else self
 
     def unseen(self):
         """Words of at least 32 bytes that no reader has looked at."""

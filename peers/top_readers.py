@@ -5,9 +5,7 @@ import re
 
 from lms import PrivateKey, sha256, u32
 from officer import Officer, body, countersigned_text, order, order_line, signed_text
-from sources import Source, line_of, verifies
-
-IMAGE_LENGTH = 1_077_248
+from sources import Source, line_of
 
 
 def owner_line(officer):
@@ -94,28 +92,13 @@ def follow(source, host, kind, words, failing):
         source.compare(f"order {words[0]}", sha256(order(*host.orders[words[0]])).hex(), words[1])
 
 
-def first_head(source):
-    """The first bytes of the first image, and the order for it."""
-    tests = source.name.rsplit("/", 1)[0]
-    head = bytes.fromhex(Source(source.root, f"{tests}/runs.rt").constant("SECTOR"))
-    once = Source(source.root, f"{tests}/once.rt")
-    return head, bytes.fromhex(once.constant("ORDER") + once.constant("ORDER_END"))
-
-
 def once(source):
-    head, text = first_head(source)
-    source.constant("ORDER")
-    verifies(source, "the first order", head[17:73], signed_text(text[:60]), text[62:-1])
-
-
-def runs(source):
-    """The hashes of the image before and after its order was served."""
-    head, text = first_head(source)
-    source.constant("SECTOR")
-    after = head[:73] + b"\1" + text[3:60]
-    for name, begins in (("BEFORE", head), ("AFTER", after)):
-        image = begins.ljust(IMAGE_LENGTH, b"\xff")
-        source.compare(f"image {name}", sha256(image).hex(), source.constant(name))
+    """The first order of a device's life, by the officer whose noise stands beside it."""
+    runs = Source(source.root, f"{source.name.rsplit('/', 1)[0]}/runs.rt")
+    officer = Officer(dict(given(runs))["noise2"])
+    found = bytes.fromhex(source.constant("ORDER") + source.constant("ORDER_END"))
+    text = found[:60]
+    source.compare("the first order", order(text, officer.sign(signed_text(text))).hex(), found.hex())
 
 
 def signed_orders(source):

@@ -3,9 +3,9 @@
 
 import hashlib
 
-from lms import u8
 from officer import Officer, body, countersigned_text, order, order_line, signed_text
 
+SERIAL = bytes(range(32, 48)).hex()
 LOAD = "order load 1\ntarget length 2\nversion 2\ntrust countersigned\ncode 616263\n"
 
 
@@ -29,6 +29,12 @@ def written(index, text, officer):
     yield f"  key file    {officer.key_file().hex()}"
 
 
+def replies(done, status):
+    """What the device prints that serves one order and tells its status."""
+    for reply in ("booted", done, f"status {SERIAL} {status}", "off"):
+        yield f"  {reply}"
+
+
 def establish(first, second):
     draft = f"order establish 2\nowner {second.public().hex()}\ntrust countersigned\n"
     text = body(draft)
@@ -38,9 +44,8 @@ def establish(first, second):
     yield f"  body        {text.hex()}"
     yield from written(0, signed, first)
     yield "A device of the first's serves it:"
-    for reply in ("booted", "done 1 2", "off"):
-        yield f"  {reply}"
-    yield f"  layer 2     {(u8(1) + second.public() + u8(2)).hex()}"
+    yield f"  serial {SERIAL}"
+    yield from replies("done 1 2", "1 2 runnable unreliable unowned")
 
 
 def load(first, second):
@@ -53,12 +58,15 @@ def load(first, second):
     yield "The second countersigns it as the owner of layer 2:"
     by_second = second.sign(countersigned_text(2, text))
     yield from written(0, order(text, signature, [(2, by_second)]), second)
+    yield "The device serves it:"
+    yield from replies("done 2 3", "2 3 runnable unreliable unowned")
 
 
 def shown():
-    first, second = Officer(bytes(32)), Officer(bytes(range(32)))
+    first, second, maker = Officer(bytes(32)), Officer(bytes(range(32))), Officer(bytes(range(32, 64)))
     yield from owner_of("first", first)
     yield from owner_of("second", second)
+    yield from owner_of("maker", maker)
     yield from establish(first, second)
     yield from load(first, second)
 

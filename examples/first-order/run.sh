@@ -1,8 +1,11 @@
 #!/usr/bin/env bash
-# Builds the proved program, serves one signed order on a first image, and shows what the program printed and which
-# bytes of the image it changed. Fails where that is not what expected.txt says. run.sh PROGRAM tries a program that is
-# built. With --unproved it compiles the program without proving anything and shows only what it printed. Works from any
-# current folder; beside the build in crates/*/out/ it writes in a temporary folder alone, which it removes.
+# Builds the proved program, makes a device with it, signs the first order that the device is given, and serves that
+# order twice. Shows what the program printed, and fails where that is not what expected.txt says, which another program
+# made. The noise is known here, so that it can make the same keys; people take bytes that nobody can guess, as
+# `head -c 32 /dev/urandom` gives them. run.sh PROGRAM tries a program that is built. With --unproved it compiles the
+# program without proving anything, and serves the stored life of this device, of which the order is the first event but
+# one. Works from any current folder; beside the build in crates/*/out/ it writes in a temporary folder alone, which it
+# removes.
 set -euo pipefail
 export LC_ALL=C
 usage="usage: examples/first-order/run.sh [--unproved | PROGRAM]"
@@ -14,7 +17,7 @@ if [ $# -gt 1 ]; then
     echo "$usage" >&2
     exit 2
 fi
-for tool in cmp awk; do
+for tool in cut od sed sha256sum tr wc; do
     if ! command -v "$tool" >/dev/null; then
         echo "$tool is needed, and is not on the PATH" >&2
         exit 1
@@ -24,39 +27,7 @@ done
 work=$(mktemp -d)
 trap 'rm -rf "$work"' EXIT
 
-# The ranges in which two files of one length differ, with their old and new bytes in hexadecimal.
-changes() {
-    { cmp -l "$1" "$2" || [ $? -eq 1 ]; } | awk '
-        # cmp counts offsets from 1, and bytes in octal.
-        function hex(octal) {
-            octal = sprintf("%03d", octal)
-            return sprintf("%02x", substr(octal, 1, 1) * 64 + substr(octal, 2, 1) * 8 + substr(octal, 3, 1))
-        }
-        function show(name, bytes,    at) {
-            for (at = 1; at <= length(bytes); at += 64) {
-                printf "  %s  %s\n", name, substr(bytes, at, 64)
-                name = "   "
-            }
-        }
-        function finish() {
-            if (count == 0) return
-            printf "bytes %d to %d\n", first, last
-            show("old", old)
-            show("new", new)
-        }
-        count > 0 && $1 - 1 != last + 1 { finish(); count = 0 }
-        count == 0 { first = $1 - 1; old = ""; new = "" }
-        { last = $1 - 1; old = old hex($2); new = new hex($3); count += 1 }
-        END { finish() }'
-}
-
-# What expected.txt says that the program prints.
-expected_lines() {
-    sed -n '2,/^The image had /{/^The image had /!s/^  //p;}' "$here/expected.txt"
-}
-
-# Serves the order by a program that is compiled without a proof. rt keeps no file that such a program writes, so that
-# nothing shows what changed of the image.
+# Serves the stored script by a program that is compiled without a proof.
 serve_unproved() {
     echo "Compiling the program without proving anything, which takes about half a minute .."
     (cd "$crate" && rt try -- run data/image data/script data/noise) >"$work/printed" 2>"$work/try.log" || {
@@ -65,10 +36,10 @@ serve_unproved() {
         echo "the program ended with status $status" >&2
         return 1
     }
-    echo "The program printed:"
-    sed 's/^/  /' "$work/printed"
-    if ! expected_lines | diff - "$work/printed" >&2; then
-        echo "this is not what examples/first-order/expected.txt says" >&2
+    echo "The program printed, in the device's life:"
+    cut -c 1-100 "$work/printed" | sed 's/^/  /'
+    if ! diff "$crate/stdout" "$work/printed" >&2; then
+        echo "this is not what crates/miniboot/stdout says" >&2
         return 1
     fi
 }
@@ -88,21 +59,57 @@ else
     build
     program=$crate/out/miniboot
 fi
-echo "Serving one order, which takes a moment .." >&2
-cp "$crate/data/image" "$crate/data/script" "$crate/data/noise" "$work"
-cp "$work/image" "$work/before"
-cd "$work"
-"$program" run image script noise >printed || {
-    status=$?
-    cat printed
-    echo "the program ended with status $status" >&2
-    exit 1
+
+# The bytes that are given in hexadecimal.
+bytes() {
+    printf '%b' "$(sed 's/../\\x&/g' <<<"$1")"
 }
-{
-    echo "The program printed:"
+
+# The bytes of standard input in hexadecimal.
+hex() {
+    od -An -v -tx1 | tr -d ' \n'
+}
+
+# Runs the program with these words, and shows what it prints.
+miniboot() {
+    "$program" "$@" >printed || {
+        status=$?
+        cat printed
+        echo "miniboot $1 ended with status $status" >&2
+        return 1
+    }
     sed 's/^/  /' printed
-    echo "The image had $(wc -c <before) bytes and has $(wc -c <image). What changed of it, by offsets from 0:"
-    changes before image
+}
+
+cd "$work"
+bytes 35fe183c068bc13ac735a76ac05c37d8d055c34bf945b99c4cdada2e31cc8ca8 >maker.noise
+bytes d95321bdf284c2032c7a5209b847eae96c3080c86bfc2585312e15361179d1ac >first.noise
+bytes c0fcde819a0006907629b33ec8a491a8b0d7cbf7ef92d8dfeb3bb22913d91c30 >second.noise
+bytes 12d71d7255b6325df7487678010fc9dbb905c6d5af1a7d986e75ecdfdc39dfbec10b471ceff881272aa5ed819fd9a0e0 >birth.noise
+printf 'layer one' >code
+echo "Making keys and a device, and serving an order, which takes a moment .." >&2
+{
+    echo "The maker and two officers make keys:"
+    miniboot keygen maker.noise maker.key maker.public
+    miniboot keygen first.noise first.key first.public
+    miniboot keygen second.noise second.key second.public
+
+    echo "The maker makes a device whose layer 1 the first officer owns:"
+    miniboot factory birth.noise maker.key first.public code image
+    echo "  image  $(wc -c <image) bytes, SHA-256 $(sha256sum <image | cut -d ' ' -f 1)"
+
+    echo "The first signs the order that makes the second the owner of layer 2:"
+    printf 'order establish 2\nowner %s\ntrust countersigned\n' "$(hex <second.public)" >draft
+    miniboot sign first.key draft order
+    echo "  order  SHA-256 $(bytes "$(cut -d ' ' -f 2 order)" | sha256sum | cut -d ' ' -f 1)"
+
+    echo "The device serves it:"
+    { echo boot; cat order; echo off; } >script
+    miniboot run image script birth.noise
+    echo "  image  $(wc -c <image) bytes"
+
+    echo "It does not serve it again:"
+    miniboot run image script birth.noise
 } >shown
 cat shown
 if ! cmp -s shown "$here/expected.txt"; then

@@ -1,7 +1,7 @@
 #!/usr/bin/env bash
-# Builds the proved program, makes the keys of two officers, signs and countersigns two orders with them, and serves one
-# on a device. Shows what was made, and fails where that is not what expected.txt says, which another program made
-# (peers/two_officers.py). The noise is known here, so that it can make the same keys; an officer takes 32 bytes that
+# Builds the proved program, makes the keys of two officers and of a maker, signs and countersigns two orders with them,
+# and serves both on a device. Shows what was made, and fails where that is not what expected.txt says, which another
+# program made (peers/two_officers.py). The noise is known here, so that it can make the same keys; people take bytes that
 # nobody can guess, as `head -c 32 /dev/urandom` gives them. run.sh [PROGRAM] tries a program that is built. Works from
 # any current folder; beside the build in crates/*/out/ it writes in a temporary folder alone, which it removes.
 set -euo pipefail
@@ -31,11 +31,6 @@ fi
 # The bytes of standard input in hexadecimal.
 hex() {
     od -An -v -tx1 | tr -d ' \n'
-}
-
-# The bytes of a file from an offset on, so many, in hexadecimal.
-part() {
-    head -c "$(($2 + $3))" "$1" | tail -c "$3" | hex
 }
 
 # Runs the program with these words; what it prints is in `printed`.
@@ -72,22 +67,30 @@ show_order() {
     echo "  key file    $(hex <"$2.key")"
 }
 
-# A new device: its serial, the owner of layer 1, and no owner of layer 2. What all other bytes are does not matter.
-make_image() {
-    head -c 17 /dev/zero
-    cat "$1"
-    head -c 1 /dev/zero
-    head -c "$((1077248 - 74))" /dev/zero | tr '\0' '\377'
+# So many bytes, each one more than the byte before it.
+bytes_from() {
+    for number in $(seq "$1" "$(($1 + $2 - 1))"); do
+        printf "\\x$(printf '%02x' "$number")"
+    done
+}
+
+# The device serves the order of this name and tells its status, and its replies are shown.
+serve_order() {
+    { echo boot; cat "$1.order"; echo status; echo off; } >script
+    miniboot run image script birth.noise
+    sed 's/^/  /' printed
 }
 
 cd "$work"
 head -c 32 /dev/zero >first.noise
-for number in $(seq 0 31); do
-    printf "\\x$(printf '%02x' "$number")"
-done >second.noise
+bytes_from 0 32 >second.noise
+bytes_from 32 32 >maker.noise
+bytes_from 0 48 >birth.noise
+printf 'layer one' >code
 {
     make_key first
     make_key second
+    make_key maker
 
     echo "The first, who owns layer 1, signs the order that makes the second the owner of layer 2:"
     printf 'order establish 2\nowner %s\ntrust countersigned\n' "$(hex <second.public)" >establish.draft
@@ -96,11 +99,9 @@ done >second.noise
     show_order establish.order first
 
     echo "A device of the first's serves it:"
-    make_image first.public >image
-    { echo boot; cat establish.order; echo off; } >script
-    miniboot run image script first.noise
+    miniboot factory birth.noise maker.key first.public code image
     sed 's/^/  /' printed
-    echo "  layer 2     $(part image 73 58)"
+    serve_order establish
 
     echo "The first signs a load of layer 1:"
     printf 'order load 1\ntarget length 2\nversion 2\ntrust countersigned\ncode 616263\n' >load.draft
@@ -111,6 +112,9 @@ done >second.noise
     echo "The second countersigns it as the owner of layer 2:"
     miniboot countersign second.key 2 load.order both.order
     show_order both.order second
+
+    echo "The device serves it:"
+    serve_order both
 } >shown
 cat shown
 if ! cmp -s shown "$here/expected.txt"; then

@@ -2,18 +2,18 @@
 use Rattle.std.proofs.Common.{◌≡◌, ℕ, true, false, List, ◌++◌, codes, Result, Ok, Err, refl, subst, inl, inr}
 use Rattle.mb_model.specs.declared.event.Answered.{Answered}
 use Rattle.mb_model.specs.Outside.{Outside, read_once, Writes, FailsToWrite, Prints, FailsToPrint}
-use Rattle.mb_model.specs.Board.{Final}
+use Rattle.mb_model.specs.Board.{Held}
 use Rattle.mb_model.specs.Commands.{Input, Output, Command, read, find, either, serve, write, print, refuse, Past, SaysLine, Stops, WantsMemory, too_long, faulty, not_read, no_room, printed, not_printed, CommandEnds, input_line, role_word, place_words}
 use Rattle.mb_top.specs.declared.end.End.{End}
 use Rattle.mb_top.specs.declared.end.End.TheVariants as end
 use Rattle.mb_top.specs.Ending.{end_line, end_status, ended_at, CarriesOutRest, HasInput, StopsAt}
 
 -- a command that has ended so far on, and stops with a line
-stopped : (line : List ℕ) (status : ℕ) (past : Past) (answered : List Answered) (final : Final) (before after : Outside)
+stopped : (line : List ℕ) (status : ℕ) (past : Past) (answered : List Answered) (final : Held) (before after : Outside)
     → answered ≡ past.answered → SaysLine line before after → Stops line status past (ended_at before answered final after status)
 stopped line status past answered final before after same says = record { says = says; answered = same; status_is = refl }
 
-wanted : (past : Past) (answered : List Answered) (final : Final) (before after : Outside) → past.wrote ≡ false → answered ≡ past.answered
+wanted : (past : Past) (answered : List Answered) (final : Held) (before after : Outside) → past.wrote ≡ false → answered ≡ past.answered
     → SaysLine (codes "no memory") before after → WantsMemory past (ended_at before answered final after 6)
 wanted past answered final before after none same says =
     record { first = none; stops = stopped (codes "no memory") 6 past answered final before after same says }
@@ -21,7 +21,7 @@ wanted past answered final before after none same says =
 -- ---- an input
 
 -- an input was not had
-pub input_carried_out : {A : Type 0} (input : Input A) (rest : A → Command) (past : Past) (answered : List Answered) (final : Final) (before now : Outside) (why : End)
+pub input_carried_out : {A : Type 0} (input : Input A) (rest : A → Command) (past : Past) (answered : List Answered) (final : Held) (before now : Outside) (why : End)
     → past.wrote ≡ false → answered ≡ past.answered → StopsAt input before now why → CarriesOutRest (read input rest) past answered final before (Err why) now
 unfolding CarriesOutRest CommandEnds
 input_carried_out input rest past answered final before now (end.TooLong other) none same (is, held, now_is) = λ after says.
@@ -42,7 +42,7 @@ input_carried_out input rest past answered final before now end.NotPrinted none 
 input_carried_out input rest past answered final before now (end.Refused refusal) none same stops = absurd stops
 
 -- an input was read, and the command went on with its value
-pub read_on : {A : Type 0} (input : Input A) (rest : A → Command) (past : Past) (answered : List Answered) (final : Final) (before mid now : Outside) (value : A)
+pub read_on : {A : Type 0} (input : Input A) (rest : A → Command) (past : Past) (answered : List Answered) (final : Held) (before mid now : Outside) (value : A)
     (result : Result (Unit {0}) End) → HasInput input before mid value → CarriesOutRest (rest value) past answered final mid result now
     → CarriesOutRest (read input rest) past answered final before result now
 unfolding CarriesOutRest CommandEnds
@@ -53,13 +53,13 @@ read_on input rest past answered final before mid now value (Err why) has carrie
 
 -- ---- a choice
 
-pub goes_first : (If : Type 0) (first second : Command) (past : Past) (answered : List Answered) (final : Final) (before now : Outside) (result : Result (Unit {0}) End)
+pub goes_first : (If : Type 0) (first second : Command) (past : Past) (answered : List Answered) (final : Held) (before now : Outside) (result : Result (Unit {0}) End)
     → If → CarriesOutRest first past answered final before result now → CarriesOutRest (either If first second) past answered final before result now
 unfolding CarriesOutRest CommandEnds
 goes_first If first second past answered final before now (Ok u) holds ends = inl (holds, ends)
 goes_first If first second past answered final before now (Err why) holds carried = λ after says. inl (holds, carried after says)
 
-pub goes_second : (If : Type 0) (first second : Command) (past : Past) (answered : List Answered) (final : Final) (before now : Outside) (result : Result (Unit {0}) End)
+pub goes_second : (If : Type 0) (first second : Command) (past : Past) (answered : List Answered) (final : Held) (before now : Outside) (result : Result (Unit {0}) End)
     → (If → ⊥) → CarriesOutRest second past answered final before result now → CarriesOutRest (either If first second) past answered final before result now
 unfolding CarriesOutRest CommandEnds
 goes_second If first second past answered final before now (Ok u) never ends = inr (inl (never, ends))
@@ -67,7 +67,7 @@ goes_second If first second past answered final before now (Err why) never carri
 
 -- ---- a value that is made
 
-pub finds : {A : Type 0} (Is : A → Type 0) (rest : A → Command) (past : Past) (answered : List Answered) (final : Final) (before now : Outside) (value : A) (result : Result (Unit {0}) End)
+pub finds : {A : Type 0} (Is : A → Type 0) (rest : A → Command) (past : Past) (answered : List Answered) (final : Held) (before now : Outside) (value : A) (result : Result (Unit {0}) End)
     → Is value → CarriesOutRest (rest value) past answered final before result now → CarriesOutRest (find Is rest) past answered final before result now
 unfolding CarriesOutRest CommandEnds
 finds Is rest past answered final before now value (Ok u) is ends = inl (value, is, ends)
@@ -75,26 +75,26 @@ finds Is rest past answered final before now value (Err why) is carried = λ aft
 
 -- ---- refusals and failed allocations
 
-pub refuse_here : (why : End) (past : Past) (answered : List Answered) (final : Final) (before : Outside)
+pub refuse_here : (why : End) (past : Past) (answered : List Answered) (final : Held) (before : Outside)
     → end_status why ≡ 7 → answered ≡ past.answered → CarriesOutRest (refuse (end_line why)) past answered final before (Err why) before
 unfolding CarriesOutRest CommandEnds
 refuse_here why past answered final before seven same = λ after says.
     inl (record { says = says; answered = same; status_is = seven })
 
 -- an allocation fails before an output, before events are served, or before a choice
-pub memory_here : (output : Output) (rest : Command) (past : Past) (answered : List Answered) (final : Final) (before : Outside)
+pub memory_here : (output : Output) (rest : Command) (past : Past) (answered : List Answered) (final : Held) (before : Outside)
     → past.wrote ≡ false → answered ≡ past.answered → CarriesOutRest (write output rest) past answered final before (Err end.NoMemory) before
 unfolding CarriesOutRest CommandEnds
 memory_here output rest past answered final before none same = λ after says.
     inr (inr (wanted past answered final before after none same says))
 
-pub memory_chosen : (If : Type 0) (first second : Command) (past : Past) (answered : List Answered) (final : Final) (before : Outside)
+pub memory_chosen : (If : Type 0) (first second : Command) (past : Past) (answered : List Answered) (final : Held) (before : Outside)
     → past.wrote ≡ false → answered ≡ past.answered → CarriesOutRest (either If first second) past answered final before (Err end.NoMemory) before
 unfolding CarriesOutRest CommandEnds
 memory_chosen If first second past answered final before none same = λ after says.
     inr (inr (wanted past answered final before after none same says))
 
-pub memory_unserved : (IsServed : List Answered → Final → Type 0) (rest : List Answered → Final → Command) (past : Past) (answered : List Answered) (final : Final) (before : Outside)
+pub memory_unserved : (IsServed : List Answered → Held → Type 0) (rest : List Answered → Held → Command) (past : Past) (answered : List Answered) (final : Held) (before : Outside)
     → past.wrote ≡ false → answered ≡ past.answered → CarriesOutRest (serve IsServed rest) past answered final before (Err end.NoMemory) before
 unfolding CarriesOutRest CommandEnds
 memory_unserved IsServed rest past answered final before none same = λ after says.
@@ -102,7 +102,7 @@ memory_unserved IsServed rest past answered final before none same = λ after sa
 
 -- ---- events
 
-pub serve_goes : (IsServed : List Answered → Final → Type 0) (rest : List Answered → Final → Command) (past : Past) (answered : List Answered) (final : Final) (before now : Outside)
+pub serve_goes : (IsServed : List Answered → Held → Type 0) (rest : List Answered → Held → Command) (past : Past) (answered : List Answered) (final : Held) (before now : Outside)
     (result : Result (Unit {0}) End) → IsServed answered final → CarriesOutRest (rest answered final) (record past { answered = answered }) answered final before result now
     → CarriesOutRest (serve IsServed rest) past answered final before result now
 unfolding CarriesOutRest CommandEnds
@@ -111,25 +111,25 @@ serve_goes IsServed rest past answered final before now (Err why) served carried
 
 -- ---- outputs and the text
 
-pub write_goes : (output : Output) (rest : Command) (past : Past) (answered : List Answered) (final : Final) (before mid now : Outside) (result : Result (Unit {0}) End)
+pub write_goes : (output : Output) (rest : Command) (past : Past) (answered : List Answered) (final : Held) (before mid now : Outside) (result : Result (Unit {0}) End)
     → Writes output.name output.bytes before mid → CarriesOutRest rest (record past { wrote = true }) answered final mid result now
     → CarriesOutRest (write output rest) past answered final before result now
 unfolding CarriesOutRest CommandEnds
 write_goes output rest past answered final before mid now (Ok u) writes ends = inr (inl (mid, writes, ends))
 write_goes output rest past answered final before mid now (Err why) writes carried = λ after says. inr (inl (mid, writes, carried after says))
 
-pub write_stops : (output : Output) (rest : Command) (past : Past) (answered : List Answered) (final : Final) (before mid : Outside)
+pub write_stops : (output : Output) (rest : Command) (past : Past) (answered : List Answered) (final : Held) (before mid : Outside)
     → answered ≡ past.answered → FailsToWrite output.name before mid → CarriesOutRest (write output rest) past answered final before (Err (end.NotWritten output.role)) mid
 unfolding CarriesOutRest CommandEnds
 write_stops output rest past answered final before mid same fails = λ after says.
     inl (record { mid = mid; fails = fails; stops = stopped _ 5 past answered final mid after same says })
 
-pub print_goes : (text : List ℕ) (past : Past) (answered : List Answered) (final : Final) (before now : Outside)
+pub print_goes : (text : List ℕ) (past : Past) (answered : List Answered) (final : Held) (before now : Outside)
     → answered ≡ past.answered → Prints text before now → CarriesOutRest (print text) past answered final before (Ok tt) now
 unfolding CarriesOutRest CommandEnds
 print_goes text past answered final before now same prints = inl (printed prints same refl)
 
-pub print_stops : (text : List ℕ) (past : Past) (answered : List Answered) (final : Final) (before mid : Outside)
+pub print_stops : (text : List ℕ) (past : Past) (answered : List Answered) (final : Held) (before mid : Outside)
     → answered ≡ past.answered → FailsToPrint text before mid → CarriesOutRest (print text) past answered final before (Err end.NotPrinted) mid
 unfolding CarriesOutRest CommandEnds
 print_stops text past answered final before mid same fails = λ after says.

@@ -2,7 +2,7 @@
 use Rattle.std.proofs.Common.{◌≡◌, ℕ, true, false, List, [], ◌∷◌, codes, IsTrue, refl, sym, subst}
 use Rattle.mb_model.specs.declared.event.Answered.{Answered}
 use Rattle.mb_model.specs.Outside.{Outside, Prints, FailsToPrint}
-use Rattle.mb_model.specs.Board.{Final}
+use Rattle.mb_model.specs.Board.{Held}
 use Rattle.mb_model.specs.Commands.{Ended, PrintEnds, printed, not_printed, SaysLine, Stops, at_first}
 use Rattle.mb_model.specs.Top.{Ends}
 use Rattle.mb_top.specs.declared.end.End.{End}
@@ -10,27 +10,27 @@ use Rattle.mb_top.specs.declared.end.End.TheVariants as end
 use Rattle.mb_top.specs.Ending.{ended_at, end_line, end_status}
 use Rattle.mb_top.specs.Program.{ProgramEnds, helped, versioned, commanded}
 
-pub text_printed : (text : List ℕ) (before now : Outside) (final : Final) → Prints text before now → PrintEnds text at_first (ended_at before [] final now 0)
+pub text_printed : (text : List ℕ) (before now : Outside) (final : Held) → Prints text before now → PrintEnds text at_first (ended_at before [] final now 0)
 text_printed text before now final prints = printed prints refl refl
 
-pub text_not_printed : (text : List ℕ) (before mid now : Outside) (final : Final) (status : ℕ) → FailsToPrint text before mid
+pub text_not_printed : (text : List ℕ) (before mid now : Outside) (final : Held) (status : ℕ) → FailsToPrint text before mid
     → SaysLine (end_line end.NotPrinted) mid now → status ≡ end_status end.NotPrinted → PrintEnds text at_first (ended_at before [] final now status)
 text_not_printed text before mid now final status fails says is =
     not_printed mid fails (record { says = says; answered = refl; status_is = is })
 
 -- an end without words
-pub stops_so : (why : End) (answered : List Answered) (final : Final) (before now : Outside) (status : ℕ) → answered ≡ [] → SaysLine (end_line why) before now → status ≡ end_status why
+pub stops_so : (why : End) (answered : List Answered) (final : Held) (before now : Outside) (status : ℕ) → answered ≡ [] → SaysLine (end_line why) before now → status ≡ end_status why
     → Stops (end_line why) (end_status why) at_first (ended_at before answered final now status)
 stops_so why answered final before now status none says is = record { says = says; answered = none; status_is = is }
 
 -- ---- by the words
 
-pub help_carried_out : (usage version : List ℕ) (words : List (List ℕ)) (answered : List Answered) (final : Final) (before now : Outside) (status : ℕ) → words ≡ codes "--help" ∷ [] → answered ≡ []
+pub help_carried_out : (usage version : List ℕ) (words : List (List ℕ)) (answered : List Answered) (final : Held) (before now : Outside) (status : ℕ) → words ≡ codes "--help" ∷ [] → answered ≡ []
     → PrintEnds usage at_first (ended_at before [] final now status) → ProgramEnds usage version words (ended_at before answered final now status)
 help_carried_out usage version words answered final before now status is none ends =
     helped is (subst (λ a. PrintEnds usage at_first (ended_at before a final now status)) (sym none) ends)
 
-pub version_carried_out : (usage version : List ℕ) (words : List (List ℕ)) (answered : List Answered) (final : Final) (before now : Outside) (status : ℕ) → words ≡ codes "--version" ∷ [] → answered ≡ []
+pub version_carried_out : (usage version : List ℕ) (words : List (List ℕ)) (answered : List Answered) (final : Held) (before now : Outside) (status : ℕ) → words ≡ codes "--version" ∷ [] → answered ≡ []
     → PrintEnds version at_first (ended_at before [] final now status) → ProgramEnds usage version words (ended_at before answered final now status)
 version_carried_out usage version words answered final before now status is none ends =
     versioned is (subst (λ a. PrintEnds version at_first (ended_at before a final now status)) (sym none) ends)

@@ -6,7 +6,7 @@ use Rattle.mb_format.specs.Combinators.{same_bytes}
 use Rattle.mb_model.specs.declared.event.Answered.{Answered}
 use Rattle.mb_model.specs.Layers.{is_upper}
 use Rattle.mb_model.specs.Outside.{Outside}
-use Rattle.mb_model.specs.Board.{Final}
+use Rattle.mb_model.specs.Board.{Held}
 use Rattle.mb_model.specs.Commands.{Ended, CommandEnds, HasInputsFor, IsFaultless, at_first}
 use Rattle.mb_model.specs.Top.{Request, runs, makes_key, signs, countersigns, makes_device, IsRequest, command_of, Ends, no_command, did}
 use Rattle.mb_top.specs.declared.end.End.{End}
@@ -16,19 +16,19 @@ use Rattle.mb_top.proofs.Completing.{Completes, command_completes}
 
 -- ---- by the words
 
-pub request_carried_out : (words : List (List ℕ)) (request : Request) (answered : List Answered) (final : Final) (before now : Outside) (result : Result (Unit {0}) End)
+pub request_carried_out : (words : List (List ℕ)) (request : Request) (answered : List Answered) (final : Held) (before now : Outside) (result : Result (Unit {0}) End)
     → IsRequest words request → CarriesOutRest (command_of request) at_first answered final before result now → CarriesOutWords words answered final before result now
 unfolding CarriesOutRest
 request_carried_out words request answered final before now (Ok u) is ends = did request is ends
 request_carried_out words request answered final before now (Err why) is carried = λ after says. did request is (carried after says)
 
 -- a command that leaves the board alone
-pub alone_carried_out : (words : List (List ℕ)) (request : Request) (answered : List Answered) (final : Final) (before now : Outside) (result : Result (Unit {0}) End)
+pub alone_carried_out : (words : List (List ℕ)) (request : Request) (answered : List Answered) (final : Held) (before now : Outside) (result : Result (Unit {0}) End)
     → IsRequest words request → answered ≡ [] → CarriesOut (command_of request) before result now → CarriesOutWords words answered final before result now
 alone_carried_out words request answered final before now result is none carried =
     subst (λ a. CarriesOutWords words a final before result now) (sym none) (request_carried_out words request [] final before now result is (carried final))
 
-pub none_carried_out : (words : List (List ℕ)) (answered : List Answered) (final : Final) (before : Outside)
+pub none_carried_out : (words : List (List ℕ)) (answered : List Answered) (final : Held) (before : Outside)
     → ((request : Request) → IsRequest words request → ⊥) → answered ≡ [] → CarriesOutWords words answered final before (Err end.Words) before
 none_carried_out words answered final before none same = λ after says. no_command none (record { says = says; answered = same; status_is = refl })
 

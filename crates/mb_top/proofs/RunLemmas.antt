@@ -1,62 +1,83 @@
--- What carries out the first path's `run`.
-use Rattle.std.proofs.Common.{◌≡◌, ℕ, List, [], ◌∷◌, false, length, take, drop, ◌++◌, map, Result, sym, ◌∙◌, ap, subst, arith, length-append}
-use Rattle.std.proofs.lemmas.List.{take-append-le}
+-- What carries out `run`.
+use Rattle.std.proofs.Common.{◌≡◌, ℕ, Bool, false, List, [], ◌∷◌, length, take, drop, ◌++◌, Option, None, Some, Result, sym, ◌∙◌, ap, subst}
 use Rattle.std.proofs.Math.Seq.{take-append_seam}
-use Rattle.mb_model.specs.declared.first.FirstState.{FirstState}
 use Rattle.mb_model.specs.declared.event.Event.{Event}
 use Rattle.mb_model.specs.declared.event.Answered.{Answered}
 use Rattle.mb_model.specs.declared.role.Role.TheVariants as role
-use Rattle.mb_model.specs.FirstPath.{HoldsFirstState, IsSectorOf, FirstRun, first_sector}
-use Rattle.mb_model.specs.FirstTexts.{printed_lines}
-use Rattle.mb_model.specs.FirstCommand.{RunNames, IsFirstImage, IsFirstServed, write_image, serve_events}
+use Rattle.mb_model.specs.declared.state.State.{State}
 use Rattle.mb_model.specs.Outside.{Outside}
-use Rattle.mb_model.specs.Board.{Memory, Final, IsLoaded, image_of}
+use Rattle.mb_model.specs.Machine.{opening}
+use Rattle.mb_model.specs.Meaning.{StandsFor, IsWellFormed}
+use Rattle.mb_model.specs.Valid.{Valid}
+use Rattle.mb_model.specs.Regions.{KeptRightly}
+use Rattle.mb_model.specs.Board.{Memory, Ledger, Meter, Held, IsLoaded, image_of, phase_at, loaded}
+use Rattle.mb_model.specs.Acknowledged.{Shows}
+use Rattle.mb_model.specs.Replies.{replies_text}
+use Rattle.mb_model.specs.RunCommand.{RunNames, IsServed, write_image, serve_events}
 use Rattle.mb_model.specs.Commands.{print, at_first}
+use Rattle.mb_board.specs.Calls.{held_by}
+use Rattle.mb_device.specs.Served.{IsServedFrom}
+use Rattle.mb_lemmas.proofs.FaultLemmas.{image_parts}
+use Rattle.mb_run_laws.proofs.SoundLemmas.{run_is_sound}
 use Rattle.mb_top.specs.declared.end.End.{End}
 use Rattle.mb_top.specs.Ending.{CarriesOutAfter, CarriesOutRest}
 use Rattle.mb_top.specs.Outputs.{writes}
 use Rattle.mb_top.proofs.CommandLemmas.{serve_goes}
 
--- an image begins with sector 0 of its flash
-pub first_sector-image_of : (memory : Memory) → IsLoaded memory → first_sector (image_of memory) ≡ first_sector memory.flash
-unfolding first_sector
-first_sector-image_of memory sized = take-append-le 4096 memory.flash memory.bbram (omega (arith, sized.flash))
+-- ---- the board after the load
 
--- the flash of a loaded image holds the image's state
-pub loaded_holds : (memory : Memory) (image : List ℕ) (state : FirstState) → IsLoaded memory → image_of memory ≡ image → IsFirstImage image state → HoldsFirstState memory.flash state
-loaded_holds memory image state sized is held =
-    subst (λ s. IsSectorOf s state) (first_sector-image_of memory sized) (subst (λ i. HoldsFirstState i state) (sym is) held.stands)
+-- a board on which an image was loaded shows the world that opens with the image's state
+pub loaded_shows : (memory : Memory) (power : Bool) (level : ℕ) (meter : Meter) (image : List ℕ) (state : Option State) → IsLoaded memory → image_of memory ≡ image
+    → power ≡ false → meter.armed ≡ false → IsWellFormed image state → Shows (held_by memory power level meter) (opening state)
+loaded_shows memory power level meter image state sized is dark none held =
+    let parts = image_parts image held.flash held.bbram memory.flash memory.bbram held.image_is (sym is, sized) in
+    record {
+      stands = subst (λ f. StandsFor f memory.bbram state) parts.0 (subst (λ b. StandsFor held.flash b state) parts.1 held.stands);
+      phase = sym (ap (λ (p : Bool). phase_at p level) dark);
+      armed = sym none;
+    }
+
+-- ---- the events
+
+-- what a state that a device can have has kept
+kept_rightly : (state : Option State) → Valid state → KeptRightly state
+kept_rightly None valid = tt
+kept_rightly (Some live) valid = record { two = valid.two.kept; three = valid.three.kept }
+
+-- the events were served from the world that opens with an image's state
+pub served_whole : (state : Option State) (events : List Event) (memory : Memory) (before after : Ledger) (final : Held) → Valid state → before ≡ loaded memory events
+    → IsServedFrom (opening state) before after final → IsServed state events after.answered final
+served_whole state events memory before after final valid is from =
+    let grown : after.answered ≡ from.more = from.grown ∙ ap (λ l. l.answered ++ from.more) is in
+    subst (λ a. IsServed state events a final) (sym grown) (record {
+      all = from.all ∙ ap (λ l. l.waiting) is;
+      last = from.last;
+      run = from.run;
+      shown = from.shown;
+      clean = from.clean;
+      kept = kept_rightly from.last.state from.valid;
+      sound = run_is_sound (opening state) from.more from.last from.run valid;
+    })
+
+pub events_served : (names : RunNames) (state : Option State) (events : List Event) (answered : List Answered) (final : Held) (before now : Outside) (result : Result (Unit {0}) End)
+    → IsServed state events answered final → CarriesOutRest (write_image names answered final) (record { answered = answered; wrote = false }) answered final before result now
+    → CarriesOutRest (serve_events names state events) at_first answered final before result now
+events_served names state events answered final before now result served carried =
+    serve_goes (IsServed state events) (write_image names) at_first answered final before now result served carried
+
+-- ---- the image and the replies
 
 -- a buffer that was filled holds what was copied there
 pub filled_whole : (n : ℕ) (out rest : List ℕ) → n ≡ length out → take n (out ++ drop (length out) rest) ≡ out
 filled_whole n out rest is = ap (λ k. take k (out ++ drop (length out) rest)) is ∙ take-append_seam out (drop (length out) rest)
 
--- the image and the replies were written
-pub image_written : (names : RunNames) (answered : List Answered) (final : Final) (bytes text : List ℕ) (before now : Outside) (result : Result (Unit {0}) End)
-    → bytes ≡ image_of final.memory → text ≡ printed_lines answered
+-- they were written
+pub image_written : (names : RunNames) (answered : List Answered) (final : Held) (bytes text : List ℕ) (before now : Outside) (result : Result (Unit {0}) End)
+    → bytes ≡ image_of final.memory → text ≡ replies_text answered
     → CarriesOutAfter (writes (record { role = role.Image; name = names.image; bytes = bytes } ∷ []) (print text)) before result now
     → CarriesOutRest (write_image names answered final) (record { answered = answered; wrote = false }) answered final before result now
 unfolding writes
 image_written names answered final bytes text before now result is_image is_text carried =
-    (subst (λ b. CarriesOutAfter (writes (record { role = role.Image; name = names.image; bytes = b } ∷ []) (print (printed_lines answered))) before result now) is_image
+    (subst (λ b. CarriesOutAfter (writes (record { role = role.Image; name = names.image; bytes = b } ∷ []) (print (replies_text answered))) before result now) is_image
     (subst (λ t. CarriesOutAfter (writes (record { role = role.Image; name = names.image; bytes = bytes } ∷ []) (print t)) before result now) is_text carried))
     (record { answered = answered; wrote = false }) final
-
--- the events were served from what was loaded
-pub events_served : (names : RunNames) (state : FirstState) (events : List Event) (image : List ℕ) (first : Memory) (answered : List Answered) (final : Final) (before now : Outside)
-    (result : Result (Unit {0}) End) → IsLoaded first → image_of first ≡ image → IsFirstImage image state → map (λ a. a.event) answered ≡ events
-    → ((old : FirstState) → HoldsFirstState first.flash old → (last : FirstState) × HoldsFirstState final.memory.flash last × FirstRun old answered last)
-    → IsLoaded final.memory → CarriesOutRest (write_image names answered final) (record { answered = answered; wrote = false }) answered final before result now
-    → CarriesOutRest (serve_events names state events) at_first answered final before result now
-events_served names state events image first answered final before now result sized is held all run sized_after carried =
-    let ran = run state (loaded_holds first image state sized is held) in
-    let served : IsFirstServed state events answered final = record {
-      all = all;
-      last = ran.0;
-      run = ran.2;
-      stands = record {
-        sized = omega (arith, length-append final.memory.flash final.memory.bbram, sized_after.flash, sized_after.bbram);
-        stands = subst (λ s. IsSectorOf s ran.0) (sym (first_sector-image_of final.memory sized_after)) ran.1;
-      };
-    } in
-    serve_goes (IsFirstServed state events) (write_image names) at_first answered final before now result served carried

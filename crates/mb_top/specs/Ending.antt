@@ -1,11 +1,11 @@
--- What carries out a part of a command, before the line of its status is printed.
-use Rattle.std.specs.Prelude.{◌≡◌, ℕ, Bool, List, [], ◌++◌, codes, Result, Ok, Err}
+-- What carries out a part of a command, before the line of its status is printed. Does each end have its line and its
+-- status?
+use Rattle.std.specs.Prelude.{◌≡◌, ℕ, List, [], ◌++◌, codes, Result, Ok, Err}
 use Rattle.mb_model.specs.declared.event.Answered.{Answered}
 use Rattle.mb_model.specs.declared.role.Role.{Role}
 use Rattle.mb_model.specs.declared.role.Place.{Place}
 use Rattle.mb_model.specs.Outside.{Outside, HoldsTooMuch, read_once, FailsToRead}
-use Rattle.mb_model.specs.Board.{Memory, Final}
-use Rattle.mb_first.specs.Ledger.{Ledger}
+use Rattle.mb_model.specs.Board.{Held}
 use Rattle.mb_model.specs.Commands.{Input, Command, Past, Ended, SaysLine, HasRead, CommandEnds, at_first, input_line}
 use Rattle.mb_model.specs.Commands.{role_word, place_words}
 use Rattle.mb_model.specs.Top.{Ends}
@@ -41,12 +41,8 @@ end_line end.NotPrinted = codes "write failed output"
 end_line end.NoMemory = codes "no memory"
 end_line (end.Refused why) = refusal_line why
 
--- what a board shows that has this memory, power and ledger
-abbrev pub shown_by : Memory → Bool → Ledger → Final
-shown_by memory power ledger = record { memory = memory; power = power; armed = ledger.armed }
-
 -- an end by its parts
-abbrev pub ended_at : Outside → List Answered → Final → Outside → ℕ → Ended
+abbrev pub ended_at : Outside → List Answered → Held → Outside → ℕ → Ended
 ended_at before answered final after status =
     record { before = before; after = after; answered = answered; final = final; status = status }
 
@@ -58,22 +54,22 @@ EndsOncePrinted EndsSo (Err why) now =
 
 -- The rest of a command is carried out after its past, with these events answered and this on the board in the end.
 unfoldable pub CarriesOutRest :
-    Command → Past → List Answered → Final → Outside → Result (Unit {0}) End → Outside → Type 0
+    Command → Past → List Answered → Held → Outside → Result (Unit {0}) End → Outside → Type 0
 CarriesOutRest command past answered final before result now =
     EndsOncePrinted (λ after status. CommandEnds command past (ended_at before answered final after status)) result now
 
 -- the same of a command that leaves the board alone, from any past on
 abbrev pub CarriesOutAfter : Command → Outside → Result (Unit {0}) End → Outside → Type 0
 CarriesOutAfter command before result now =
-    (past : Past) (final : Final) → CarriesOutRest command past past.answered final before result now
+    (past : Past) (final : Held) → CarriesOutRest command past past.answered final before result now
 
 -- and from its beginning on
 abbrev pub CarriesOut : Command → Outside → Result (Unit {0}) End → Outside → Type 0
-CarriesOut command before result now = (final : Final) → CarriesOutRest command at_first [] final before result now
+CarriesOut command before result now = (final : Held) → CarriesOutRest command at_first [] final before result now
 
 -- what the words ask for is carried out
 abbrev pub CarriesOutWords :
-    List (List ℕ) → List Answered → Final → Outside → Result (Unit {0}) End → Outside → Type 0
+    List (List ℕ) → List Answered → Held → Outside → Result (Unit {0}) End → Outside → Type 0
 CarriesOutWords words answered final before result now =
     EndsOncePrinted (λ after status. Ends words (ended_at before answered final after status)) result now
 

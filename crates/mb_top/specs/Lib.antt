@@ -1,6 +1,6 @@
 pub mod Words
 pub mod Ending
 pub mod Outputs
-pub mod FirstInputs
+pub mod Images
 pub mod Program
 pub mod Signing

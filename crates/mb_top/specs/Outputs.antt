@@ -1,4 +1,4 @@
--- The outputs of a command as the definitions of commands have them.
+-- The outputs of a command as the definitions of commands have them. Are they written one after another?
 use Rattle.std.specs.Prelude.{List, [], ◌∷◌}
 use Rattle.mb_model.specs.Commands.{Output as Written, Command, write}
 use Rattle.mb_top.specs.declared.output.Output.{Output}

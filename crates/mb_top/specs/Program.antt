@@ -1,4 +1,5 @@
--- What the program does with its command line: the two words that it answers by itself, and all other words.
+-- What the program does with its command line: the two words that it answers by itself, and all other words. Are there
+-- words for which nothing is said?
 use Rattle.std.specs.Prelude.{◌≡◌, ℕ, List, [], ◌∷◌, codes}
 use Rattle.mb_model.specs.Commands.{Ended, PrintEnds, at_first}
 use Rattle.mb_model.specs.Top.{Ends}

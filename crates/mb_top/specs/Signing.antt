@@ -1,4 +1,4 @@
--- How the commands end that sign, where the key has not signed.
+-- How the commands end that sign, where the key has not signed. Does each cause have its end?
 use Rattle.mb_officer.specs.declared.signing.SignEnd.{SignEnd}
 use Rattle.mb_officer.specs.declared.signing.SignEnd.TheVariants as sign
 use Rattle.mb_top.specs.declared.end.End.{End}

@@ -1,8 +1,8 @@
--- Which request the words are.
+-- Which request the words are. Can words be two requests?
 use Rattle.std.specs.Prelude.{◌≡◌, ◌≢◌, ℕ, List, [], ◌∷◌, All, IsTrue}
 use Rattle.std.specs.Fmt.{decimal}
 use Rattle.mb_model.specs.Layers.{is_upper}
-use Rattle.mb_model.specs.FirstCommand.{RunNames as RunFiles}
+use Rattle.mb_model.specs.RunCommand.{RunNames as RunFiles}
 use Rattle.mb_model.specs.Keygen.{KeygenNames as KeygenFiles}
 use Rattle.mb_model.specs.Sign.{SignNames as SignFiles, CountersignNames as CountersignFiles}
 use Rattle.mb_model.specs.FactoryCommand.{FactoryNames as FactoryFiles}

@@ -3,7 +3,8 @@
 ghost use Rattle.std.specs.Prelude.{◌≡◌, ◌<◌, ◌⊎◌, ℕ, List, Option, [], map, None, Some, false, string_bytes};
 ghost use Rattle.mb_model.specs.Commands.{HasInputsFor, ComesToRefusal, IsFaultless};
 ghost use Rattle.mb_model.specs.Top.{Request as Asked, IsRequest, command_of, Ends};
-ghost use Rattle.mb_top.specs.Ending.{CarriesOutWords, shown_by};
+ghost use Rattle.mb_board.specs.Calls.{held_by};
+ghost use Rattle.mb_top.specs.Ending.{CarriesOutWords};
 
 use crate::end::End;
 use crate::factory::factory;
@@ -12,7 +13,7 @@ use crate::output::stop;
 use crate::run::run;
 use crate::sign::{countersign, sign};
 use crate::words::{Request, request_in};
-use mb_first::Board;
+use mb_board::Board;
 use mb_host::Host;
 use mb_lms::Steps;
 use std::alloc::Global;
@@ -30,7 +31,7 @@ fn command<H: Host, B: Board>(
     requires none_out { (B.ledger board.old).out ≡ None }
     requires none_answered { (B.ledger board.old).answered ≡ [] }
     ensures { CarriesOutWords (map string_bytes words.now) (B.ledger board.new).answered
-        (shown_by (B.memory board.new) (B.power board.new) (B.ledger board.new))
+        (held_by (B.memory board.new) (B.power board.new) (B.level board.new) (B.meter board.new))
         (H.outside host.old) result (H.outside host.new) }
 {
     counted_command::<H, B, Brand>(alloc, words, host, board, Blank::new(1))
@@ -51,12 +52,12 @@ fn counted_command<H: Host, B: Board, L: Ledger>(
     requires none_out { (B.ledger board.old).out ≡ None }
     requires none_answered { (B.ledger board.old).answered ≡ [] }
     ensures { CarriesOutWords (map string_bytes words.now) (B.ledger board.new).answered
-        (shown_by (B.memory board.new) (B.power board.new) (B.ledger board.new))
+        (held_by (B.memory board.new) (B.power board.new) (B.level board.new) (B.meter board.new))
         (H.outside host.old) result (H.outside host.new) }
 {
     let mut steps = Steps::<L>::begin(alloc, blank);
     match request_in(words) {
-        Some(Request::Run(names)) => run(alloc, &names, host, board),
+        Some(Request::Run(names)) => run(alloc, &names, host, board, &mut steps),
         Some(Request::Keygen(names)) => keygen(alloc, &names, host, &mut steps),
         Some(Request::Sign(names)) => sign(alloc, &names, host, &mut steps),
         Some(Request::Countersign(names)) => countersign(alloc, &names, host, &mut steps),
@@ -75,7 +76,7 @@ pub fn top<H: Host, B: Board>(alloc: Global, words: &[String], host: &mut H, boa
       before = H.outside host.old;
       after = H.outside host.new;
       answered = (B.ledger board.new).answered;
-      final = shown_by (B.memory board.new) (B.power board.new) (B.ledger board.new);
+      final = held_by (B.memory board.new) (B.power board.new) (B.level board.new) (B.meter board.new);
       status = result;
     }) }
     ensures complete { (asked : Asked) → IsRequest (map string_bytes words.now) asked

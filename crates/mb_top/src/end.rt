@@ -124,7 +124,6 @@ fn place_words(place: Place) -> PlaceWords
         Place::Public => words_of("public"),
         Place::Region(number) => with_number("region ", u32::from(number)),
         Place::State => words_of("state"),
-        Place::Form => words_of("form"),
     }
 }
 

@@ -1,16 +1,17 @@
 //! What the program does with its command line.
 
 ghost use Rattle.std.specs.Prelude.{◌≡◌, ◌↔◌, ◌∷◌, [], map, IfOk, IfErr, IsTrue, None, false, string_bytes};
-ghost use Rattle.mb_model.specs.Board.{Final};
+ghost use Rattle.mb_model.specs.Board.{Held};
 ghost use Rattle.mb_model.specs.Commands.{PrintEnds, Stops, at_first};
-ghost use Rattle.mb_top.specs.Ending.{ended_at, end_line, end_status, shown_by};
+ghost use Rattle.mb_board.specs.Calls.{held_by};
+ghost use Rattle.mb_top.specs.Ending.{ended_at, end_line, end_status};
 ghost use Rattle.mb_top.specs.Program.{ProgramEnds, end_without};
 
 use crate::commands::top;
 use crate::end::End;
 use crate::output::stop;
 use crate::words::is_word;
-use mb_first::Board;
+use mb_board::Board;
 use mb_host::Host;
 use std::alloc::Global;
 
@@ -64,11 +65,11 @@ pub fn program<H: Host, B: Board>(
     requires none_answered { (B.ledger board.old).answered ≡ [] }
     ensures words { IfOk words (λ words. ProgramEnds USAGE.now VERSION.now (map string_bytes words.items)
         (ended_at (H.outside host.old) (B.ledger board.new).answered
-        (shown_by (B.memory board.new) (B.power board.new) (B.ledger board.new))
+        (held_by (B.memory board.new) (B.power board.new) (B.level board.new) (B.meter board.new))
         (H.outside host.new) result)) }
     ensures none { IfErr words (λ why. Stops (end_line (end_without why)) (end_status (end_without why)) at_first
         (ended_at (H.outside host.old) (B.ledger board.new).answered
-        (shown_by (B.memory board.new) (B.power board.new) (B.ledger board.new))
+        (held_by (B.memory board.new) (B.power board.new) (B.level board.new) (B.meter board.new))
         (H.outside host.new) result)) }
 {
     match words {
@@ -86,7 +87,7 @@ fn answer<H: Host, B: Board>(alloc: Global, words: &[String], host: &mut H, boar
     requires none_answered { (B.ledger board.old).answered ≡ [] }
     ensures { ProgramEnds USAGE.now VERSION.now (map string_bytes words.now)
         (ended_at (H.outside host.old) (B.ledger board.new).answered
-        (shown_by (B.memory board.new) (B.power board.new) (B.ledger board.new))
+        (held_by (B.memory board.new) (B.power board.new) (B.level board.new) (B.meter board.new))
         (H.outside host.new) result) }
 {
     if is_one_word(words, "--help") {
@@ -110,7 +111,7 @@ fn is_one_word(words: &[String], wanted: &str) -> bool
 
 /// Prints a text, and answers the exit status.
 fn tell<H: Host>(host: &mut H, text: &[u8]) -> u8
-    ensures { (final : Final) → PrintEnds text.now at_first (ended_at (H.outside host.old) [] final (H.outside host.new) result) }
+    ensures { (final : Held) → PrintEnds text.now at_first (ended_at (H.outside host.old) [] final (H.outside host.new) result) }
 {
     match host.print(text) {
         Ok(()) => 0,

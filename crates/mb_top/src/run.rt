@@ -1,145 +1,149 @@
 //! The command `run`.
 
-ghost use Rattle.std.specs.Prelude.{◌≡◌, ℕ, [], IfOk, OnOk, OnErr, None, List, false, vec_len};
-ghost use Rattle.mb_model.specs.declared.first.FirstState.{FirstState};
-ghost use Rattle.mb_model.specs.FirstPath.{HoldsFirstState};
-ghost use Rattle.mb_model.specs.FirstTexts.{IsFirstScript};
-ghost use Rattle.mb_model.specs.FirstCommand.{IsFirstImage, run, read_script, read_noise, serve_events, write_image};
+ghost use Rattle.std.specs.Prelude.{◌≡◌, ◌≤◌, [], length, All, None, List, Option, false};
+ghost use Rattle.mb_model.specs.declared.state.State.{State};
 ghost use Rattle.mb_model.specs.Board.{IsLoaded};
-ghost use Rattle.mb_first.specs.Ledger.{loaded};
 ghost use Rattle.mb_model.specs.Commands.{at_first};
+ghost use Rattle.mb_model.specs.Meaning.{IsWellFormed};
+ghost use Rattle.mb_model.specs.RunCommand.{run, read_script, read_noise, serve_events, write_image};
+ghost use Rattle.mb_model.specs.Script.{IsScriptEvent};
+ghost use Rattle.mb_board.specs.Calls.{held_by};
 ghost use Rattle.mb_top.specs.Words.{run_files};
-ghost use Rattle.mb_top.specs.Ending.{CarriesOutRest, shown_by};
-ghost use Rattle.mb_top.specs.FirstInputs.{CanServe};
+ghost use Rattle.mb_top.specs.Ending.{CarriesOutRest};
 
 use crate::end::End;
-use crate::first_input::{read_events, read_image, read_orders};
 use crate::output::{Output, finish};
+use crate::replies::write_replies;
+use crate::run_input::{read_draws, read_events, read_image};
 use crate::words::RunNames;
-use mb_first::{Board, serve, write_replies};
+use mb_board::Board;
+use mb_device::Device;
 use mb_host::Host;
-use mb_model::{Bytes, Events, IMAGE_LENGTH, NoMemory, Role};
+use mb_lms::Steps;
+use mb_model::{Events, Role};
 use std::alloc::Global;
+use std::sync::ledger::Ledger;
 
-/// Serves the script on the image, writes the image and prints the replies.
-pub fn run<H: Host, B: Board>(
+/// Serves the script on the image, writes the new image and prints the replies.
+pub fn run<H: Host, B: Board, L: Ledger>(
     alloc: Global,
     names: &RunNames<'_>,
     host: &mut H,
     board: &mut B,
+    steps: &mut Steps<L>,
 ) -> Result<(), End>
     requires off { B.power board.old ≡ false }
     requires none_out { (B.ledger board.old).out ≡ None }
     requires none_answered { (B.ledger board.old).answered ≡ [] }
     ensures { CarriesOutRest (run (run_files names.now)) at_first (B.ledger board.new).answered
-        (shown_by (B.memory board.new) (B.power board.new) (B.ledger board.new))
+        (held_by (B.memory board.new) (B.power board.new) (B.level board.new) (B.meter board.new))
         (H.outside host.old) result (H.outside host.new) }
 {
-    let image = read_image(alloc, host, names.image)?;
-    run_image(alloc, names, &image, host, board)
+    let image = read_image(alloc, host, names.image, steps)?;
+    run_image(alloc, names, image.bytes, host, board, steps)
 }
 
-/// Reads the script, and goes on with its orders.
-fn run_image<H: Host, B: Board>(
+/// Reads the script, and goes on with its events.
+fn run_image<H: Host, B: Board, L: Ledger>(
     alloc: Global,
     names: &RunNames<'_>,
-    image: &[u8],
+    image: Vec<u8>,
     host: &mut H,
     board: &mut B,
+    steps: &mut Steps<L>,
 ) -> Result<(), End>
     requires off { B.power board.old ≡ false }
     requires none_out { (B.ledger board.old).out ≡ None }
     requires none_answered { (B.ledger board.old).answered ≡ [] }
-    requires image { (state : FirstState) × IsFirstImage image.now state }
-    ensures { (state : FirstState) → IsFirstImage image.now state → CarriesOutRest (read_script (run_files names.now) state) at_first (B.ledger board.new).answered
-        (shown_by (B.memory board.new) (B.power board.new) (B.ledger board.new))
+    requires image { (state : Option State) × IsWellFormed image.items state }
+    ensures { (state : Option State) → IsWellFormed image.items state
+        → CarriesOutRest (read_script (run_files names.now) state) at_first (B.ledger board.new).answered
+        (held_by (B.memory board.new) (B.power board.new) (B.level board.new) (B.meter board.new))
         (H.outside host.old) result (H.outside host.new) }
 {
-    let orders = read_orders(alloc, host, names.script)?;
-    run_orders(alloc, names, image, orders, host, board)
+    let events = read_events(alloc, host, names.script)?;
+    run_events(alloc, names, image, events, host, board, steps)
 }
 
-/// Reads the noise, and goes on with the events.
-fn run_orders<H: Host, B: Board>(
+/// Reads the noise, and goes on with the draws of the events.
+fn run_events<H: Host, B: Board, L: Ledger>(
     alloc: Global,
     names: &RunNames<'_>,
-    image: &[u8],
-    orders: Vec<Bytes>,
-    host: &mut H,
-    board: &mut B,
-) -> Result<(), End>
-    requires off { B.power board.old ≡ false }
-    requires none_out { (B.ledger board.old).out ≡ None }
-    requires none_answered { (B.ledger board.old).answered ≡ [] }
-    requires image { (state : FirstState) × IsFirstImage image.now state }
-    requires orders { (script : List ℕ) × IsFirstScript script orders.items }
-    ensures { (state : FirstState) → IsFirstImage image.now state → CarriesOutRest (read_noise (run_files names.now) state orders.items) at_first (B.ledger board.new).answered
-        (shown_by (B.memory board.new) (B.power board.new) (B.ledger board.new))
-        (H.outside host.old) result (H.outside host.new) }
-{
-    let events = read_events(alloc, host, names.noise, orders)?;
-    run_events(alloc, names, image, events, host, board)
-}
-
-/// Loads the board, serves the events, and writes what comes of it.
-fn run_events<H: Host, B: Board>(
-    alloc: Global,
-    names: &RunNames<'_>,
-    image: &[u8],
+    image: Vec<u8>,
     events: Events,
     host: &mut H,
     board: &mut B,
+    steps: &mut Steps<L>,
 ) -> Result<(), End>
     requires off { B.power board.old ≡ false }
     requires none_out { (B.ledger board.old).out ≡ None }
     requires none_answered { (B.ledger board.old).answered ≡ [] }
-    requires image { (state : FirstState) × IsFirstImage image.now state }
-    requires events { CanServe events }
-    ensures { (state : FirstState) → IsFirstImage image.now state → CarriesOutRest (serve_events (run_files names.now) state events) at_first (B.ledger board.new).answered
-        (shown_by (B.memory board.new) (B.power board.new) (B.ledger board.new))
+    requires image { (state : Option State) × IsWellFormed image.items state }
+    requires count { length events ≤ 65536 }
+    requires events { All IsScriptEvent events }
+    ensures { (state : Option State) → IsWellFormed image.items state
+        → CarriesOutRest (read_noise (run_files names.now) state events) at_first (B.ledger board.new).answered
+        (held_by (B.memory board.new) (B.power board.new) (B.level board.new) (B.meter board.new))
         (H.outside host.old) result (H.outside host.new) }
 {
-    match board.load(alloc, image, events) {
+    let drawn = read_draws(alloc, host, names.noise, events)?;
+    run_drawn(alloc, names, image, drawn, host, board, steps)
+}
+
+/// Loads the board, serves the events, and writes what comes of it.
+fn run_drawn<H: Host, B: Board, L: Ledger>(
+    alloc: Global,
+    names: &RunNames<'_>,
+    image: Vec<u8>,
+    events: Events,
+    host: &mut H,
+    board: &mut B,
+    steps: &mut Steps<L>,
+) -> Result<(), End>
+    requires off { B.power board.old ≡ false }
+    requires none_out { (B.ledger board.old).out ≡ None }
+    requires none_answered { (B.ledger board.old).answered ≡ [] }
+    requires image { (state : Option State) × IsWellFormed image.items state }
+    requires count { length events ≤ 65536 }
+    requires events { All IsScriptEvent events }
+    ensures { (state : Option State) → IsWellFormed image.items state
+        → CarriesOutRest (serve_events (run_files names.now) state events) at_first (B.ledger board.new).answered
+        (held_by (B.memory board.new) (B.power board.new) (B.level board.new) (B.meter board.new))
+        (H.outside host.old) result (H.outside host.new) }
+{
+    match board.load(alloc, &image, events) {
         Ok(()) => {}
         Err(_) => return Err(End::NoMemory),
     }
-    serve(board);
-    write_image(alloc, names, host, board)
+    let _device = Device::start(board).serve(alloc, board, steps);
+    write_image(alloc, names, image, host, board)
 }
 
-/// Writes the image, and then prints the replies.
+/// Writes the new image, and then prints the replies. The bytes of the old image make room for the new one.
 fn write_image<H: Host, B: Board>(
     alloc: Global,
     names: &RunNames<'_>,
+    mut image: Vec<u8>,
     host: &mut H,
     board: &B,
 ) -> Result<(), End>
-    requires { IsLoaded (B.memory board.now) }
+    requires loaded { IsLoaded (B.memory board.now) }
+    requires room { length image.items ≡ 1077248 }
     ensures { CarriesOutRest
         (write_image (run_files names.now) (B.ledger board.now).answered
-        (shown_by (B.memory board.now) (B.power board.now) (B.ledger board.now)))
+        (held_by (B.memory board.now) (B.power board.now) (B.level board.now) (B.meter board.now)))
         (record { answered = (B.ledger board.now).answered; wrote = false }) (B.ledger board.now).answered
-        (shown_by (B.memory board.now) (B.power board.now) (B.ledger board.now))
+        (held_by (B.memory board.now) (B.power board.now) (B.level board.now) (B.meter board.now))
         (H.outside host.old) result (H.outside host.new) }
 {
     let Ok(replies) = write_replies(alloc, board.answered()) else {
         return Err(End::NoMemory);
     };
-    let Ok(mut bytes) = zeros(alloc, IMAGE_LENGTH) else {
-        return Err(End::NoMemory);
-    };
-    board.copy_image(&mut bytes);
+    board.copy_image(&mut image);
     let outputs = [Output {
         role: Role::Image,
         name: names.image,
-        bytes: &bytes,
+        bytes: &image,
     }];
     finish(host, &outputs, &replies)
-}
-
-/// As many zero bytes.
-fn zeros(alloc: Global, length: usize) -> Result<Vec<u8>, NoMemory>
-    ensures { IfOk result (λ bytes. vec_len bytes ≡ length) }
-{
-    Ok(vec![in alloc; 0u8; length]?)
 }

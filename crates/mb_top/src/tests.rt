@@ -10,7 +10,7 @@ mod sign;
 mod statuses;
 
 use crate::commands::top;
-use mb_first::SimBoard;
+use mb_board::SimBoard;
 use mb_host::MemoryHost;
 use mb_model::{Bytes, Calls, File, Files, NoMemory};
 use sha2::{Digest, Sha256};

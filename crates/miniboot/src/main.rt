@@ -4,7 +4,7 @@
 //! them to `mb_top` with the host and the board.
 #![tactic(auto)]
 
-use mb_first::SimBoard;
+use mb_board::SimBoard;
 use mb_host::RealHost;
 use mb_top::{NoWords, program};
 use std::process::ExitCode;

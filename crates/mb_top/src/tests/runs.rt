@@ -1,74 +1,96 @@
-//! The command `run` on an image and orders that an independent program made, and over a host whose calls fail.
+//! The command `run` on a new device and on an order that an independent program made, and over a host whose calls fail.
 
+use super::devices::{IMAGE, KEY, MAKER, OTHER_OWNER, OWNER, SERIAL};
 use super::once::{ORDER, ORDER_END};
 use super::{Content, Given, Play, Step, perform};
-use mb_model::IMAGE_LENGTH;
 use std::test::Fail;
-
-/// The first bytes of the image, in which layer 2 has no owner; what stands after them is erased.
-pub const SECTOR: &str =
-    "0012d71d7255b6325df7487678010fc9db0000000500000003028c20423da199b2086baca3700a4bef21c2a633d102f5f5b6\
-    9c16ef675e8c310801820d9c31df7bcec85287cedeb80700";
-
-/// The hashes of the image before and after the order was served.
-const BEFORE: &str = "2ddee3a0a3406b33a7b0147401aa375c0a931a61e61f5c7ef30dc85abe15e27b";
-
-const AFTER: &str = "3725cb2135ef6036ce3aa74056dba767cf90b41b4542c8343cfde9fe4cdfb2f7";
 
 const FILES: &[Given] = &[
     Given {
-        name: "image",
-        content: Content::Erased(SECTOR, IMAGE_LENGTH),
+        name: "noise1",
+        content: Content::Hex("35fe183c068bc13ac735a76ac05c37d8d055c34bf945b99c4cdada2e31cc8ca8"),
+    },
+    Given {
+        name: "noise2",
+        content: Content::Hex("d95321bdf284c2032c7a5209b847eae96c3080c86bfc2585312e15361179d1ac"),
+    },
+    Given {
+        name: "noise3",
+        content: Content::Hex(
+            "12d71d7255b6325df7487678010fc9dbb905c6d5af1a7d986e75ecdfdc39dfbec10b471ceff881272aa5ed819fd9a0e0",
+        ),
+    },
+    Given {
+        name: "code",
+        content: Content::Text("layer one"),
+    },
+    Given {
+        name: "first",
+        content: Content::Hex(KEY),
     },
     Given {
         name: "other",
-        content: Content::Erased(SECTOR, IMAGE_LENGTH),
+        content: Content::Hex(OTHER_OWNER),
+    },
+    Given {
+        name: "none",
+        content: Content::Text("# nothing happens\n\n"),
     },
     Given {
         name: "once",
         content: Content::Pieces(&["boot\n", "command ", ORDER, ORDER_END, "\n", "off\n"]),
     },
     Given {
-        name: "twice",
+        name: "again",
         content: Content::Pieces(&[
-            "boot\n", "command ", ORDER, ORDER_END, "\n", "command ", ORDER, ORDER_END, "\n",
-            "off\n",
+            "boot\n", "command ", ORDER, ORDER_END, "\n", "status\n", "off\n",
         ]),
     },
     Given {
         name: "cut",
-        content: Content::Pieces(&["boot\n", "command ", ORDER, "61", "\n", "off\n"]),
+        content: Content::Pieces(&["boot\n", "command ", ORDER, "ba", "\n", "off\n"]),
     },
     Given {
         name: "turned",
-        content: Content::Pieces(&["boot\n", "command ", ORDER, "6000", "\n", "off\n"]),
+        content: Content::Pieces(&["boot\n", "command ", ORDER, "bb00", "\n", "off\n"]),
+    },
+    Given {
+        name: "boot",
+        content: Content::Text("boot\n"),
+    },
+    Given {
+        name: "tampered",
+        content: Content::Text("boot\ntamper\nboot\nstatus\n"),
     },
     Given {
         name: "noise",
-        content: Content::Sevens(64),
+        content: Content::Sevens(32),
     },
 ];
 
-/// An order that lacks its last byte and one with another last byte of its path are refused, and the order is served once.
+/// An order that lacks its last byte and one with another last byte of its path are refused. Then it is obeyed, and
+/// cannot be obeyed again.
 const ORDERS_ARE_SERVED: &[Play] = &[Play {
     failing: &[],
     steps: &[
+        Step::Ends("keygen noise1 key public", 0, MAKER),
+        Step::Ends("keygen noise2 officer owner", 0, OWNER),
+        Step::Ends("factory noise3 key owner code image", 0, SERIAL),
+        Step::Ends("run image none noise", 0, ""),
         Step::Ends("run image cut noise", 0, "booted\nrefused 10 text\noff\n"),
-        Step::HasHash("image", BEFORE),
         Step::Ends(
             "run image turned noise",
             0,
             "booted\nrefused 13 signature\noff\n",
         ),
-        Step::HasHash("image", BEFORE),
+        Step::HasHash("image", IMAGE),
         Step::Ends("run image once noise", 0, "booted\ndone 1 2\noff\n"),
-        Step::HasHash("image", AFTER),
         Step::Ends(
-            "run other twice noise",
+            "run image again noise",
             0,
-            "booted\ndone 1 2\nrefused 12 state\noff\n",
+            "booted\nrefused 12 state\n\
+            status c10b471ceff881272aa5ed819fd9a0e0 1 2 runnable unreliable unowned\noff\n",
         ),
-        Step::HasHash("other", AFTER),
     ],
 }];
 
@@ -77,34 +99,60 @@ fn orders_are_served(rt: HostRuntime) -> Result<(), Fail> {
     perform(&rt, FILES, ORDERS_ARE_SERVED)
 }
 
-/// In the last, the line of the failure is not printed either.
+/// A device whose case was opened is dead, and its image still is one.
+const A_DEVICE_DIES: &[Play] = &[Play {
+    failing: &[],
+    steps: &[
+        Step::Ends("factory noise3 first other code image", 0, SERIAL),
+        Step::Ends(
+            "run image tampered noise",
+            0,
+            "booted\ntampered\nrefused 3 zeroised\nrefused 3 zeroised\n",
+        ),
+        Step::Ends(
+            "run image once noise",
+            0,
+            "refused 3 zeroised\nrefused 3 zeroised\noff\n",
+        ),
+    ],
+}];
+
+#[test]
+fn a_device_dies(rt: HostRuntime) -> Result<(), Fail> {
+    perform(&rt, FILES, A_DEVICE_DIES)
+}
+
+/// Where printing alone fails, the image is the new one. In the last, the line of the failure is not printed either.
 const CALLS_FAIL: &[Play] = &[
     Play {
-        failing: &[1],
+        failing: &[8],
         steps: &[
-            Step::Ends("run image once noise", 4, "read failed script\n"),
-            Step::HasHash("image", BEFORE),
+            Step::Ends("factory noise3 first other code image", 0, SERIAL),
+            Step::Ends("run image tampered noise", 4, "read failed script\n"),
         ],
     },
     Play {
-        failing: &[3],
+        failing: &[10],
         steps: &[
-            Step::Ends("run image once noise", 5, "write failed image\n"),
-            Step::HasHash("image", BEFORE),
+            Step::Ends("factory noise3 first other code image", 0, SERIAL),
+            Step::Ends("run image tampered noise", 5, "write failed image\n"),
+            Step::Ends("run image boot noise", 0, "booted\n"),
         ],
     },
     Play {
-        failing: &[4],
+        failing: &[11],
         steps: &[
-            Step::Ends("run image once noise", 5, "write failed output\n"),
-            Step::HasHash("image", AFTER),
+            Step::Ends("factory noise3 first other code image", 0, SERIAL),
+            Step::Ends("run image tampered noise", 5, "write failed output\n"),
+            Step::Ends("run image boot noise", 0, "refused 3 zeroised\n"),
         ],
     },
     Play {
-        failing: &[4, 5],
+        failing: &[11, 12],
         steps: &[
-            Step::Ends("run image once noise", 5, ""),
-            Step::HasHash("image", AFTER),
+            Step::Ends("factory noise3 first other code image", 0, SERIAL),
+            Step::Ends("run image tampered noise", 5, ""),
+            Step::Ends("run image boot noise", 0, "refused 3 zeroised\n"),
         ],
     },
 ];

@@ -1,5 +1,6 @@
 use Rattle.std.proofs.Common.{map, string_bytes, sym, subst}
 use Rattle.mb_model.specs.Top.{Ends}
+use Rattle.mb_board.specs.Calls.{held_by}
 use Rattle.mb_top.specs.Ending.{ended_at}
 use Rattle.mb_top.proofs.Requests.{request_completes}
 use Rattle.mb_top.proofs.commands.top.Goals as goal
@@ -7,8 +8,8 @@ use Rattle.mb_top.proofs.commands.top.Goals as goal
 pub returns-in-Err-clause-ends : goal.returns-in-Err-clause-ends
 returns-in-Err-clause-ends g c =
     let board = c.command.new.board in
-    subst (λ s. Ends (map string_bytes c.args.words.now) (ended_at (g.H.Host.outside c.args.host.now) (g.B.Board.ledger board).answered
-    (record { memory = g.B.Board.memory board; power = g.B.Board.power board; armed = (g.B.Board.ledger board).armed }) (g.H.Host.outside c.stop.new.host) s))
+    let held = held_by (g.B.Board.memory board) (g.B.Register.power board) (g.B.Register.level board) (g.B.Board.meter board) in
+    subst (λ s. Ends (map string_bytes c.args.words.now) (ended_at (g.H.Host.outside c.args.host.now) (g.B.Board.ledger board).answered held (g.H.Host.outside c.stop.new.host) s))
     (sym c.stop.ensures.status) (c.in-Err.ensures (g.H.Host.outside c.stop.new.host) c.stop.ensures.says)
 
 pub returns-in-Err-clause-complete : goal.returns-in-Err-clause-complete

@@ -1,9 +1,9 @@
-use Rattle.std.proofs.Common.{refl, sym, subst}
+use Rattle.std.proofs.Common.{refl}
 use Rattle.std.proofs.lemmas.Result.{err_from_is_err_and}
-use Rattle.mb_model.specs.FirstCommand.{run, read_script, IsFirstImage}
+use Rattle.mb_model.specs.Inputs.{image_input}
+use Rattle.mb_model.specs.RunCommand.{run, read_script}
 use Rattle.mb_model.specs.Commands.{at_first}
 use Rattle.mb_top.specs.Words.{run_files}
-use Rattle.mb_top.specs.FirstInputs.{image_input}
 use Rattle.mb_top.proofs.CommandLemmas.{input_carried_out, read_on}
 use Rattle.mb_top.proofs.run.run.Goals as goal
 
@@ -12,13 +12,12 @@ unfolding run
 returns-in_err-image g c =
     let p = err_from_is_err_and c.from_residual.result c.from_residual.ensures.1 in
     let outside = g.H.Host.outside in
-    rw (p.1, p.2) (input_carried_out (image_input c.args.names.now.image.now) _ at_first _ _ (outside c.args.host.now) (outside c.read_image.new.host) c.in_err-image.field-0.0 refl c.requires.none_answered c.in_err-image.ensures.err)
+    rw (p.1, p.2) (input_carried_out (image_input c.args.names.now.image.now) (read_script (run_files c.args.names.now)) at_first _ _ (outside c.args.host.now) (outside c.read_image.new.host) c.in_err-image.field-0.0 refl c.requires.none_answered c.in_err-image.ensures.err)
 
 pub returns : goal.returns
 unfolding run
 returns g c =
     let outside = g.H.Host.outside in
-    let held = c.in_ok-image.ensures.form in
-    let image : IsFirstImage c.deref.result.now held.0 = subst (λ i. IsFirstImage i held.0) (sym c.deref.ensures.value) held.1 in
-    read_on (image_input c.args.names.now.image.now) (read_script (run_files c.args.names.now)) at_first _ _ (outside c.args.host.now) (outside c.read_image.new.host) (outside c.run_image.new.host) held.0
-    c.run_image.result (c.in_ok-image.ensures.read held.0 held.1) (c.run_image.ensures held.0 image)
+    let image = c.in_ok-image.image in
+    read_on (image_input c.args.names.now.image.now) (read_script (run_files c.args.names.now)) at_first _ _ (outside c.args.host.now) (outside c.read_image.new.host) (outside c.run_image.new.host) image.state
+    c.run_image.result c.in_ok-image.ensures.read (c.run_image.ensures image.state c.in_ok-image.ensures.form)

@@ -1,21 +1,20 @@
-use Rattle.std.proofs.Common.{refl, ◌∙◌, ap}
+use Rattle.std.proofs.Common.{refl}
+use Rattle.std.proofs.lemmas.Result.{err_from_is_err_and}
 use Rattle.mb_model.specs.Commands.{at_first}
+use Rattle.mb_model.specs.RunCommand.{serve_events}
 use Rattle.mb_top.specs.Words.{run_files}
-use Rattle.mb_top.proofs.CommandLemmas.{memory_unserved}
-use Rattle.mb_top.proofs.RunLemmas.{loaded_holds, events_served}
+use Rattle.mb_model.specs.Inputs.{draws_input}
+use Rattle.mb_top.proofs.CommandLemmas.{input_carried_out, read_on}
 use Rattle.mb_top.proofs.run.run_events.Goals as goal
 
-pub returns-in-Err : goal.returns-in-Err
-returns-in-Err g c = λ state held.
-    memory_unserved _ _ at_first _ _ (g.H.Host.outside c.args.host.now) refl (ap (λ l. l.answered) c.in-Err.ensures.err_ledger ∙ c.requires.none_answered)
-
-pub serve-requires-clause-stands : goal.serve-requires-clause-stands
-serve-requires-clause-stands g c =
-    let held = c.requires.image in
-    (held.0, loaded_holds (g.B.Board.memory c.load.new.self) c.args.image.now held.0 c.in-Ok.ensures.sized c.in-Ok.ensures.image held.1)
+pub returns-in_err-drawn : goal.returns-in_err-drawn
+returns-in_err-drawn g c = λ state held.
+    let p = err_from_is_err_and c.from_residual.result c.from_residual.ensures.1 in
+    let outside = g.H.Host.outside in
+    rw (p.1, p.2) (input_carried_out (draws_input c.args.events c.args.names.now.noise.now) (serve_events (run_files c.args.names.now) state) at_first _ _ (outside c.args.host.now) (outside c.read_draws.new.host) c.in_err-drawn.field-0.0 refl c.requires.none_answered c.in_err-drawn.ensures.err)
 
 pub returns : goal.returns
 returns g c = λ state held.
     let outside = g.H.Host.outside in
-    events_served (run_files c.args.names.now) state c.args.events c.args.image.now (g.B.Board.memory c.load.new.self) _ _ (outside c.args.host.now) (outside c.write_image.new.host) c.write_image.result
-    c.in-Ok.ensures.sized c.in-Ok.ensures.image held (c.serve.ensures.events ∙ ap (λ l. l.waiting) c.in-Ok.ensures.ledger) c.serve.ensures.run c.serve.ensures.loaded c.write_image.ensures
+    read_on (draws_input c.args.events c.args.names.now.noise.now) (serve_events (run_files c.args.names.now) state) at_first _ _ (outside c.args.host.now) (outside c.read_draws.new.host) (outside c.run_drawn.new.host) c.in_ok-drawn.drawn
+    c.run_drawn.result c.in_ok-drawn.ensures.read (c.run_drawn.ensures state held)

@@ -1,18 +1,20 @@
 use Rattle.std.proofs.Common.{refl}
 use Rattle.std.proofs.lemmas.Result.{err_from_is_err_and}
 use Rattle.mb_model.specs.Commands.{at_first}
-use Rattle.mb_top.specs.FirstInputs.{script_input}
+use Rattle.mb_model.specs.RunCommand.{read_noise}
+use Rattle.mb_top.specs.Words.{run_files}
+use Rattle.mb_model.specs.Inputs.{script_input}
 use Rattle.mb_top.proofs.CommandLemmas.{input_carried_out, read_on}
 use Rattle.mb_top.proofs.run.run_image.Goals as goal
 
-pub returns-in_err-orders : goal.returns-in_err-orders
-returns-in_err-orders g c = λ state held.
+pub returns-in_err-events : goal.returns-in_err-events
+returns-in_err-events g c = λ state held.
     let p = err_from_is_err_and c.from_residual.result c.from_residual.ensures.1 in
     let outside = g.H.Host.outside in
-    rw (p.1, p.2) (input_carried_out (script_input c.args.names.now.script.now) _ at_first _ _ (outside c.args.host.now) (outside c.read_orders.new.host) c.in_err-orders.field-0.0 refl c.requires.none_answered c.in_err-orders.ensures.err)
+    rw (p.1, p.2) (input_carried_out (script_input c.args.names.now.script.now) (read_noise (run_files c.args.names.now) state) at_first _ _ (outside c.args.host.now) (outside c.read_events.new.host) c.in_err-events.field-0.0 refl c.requires.none_answered c.in_err-events.ensures.err)
 
 pub returns : goal.returns
 returns g c = λ state held.
     let outside = g.H.Host.outside in
-    read_on (script_input c.args.names.now.script.now) _ at_first _ _ (outside c.args.host.now) (outside c.read_orders.new.host) (outside c.run_orders.new.host) c.in_ok-orders.orders.items
-    c.run_orders.result c.in_ok-orders.ensures.read (c.run_orders.ensures state held)
+    read_on (script_input c.args.names.now.script.now) (read_noise (run_files c.args.names.now) state) at_first _ _ (outside c.args.host.now) (outside c.read_events.new.host) (outside c.run_events.new.host) c.in_ok-events.events
+    c.run_events.result c.in_ok-events.ensures.read (c.run_events.ensures state held)

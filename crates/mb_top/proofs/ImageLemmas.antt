@@ -1,0 +1,18 @@
+-- How a command ends at an image.
+use Rattle.std.proofs.Common.{◌≡◌, ℕ, List, Option, None, Some, refl, sym, subst}
+use Rattle.std.specs.Prelude.{IfSome}
+use Rattle.mb_model.specs.Outside.{Outside, read_once}
+use Rattle.mb_model.specs.Commands.{HasRead}
+use Rattle.mb_model.specs.Faults.{Fault, HasFault as IsAtFault}
+use Rattle.mb_model.specs.Inputs.{image_input}
+use Rattle.mb_top.specs.declared.end.End.{End}
+use Rattle.mb_top.specs.Ending.{StopsAt}
+use Rattle.mb_top.specs.Images.{TellsFault}
+
+pub image_stops : (name bytes : List ℕ) (before now : Outside) (found : Option Fault) (why : End) → HasRead before name bytes → now ≡ read_once before
+    → IfSome found (λ fault. IsAtFault bytes fault) → TellsFault found why → StopsAt (image_input name) before now why
+image_stops name bytes before now (Some faulty) why read now_is has tells =
+    subst (λ w. StopsAt (image_input name) before now w) (sym tells)
+    (record { role_is = refl; bytes = bytes; read = read; fault = (faulty, refl, has); now_is = now_is })
+image_stops name bytes before now None why read now_is none tells =
+    subst (λ w. StopsAt (image_input name) before now w) (sym tells) now_is

@@ -1,0 +1,5 @@
+use Rattle.mb_laws.proofs.SaidLemmas.{IsScript-events}
+use Rattle.mb_top.proofs.run_input.read_events.Goals as goal
+
+pub returns-in-Ok-clause-events : goal.returns-in-Ok-clause-events
+returns-in-Ok-clause-events g c = IsScript-events c.in-Ok.ensures.lines c.in-Ok.events c.in-Ok.ensures.stands
