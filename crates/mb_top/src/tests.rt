@@ -5,13 +5,14 @@ mod devices;
 mod keys;
 mod life;
 mod once;
+mod rows;
 mod runs;
 mod sign;
 mod statuses;
 
 use crate::commands::top;
 use mb_board::SimBoard;
-use mb_host::MemoryHost;
+use mb_host::{Host, MemoryHost};
 use mb_model::{Bytes, Calls, File, Files, NoMemory};
 use sha2::{Digest, Sha256};
 use std::alloc::Global;
@@ -59,6 +60,20 @@ enum Step {
     IsMissing(&'static str),
     /// So many reads, writes and prints were called.
     WasCalled(u64, u64, u64),
+    /// The file of this name is written, of these parts.
+    Writes(&'static str, &'static [Part]),
+    /// The files of these names have the same bytes.
+    Matches(&'static str, &'static str),
+}
+
+/// A part of a file that is written.
+enum Part {
+    /// This text.
+    Text(&'static str),
+    /// The content of the file of this name.
+    File(&'static str),
+    /// The content of the file of this name, without so many of its last bytes.
+    Without(&'static str, usize),
 }
 
 /// Each play goes as it says, over a host of its own with these files.
@@ -90,6 +105,8 @@ fn take(rt: &(impl Abort + AllocGlobal), host: &mut MemoryHost, step: &Step) -> 
         Step::IsOrder(name, hash) => order_is(rt, file_of(host, name)?, hash),
         Step::IsMissing(name) => is_missing(rt, host, name),
         Step::WasCalled(reads, writes, prints) => was_called(rt, host, [*reads, *writes, *prints]),
+        Step::Writes(name, parts) => write(rt.alloc(), host, name, parts),
+        Step::Matches(name, other) => file_matches(rt, host, name, other),
     }
 }
 
@@ -144,6 +161,47 @@ fn words_of(alloc: Global, text: &str) -> Result<Vec<String>, NoMemory> {
 fn status_of(alloc: Global, host: &mut MemoryHost, words: &str) -> Result<u8, NoMemory> {
     let words = words_of(alloc, words)?;
     Ok(top(alloc, &words, host, &mut SimBoard::new(alloc)))
+}
+
+/// Writes the file of this name, of these parts.
+fn write(alloc: Global, host: &mut MemoryHost, name: &str, parts: &[Part]) -> Result<(), Fail> {
+    let content = content_of(alloc, host, parts)?;
+    Ok(
+        host.write(name, &content)
+            .map_err(|_| "no room for a file")?,
+    )
+}
+
+/// The parts, one after another.
+fn content_of(alloc: Global, host: &MemoryHost, parts: &[Part]) -> Result<Vec<u8>, Fail> {
+    let mut content = Vec::new(alloc);
+    for part in parts {
+        content.extend_from_slice(part_of(host, part)?)?;
+    }
+    Ok(content)
+}
+
+fn part_of<'a>(host: &'a MemoryHost, part: &Part) -> Result<&'a [u8], Fail> {
+    match part {
+        Part::Text(text) => Ok(text.as_bytes()),
+        Part::File(name) => file_of(host, name),
+        Part::Without(name, count) => without(file_of(host, name)?, *count),
+    }
+}
+
+/// The bytes without so many of the last.
+fn without(bytes: &[u8], count: usize) -> Result<&[u8], Fail> {
+    Ok(
+        bytes
+            .get(..bytes.len().saturating_sub(count))
+            .ok_or("no such part")?,
+    )
+}
+
+/// The files of these names have the same bytes.
+fn file_matches(rt: &impl Abort, host: &MemoryHost, name: &str, other: &str) -> Result<(), Fail> {
+    assert!(rt; file_of(host, name)? == file_of(host, other)?, "{name}");
+    Ok(())
 }
 
 /// The words end with this status and print these lines.
