@@ -221,8 +221,30 @@ fn ends(
 
 /// These lines were printed after so many bytes.
 fn prints(rt: &impl Abort, host: &MemoryHost, seen: usize, lines: &str) {
-    let printed = host.printed().get(seen..);
-    assert_eq!(rt; printed, Some(lines.as_bytes()));
+    let printed = host.printed().get(seen..).unwrap_or_default();
+    assert!(rt;
+        fit(printed, lines),
+        "{}",
+        str::from_utf8(printed).unwrap_or_default()
+    );
+}
+
+/// These bytes are these lines. A line that ends in `*` stands for all that begin with what is before it.
+fn fit(printed: &[u8], lines: &str) -> bool {
+    let mut found = printed.split(|byte| *byte == b'\n');
+    for line in lines.split('\n') {
+        if !found.next().is_some_and(|it| fits(it, line.as_bytes())) {
+            return false;
+        }
+    }
+    found.next().is_none()
+}
+
+fn fits(found: &[u8], line: &[u8]) -> bool {
+    match line.strip_suffix(b"*") {
+        Some(head) => found.starts_with(head),
+        None => found == line,
+    }
 }
 
 fn was_called(rt: &impl Abort, host: &MemoryHost, calls: [u64; 3]) -> Result<(), Fail> {

@@ -98,6 +98,10 @@ const FILES: &[Given] = &[
         ]),
     },
     Given {
+        name: "draft12",
+        content: Content::Text("order emergency 2\nversion 2\ntrust countersigned\ncode 646566\n"),
+    },
+    Given {
         name: "early",
         content: Content::Text("order surrender 2\ntarget length 7\n"),
     },
@@ -242,4 +246,193 @@ fn the_first_orders_are_obeyed(rt: HostRuntime) -> Result<(), Fail> {
     go_on(&rt, &mut host, THE_FIRST_ORDER)?;
     go_on(&rt, &mut host, TARGETS_COME_FIRST)?;
     go_on(&rt, &mut host, EMERGENCY_COMES_FIRST)
+}
+
+/// The orders of a life, as they are signed and countersigned.
+const ORDERS_OF_A_LIFE: &[Step] = &[
+    Step::Ends(
+        "keygen noise3 officer3 public3",
+        0,
+        "owner b3cee4b09ec5e77e7b1285231704c0e8fcdcd7b721946b5bac2437e157b6bae1\n",
+    ),
+    Step::Ends("sign officer2 draft2 order2", 0, "index 0\n"),
+    Step::IsOrder(
+        "order2",
+        "0fe774a54362e2c6b3e2e14763b0428aaedaeca044b68acdd262c07729007864",
+    ),
+    Step::Ends("sign officer2 draft4 order4", 0, "index 1\n"),
+    Step::IsOrder(
+        "order4",
+        "d5414dc8eab29da27fdd73fbdade2d9c7ce0d5849889de235c91b53a857a95c0",
+    ),
+    Step::Ends("sign officer3 draft5 order5", 0, "index 0\n"),
+    Step::IsOrder(
+        "order5",
+        "e05cc9d8e6c64cbadf88418b40de34a45cb4ad87f9b3eb623b8f705a3a736538",
+    ),
+    Step::Ends("sign officer1 draft6 load", 0, "index 2\n"),
+    Step::Ends("countersign officer2 2 load order6", 0, "index 2\n"),
+    Step::Writes("alone", &[Part::File("officer3")]),
+    Step::Ends("countersign officer3 3 order6 order6", 0, "index 1\n"),
+    Step::IsOrder(
+        "order6",
+        "558f3075e52a632d856bf12ade5cfdb55e8dd3c15e3e1457f8a54b91f5359017",
+    ),
+    Step::Ends("sign officer3 draft7 order7", 0, "index 2\n"),
+    Step::IsOrder(
+        "order7",
+        "f6e7bec34762067e97f7d9671f64458c26771a49b1d51fd2fb21e4855f2c8373",
+    ),
+];
+
+/// Both upper layers have owners and code, and layer 3 has a key that has signed nothing.
+const LAYERS_ARE_GIVEN: &[Step] = &[
+    Step::Writes("image", &[Part::File("fresh")]),
+    Step::Writes(
+        "script",
+        &[
+            Part::Text("boot\n"),
+            Part::File("order1"),
+            Part::File("order2"),
+            Part::File("order3"),
+            Part::File("order4"),
+            Part::Text("off\n"),
+        ],
+    ),
+    Step::Ends(
+        "run image script noise",
+        0,
+        "booted\ndone 1 2\ndone 2 3\ndone 3 4\ndone 4 5\noff\n",
+    ),
+    Step::Writes("keyless", &[Part::File("image")]),
+    Step::Writes(
+        "script",
+        &[
+            Part::Text("boot\n"),
+            Part::File("order5"),
+            Part::Text("off\n"),
+        ],
+    ),
+    Step::Ends("run image script noise", 0, "booted\ndone 4 6\noff\n"),
+    Step::Writes("keyed", &[Part::File("image")]),
+];
+
+/// Secrets are put and a message is signed. What runs goes on across loads that are countersigned.
+const A_LIFE: &[Step] = &[
+    Step::Writes(
+        "script",
+        &[Part::Text(
+            "boot\ngo\nput 2 pin 31323334\ngo\nput 3 token 00ff\nsign 3 1 68656c6c6f\noff\n",
+        )],
+    ),
+    Step::Ends(
+        "run image script nothing",
+        0,
+        "booted\nat 2\nkept\nat 3\nkept\nsigned 1 0 000000040568656c6c6f0000000000000003*\noff\n",
+    ),
+    Step::Writes("lived", &[Part::File("image")]),
+    Step::Writes(
+        "script",
+        &[
+            Part::Text("boot\n"),
+            Part::File("order6"),
+            Part::File("order7"),
+            Part::Text("get 2 pin\nget 3 token\nstatus\noff\n"),
+        ],
+    ),
+    Step::Ends(
+        "run image script noise",
+        0,
+        "booted\ndone 5 7\ndone 6 8\nvalue 31323334\nvalue 00ff\n\
+        status c10b471ceff881272aa5ed819fd9a0e0 6 8 runnable runnable runnable\noff\n",
+    ),
+    Step::Writes("loaded", &[Part::File("image")]),
+];
+
+/// Layer 2 says nothing to a new layer 1: its region is emptied, and layer 3, which agrees, keeps what it has.
+const LAYER_THREE_AGREES: &[Step] = &[
+    Step::Ends("countersign alone 3 load alone6", 0, "index 1\n"),
+    Step::Ends("sign officer1 draft12 rescue", 0, "index 3\n"),
+    Step::Ends("countersign alone 3 rescue rescue", 0, "index 2\n"),
+    Step::Writes("image", &[Part::File("lived")]),
+    Step::Writes(
+        "script",
+        &[
+            Part::Text("boot\n"),
+            Part::File("alone6"),
+            Part::Text("status\nget 3 token\n"),
+            Part::File("rescue"),
+            Part::Text("get 3 token\nget 2 pin\n"),
+        ],
+    ),
+    Step::Ends(
+        "run image script noise",
+        0,
+        "booted\ndone 5 7\n\
+        status c10b471ceff881272aa5ed819fd9a0e0 5 7 runnable unreliable reliable\nrefused 4 layer\n\
+        done 6 8\nvalue 00ff\nabsent\n",
+    ),
+];
+
+/// A countersignature that is there has to be right.
+const A_COUNTERSIGNATURE_IS_WRONG: &[Step] = &[
+    Step::Ends("countersign officer1 2 load wrong", 0, "index 4\n"),
+    Step::Ends("countersign alone 3 wrong wrong", 0, "index 3\n"),
+    Step::Writes("image", &[Part::File("lived")]),
+    Step::Writes(
+        "script",
+        &[
+            Part::Text("boot\n"),
+            Part::File("wrong"),
+            Part::Text("off\n"),
+        ],
+    ),
+    Step::Ends(
+        "run image script noise",
+        0,
+        "booted\nrefused 14 countersignature\noff\n",
+    ),
+    Step::Matches("image", "lived"),
+];
+
+/// Layer 2 is given up, and given to another owner, who gives layer 3 its code.
+const ANOTHER_OWNER: &[Step] = &[
+    Step::Ends("sign officer2 draft10 surrender", 0, "index 3\n"),
+    Step::Ends("sign officer1 draft11 establish", 0, "index 5\n"),
+    Step::Ends("sign officer4 draft4 emergency", 0, "index 0\n"),
+    Step::Writes("image", &[Part::File("loaded")]),
+    Step::Writes(
+        "script",
+        &[
+            Part::Text("boot\n"),
+            Part::File("surrender"),
+            Part::Text("status\n"),
+            Part::File("order4"),
+            Part::File("establish"),
+            Part::File("order4"),
+            Part::File("emergency"),
+            Part::Text("status\nget 3 token\n"),
+        ],
+    ),
+    Step::Ends(
+        "run image script noise",
+        0,
+        "booted\ndone 7 9\n\
+        status c10b471ceff881272aa5ed819fd9a0e0 7 9 runnable unowned unreliable\nrefused 12 state\n\
+        done 8 10\nrefused 13 signature\ndone 9 11\n\
+        status c10b471ceff881272aa5ed819fd9a0e0 9 11 runnable unreliable reliable\nrefused 4 layer\n",
+    ),
+];
+
+#[test]
+fn a_life_is_lived(rt: HostRuntime) -> Result<(), Fail> {
+    let mut host = host_with(rt.alloc(), FILES, &[])?;
+    go_on(&rt, &mut host, MADE)?;
+    go_on(&rt, &mut host, FIRST_ORDERS)?;
+    go_on(&rt, &mut host, ORDERS_OF_A_LIFE)?;
+    go_on(&rt, &mut host, LAYERS_ARE_GIVEN)?;
+    go_on(&rt, &mut host, A_LIFE)?;
+    go_on(&rt, &mut host, LAYER_THREE_AGREES)?;
+    go_on(&rt, &mut host, A_COUNTERSIGNATURE_IS_WRONG)?;
+    go_on(&rt, &mut host, ANOTHER_OWNER)
 }
