@@ -1,14 +1,15 @@
 //! The program over a host in memory: what it makes, by values of an independent program, and what a host shows of it.
 //! Tests are tables of plays: words one after another, how each ends, and what files then hold.
 
+mod births;
 mod devices;
 mod keys;
-mod life;
-mod once;
+mod lives;
 mod rows;
 mod runs;
 mod sign;
 mod statuses;
+mod succession;
 
 use crate::commands::top;
 use mb_board::SimBoard;
@@ -18,6 +19,9 @@ use sha2::{Digest, Sha256};
 use std::alloc::Global;
 use std::process::Abort;
 use std::test::Fail;
+
+/// More writes than any call has.
+const MOST_WRITES: u32 = 471;
 
 /// A file before a play.
 struct Given {
@@ -64,9 +68,25 @@ enum Step {
     Writes(&'static str, &'static [Part]),
     /// The files of these names have the same bytes.
     Matches(&'static str, &'static str),
+    /// The file of this name ends in so many zeros.
+    EndsInZeros(&'static str, usize),
+    /// Power is lost at each write in turn.
+    IsCut(&'static Cut),
+}
+
+/// A script on an image, in which power is lost at each write in turn of what comes after these lines.
+struct Cut {
+    image: &'static str,
+    before: &'static str,
+    after: &'static [Part],
+    /// What may be printed where power is lost.
+    torn: &'static [&'static str],
+    /// What is printed first where there are fewer writes.
+    whole: &'static str,
 }
 
 /// A part of a file that is written.
+#[derive(Drop)]
 enum Part {
     /// This text.
     Text(&'static str),
@@ -81,6 +101,15 @@ fn perform(rt: &(impl Abort + AllocGlobal), files: &[Given], plays: &[Play]) -> 
     for play in plays {
         let mut host = host_with(rt.alloc(), files, play.failing)?;
         go_on(rt, &mut host, play.steps)?;
+    }
+    Ok(())
+}
+
+/// The rows go as they say, one after another, over one host.
+fn live(rt: &(impl Abort + AllocGlobal), rows: &[&[Step]]) -> Result<(), Fail> {
+    let mut host = host_with(rt.alloc(), births::FILES, &[])?;
+    for row in rows {
+        go_on(rt, &mut host, row)?;
     }
     Ok(())
 }
@@ -107,6 +136,8 @@ fn take(rt: &(impl Abort + AllocGlobal), host: &mut MemoryHost, step: &Step) -> 
         Step::WasCalled(reads, writes, prints) => was_called(rt, host, [*reads, *writes, *prints]),
         Step::Writes(name, parts) => write(rt.alloc(), host, name, parts),
         Step::Matches(name, other) => file_matches(rt, host, name, other),
+        Step::EndsInZeros(name, count) => ends_in_zeros(rt, host, name, *count),
+        Step::IsCut(cut) => is_cut(rt, host, cut),
     }
 }
 
@@ -166,10 +197,12 @@ fn status_of(alloc: Global, host: &mut MemoryHost, words: &str) -> Result<u8, No
 /// Writes the file of this name, of these parts.
 fn write(alloc: Global, host: &mut MemoryHost, name: &str, parts: &[Part]) -> Result<(), Fail> {
     let content = content_of(alloc, host, parts)?;
-    Ok(
-        host.write(name, &content)
-            .map_err(|_| "no room for a file")?,
-    )
+    store(host, name, &content)
+}
+
+/// Makes these bytes the file of this name.
+fn store(host: &mut MemoryHost, name: &str, bytes: &[u8]) -> Result<(), Fail> {
+    Ok(host.write(name, bytes).map_err(|_| "no room for a file")?)
 }
 
 /// The parts, one after another.
@@ -202,6 +235,63 @@ fn without(bytes: &[u8], count: usize) -> Result<&[u8], Fail> {
 fn file_matches(rt: &impl Abort, host: &MemoryHost, name: &str, other: &str) -> Result<(), Fail> {
     assert!(rt; file_of(host, name)? == file_of(host, other)?, "{name}");
     Ok(())
+}
+
+/// The file of this name ends in so many zeros.
+fn ends_in_zeros(rt: &impl Abort, host: &MemoryHost, name: &str, count: usize) -> Result<(), Fail> {
+    let bytes = file_of(host, name)?;
+    let end = bytes
+        .get(bytes.len().saturating_sub(count)..)
+        .unwrap_or_default();
+    assert!(rt; end.len() == count && end.iter().all(|byte| *byte == 0));
+    Ok(())
+}
+
+/// Power is lost at each write of a script in turn.
+fn is_cut(rt: &(impl Abort + AllocGlobal), host: &mut MemoryHost, cut: &Cut) -> Result<(), Fail> {
+    for number in 1..=MOST_WRITES {
+        if was_cut(rt, host, cut, number)? {
+            return Ok(());
+        }
+    }
+    Err("too many writes")?
+}
+
+/// Power is lost at the write of this number, or there are fewer writes, which is the answer.
+fn was_cut(
+    rt: &(impl Abort + AllocGlobal),
+    host: &mut MemoryHost,
+    cut: &Cut,
+    number: u32,
+) -> Result<bool, Fail> {
+    write_cut(rt.alloc(), host, cut, number)?;
+    let seen = host.printed().len();
+    let ended = status_of(rt.alloc(), host, "run image script noise")?;
+    assert_eq!(rt; ended, 0, "{number}");
+    let printed = host.printed().get(seen..).unwrap_or_default();
+    let is_whole = printed.starts_with(cut.whole.as_bytes());
+    assert!(rt; is_whole || fit_one(printed, cut.torn), "{number}");
+    Ok(is_whole)
+}
+
+/// Writes the image, and the script in which power is lost at the write of this number.
+fn write_cut(alloc: Global, host: &mut MemoryHost, cut: &Cut, number: u32) -> Result<(), Fail> {
+    write(alloc, host, "image", &[Part::File(cut.image)])?;
+    let lines = format!(in alloc; "{}cut {number} fill 00\n", cut.before)?;
+    let mut script = lines.into_bytes();
+    let rest = content_of(alloc, host, cut.after)?;
+    script.extend_from_slice(&rest)?;
+    store(host, "script", &script)
+}
+
+/// These bytes are one of these.
+fn fit_one(printed: &[u8], choices: &[&str]) -> bool {
+    for lines in choices {
+        if fit(printed, lines) {
+            return true;
+        }
+    }
+    false
 }
 
 /// The words end with this status and print these lines.

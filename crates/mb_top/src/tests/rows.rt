@@ -1,154 +1,9 @@
-//! Lives of a device, each from its birth: their orders by values of an independent program, and the replies that its
-//! rules give.
+//! The first orders of a device, and power losses while it obeys them, by the replies that its rules give.
 
-use super::devices::{IMAGE, MAKER, OWNER, SERIAL};
-use super::keys::{ZEROS_KEY, ZEROS_PUBLIC};
-use super::{Content, Given, Part, Step, go_on, host_with};
+use super::births::{FIRST_ORDERS, MADE};
+use super::{Part, Step, live};
+use mb_model::BBRAM_LENGTH;
 use std::test::Fail;
-
-/// The noise of the maker, of the officers and of the birth, the code of layer 1, what is drafted, and the key of a
-/// fourth officer.
-const FILES: &[Given] = &[
-    Given {
-        name: "noise0",
-        content: Content::Hex("35fe183c068bc13ac735a76ac05c37d8d055c34bf945b99c4cdada2e31cc8ca8"),
-    },
-    Given {
-        name: "noise1",
-        content: Content::Hex("d95321bdf284c2032c7a5209b847eae96c3080c86bfc2585312e15361179d1ac"),
-    },
-    Given {
-        name: "noise2",
-        content: Content::Hex("c0fcde819a0006907629b33ec8a491a8b0d7cbf7ef92d8dfeb3bb22913d91c30"),
-    },
-    Given {
-        name: "noise3",
-        content: Content::Hex("547202fca623e77ec47fe0d1edad602736c85db474f6c085282bd16c65856985"),
-    },
-    Given {
-        name: "birth",
-        content: Content::Hex(
-            "12d71d7255b6325df7487678010fc9dbb905c6d5af1a7d986e75ecdfdc39dfbec10b471ceff881272aa5ed819fd9a0e0",
-        ),
-    },
-    Given {
-        name: "code",
-        content: Content::Text("layer one"),
-    },
-    Given {
-        name: "officer4",
-        content: Content::Hex(ZEROS_KEY),
-    },
-    Given {
-        name: "draft1",
-        content: Content::Text(
-            "order establish 2\nowner 0000000500000003456f47e33661bea750d0d7834df1866ee01637b5c1d8b439\
-                b648b48180b105614fe7f19f31e54ccdcdab1be127d73256\ntrust countersigned\n",
-        ),
-    },
-    Given {
-        name: "draft2",
-        content: Content::Text(
-            "order establish 3\nowner 00000005000000032b3c1b4e3d51a925d662ac9ab43d1e6d57db50033b2205b8\
-                9cb11153586437879a1a9f1c382306bb2ba53efd5549e358\ntrust countersigned\n",
-        ),
-    },
-    Given {
-        name: "draft3",
-        content: Content::Text("order emergency 2\nversion 1\ntrust countersigned\ncode 616263\n"),
-    },
-    Given {
-        name: "draft4",
-        content: Content::Text("order emergency 3\nversion 1\ntrust countersigned\ncode 646566\n"),
-    },
-    Given {
-        name: "draft5",
-        content: Content::Text("order newkey 3 epoch\n"),
-    },
-    Given {
-        name: "draft6",
-        content: Content::Text("order load 1\nversion 2\ntrust always\ncode 6f6e65\n"),
-    },
-    Given {
-        name: "draft7",
-        content: Content::Text("order load 3\nversion 2\ntrust countersigned\ncode 676869\n"),
-    },
-    Given {
-        name: "draft8",
-        content: Content::Text(
-            "order load 2\n\
-                target code 2 ba7816bf8f01cfea414140de5dae2223b00361a396177a9cb410ff61f20015ad\n\
-                version 2\ntrust countersigned\ncode 616263\n",
-        ),
-    },
-    Given {
-        name: "draft9",
-        content: Content::Text("order newkey 2 configuration\n"),
-    },
-    Given {
-        name: "draft10",
-        content: Content::Text("order surrender 2\n"),
-    },
-    Given {
-        name: "draft11",
-        content: Content::Pieces(&[
-            "order establish 2\nowner ",
-            ZEROS_PUBLIC,
-            "\ntrust countersigned\n",
-        ]),
-    },
-    Given {
-        name: "draft12",
-        content: Content::Text("order emergency 2\nversion 2\ntrust countersigned\ncode 646566\n"),
-    },
-    Given {
-        name: "early",
-        content: Content::Text("order surrender 2\ntarget length 7\n"),
-    },
-    Given {
-        name: "timely",
-        content: Content::Pieces(&[
-            "order establish 2\ntarget length 1\nowner ",
-            ZEROS_PUBLIC,
-            "\ntrust countersigned\n",
-        ]),
-    },
-    Given {
-        name: "nothing",
-        content: Content::Text(""),
-    },
-    Given {
-        name: "noise",
-        content: Content::Sevens(2_048),
-    },
-];
-
-/// The device and the officers' keys are made.
-const MADE: &[Step] = &[
-    Step::Ends("keygen noise0 maker public0", 0, MAKER),
-    Step::Ends("keygen noise1 officer1 public1", 0, OWNER),
-    Step::Ends("factory birth maker public1 code fresh", 0, SERIAL),
-    Step::HasHash("fresh", IMAGE),
-    Step::Ends(
-        "keygen noise2 officer2 public2",
-        0,
-        "owner 68cd35f6dc5234d9a7e9df889d48ec8302912dee6f7c9fe17efeffa7bf970b63\n",
-    ),
-];
-
-/// Layer 2 is given its owner and its first code.
-const FIRST_ORDERS: &[Step] = &[
-    Step::Ends("sign officer1 draft1 order1", 0, "index 0\n"),
-    Step::IsOrder(
-        "order1",
-        "24353628082e2205589e49c31dce78c37688939a77069753ac385d552756ab7d",
-    ),
-    Step::Ends("sign officer1 draft3 order3", 0, "index 1\n"),
-    Step::IsOrder(
-        "order3",
-        "d3e64fc773357af69f3bfc058a41b4c09d298996ab83134576bc3c805bcd08b4",
-    ),
-];
 
 /// What happens before an order is not drawn, and an order is done once.
 const THE_FIRST_ORDER: &[Step] = &[
@@ -163,6 +18,19 @@ const THE_FIRST_ORDER: &[Step] = &[
         "run image script noise",
         0,
         "refused 1 off\nbooted\nrefused 10 text\nrefused 10 text\n",
+    ),
+    Step::Writes(
+        "script",
+        &[
+            Part::Text("boot\n"),
+            Part::Without("order1", 3),
+            Part::Text("\noff\n"),
+        ],
+    ),
+    Step::Ends(
+        "run image script noise",
+        0,
+        "booted\nrefused 10 text\noff\n",
     ),
     Step::Writes(
         "script",
@@ -238,201 +106,133 @@ const EMERGENCY_COMES_FIRST: &[Step] = &[
     ),
 ];
 
-#[test]
-fn the_first_orders_are_obeyed(rt: HostRuntime) -> Result<(), Fail> {
-    let mut host = host_with(rt.alloc(), FILES, &[])?;
-    go_on(&rt, &mut host, MADE)?;
-    go_on(&rt, &mut host, FIRST_ORDERS)?;
-    go_on(&rt, &mut host, THE_FIRST_ORDER)?;
-    go_on(&rt, &mut host, TARGETS_COME_FIRST)?;
-    go_on(&rt, &mut host, EMERGENCY_COMES_FIRST)
-}
+/// What is printed where the first order does not count after a power loss, and where it does.
+const OLD: &str =
+    "booted\narmed\nstopped\nbooted\nstatus c10b471ceff881272aa5ed819fd9a0e0 0 1 runnable unowned unowned\n";
 
-/// The orders of a life, as they are signed and countersigned.
-const ORDERS_OF_A_LIFE: &[Step] = &[
+const NEW: &str =
+    "booted\narmed\nstopped\nbooted\nstatus c10b471ceff881272aa5ed819fd9a0e0 1 2 runnable unreliable unowned\n";
+
+/// Power is lost before an order counts, and then the order is given again.
+const POWER_IS_LOST_EARLY: &[Step] = &[
+    Step::Writes("image", &[Part::File("owned")]),
+    Step::Writes(
+        "script",
+        &[
+            Part::Text("boot\ncut 1 fill ff\n"),
+            Part::File("order3"),
+            Part::Text("boot\nstatus\n"),
+            Part::File("order3"),
+        ],
+    ),
     Step::Ends(
-        "keygen noise3 officer3 public3",
+        "run image script noise",
         0,
-        "owner b3cee4b09ec5e77e7b1285231704c0e8fcdcd7b721946b5bac2437e157b6bae1\n",
-    ),
-    Step::Ends("sign officer2 draft2 order2", 0, "index 0\n"),
-    Step::IsOrder(
-        "order2",
-        "0fe774a54362e2c6b3e2e14763b0428aaedaeca044b68acdd262c07729007864",
-    ),
-    Step::Ends("sign officer2 draft4 order4", 0, "index 1\n"),
-    Step::IsOrder(
-        "order4",
-        "d5414dc8eab29da27fdd73fbdade2d9c7ce0d5849889de235c91b53a857a95c0",
-    ),
-    Step::Ends("sign officer3 draft5 order5", 0, "index 0\n"),
-    Step::IsOrder(
-        "order5",
-        "e05cc9d8e6c64cbadf88418b40de34a45cb4ad87f9b3eb623b8f705a3a736538",
-    ),
-    Step::Ends("sign officer1 draft6 load", 0, "index 2\n"),
-    Step::Ends("countersign officer2 2 load order6", 0, "index 2\n"),
-    Step::Writes("alone", &[Part::File("officer3")]),
-    Step::Ends("countersign officer3 3 order6 order6", 0, "index 1\n"),
-    Step::IsOrder(
-        "order6",
-        "558f3075e52a632d856bf12ade5cfdb55e8dd3c15e3e1457f8a54b91f5359017",
-    ),
-    Step::Ends("sign officer3 draft7 order7", 0, "index 2\n"),
-    Step::IsOrder(
-        "order7",
-        "f6e7bec34762067e97f7d9671f64458c26771a49b1d51fd2fb21e4855f2c8373",
+        "booted\narmed\nstopped\nbooted\n\
+        status c10b471ceff881272aa5ed819fd9a0e0 1 2 runnable unreliable unowned\ndone 2 3\n",
     ),
 ];
 
-/// Both upper layers have owners and code, and layer 3 has a key that has signed nothing.
-const LAYERS_ARE_GIVEN: &[Step] = &[
+/// Power is lost in the write by which an order counts: the byte that is left decides.
+const A_SELECTOR_IS_TORN: &[Step] = &[
     Step::Writes("image", &[Part::File("fresh")]),
+    Step::Writes(
+        "script",
+        &[
+            Part::Text("boot\ncut 4 fill 00\n"),
+            Part::File("order1"),
+            Part::Text("boot\nstatus\n"),
+        ],
+    ),
+    Step::Ends("run image script noise", 0, OLD),
+    Step::Writes("image", &[Part::File("fresh")]),
+    Step::Writes(
+        "script",
+        &[
+            Part::Text("boot\ncut 4 fill 7e\n"),
+            Part::File("order1"),
+            Part::Text("boot\nstatus\n"),
+        ],
+    ),
+    Step::Ends("run image script noise", 0, OLD),
+    Step::Writes("image", &[Part::File("fresh")]),
+    Step::Writes(
+        "script",
+        &[
+            Part::Text("boot\ncut 4 fill 01\n"),
+            Part::File("order1"),
+            Part::Text("boot\nstatus\n"),
+        ],
+    ),
+    Step::Ends("run image script noise", 0, NEW),
+];
+
+/// Power is lost after an order counts, and again while the device settles.
+const POWER_IS_LOST_LATE: &[Step] = &[
+    Step::Writes("image", &[Part::File("fresh")]),
+    Step::Writes(
+        "script",
+        &[
+            Part::Text("boot\ncut 5 fill 00\n"),
+            Part::File("order1"),
+            Part::Text("cut 1 fill 00\nboot\nboot\nstatus\noff\n"),
+        ],
+    ),
+    Step::Ends(
+        "run image script noise",
+        0,
+        "booted\narmed\nstopped\narmed\nstopped\nbooted\n\
+        status c10b471ceff881272aa5ed819fd9a0e0 1 2 runnable unreliable unowned\noff\n",
+    ),
+    Step::Matches("image", "owned"),
+];
+
+/// The case is opened while an order has signatures left to be made.
+const THE_CASE_IS_OPENED: &[Step] = &[
+    Step::Writes("image", &[Part::File("fresh")]),
+    Step::Writes(
+        "script",
+        &[
+            Part::Text("boot\ncut 5 fill 00\n"),
+            Part::File("order1"),
+            Part::Text("tamper\nboot\nstatus\noff\nstatus\n"),
+        ],
+    ),
+    Step::Ends(
+        "run image script noise",
+        0,
+        "booted\narmed\nstopped\ntampered\nrefused 3 zeroised\nrefused 3 zeroised\noff\nrefused 1 off\n",
+    ),
+    Step::EndsInZeros("image", BBRAM_LENGTH),
     Step::Writes(
         "script",
         &[
             Part::Text("boot\n"),
             Part::File("order1"),
-            Part::File("order2"),
-            Part::File("order3"),
-            Part::File("order4"),
             Part::Text("off\n"),
         ],
     ),
     Step::Ends(
         "run image script noise",
         0,
-        "booted\ndone 1 2\ndone 2 3\ndone 3 4\ndone 4 5\noff\n",
-    ),
-    Step::Writes("keyless", &[Part::File("image")]),
-    Step::Writes(
-        "script",
-        &[
-            Part::Text("boot\n"),
-            Part::File("order5"),
-            Part::Text("off\n"),
-        ],
-    ),
-    Step::Ends("run image script noise", 0, "booted\ndone 4 6\noff\n"),
-    Step::Writes("keyed", &[Part::File("image")]),
-];
-
-/// Secrets are put and a message is signed. What runs goes on across loads that are countersigned.
-const A_LIFE: &[Step] = &[
-    Step::Writes(
-        "script",
-        &[Part::Text(
-            "boot\ngo\nput 2 pin 31323334\ngo\nput 3 token 00ff\nsign 3 1 68656c6c6f\noff\n",
-        )],
-    ),
-    Step::Ends(
-        "run image script nothing",
-        0,
-        "booted\nat 2\nkept\nat 3\nkept\nsigned 1 0 000000040568656c6c6f0000000000000003*\noff\n",
-    ),
-    Step::Writes("lived", &[Part::File("image")]),
-    Step::Writes(
-        "script",
-        &[
-            Part::Text("boot\n"),
-            Part::File("order6"),
-            Part::File("order7"),
-            Part::Text("get 2 pin\nget 3 token\nstatus\noff\n"),
-        ],
-    ),
-    Step::Ends(
-        "run image script noise",
-        0,
-        "booted\ndone 5 7\ndone 6 8\nvalue 31323334\nvalue 00ff\n\
-        status c10b471ceff881272aa5ed819fd9a0e0 6 8 runnable runnable runnable\noff\n",
-    ),
-    Step::Writes("loaded", &[Part::File("image")]),
-];
-
-/// Layer 2 says nothing to a new layer 1: its region is emptied, and layer 3, which agrees, keeps what it has.
-const LAYER_THREE_AGREES: &[Step] = &[
-    Step::Ends("countersign alone 3 load alone6", 0, "index 1\n"),
-    Step::Ends("sign officer1 draft12 rescue", 0, "index 3\n"),
-    Step::Ends("countersign alone 3 rescue rescue", 0, "index 2\n"),
-    Step::Writes("image", &[Part::File("lived")]),
-    Step::Writes(
-        "script",
-        &[
-            Part::Text("boot\n"),
-            Part::File("alone6"),
-            Part::Text("status\nget 3 token\n"),
-            Part::File("rescue"),
-            Part::Text("get 3 token\nget 2 pin\n"),
-        ],
-    ),
-    Step::Ends(
-        "run image script noise",
-        0,
-        "booted\ndone 5 7\n\
-        status c10b471ceff881272aa5ed819fd9a0e0 5 7 runnable unreliable reliable\nrefused 4 layer\n\
-        done 6 8\nvalue 00ff\nabsent\n",
-    ),
-];
-
-/// A countersignature that is there has to be right.
-const A_COUNTERSIGNATURE_IS_WRONG: &[Step] = &[
-    Step::Ends("countersign officer1 2 load wrong", 0, "index 4\n"),
-    Step::Ends("countersign alone 3 wrong wrong", 0, "index 3\n"),
-    Step::Writes("image", &[Part::File("lived")]),
-    Step::Writes(
-        "script",
-        &[
-            Part::Text("boot\n"),
-            Part::File("wrong"),
-            Part::Text("off\n"),
-        ],
-    ),
-    Step::Ends(
-        "run image script noise",
-        0,
-        "booted\nrefused 14 countersignature\noff\n",
-    ),
-    Step::Matches("image", "lived"),
-];
-
-/// Layer 2 is given up, and given to another owner, who gives layer 3 its code.
-const ANOTHER_OWNER: &[Step] = &[
-    Step::Ends("sign officer2 draft10 surrender", 0, "index 3\n"),
-    Step::Ends("sign officer1 draft11 establish", 0, "index 5\n"),
-    Step::Ends("sign officer4 draft4 emergency", 0, "index 0\n"),
-    Step::Writes("image", &[Part::File("loaded")]),
-    Step::Writes(
-        "script",
-        &[
-            Part::Text("boot\n"),
-            Part::File("surrender"),
-            Part::Text("status\n"),
-            Part::File("order4"),
-            Part::File("establish"),
-            Part::File("order4"),
-            Part::File("emergency"),
-            Part::Text("status\nget 3 token\n"),
-        ],
-    ),
-    Step::Ends(
-        "run image script noise",
-        0,
-        "booted\ndone 7 9\n\
-        status c10b471ceff881272aa5ed819fd9a0e0 7 9 runnable unowned unreliable\nrefused 12 state\n\
-        done 8 10\nrefused 13 signature\ndone 9 11\n\
-        status c10b471ceff881272aa5ed819fd9a0e0 9 11 runnable unreliable reliable\nrefused 4 layer\n",
+        "refused 3 zeroised\nrefused 3 zeroised\noff\n",
     ),
 ];
 
 #[test]
-fn a_life_is_lived(rt: HostRuntime) -> Result<(), Fail> {
-    let mut host = host_with(rt.alloc(), FILES, &[])?;
-    go_on(&rt, &mut host, MADE)?;
-    go_on(&rt, &mut host, FIRST_ORDERS)?;
-    go_on(&rt, &mut host, ORDERS_OF_A_LIFE)?;
-    go_on(&rt, &mut host, LAYERS_ARE_GIVEN)?;
-    go_on(&rt, &mut host, A_LIFE)?;
-    go_on(&rt, &mut host, LAYER_THREE_AGREES)?;
-    go_on(&rt, &mut host, A_COUNTERSIGNATURE_IS_WRONG)?;
-    go_on(&rt, &mut host, ANOTHER_OWNER)
+fn first_orders_are_obeyed(rt: HostRuntime) -> Result<(), Fail> {
+    live(
+        &rt,
+        &[
+            MADE,
+            FIRST_ORDERS,
+            THE_FIRST_ORDER,
+            TARGETS_COME_FIRST,
+            EMERGENCY_COMES_FIRST,
+            POWER_IS_LOST_EARLY,
+            A_SELECTOR_IS_TORN,
+            POWER_IS_LOST_LATE,
+            THE_CASE_IS_OPENED,
+        ],
+    )
 }
