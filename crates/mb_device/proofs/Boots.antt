@@ -1,6 +1,5 @@
 -- What a boot comes to.
-use Rattle.std.proofs.Common.{◌≡◌, ℕ, ◌≤◌, List, Bool, true, false, Option, None, Some, refl, sym, ap, subst, ◌∙◌, inl, inr, arith}
-use Rattle.std.specs.Prelude.{Result, Ok, Err, OnErr}
+use Rattle.std.proofs.Common.{◌≡◌, ℕ, List, Bool, true, false, Option, None, Some, refl, sym, ap, subst, ◌∙◌, inl, arith}
 use Rattle.std.specs.Option.{is_none}
 use Rattle.mb_ratchet.specs.declared.state.Off.{Off}
 use Rattle.mb_ratchet.specs.declared.state.Dead.{Dead}
@@ -10,14 +9,14 @@ use Rattle.mb_model.specs.declared.event.Event.TheVariants as event
 use Rattle.mb_model.specs.declared.reply.Reply.{Reply}
 use Rattle.mb_model.specs.declared.reply.Reply.TheVariants as reply
 use Rattle.mb_model.specs.declared.state.State.{State}
-use Rattle.mb_model.specs.Board.{Memory, Meter, Held, phase_at}
+use Rattle.mb_model.specs.Board.{Memory, Meter, phase_at}
 use Rattle.mb_model.specs.Clean.{Clean}
 use Rattle.mb_model.specs.Machine.{Phase, off, dead, ratchet, World, Machine, answered, lacks_memory}
 use Rattle.mb_model.specs.Meaning.{StandsFor, HasMeaning, is_dead, is_live}
 use Rattle.mb_model.specs.Memory.{IsBlank}
 use Rattle.mb_model.specs.Refusals.{zeroised, refused}
 use Rattle.mb_model.specs.Valid.{Valid}
-use Rattle.mb_board.specs.Calls.{held_by, IsMetered}
+use Rattle.mb_board.specs.Calls.{held_by}
 use Rattle.mb_layout.specs.Rooms.{HasRoom}
 use Rattle.mb_storing.specs.Holding.{Means, IsReady}
 use Rattle.mb_commit.specs.Remembering.{Knows}
@@ -26,7 +25,7 @@ use Rattle.mb_device.specs.declared.device.Device.TheVariants as device
 use Rattle.mb_device.specs.declared.device.Running.{Running}
 use Rattle.mb_device.specs.Sound.{IsSound, Steps}
 use Rattle.mb_device.proofs.Worlds.{boot_live, boot_none}
-use Rattle.mb_device.proofs.Steps.{live_world, live_sound, off_world, off_sound, cut_short}
+use Rattle.mb_device.proofs.Steps.{live_world, live_sound, off_sound, cut_short}
 
 -- ---- whether the device was found dead
 

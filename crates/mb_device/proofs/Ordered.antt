@@ -1,19 +1,18 @@
 -- An order that is answered while layer 1 runs, as a step of the machine.
-use Rattle.std.proofs.Common.{◌≡◌, ℕ, Bool, true, false, Option, Some, refl, sym, ap, subst, ◌∙◌, inl, inr, arith, List}
-use Rattle.std.specs.Prelude.{Result, Ok, IsTrue}
+use Rattle.std.proofs.Common.{◌≡◌, ℕ, Bool, true, false, Some, refl, sym, ap, subst, ◌∙◌, inl, inr, arith, List}
+use Rattle.std.specs.Prelude.{Ok}
 use Rattle.mb_ratchet.specs.declared.state.Off.{Off}
 use Rattle.mb_model.specs.declared.event.Event.TheVariants as event
 use Rattle.mb_model.specs.declared.reply.Reply.{Reply}
 use Rattle.mb_model.specs.declared.reply.Reply.TheVariants as reply
 use Rattle.mb_model.specs.declared.state.State.{State}
-use Rattle.mb_model.specs.Board.{Memory, Meter, Held}
+use Rattle.mb_model.specs.Board.{Memory, Meter}
 use Rattle.mb_model.specs.Machine.{World, Machine, answered}
 use Rattle.mb_model.specs.OrderStep.{OrderStep, spells_none, fails_check, is_obeyed}
 use Rattle.mb_model.specs.Valid.{Valid}
 use Rattle.mb_lemmas.proofs.ValidSteps.{machine_valid}
 use Rattle.mb_board.specs.Calls.{held_by}
 use Rattle.mb_layout.specs.Rooms.{HasRoom}
-use Rattle.mb_storing.specs.Holding.{IsReady}
 use Rattle.mb_commit.specs.declared.remembering.Known.{Known}
 use Rattle.mb_commit.specs.Obeying.{IsOrderAnswered, lacks, tells, IsOrderCut}
 use Rattle.mb_device.specs.declared.device.Device.{Device}

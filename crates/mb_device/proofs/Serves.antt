@@ -1,6 +1,6 @@
 -- What holds while events are served.
-use Rattle.std.proofs.Common.{◌≡◌, ◌≢◌, ℕ, List, [], ◌∷◌, ◌++◌, map, length, Bool, Option, None, Some, refl, sym, ◌∙◌, ap, subst, append_assoc, arith}
-use Rattle.std.specs.Prelude.{All, ◌<◌}
+use Rattle.std.proofs.Common.{◌≡◌, List, [], ◌∷◌, ◌++◌, map, Option, None, Some, refl, sym, ◌∙◌, ap, subst, append_assoc}
+use Rattle.std.specs.Prelude.{All}
 use Rattle.std.proofs.lemmas.List.{map-append, append-nil}
 use Rattle.std.proofs.lemmas.List.Elements.{All-head, All-tail}
 use Rattle.mb_model.specs.declared.event.Event.{Event}
@@ -8,9 +8,9 @@ use Rattle.mb_model.specs.declared.event.Answered.{Answered}
 use Rattle.mb_model.specs.declared.reply.Reply.{Reply}
 use Rattle.mb_model.specs.declared.state.State.{State}
 use Rattle.mb_model.specs.Acknowledged.{Shows, MayAnswer}
-use Rattle.mb_model.specs.Board.{Memory, Held, Ledger, IsLoaded}
+use Rattle.mb_model.specs.Board.{Held, Ledger}
 use Rattle.mb_model.specs.Clean.{Clean}
-use Rattle.mb_model.specs.Machine.{off, World, Step, Run}
+use Rattle.mb_model.specs.Machine.{World, Step, Run}
 use Rattle.mb_model.specs.Regions.{KeptRightly}
 use Rattle.mb_model.specs.Script.{IsScriptEvent}
 use Rattle.mb_model.specs.Valid.{Valid}

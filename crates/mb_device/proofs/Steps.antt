@@ -1,19 +1,18 @@
 -- How an answer of the device is one step of the machine.
-use Rattle.std.proofs.Common.{◌≡◌, ◌≢◌, ℕ, ◌≤◌, ◌<◌, ◌+◌, Bool, true, false, Option, None, Some, refl, sym, ap, subst, ◌∙◌, inl, inr, arith, List, length}
-use Rattle.std.specs.Prelude.{Result, Ok, Err, IsTrue, ◌⊎◌, OnErr}
+use Rattle.std.proofs.Common.{◌≡◌, ℕ, ◌≤◌, Bool, true, false, Option, Some, refl, sym, ap, subst, ◌∙◌}
+use Rattle.std.specs.Prelude.{IsTrue, ◌⊎◌}
 use Rattle.mb_ratchet.specs.declared.state.Off.{Off}
 use Rattle.mb_model.specs.declared.event.Event.{Event}
 use Rattle.mb_model.specs.declared.reply.Reply.{Reply}
 use Rattle.mb_model.specs.declared.reply.Reply.TheVariants as reply
 use Rattle.mb_model.specs.declared.state.State.{State}
-use Rattle.mb_model.specs.Acknowledged.{Shows}
 use Rattle.mb_model.specs.Board.{Memory, Meter, Held, phase_at}
 use Rattle.mb_model.specs.Clean.{Clean}
-use Rattle.mb_model.specs.Machine.{Phase, off, ratchet, World, Machine, may_want_memory, may_be_cut, Step, answered, lacks_memory, loses_power}
+use Rattle.mb_model.specs.Machine.{Phase, off, ratchet, World, Machine, may_want_memory, may_be_cut, answered, lacks_memory, loses_power}
 use Rattle.mb_model.specs.Meaning.{StandsFor}
 use Rattle.mb_model.specs.Refusals.{Refusal, refused}
-use Rattle.mb_model.specs.Valid.{Valid, IsValidState}
-use Rattle.mb_board.specs.Calls.{held_by, IsMetered}
+use Rattle.mb_model.specs.Valid.{Valid}
+use Rattle.mb_board.specs.Calls.{held_by}
 use Rattle.mb_storing.specs.Holding.{IsReady}
 use Rattle.mb_device.specs.declared.device.Device.{Device}
 use Rattle.mb_device.specs.declared.device.Device.TheVariants as device

@@ -1,22 +1,15 @@
 -- Events that the board has done by itself as it handed them out: power that goes, tamper, and a cut that is armed.
-use Rattle.std.proofs.Common.{◌≡◌, ◌≢◌, ℕ, ◌≤◌, ◌<◌, Bool, true, false, Option, None, Some, refl, sym, ap, subst, ◌∙◌, inl, inr, arith, List, length}
-use Rattle.std.specs.Prelude.{All, replicate}
+use Rattle.std.proofs.Common.{◌≡◌, ℕ, Bool, true, false, None, Some, refl, sym, ap, subst, ◌∙◌, length}
 use Rattle.std.proofs.lemmas.List.{length-replicate}
 use Rattle.std.proofs.lemmas.List.Elements.{All-replicate}
-use Rattle.mb_ratchet.specs.declared.state.Off.{Off}
 use Rattle.mb_model.specs.declared.event.Event.{Event}
 use Rattle.mb_model.specs.declared.event.Event.TheVariants as event
 use Rattle.mb_model.specs.declared.event.Tear.{Tear}
-use Rattle.mb_model.specs.declared.reply.Reply.{Reply}
 use Rattle.mb_model.specs.declared.reply.Reply.TheVariants as reply
-use Rattle.mb_model.specs.declared.state.State.{State}
-use Rattle.mb_model.specs.Acknowledged.{Shows}
 use Rattle.mb_model.specs.Board.{Memory, Meter, Held, phase_at, zeros, power_after, memory_after, armed_after}
-use Rattle.mb_model.specs.Clean.{Clean}
-use Rattle.mb_model.specs.Machine.{Phase, off, World, Machine, answered}
-use Rattle.mb_model.specs.Meaning.{StandsFor, is_dead}
+use Rattle.mb_model.specs.Machine.{Phase, off, World, answered}
+use Rattle.mb_model.specs.Meaning.{is_dead}
 use Rattle.mb_model.specs.Memory.{IsBlank}
-use Rattle.mb_model.specs.Valid.{Valid}
 use Rattle.mb_board.specs.Calls.{held_by}
 use Rattle.mb_device.specs.declared.device.Device.{Device}
 use Rattle.mb_device.specs.declared.device.Device.TheVariants as device

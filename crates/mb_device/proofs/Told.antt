@@ -1,6 +1,6 @@
 -- What a running device tells from what it remembers.
-use Rattle.std.proofs.Common.{◌≡◌, ℕ, ◌+◌, ◌≤◌, Bool, true, false, Option, None, Some, refl, sym, ap, subst, ◌∙◌, arith, List, length}
-use Rattle.std.specs.Prelude.{Result, Ok, Err, map}
+use Rattle.std.proofs.Common.{◌≡◌, ℕ, ◌+◌, Bool, true, false, Option, refl, sym, ap, subst, ◌∙◌, arith, length}
+use Rattle.std.specs.Prelude.{Result}
 use Rattle.std.proofs.lemmas.List.{length-map}
 use Rattle.mb_model.specs.declared.event.Event.TheVariants as event
 use Rattle.mb_model.specs.declared.reply.Reply.{Reply}
@@ -8,9 +8,9 @@ use Rattle.mb_model.specs.declared.reply.Reply.TheVariants as reply
 use Rattle.mb_model.specs.declared.state.State.{State}
 use Rattle.mb_model.specs.declared.entry.Entry.{Entry}
 use Rattle.mb_model.specs.declared.entry.SignedEntry.{SignedEntry}
-use Rattle.mb_model.specs.Board.{Memory, Meter, Held}
-use Rattle.mb_model.specs.Layers.{is_runnable, standing}
-use Rattle.mb_model.specs.Log.{entries_of, number_of, layers_of}
+use Rattle.mb_model.specs.Board.{Memory, Meter}
+use Rattle.mb_model.specs.Layers.{is_runnable}
+use Rattle.mb_model.specs.Log.{entries_of, number_of}
 use Rattle.mb_model.specs.Machine.{ratchet, World, Told, awake_in, status_of, status_event, Machine, answered}
 use Rattle.mb_model.specs.Refusals.{Refusal, wrong_layer, refused}
 use Rattle.mb_model.specs.Valid.{Valid, IsValidState}
@@ -24,7 +24,7 @@ use Rattle.mb_device.specs.declared.device.Running.{Running}
 use Rattle.mb_device.specs.Sound.{IsSound, IsRunning, Fits, Steps}
 use Rattle.mb_device.specs.Stepping.{status_known}
 use Rattle.mb_device.proofs.Worlds.{awake_at, go_second, go_third, go_no_second, go_no_third}
-use Rattle.mb_device.proofs.Steps.{live_world, the_world, live_sound, running_ready, refuses}
+use Rattle.mb_device.proofs.Steps.{live_world, live_sound, running_ready}
 use Rattle.mb_device.proofs.Uses.{known_layers, known_runs}
 
 -- ---- status

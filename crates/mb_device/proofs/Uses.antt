@@ -1,6 +1,6 @@
 -- A layer's use of its region, as a step of the machine.
-use Rattle.std.proofs.Common.{◌≡◌, ◌≢◌, ℕ, ◌≤◌, ◌<◌, ◌+◌, Bool, true, false, Option, None, Some, refl, sym, ap, subst, ◌∙◌, inl, inr, arith, List, length}
-use Rattle.std.specs.Prelude.{find, filter, ◌&&◌, nat_le, ◌==◌, Result, Ok, Err, IsTrue, ◌⊎◌, not, ◌||◌, nat_lt, if◌then◌else◌}
+use Rattle.std.proofs.Common.{◌≡◌, ◌≢◌, ℕ, ◌≤◌, Bool, true, false, Option, None, Some, refl, sym, ap, subst, ◌∙◌, inl, inr, arith, List, length}
+use Rattle.std.specs.Prelude.{IfOk, find, filter, ◌&&◌, nat_le, ◌==◌, Result, Ok, Err, IsTrue, ◌⊎◌, not, ◌||◌, nat_lt, if◌then◌else◌}
 use Rattle.std.proofs.lemmas.Bool.{le-ltb, eqb-true}
 use Rattle.mb_ratchet.specs.declared.state.Off.{Off}
 use Rattle.mb_model.specs.declared.event.Event.{Event}
@@ -13,21 +13,21 @@ use Rattle.mb_model.specs.declared.region.Secret.{Secret}
 use Rattle.mb_model.specs.ChainFormat.{statement_format}
 use Rattle.std.specs.List.{list_any}
 use Rattle.mb_model.specs.declared.state.State.{State}
-use Rattle.mb_model.specs.Board.{Memory, Meter, Held, phase_at, IsLoaded}
+use Rattle.mb_model.specs.Board.{Memory, Meter, Held}
 use Rattle.mb_model.specs.Layers.{is_runnable, is_upper}
 use Rattle.mb_model.specs.Script.{IsScriptEvent}
-use Rattle.mb_model.specs.LayerEvents.{Outcome, on_region, put_event, get_event, drop_event, sign_event, sign_with, value_reply, has_name, has_number, with_secret, with_use, statement_of}
-use Rattle.mb_model.specs.Log.{entries_of, layers_of, number_of}
-use Rattle.mb_model.specs.Machine.{ratchet, World, Told, awake_in, region_event, Machine, answered, may_want_memory, may_be_cut}
+use Rattle.mb_model.specs.LayerEvents.{Outcome, put_event, get_event, drop_event, sign_event, sign_with, value_reply, has_name, has_number, with_secret, with_use, statement_of}
+use Rattle.mb_model.specs.Log.{entries_of, number_of}
+use Rattle.mb_model.specs.Machine.{ratchet, World, Told, awake_in, region_event, Machine, answered, may_want_memory}
 use Rattle.mb_model.specs.OrderStep.{region_of, with_region}
 use Rattle.mb_model.specs.Refusals.{Refusal, wrong_layer, region_full, key_spent, refused}
 use Rattle.mb_model.specs.Valid.{Valid, IsValidState}
-use Rattle.mb_board.specs.Calls.{held_by, IsMetered}
+use Rattle.mb_board.specs.Calls.{held_by, power_of, level_of, IsMetered}
 use Rattle.mb_layout.specs.Rooms.{HasRoom}
 use Rattle.mb_lemmas.proofs.ValidSteps.{machine_valid}
 use Rattle.mb_log.specs.Figures.{figures_of}
-use Rattle.mb_storing.specs.Holding.{Means, IsReady}
-use Rattle.mb_storing.specs.Answering.{IsAnswered, lacks, tells, IsCutShort}
+use Rattle.mb_storing.specs.Holding.{IsReady}
+use Rattle.mb_storing.specs.Answering.{IsAnswered, lacks, tells, IsCutShort, ComesTo}
 use Rattle.mb_commit.specs.Remembering.{Knows}
 use Rattle.mb_commit.specs.declared.remembering.Known.{Known}
 use Rattle.mb_device.specs.declared.device.Device.{Device}
@@ -35,7 +35,7 @@ use Rattle.mb_device.specs.declared.device.Device.TheVariants as device
 use Rattle.mb_device.specs.declared.device.Running.{Running}
 use Rattle.mb_device.specs.Sound.{IsSound, IsRunning, Fits, Steps}
 use Rattle.mb_device.specs.Stepping.{stop_told}
-use Rattle.mb_device.specs.Regions.{IsLayerEvent, region_named, layer_outcome}
+use Rattle.mb_device.specs.Regions.{IsLayerEvent, region_named, layer_outcome, IsUsed}
 use Rattle.mb_device.proofs.Worlds.{at_ratchet, by_region}
 use Rattle.mb_device.proofs.Taken.{same_parts}
 use Rattle.mb_device.proofs.Steps as steps
@@ -229,6 +229,16 @@ module _ (r L : ℕ) (before : Device) (running : Running) (e : Event) (old : Me
             (inr refl) after_it (machine_valid world e (layer_outcome L e use_is.own.state).0 whole use_is.sound.valid machine) gone disarmed
       ]
 
+  -- what comes of it
+  pub use_comes : {S : Type 0} (after : Device) (running_new : Running) (result : Result (S × Reply) Off) (new : Memory) (power_new : Bool) (level_new : ℕ) (meter_new : Meter)
+      → ComesTo use_is.own.state (layer_outcome L e use_is.own.state) old new result → power_new ≡ power_of result → level_new ≡ level_of result level → IsMetered 3 result meter meter_new
+      → power ≡ true → level ≡ r → ((w : World) → IsRunning r running_new w → Fits after w) → running_new.known ≡ running.known → HasRoom running_new.room
+      → IsUsed world e after result (held_by new power_new level_new meter_new)
+  use_comes {S} after running_new (Ok told) new power_new level_new meter_new comes is_power is_level metered on at fits known room =
+      use_told after running_new told.1 new power_new level_new meter_new comes (is_power ∙ sym on) is_level metered.armed on at fits known room
+  use_comes {S} after running_new (Err state) new power_new level_new meter_new comes is_power is_level metered on at fits known room =
+      use_cut state new power_new level_new meter_new comes is_power metered.armed metered.cut
+
 -- a device that is not awake refuses it
 pub use_asleep : (world : World) (e : Event) (refusal : Refusal) → IsLayerEvent e → awake_in world ≡ Err refusal → Machine world e (refused refusal) world
 use_asleep world e refusal is asleep =
@@ -311,3 +321,9 @@ unmetered n answer before after goes_on same =
 pub running_on : (device : Device) (r : ℕ) (memory : Memory) (power : Bool) (level : ℕ) (meter : Meter) (world : World) → IsSound device (held_by memory power level meter) world
     → world.phase ≡ ratchet r → (power ≡ true) × (level ≡ r)
 running_on device r memory power level meter world sound is = at_ratchet power level r (sym is ∙ sound.shown.phase)
+
+-- an answer that was given is no stop
+pub told_goes_on : {S : Type 0} (L : ℕ) (e : Event) (state : State) (result : Result (S × Reply) Off) (old new : Memory) → IsLayerEvent e → ComesTo state (layer_outcome L e state) old new result
+    → IfOk result (λ used. stop_told used.1 ≡ Ok tt)
+told_goes_on {S} L e state (Ok told) old new is comes = answer_goes_on L e state told.1 old new is comes
+told_goes_on {S} L e state (Err stop) old new is comes = tt

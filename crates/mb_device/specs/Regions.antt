@@ -1,9 +1,16 @@
--- The events by which layers use their regions.
-use Rattle.std.specs.Prelude.{ℕ}
+-- The events by which layers use their regions. What comes of such a use, wherever control is?
+use Rattle.std.specs.Prelude.{ℕ, Result, Ok, Err}
+use Rattle.mb_ratchet.specs.declared.state.Off.{Off}
 use Rattle.mb_model.specs.declared.event.Event.{Event}
 use Rattle.mb_model.specs.declared.event.Event.TheVariants as event
+use Rattle.mb_model.specs.declared.reply.Reply.{Reply}
 use Rattle.mb_model.specs.declared.reply.Reply.TheVariants as reply
 use Rattle.mb_model.specs.declared.state.State.{State}
+use Rattle.mb_model.specs.Board.{Held}
+use Rattle.mb_model.specs.Machine.{World}
+use Rattle.mb_device.specs.declared.device.Device.{Device}
+use Rattle.mb_device.specs.declared.device.Device.TheVariants as device
+use Rattle.mb_device.specs.Sound.{Steps}
 use Rattle.mb_model.specs.LayerEvents.{Outcome, put_event, get_event, drop_event, sign_event}
 
 -- the event is one by which a layer uses its region
@@ -29,3 +36,9 @@ layer_outcome L (event.Get M name) state = get_event L name state
 layer_outcome L (event.Drop M name) state = drop_event L name state
 layer_outcome L (event.Sign M key message) state = sign_event L key message state
 layer_outcome L other state = (reply.NoMemory, state)
+
+-- The use is one step of the machine: to this device where it is answered, and to one whose power is off where power
+-- failed.
+abbrev pub IsUsed : {S : Type 0} → World → Event → Device → Result (S × Reply) Off → Held → Type 0
+IsUsed world event after (Ok told) now = Steps world event told.1 after now
+IsUsed world event after (Err state) now = Steps world event reply.Stopped (device.Off state) now

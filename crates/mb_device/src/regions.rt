@@ -1,6 +1,6 @@
 //! What layers do with their regions.
 
-ghost use Rattle.std.specs.Prelude.{◌≡◌, ◌+◌, ◌≤◌, true, IsTrue};
+ghost use Rattle.std.specs.Prelude.{◌≡◌, ◌+◌, ◌≤◌, true, Ok, IfOk};
 ghost use Rattle.mb_format.specs.Format.{IsBytes};
 ghost use Rattle.mb_model.specs.declared.state.State.{State};
 ghost use Rattle.mb_model.specs.Board.{IsLoaded};
@@ -12,9 +12,10 @@ ghost use Rattle.mb_layout.specs.Rooms.{HasRoom};
 ghost use Rattle.mb_storing.specs.Holding.{IsReady};
 ghost use Rattle.mb_storing.specs.Answering.{ComesTo, TellsOfWrites};
 ghost use Rattle.mb_commit.specs.Remembering.{Knows, IsRemembered};
-ghost use Rattle.mb_device.specs.Sound.{IsSound, HasSound, Steps};
+ghost use Rattle.mb_device.specs.declared.device.Device.{Device as Whole};
+ghost use Rattle.mb_device.specs.Sound.{IsSound, HasSound, IsRunning, Fits, Steps};
 ghost use Rattle.mb_device.specs.Stepping.{stop_told, IfNothingTold};
-ghost use Rattle.mb_device.specs.Regions.{IsLayerEvent, region_named, layer_outcome};
+ghost use Rattle.mb_device.specs.Regions.{IsLayerEvent, region_named, layer_outcome, IsUsed};
 
 use crate::device::{Device, Running};
 use crate::refusal::Refusal;
@@ -27,8 +28,8 @@ use mb_region::Named;
 use std::alloc::Global;
 use std::sync::ledger::Ledger;
 
-/// Does what a layer that may run does with the region of `L`.
-fn use_region<S: Reaches<L>, L: Named, B: Board, C: Ledger>(
+/// Does what the event asks of the region of `L`, whose layer may run.
+fn ask<S: Reaches<L>, L: Named, B: Board, C: Ledger>(
     alloc: Global,
     s: S,
     running: &mut Running,
@@ -74,6 +75,38 @@ fn use_region<S: Reaches<L>, L: Named, B: Board, C: Ledger>(
         }
         _ => unreachable!(),
     }
+}
+
+/// Answers a use of the region of `L`, whose layer may run.
+fn use_region<S: Reaches<L>, L: Named, B: Board, C: Ledger>(
+    alloc: Global,
+    s: S,
+    running: &mut Running,
+    b: &mut B,
+    event: &Event,
+    steps: &mut HashCount<C>,
+) -> Result<(S, Reply), Off>
+    requires on { B.power b.old ≡ true }
+    requires level { B.level b.old ≡ S.stage }
+    requires some { 1 ≤ S.stage }
+    requires loaded { IsLoaded (B.memory b.old) }
+    requires bytes { IsBytes (B.memory b.old).bbram }
+    requires room { HasRoom running.old.room }
+    requires remembered { IsRemembered running.old.known (B.memory b.old) }
+    requires runs { is_runnable running.old.known.figures.layers L.place ≡ true }
+    requires event { IsLayerEvent event.now }
+    requires named { L.place ≡ region_named event.now }
+    requires script { IsScriptEvent event.now }
+    ensures steps { (world : World) (before after : Whole) → IsSound before (held_by (B.memory b.old) (B.power b.old) (B.level b.old) (B.meter b.old)) world → IsRunning S.stage running.old world
+        → ((w : World) → IsRunning S.stage running.new w → Fits after w)
+        → IsUsed world event.now after result (held_by (B.memory b.new) (B.power b.new) (B.level b.new) (B.meter b.new)) }
+    ensures writes { TellsOfWrites result (B.memory b.old) (B.memory b.new) (B.meter b.old) (B.meter b.new) }
+    ensures ledger { B.ledger b.new ≡ B.ledger b.old }
+    ensures stopped { IsMetered 3 result (B.meter b.old) (B.meter b.new) }
+    ensures told { IfOk result (λ used. stop_told used.1 ≡ Ok tt) }
+    ensures cost { steps.new ≤ steps.old + 35473 }
+{
+    ask::<S, L, B, C>(alloc, s, running, b, event, steps)
 }
 
 /// Answers a layer's use of its region while layer 1 runs.

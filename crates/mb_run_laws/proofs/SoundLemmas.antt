@@ -24,7 +24,7 @@ run_is_sound world answered next run valid =
     let P : World → Type 0 = λ w. (part : List Answered) × Run world part w in
     record {
       sound = All-weaker P IsSoundWorld (λ w part. valid_is_sound w (run_valid world part.0 w valid part.1)) (worlds_of world answered next run)
-      (runs_lead_there world answered next run);
+          (runs_lead_there world answered next run);
       logs = each_log_grows world answered next run;
       statements = indices_increase world answered next valid run;
       uses = λ live L key is within. indices_start world answered next live L key valid run is within;

@@ -1,5 +1,3 @@
-use Rattle.std.proofs.Common.{◌≡◌, sym, ap, subst, ◌∙◌}
-use Rattle.mb_model.specs.Board.{Meter}
 use Rattle.mb_device.proofs.Boots.{is_booted, boots, boot_stopped, boot_found_dead, boot_lacks}
 use Rattle.mb_device.proofs.power.come_up.Goals as goal
 

@@ -1,6 +1,5 @@
-use Rattle.std.proofs.Common.{subst, sym, ◌∙◌, rules}
+use Rattle.std.proofs.Common.{subst, sym, ◌∙◌}
 use Rattle.mb_model.specs.declared.event.Event.TheVariants as event
-use Rattle.mb_model.specs.Machine.{World}
 use Rattle.mb_model.specs.Refusals.{powered_off, zeroised, wrong_phase, wrong_layer}
 use Rattle.mb_board.specs.Calls.{held_by}
 use Rattle.mb_device.specs.declared.device.Device.{Device}

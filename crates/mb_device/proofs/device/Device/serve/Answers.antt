@@ -1,7 +1,6 @@
 use Rattle.std.proofs.Common.{◌≡◌, ◌∙◌, sym, ap, subst, arith, length}
-use Rattle.mb_model.specs.Board.{Held, Ledger, Meter, IsLoaded, memory_after, power_after}
+use Rattle.mb_model.specs.Board.{Held, Ledger, Meter, IsLoaded}
 use Rattle.mb_board.specs.Calls.{held_by}
-use Rattle.mb_device.specs.Sound.{taken}
 use Rattle.mb_device.proofs.Taken.{taken_by, same_parts}
 use Rattle.mb_device.proofs.Serves.{serves_first, can_step, may_answer, serves_more, served}
 use Rattle.mb_device.proofs.device.Device.serve.Goals as goal
