@@ -105,15 +105,6 @@ fn perform(rt: &(impl Abort + AllocGlobal), files: &[Given], plays: &[Play]) -> 
     Ok(())
 }
 
-/// The rows go as they say, one after another, over one host.
-fn live(rt: &(impl Abort + AllocGlobal), rows: &[&[Step]]) -> Result<(), Fail> {
-    let mut host = host_with(rt.alloc(), births::FILES, &[])?;
-    for row in rows {
-        go_on(rt, &mut host, row)?;
-    }
-    Ok(())
-}
-
 /// The steps go as they say.
 fn go_on(
     rt: &(impl Abort + AllocGlobal),

@@ -3,11 +3,14 @@
 
 use super::devices::{IMAGE, MAKER, OWNER, SERIAL};
 use super::keys::{ZEROS_KEY, ZEROS_PUBLIC};
-use super::{Content, Given, Part, Step};
+use super::{Content, Given, Part, Step, go_on, host_with};
+use mb_host::MemoryHost;
+use std::process::Abort;
+use std::test::Fail;
 
 /// The noise of the maker, of the officers and of the birth, the code of layer 1, what is drafted, and the key of a
 /// fourth officer.
-pub const FILES: &[Given] = &[
+const FILES: &[Given] = &[
     Given {
         name: "noise0",
         content: Content::Hex("35fe183c068bc13ac735a76ac05c37d8d055c34bf945b99c4cdada2e31cc8ca8"),
@@ -123,7 +126,7 @@ pub const FILES: &[Given] = &[
 ];
 
 /// The device and the officers' keys are made.
-pub const MADE: &[Step] = &[
+const MADE: &[Step] = &[
     Step::Ends("keygen noise0 maker public0", 0, MAKER),
     Step::Ends("keygen noise1 officer1 public1", 0, OWNER),
     Step::Ends("factory birth maker public1 code fresh", 0, SERIAL),
@@ -136,7 +139,7 @@ pub const MADE: &[Step] = &[
 ];
 
 /// Layer 2 is given its owner and its first code.
-pub const FIRST_ORDERS: &[Step] = &[
+const FIRST_ORDERS: &[Step] = &[
     Step::Ends("sign officer1 draft1 order1", 0, "index 0\n"),
     Step::IsOrder(
         "order1",
@@ -150,7 +153,7 @@ pub const FIRST_ORDERS: &[Step] = &[
 ];
 
 /// The orders of a life, as they are signed and countersigned.
-pub const ORDERS_OF_A_LIFE: &[Step] = &[
+const ORDERS_OF_A_LIFE: &[Step] = &[
     Step::Ends(
         "keygen noise3 officer3 public3",
         0,
@@ -187,7 +190,7 @@ pub const ORDERS_OF_A_LIFE: &[Step] = &[
 ];
 
 /// Both upper layers have owners and code, and layer 3 has a key that has signed nothing.
-pub const LAYERS_ARE_GIVEN: &[Step] = &[
+const LAYERS_ARE_GIVEN: &[Step] = &[
     Step::Writes("image", &[Part::File("fresh")]),
     Step::Writes(
         "script",
@@ -217,3 +220,19 @@ pub const LAYERS_ARE_GIVEN: &[Step] = &[
     Step::Ends("run image script noise", 0, "booted\ndone 4 6\noff\n"),
     Step::Writes("keyed", &[Part::File("image")]),
 ];
+
+/// A host on which the device and its first orders are made.
+pub fn born(rt: &(impl Abort + AllocGlobal)) -> Result<MemoryHost, Fail> {
+    let mut host = host_with(rt.alloc(), FILES, &[])?;
+    go_on(rt, &mut host, MADE)?;
+    go_on(rt, &mut host, FIRST_ORDERS)?;
+    Ok(host)
+}
+
+/// A host on which all three layers of the device have owners and code.
+pub fn owned(rt: &(impl Abort + AllocGlobal)) -> Result<MemoryHost, Fail> {
+    let mut host = born(rt)?;
+    go_on(rt, &mut host, ORDERS_OF_A_LIFE)?;
+    go_on(rt, &mut host, LAYERS_ARE_GIVEN)?;
+    Ok(host)
+}

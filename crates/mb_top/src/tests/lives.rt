@@ -1,7 +1,7 @@
 //! Lives of a device whose three layers have owners, by the replies that its rules give.
 
-use super::births::{FIRST_ORDERS, LAYERS_ARE_GIVEN, MADE, ORDERS_OF_A_LIFE};
-use super::{Cut, Part, Step, live};
+use super::births::owned;
+use super::{Cut, Part, Step, go_on};
 use std::test::Fail;
 
 /// Secrets are put and a message is signed. What runs goes on across loads that are countersigned.
@@ -143,25 +143,30 @@ const A_LIFE_WITHOUT_KEYS: &[Step] = &[
 
 /// Power is lost at each write of a load of layer 1 with which layer 3 agrees: nothing of it is done, or all, and what
 /// layer 3 keeps is there when layer 2 has code again.
-const A_LOAD_IS_CUT: &[Step] = &[Step::IsCut(&Cut {
-    image: "secret",
-    before: "boot\n",
-    after: &[
-        Part::File("alone6"),
-        Part::Text("boot\nstatus\nget 2 pin\nget 3 token\n"),
-        Part::File("rescue"),
-        Part::Text("get 2 pin\nget 3 token\n"),
-    ],
-    torn: &[
-        "booted\narmed\nstopped\nbooted\n\
+const A_LOAD_IS_CUT: &[Step] = &[
+    Step::Ends("countersign alone 3 load alone6", 0, "index 1\n"),
+    Step::Ends("sign officer1 draft12 rescue", 0, "index 3\n"),
+    Step::Ends("countersign alone 3 rescue rescue", 0, "index 2\n"),
+    Step::IsCut(&Cut {
+        image: "secret",
+        before: "boot\n",
+        after: &[
+            Part::File("alone6"),
+            Part::Text("boot\nstatus\nget 2 pin\nget 3 token\n"),
+            Part::File("rescue"),
+            Part::Text("get 2 pin\nget 3 token\n"),
+        ],
+        torn: &[
+            "booted\narmed\nstopped\nbooted\n\
             status c10b471ceff881272aa5ed819fd9a0e0 4 5 runnable runnable runnable\n\
             value 31323334\nvalue 00ff\ndone 5 6\nabsent\nvalue 00ff\n",
-        "booted\narmed\nstopped\nbooted\n\
+            "booted\narmed\nstopped\nbooted\n\
             status c10b471ceff881272aa5ed819fd9a0e0 5 6 runnable unreliable reliable\n\
             refused 4 layer\nrefused 4 layer\ndone 6 7\nabsent\nvalue 00ff\n",
-    ],
-    whole: "booted\narmed\ndone 5 6\n",
-})];
+        ],
+        whole: "booted\narmed\ndone 5 6\n",
+    }),
+];
 
 /// What layers keep: a layer reaches what is its own or a layer's above it, and no region holds more than 16 secrets.
 const SECRETS_ARE_KEPT: &[Step] = &[
@@ -242,8 +247,8 @@ const INDICES_ARE_USED_ONCE: &[Step] = &[
 
 /// A key of a configuration signs until its own layer is loaded.
 const A_KEY_ENDS: &[Step] = &[
-    Step::Ends("sign officer2 draft9 order9", 0, "index 4\n"),
-    Step::Ends("sign officer2 draft8 order8", 0, "index 5\n"),
+    Step::Ends("sign officer2 draft9 order9", 0, "index 3\n"),
+    Step::Ends("sign officer2 draft8 order8", 0, "index 4\n"),
     Step::Writes("image", &[Part::File("keyless")]),
     Step::Writes(
         "script",
@@ -290,25 +295,27 @@ const KEYS_ARE_FULL: &[Step] = &[
 ];
 
 #[test]
-fn lives_go_on(rt: HostRuntime) -> Result<(), Fail> {
-    live(
-        &rt,
-        &[
-            MADE,
-            FIRST_ORDERS,
-            ORDERS_OF_A_LIFE,
-            LAYERS_ARE_GIVEN,
-            A_LIFE,
-            LAYER_THREE_AGREES,
-            A_COUNTERSIGNATURE_IS_WRONG,
-            ANOTHER_OWNER,
-            A_LIFE_WITHOUT_KEYS,
-            A_LOAD_IS_CUT,
-            SECRETS_ARE_KEPT,
-            A_KEY_IS_SPENT,
-            INDICES_ARE_USED_ONCE,
-            A_KEY_ENDS,
-            KEYS_ARE_FULL,
-        ],
-    )
+fn a_life_is_lived(rt: HostRuntime) -> Result<(), Fail> {
+    let mut host = owned(&rt)?;
+    go_on(&rt, &mut host, A_LIFE)?;
+    go_on(&rt, &mut host, LAYER_THREE_AGREES)?;
+    go_on(&rt, &mut host, A_COUNTERSIGNATURE_IS_WRONG)?;
+    go_on(&rt, &mut host, ANOTHER_OWNER)
+}
+
+#[test]
+fn a_load_is_cut_at_each_write(rt: HostRuntime) -> Result<(), Fail> {
+    let mut host = owned(&rt)?;
+    go_on(&rt, &mut host, A_LIFE_WITHOUT_KEYS)?;
+    go_on(&rt, &mut host, A_LOAD_IS_CUT)
+}
+
+#[test]
+fn layers_keep_and_sign(rt: HostRuntime) -> Result<(), Fail> {
+    let mut host = owned(&rt)?;
+    go_on(&rt, &mut host, SECRETS_ARE_KEPT)?;
+    go_on(&rt, &mut host, A_KEY_IS_SPENT)?;
+    go_on(&rt, &mut host, INDICES_ARE_USED_ONCE)?;
+    go_on(&rt, &mut host, A_KEY_ENDS)?;
+    go_on(&rt, &mut host, KEYS_ARE_FULL)
 }

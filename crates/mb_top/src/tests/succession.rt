@@ -1,7 +1,7 @@
 //! A device whose keys are spent and whose log is filled, by the replies that its rules give.
 
-use super::births::{FIRST_ORDERS, MADE};
-use super::{Part, Step, live};
+use super::births::born;
+use super::{Part, Step, go_on};
 use std::test::Fail;
 
 /// Layer 2 has its owner.
@@ -126,8 +126,8 @@ const THE_LOG_IS_FULL: &[Step] = &[
 
 #[test]
 fn keys_of_a_device_succeed(rt: HostRuntime) -> Result<(), Fail> {
-    live(
-        &rt,
-        &[MADE, FIRST_ORDERS, OWNED, KEYS_SUCCEED, THE_LOG_IS_FULL],
-    )
+    let mut host = born(&rt)?;
+    go_on(&rt, &mut host, OWNED)?;
+    go_on(&rt, &mut host, KEYS_SUCCEED)?;
+    go_on(&rt, &mut host, THE_LOG_IS_FULL)
 }
