@@ -261,7 +261,12 @@ fn was_cut(
     assert_eq!(rt; ended, 0, "{number}");
     let printed = host.printed().get(seen..).unwrap_or_default();
     let is_whole = printed.starts_with(cut.whole.as_bytes());
-    assert!(rt; is_whole || fit_one(printed, cut.torn), "{number}");
+    let is_right = if is_whole {
+        number > 1
+    } else {
+        fit_one(printed, cut.torn)
+    };
+    assert!(rt; is_right, "{number}");
     Ok(is_whole)
 }
 

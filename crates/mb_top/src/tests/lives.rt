@@ -82,7 +82,7 @@ const A_COUNTERSIGNATURE_IS_WRONG: &[Step] = &[
     Step::Matches("image", "lived"),
 ];
 
-/// Layer 2 is given up, and given to another owner, who gives layer 3 its code.
+/// Layer 2 is given up, and given to another owner, who gives layer 3 its code. What both layers kept is gone.
 const ANOTHER_OWNER: &[Step] = &[
     Step::Ends("sign officer2 draft10 surrender", 0, "index 3\n"),
     Step::Ends("sign officer1 draft11 establish", 0, "index 5\n"),
@@ -99,6 +99,8 @@ const ANOTHER_OWNER: &[Step] = &[
             Part::File("order4"),
             Part::File("emergency"),
             Part::Text("status\nget 3 token\n"),
+            Part::File("rescue"),
+            Part::Text("get 2 pin\nget 3 token\n"),
         ],
     ),
     Step::Ends(
@@ -107,7 +109,8 @@ const ANOTHER_OWNER: &[Step] = &[
         "booted\ndone 7 9\n\
         status c10b471ceff881272aa5ed819fd9a0e0 7 9 runnable unowned unreliable\nrefused 12 state\n\
         done 8 10\nrefused 13 signature\ndone 9 11\n\
-        status c10b471ceff881272aa5ed819fd9a0e0 9 11 runnable unreliable reliable\nrefused 4 layer\n",
+        status c10b471ceff881272aa5ed819fd9a0e0 9 11 runnable unreliable reliable\nrefused 4 layer\n\
+        done 10 12\nabsent\nabsent\n",
     ),
 ];
 
