@@ -52,7 +52,8 @@ struct Play {
 
 /// What is done in a play, or seen of its host.
 enum Step {
-    /// The words end with this status and print these lines. A space separates words; one may be empty.
+    /// The words end with this status and print these lines, of which one that ends in `*` stands for all that begin so. A
+    /// space separates words; one may be empty.
     Ends(&'static str, u8, &'static str),
     /// The file of this name has these bytes, in hexadecimal.
     Holds(&'static str, &'static str),
