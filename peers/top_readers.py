@@ -5,7 +5,7 @@ import re
 
 from lms import PrivateKey, sha256, u32
 from officer import Officer, body, countersigned_text, order, order_line, signed_text
-from sources import Source, line_of
+from sources import line_of
 
 
 def owner_line(officer):
@@ -68,9 +68,12 @@ def plays(source):
     """The plays are followed step by step, but for those in which a call of the host fails."""
     files = list(given(source))
     for failing, steps in source.rows(r"Play {\s*failing: &\[([\d, ]*)\],\s*steps: &\[(.*?)\],\s*}"):
-        host = Host(files)
-        for kind, rest in re.findall(r'Step::(\w+)\(((?:[^()"]|"[^"]*")*)\)', steps):
-            follow(source, host, kind, arguments(source, rest), bool(failing))
+        walk(source, Host(files), steps, bool(failing))
+
+
+def walk(source, host, steps, failing):
+    for kind, rest in re.findall(r'Step::(\w+)\(((?:[^()"]|"[^"]*")*)\)', steps):
+        follow(source, host, kind, arguments(source, rest), failing)
 
 
 def arguments(source, text):
@@ -92,13 +95,11 @@ def follow(source, host, kind, words, failing):
         source.compare(f"order {words[0]}", sha256(order(*host.orders[words[0]])).hex(), words[1])
 
 
-def once(source):
-    """The first order of a device's life, by the officer whose noise stands beside it."""
-    runs = Source(source.root, f"{source.name.rsplit('/', 1)[0]}/runs.rt")
-    officer = Officer(dict(given(runs))["noise2"])
-    found = bytes.fromhex(source.constant("ORDER") + source.constant("ORDER_END"))
-    text = found[:60]
-    source.compare("the first order", order(text, officer.sign(signed_text(text))).hex(), found.hex())
+def births(source):
+    """The tables of steps are followed one after another, over the same files."""
+    host = Host(given(source))
+    for (steps,) in source.rows(r"const [A-Z_]+: &\[Step\] = &\[(.*?)\n\];"):
+        walk(source, host, steps, False)
 
 
 def signed_orders(source):

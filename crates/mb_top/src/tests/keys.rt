@@ -3,14 +3,15 @@
 use super::{Content, Given, Play, Step, perform};
 use std::test::Fail;
 
-/// Noise of zeros, and what is made of it.
+/// Noise of zeros.
 const ZEROS: &str = "0000000000000000000000000000000000000000000000000000000000000000";
 
-const ZEROS_KEY: &str =
+/// The file of the key before it has signed, and its public key.
+pub const ZEROS_KEY: &str =
     "4d424b31415f9f8fc3e618dd8524180f3db6a7c9eb495b20b522240648df79d22ec304c592f6d73c19b49bf70f19f34f7288\
     8b1a00000000";
 
-const ZEROS_PUBLIC: &str =
+pub const ZEROS_PUBLIC: &str =
     "0000000500000003415f9f8fc3e618dd8524180f3db6a7c9a7881c4ccb3521694cbdd14fd42b0822cdfb7c6f9fc531cab957\
     f755e6a2d2bc";
 

@@ -67,12 +67,13 @@ const REFUSED: &[Play] = &[Play {
         Step::Ends("run long script few", 3, "input image too long\n"),
         Step::Ends("run less script few", 3, "input image length\n"),
         Step::Ends("run erased script few", 3, "input image root\n"),
+        Step::Ends("run image long few", 3, "input script too long\n"),
         Step::Ends("run image jump few", 3, "input script line 2\n"),
         Step::Ends("run image script few", 3, "input noise length\n"),
         Step::Ends("run image missing few", 4, "read failed script\n"),
         Step::Ends("run less missing long", 3, "input image length\n"),
         Step::Ends("run missing jump long", 4, "read failed image\n"),
-        Step::WasCalled(16, 2, 15),
+        Step::WasCalled(18, 2, 16),
     ],
 }];
 
