@@ -1,0 +1,299 @@
+#!/usr/bin/env python3
+"""Cuts each event of a device's life at each of its writes. See checks/cuts.sh, which runs it."""
+
+import argparse
+import concurrent.futures
+import itertools
+import pathlib
+import shutil
+import sys
+import tempfile
+import threading
+import time
+
+from lives import first_life, late_life, opening
+from program import LIFE, Program, Script, Wrong, is_dead, meaning
+
+FILLS = "00", "ff", "7e", "01"
+KEEPS = 3, 100, 2048, 4095
+# as many trials that are to leave the old state as one run makes
+BATCH = 12
+# An event has at most 471 write calls.
+MOST_WRITES = 471
+# Where it is armed and no event follows with as many write calls, a power loss is as good as none.
+DISARMED = "cut 100000 fill 00"
+
+
+def cut(count, fill, keep=0):
+    return f"cut {count} keep {keep} fill {fill}" if keep else f"cut {count} fill {fill}"
+
+
+def boots(counts, fill):
+    """Boots of which each is cut at one of these writes, where it has as many."""
+    return itertools.chain.from_iterable((cut(count, fill), "boot", "off") for count in counts)
+
+
+class Answers:
+    """The replies to a script, taken in turn."""
+
+    def __init__(self, program, image, script):
+        self.script = script
+        self.replies, self.image = program.serve(image, script)
+        self.at = 0
+
+    def take(self, count=1):
+        self.at += count
+        return self.replies[self.at - count : self.at]
+
+    def wrong(self, what):
+        return Wrong(f"event {self.at}: {what}", self.script, self.replies)
+
+    def expect(self, *wanted):
+        """The next reply, which has to be one of these."""
+        reply = self.take()[0]
+        if reply not in wanted:
+            raise self.wrong(f"{reply}, and not {' or '.join(wanted)}")
+        return reply
+
+    def opened(self, level):
+        self.expect("booted")
+        for layer in range(2, level + 1):
+            self.expect(f"at {layer}")
+
+
+class Cutter:
+    """The trials of one event of a life."""
+
+    def __init__(self, program, life, number, sparse):
+        self.program, self.life, self.event = program, life, life.events[number]
+        self.next = life.events[number + 1] if number + 1 < len(life.events) else None
+        # Where it is sparse, boots are cut after some of the first cuts alone.
+        self.sparse = sparse
+        self.made = 0
+        after = self.next.image if self.next else life.image
+        self.old, self.new = self.reference(self.event.image), self.reference(after)
+        self.sees = self.old[0] != self.new[0]
+        self.check_references()
+
+    # ---- what follows where power holds
+
+    def view(self):
+        return ["boot", "status", *(f"get {layer} {name}" for layer, name in self.life.names), "off"]
+
+    def ending(self):
+        """The event is given again, and the next event of the life follows."""
+        events = [*opening(self.event.level), self.event.line, "off"]
+        return events + ([*opening(self.next.level), self.next.line] if self.next else ["boot"])
+
+    def reference(self, image):
+        """What a device with this image shows, how it answers the event and the next one, and what it is then."""
+        answers = Answers(self.program, image, Script().add(*self.view(), *self.ending()))
+        view = answers.take(len(self.view()))
+        return view, answers.take(len(self.ending())), meaning(answers.image)
+
+    def check_references(self):
+        """The references are those of the life, and an order is not obeyed twice."""
+        level, orders = self.event.level, self.event.is_order()
+        if self.old[1][level] != self.event.reply or (orders and not self.new[1][level].startswith("refused 11 ")):
+            raise Wrong(f"{self.event.name}: {self.old[1]} and {self.new[1]}")
+        if self.next and self.old[1][-1] != self.next.reply:
+            raise Wrong(f"{self.next.name}: {self.old[1][-1]} and not {self.next.reply}")
+        if None in (self.old[2], self.new[2]) or (orders and self.old[2] != self.new[2]):
+            raise Wrong(f"{self.event.name}: given again it does not lead where it led")
+
+    # ---- trials
+
+    def cut_event(self, count, fill, keep=0):
+        return [*opening(self.event.level), cut(count, fill, keep), self.event.line]
+
+    def is_stopped(self, answers):
+        """Whether the event was stopped; otherwise it was answered as in the life."""
+        answers.opened(self.event.level)
+        answers.expect("armed")
+        stopped = answers.expect("stopped", self.event.reply) == "stopped"
+        self.made += stopped
+        return stopped
+
+    def take_boots(self, answers, count):
+        """So many boots that may have been cut. Whether the first was."""
+        cuts = []
+        for _ in range(count):
+            answers.expect("armed")
+            cuts.append(answers.expect("stopped", "booted") == "stopped")
+            answers.expect("off")
+        self.made += sum(cuts)
+        return cuts[:1] == [True]
+
+    def shows(self, answers):
+        """Which states it may be, by what the device shows."""
+        answers.expect("armed")
+        view = answers.take(len(self.view()))
+        fitting = [state for state in (self.old, self.new) if state[0] == view]
+        if not fitting:
+            raise answers.wrong(f"the device shows neither the old nor the new state: {view}")
+        return fitting
+
+    def ends(self, answers, fitting):
+        """The event and the next one are answered as in one of these states, and lead to its end."""
+        told = answers.take(len(self.ending()))
+        end = meaning(answers.image)
+        if (told, end) not in [state[1:] for state in fitting]:
+            raise answers.wrong(f"neither as in the old nor in the new state: {told}, image {'' if end else 'not '}clean")
+
+    def try_alone(self, count, fill, keep=0, counts=()):
+        """Cuts the event, and then a boot at each of these writes. Whether the event and the first boot were stopped."""
+        counts = list(counts)
+        script = Script().add(*self.cut_event(count, fill, keep), *boots(counts, fill))
+        script.add(DISARMED, *self.view(), *self.ending())
+        answers = Answers(self.program, self.event.image, script)
+        if not self.is_stopped(answers):
+            return False, False
+        first = self.take_boots(answers, len(counts))
+        self.ends(answers, self.shows(answers))
+        return True, first
+
+    def try_many(self, count, fill, keep_of):
+        """Cuts the event at some writes from this one on, which leave the old state. The first that does not."""
+        counts = range(count, count + BATCH)
+        script = Script()
+        for each in counts:
+            script.add(*self.cut_event(each, fill, keep_of(each)), *boots((1, 2), fill), DISARMED, *self.view())
+        answers = Answers(self.program, self.event.image, script.add(*self.ending()))
+        for each in counts:
+            before = self.made
+            if not self.is_stopped(answers):
+                return each
+            self.take_boots(answers, 2)
+            if self.shows(answers) == [self.new]:
+                self.made = before
+                return each
+        self.ends(answers, [self.old])
+        return count + BATCH
+
+    def writes(self, fill, keep_of=lambda count: 0, counts_of=lambda count: ()):
+        """Cuts the event at each of its writes: how many, and the first of them after which it may have counted."""
+        first = 1
+        if self.sees:
+            while (until := self.try_many(first, fill, keep_of)) == first + BATCH:
+                first = until
+            first = until
+        for count in range(first, MOST_WRITES + 2):
+            if not self.try_alone(count, fill, keep_of(count), counts_of(count))[0]:
+                return count - 1, first
+        raise Wrong(f"{self.event.name}: it is stopped at write {count}")
+
+    def boot_writes(self, count, fill):
+        """Cuts the event once, and the boot that follows at each of its writes in turn, and again soon after."""
+        for each in range(1, MOST_WRITES + 2):
+            if not self.try_alone(count, FILLS[each % 4], 0, (each, 1, 2))[1]:
+                return
+        raise Wrong(f"{self.event.name}: a boot is stopped at write {each}")
+
+    def tamper(self, count, fill):
+        """The case is opened after a cut: no more is there than a dead device, also in a run of its own."""
+        script = Script().add(*self.cut_event(count, fill), "tamper", "boot", "status", *self.life_asks())
+        answers = Answers(self.program, self.event.image, script)
+        self.is_stopped(answers)
+        answers.expect("tampered")
+        self.is_dead(answers, 2 + len(self.life_asks()))
+        again = Answers(self.program, answers.image, Script().add("boot", self.event.line))
+        self.is_dead(again, 2)
+
+    def life_asks(self):
+        return [f"get {layer} {name}" for layer, name in self.life.names]
+
+    def is_dead(self, answers, count):
+        for _ in range(count):
+            if not answers.take()[0].startswith("refused 3 "):
+                raise answers.wrong("the device is not dead")
+        if not is_dead(answers.image):
+            raise answers.wrong("something is left in a dead device")
+
+    def all(self):
+        """Every trial of the event: how many writes it has, and how many cuts were made."""
+        writes, first = self.writes(FILLS[0])
+        if writes == 0:
+            return writes, self.made
+        rest = range(1, writes - first + 3)
+        step = 6 if self.sparse else 1
+        few = {first, (first + writes) // 2}
+        for turn, fill in enumerate(FILLS):
+            chosen = lambda count: count % 4 == turn and count // 4 % step == 0 or (count in few and not self.sparse)
+            self.writes(fill, counts_of=lambda count: rest if chosen(count) else ())
+        self.writes(FILLS[writes % 4], lambda count: 1)
+        self.writes(FILLS[first % 4], lambda count: KEEPS[count % 4])
+        self.boot_writes(first, FILLS[0])
+        for count in sorted({1, max(1, first - 1), first, writes}):
+            self.tamper(count, FILLS[count % 4])
+        return writes, self.made
+
+
+class Works:
+    """The trials of all events, by as many processes of the program at a time as are asked for."""
+
+    def __init__(self, path, folder, processes):
+        self.path, self.folder, self.processes = path, folder, processes
+        self.own = threading.local()
+        self.numbers = itertools.count()
+
+    def program(self):
+        if not hasattr(self.own, "program"):
+            self.own.program = Program(self.path, self.folder / f"worker{next(self.numbers)}")
+        return self.own.program
+
+    def cut(self, work):
+        life, number, sparse = work
+        began = time.monotonic()
+        cutter = Cutter(self.program(), life, number, sparse)
+        writes, made = cutter.all()
+        return cutter.event.name, writes, made, time.monotonic() - began
+
+    def all(self, works):
+        """Prints a line for each event, and gives the number of cuts."""
+        total = 0
+        with concurrent.futures.ThreadPoolExecutor(self.processes) as pool:
+            try:
+                for name, writes, made, seconds in pool.map(self.cut, works):
+                    total += made
+                    print(f"{name:32} {writes:3} writes {made:6} cuts {seconds:6.1f} s", flush=True)
+            except Wrong:
+                pool.shutdown(cancel_futures=True)
+                raise
+        return total
+
+
+def made_lives(program, peers):
+    """Each event of each life that is cut, and whether boots are cut after some of its cuts alone."""
+    life = first_life(program)
+    works = [(life, number, False) for number in range(len(life.events))]
+    late, other = late_life(program, peers)
+    return works + [(late, 0, True), (late, 1, True), (other, 0, True)]
+
+
+def main():
+    reader = argparse.ArgumentParser()
+    reader.add_argument("program", type=pathlib.Path)
+    reader.add_argument("-j", type=int, default=1)
+    words = reader.parse_args()
+    peers = pathlib.Path(__file__).resolve().parents[2] / "peers"
+    folder = pathlib.Path(tempfile.mkdtemp())
+    path = words.program.resolve()
+    began = time.monotonic()
+    try:
+        works = made_lives(Program(path, folder / "lives"), str(peers))
+        print(f"{len(works)} events, answered in {time.monotonic() - began:.0f} s where power holds", flush=True)
+        total = Works(path, folder, words.j).all(works)
+    except Wrong as wrong:
+        print(wrong)
+        if wrong.script:
+            for line, reply in itertools.zip_longest(wrong.script.lines, wrong.replies):
+                print(f"  {line}\n    {reply}")
+        return 1
+    finally:
+        shutil.rmtree(folder)
+    print(f"{total} cuts in {time.monotonic() - began:.0f} s: each left the old or the new state, and nothing was refused")
+    return 0
+
+
+if __name__ == "__main__":
+    sys.exit(main())
