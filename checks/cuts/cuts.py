@@ -16,8 +16,10 @@ from program import LIFE, Program, Script, Wrong, is_dead, meaning
 
 FILLS = "00", "ff", "7e", "01"
 KEEPS = 3, 100, 2048, 4095
-# as many trials that are to leave the old state as one run makes
-BATCH = 12
+# as often at most an event is given again in one run
+TIMES = 20
+# an event with more writes than these has its boots cut after some of them alone
+MANY = 26
 # An event has at most 471 write calls.
 MOST_WRITES = 471
 # Where it is armed and no event follows with as many write calls, a power loss is as good as none.
@@ -67,7 +69,7 @@ class Cutter:
     def __init__(self, program, life, number, sparse):
         self.program, self.life, self.event = program, life, life.events[number]
         self.next = life.events[number + 1] if number + 1 < len(life.events) else None
-        # Where it is sparse, boots are cut after some of the first cuts alone.
+        # Where it is sparse, boots are cut after fewer of the first cuts.
         self.sparse = sparse
         self.made = 0
         after = self.next.image if self.next else life.image
@@ -80,10 +82,12 @@ class Cutter:
     def view(self):
         return ["boot", "status", *(f"get {layer} {name}" for layer, name in self.life.names), "off"]
 
+    def again(self):
+        return [*opening(self.event.level), self.event.line]
+
     def ending(self):
         """The event is given again, and the next event of the life follows."""
-        events = [*opening(self.event.level), self.event.line, "off"]
-        return events + ([*opening(self.next.level), self.next.line] if self.next else ["boot"])
+        return [*self.again(), "off", *([*opening(self.next.level), self.next.line] if self.next else ["boot"])]
 
     def reference(self, image):
         """What a device with this image shows, how it answers the event and the next one, and what it is then."""
@@ -140,54 +144,63 @@ class Cutter:
         if (told, end) not in [state[1:] for state in fitting]:
             raise answers.wrong(f"neither as in the old nor in the new state: {told}, image {'' if end else 'not '}clean")
 
-    def try_alone(self, count, fill, keep=0, counts=()):
-        """Cuts the event, and then a boot at each of these writes. Whether the event and the first boot were stopped."""
-        counts = list(counts)
-        script = Script().add(*self.cut_event(count, fill, keep), *boots(counts, fill))
-        script.add(DISARMED, *self.view(), *self.ending())
+    def try_alone(self, count, fill, keep=0):
+        """Cuts the event: the states that it may then be in, or none where it was not stopped."""
+        script = Script().add(*self.cut_event(count, fill, keep), DISARMED, *self.view(), *self.ending())
         answers = Answers(self.program, self.event.image, script)
         if not self.is_stopped(answers):
-            return False, False
-        first = self.take_boots(answers, len(counts))
-        self.ends(answers, self.shows(answers))
-        return True, first
+            return []
+        fitting = self.shows(answers)
+        self.ends(answers, fitting)
+        return fitting
 
-    def try_many(self, count, fill, keep_of):
-        """Cuts the event at some writes from this one on, which leave the old state. The first that does not."""
-        counts = range(count, count + BATCH)
-        script = Script()
-        for each in counts:
-            script.add(*self.cut_event(each, fill, keep_of(each)), *boots((1, 2), fill), DISARMED, *self.view())
-        answers = Answers(self.program, self.event.image, script.add(*self.ending()))
-        for each in counts:
-            before = self.made
-            if not self.is_stopped(answers):
-                return each
-            self.take_boots(answers, 2)
-            if self.shows(answers) == [self.new]:
-                self.made = before
-                return each
-        self.ends(answers, [self.old])
-        return count + BATCH
-
-    def writes(self, fill, keep_of=lambda count: 0, counts_of=lambda count: ()):
+    def writes(self, fill, keep_of=lambda count: 0):
         """Cuts the event at each of its writes: how many, and the first of them after which it may have counted."""
-        first = 1
-        if self.sees:
-            while (until := self.try_many(first, fill, keep_of)) == first + BATCH:
-                first = until
-            first = until
-        for count in range(first, MOST_WRITES + 2):
-            if not self.try_alone(count, fill, keep_of(count), counts_of(count))[0]:
+        first = None
+        for count in range(1, MOST_WRITES + 2):
+            fitting = self.try_alone(count, fill, keep_of(count))
+            if not fitting:
                 return count - 1, first
+            if self.new in fitting and first is None:
+                first = count
         raise Wrong(f"{self.event.name}: it is stopped at write {count}")
 
-    def boot_writes(self, count, fill):
-        """Cuts the event once, and the boot that follows at each of its writes in turn, and again soon after."""
+    def try_again_and_again(self, fill):
+        """Gives the event again after each cut, on what the cuts before have left, until it counts."""
+        script = Script()
+        for count in range(1, TIMES + 1):
+            script.add(*self.cut_event(count, fill), *boots((1, 2), fill), DISARMED, *self.view())
+        answers = Answers(self.program, self.event.image, script)
+        for count in range(1, TIMES + 1):
+            if not self.is_stopped(answers):
+                return
+            self.take_boots(answers, 2)
+            if self.shows(answers) == [self.new]:
+                return
+
+    def try_boot(self, image, count, fill):
+        """Cuts the boot of what a cut has left, and the two boots after that. Whether the first boot was stopped."""
+        script = Script().add(*boots((count, 1, 2), fill), DISARMED, *self.view(), *self.again())
+        answers = Answers(self.program, image, script)
+        stopped = self.take_boots(answers, 3)
+        self.repeats(answers, self.shows(answers))
+        return stopped
+
+    def cut_boots(self, count, first_fill, fills_of):
+        """Cuts the event once, and the boot that follows at each of its writes."""
+        script = Script().add(*self.cut_event(count, first_fill))
+        answers = Answers(self.program, self.event.image, script)
+        self.is_stopped(answers)
         for each in range(1, MOST_WRITES + 2):
-            if not self.try_alone(count, FILLS[each % 4], 0, (each, 1, 2))[1]:
+            if not any([self.try_boot(answers.image, each, fill) for fill in fills_of(each)]):
                 return
         raise Wrong(f"{self.event.name}: a boot is stopped at write {each}")
+
+    def repeats(self, answers, fitting):
+        """The event is answered as in one of these states, and the memory is clean."""
+        told = answers.take(len(self.again()))
+        if told not in [state[1][: len(told)] for state in fitting] or meaning(answers.image) is None:
+            raise answers.wrong(f"neither as in the old nor in the new state: {told}")
 
     def tamper(self, count, fill):
         """The case is opened after a cut: no more is there than a dead device, also in a run of its own."""
@@ -214,18 +227,26 @@ class Cutter:
         writes, first = self.writes(FILLS[0])
         if writes == 0:
             return writes, self.made
-        rest = range(1, writes - first + 3)
-        step = 6 if self.sparse else 1
-        few = {first, (first + writes) // 2}
-        for turn, fill in enumerate(FILLS):
-            chosen = lambda count: count % 4 == turn and count // 4 % step == 0 or (count in few and not self.sparse)
-            self.writes(fill, counts_of=lambda count: rest if chosen(count) else ())
-        self.writes(FILLS[writes % 4], lambda count: 1)
-        self.writes(FILLS[first % 4], lambda count: KEEPS[count % 4])
-        self.boot_writes(first, FILLS[0])
+        for fill in FILLS[1:]:
+            self.writes(fill)
+        self.writes(FILLS[writes % 4], lambda count: KEEPS[count % 4] if first + 1 < count < writes - 6 else 1)
+        if self.sees:
+            self.try_again_and_again(FILLS[first % 4])
+        for count in self.with_boots(first, writes):
+            every = FILLS if count == first else ()
+            self.cut_boots(count, FILLS[count % 4], lambda each: every or (FILLS[(count + each) % 4],))
         for count in sorted({1, max(1, first - 1), first, writes}):
             self.tamper(count, FILLS[count % 4])
         return writes, self.made
+
+
+    def with_boots(self, first, writes):
+        """The writes of the event after which boots are cut too: all of few, and of many the first, the last and some."""
+        if writes <= MANY:
+            return range(1, writes + 1)
+        step = 12 if self.sparse else 6
+        ends = {first - 1, first, first + 1, first + 2, *range(writes - 4, writes + 1)}
+        return sorted(count for count in ends | set(range(first, writes, step)) if count > 0)
 
 
 class Works:
