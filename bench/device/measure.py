@@ -57,7 +57,7 @@ class Bench:
         both, replies = self.time(image, *before, *events, "off")
         told = replies[len(before) : -1]
         if not all(reply.startswith(wanted) for reply in told):
-            raise Wrong(f"not all begin with {wanted}", Script().add(*before, *events), replies)
+            raise Wrong(f"{set(told)}, and not {wanted}")
         return both - alone
 
     def cut(self, event, count):
@@ -108,7 +108,8 @@ def measure_many(table, bench, image):
     table.row("put of a known name", bench.more(image, ["boot"], puts, "kept"), len(puts), "of 2000")
     table.row("put of what stands there", bench.more(image, ["boot"], puts[1:2] * 2000, "kept"), 2000, "of 2000")
     table.row("sign", bench.more(image, ["boot"], ["sign 3 2 68656c6c6f"] * 30, "signed "), 30, "of 30")
-    table.row("boot of a clean memory, and off", bench.more(image, [], ["boot", "off"] * 2000, ("booted", "off")), 2000, "of 2000")
+    boots = ["boot", "off"] * 2000
+    table.row("boot of a clean memory, and off", bench.more(image, [], boots, ("booted", "off")), 2000, "of 2000")
 
 
 def turned(line):
@@ -120,7 +121,8 @@ def measure_refused(table, bench, event):
     """An order that is refused for its signature, and bytes that are no order."""
     line, noise = event.line
     refused = [(turned(line), noise)] * 400
-    table.row("an order refused for its signature", bench.more(event.image, ["boot"], refused, "refused 13 "), 400, "of 400")
+    seconds = bench.more(event.image, ["boot"], refused, "refused 13 ")
+    table.row("an order refused for its signature", seconds, 400, "of 400")
     none = [("command 00", noise)] * 20000
     table.row("bytes that are no order", bench.more(event.image, ["boot"], none, "refused 10 "), 20000, "of 20000")
 

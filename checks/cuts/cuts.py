@@ -5,6 +5,7 @@ import argparse
 import concurrent.futures
 import itertools
 import pathlib
+import resource
 import shutil
 import sys
 import tempfile
@@ -12,7 +13,7 @@ import threading
 import time
 
 from lives import first_life, late_life, opening
-from program import LIFE, Program, Script, Wrong, is_dead, meaning
+from program import Program, Script, Wrong, is_dead, meaning
 
 FILLS = "00", "ff", "7e", "01"
 KEEPS = 3, 100, 2048, 4095
@@ -39,7 +40,7 @@ class Answers:
     """The replies to a script, taken in turn."""
 
     def __init__(self, program, image, script):
-        self.script = script
+        self.script, self.before = script, image
         self.replies, self.image = program.serve(image, script)
         self.at = 0
 
@@ -48,7 +49,7 @@ class Answers:
         return self.replies[self.at - count : self.at]
 
     def wrong(self, what):
-        return Wrong(f"event {self.at}: {what}", self.script, self.replies)
+        return Wrong(f"line {self.at}: {what}", self.before, self.script, self.replies)
 
     def expect(self, *wanted):
         """The next reply, which has to be one of these."""
@@ -90,20 +91,27 @@ class Cutter:
         return [*self.again(), "off", *([*opening(self.next.level), self.next.line] if self.next else ["boot"])]
 
     def reference(self, image):
-        """What a device with this image shows, how it answers the event and the next one, and what it is then."""
-        answers = Answers(self.program, image, Script().add(*self.view(), *self.ending()))
-        view = answers.take(len(self.view()))
-        return view, answers.take(len(self.ending())), meaning(answers.image)
+        """What a device with this image shows; how it answers the event alone, and what it is then; and the same of the
+        event and the next one."""
+        alone = Answers(self.program, image, Script().add(*self.view(), *self.again()))
+        both = Answers(self.program, image, Script().add(*self.view(), *self.ending()))
+        view = alone.take(len(self.view()))
+        both.expect(*view[:1])
+        both.take(len(view) - 1)
+        return view, *((each.replies[len(view) :], meaning(each.image)) for each in (alone, both))
 
     def check_references(self):
         """The references are those of the life, and an order is not obeyed twice."""
-        level, orders = self.event.level, self.event.is_order()
-        if self.old[1][level] != self.event.reply or (orders and not self.new[1][level].startswith("refused 11 ")):
-            raise Wrong(f"{self.event.name}: {self.old[1]} and {self.new[1]}")
-        if self.next and self.old[1][-1] != self.next.reply:
-            raise Wrong(f"{self.next.name}: {self.old[1][-1]} and not {self.next.reply}")
-        if None in (self.old[2], self.new[2]) or (orders and self.old[2] != self.new[2]):
-            raise Wrong(f"{self.event.name}: given again it does not lead where it led")
+        name, orders = self.event.name, self.event.is_order()
+        (again, after), (both, end) = self.old[1:]
+        if again[-1] != self.event.reply or (self.next and both[-1] != self.next.reply):
+            raise Wrong(f"{name}: {again} and {both}, which is not the life")
+        if None in (after, end, self.new[1][1], self.new[2][1]):
+            raise Wrong(f"{name}: it does not leave a clean memory")
+        if orders and not self.new[1][0][-1].startswith("refused 11 "):
+            raise Wrong(f"{name}: {self.new[1][0][-1]} where it is given again")
+        if orders and (after, end) != (self.new[1][1], self.new[2][1]):
+            raise Wrong(f"{name}: given again it does not lead where it led")
 
     # ---- trials
 
@@ -137,28 +145,34 @@ class Cutter:
             raise answers.wrong(f"the device shows neither the old nor the new state: {view}")
         return fitting
 
-    def ends(self, answers, fitting):
-        """The event and the next one are answered as in one of these states, and lead to its end."""
-        told = answers.take(len(self.ending()))
-        end = meaning(answers.image)
-        if (told, end) not in [state[1:] for state in fitting]:
-            raise answers.wrong(f"neither as in the old nor in the new state: {told}, image {'' if end else 'not '}clean")
+    def ends(self, answers, fitting, which):
+        """The event, and the next one where `which` is 2, are answered as in a state of these, and lead to its end."""
+        told, end = answers.replies[answers.at :], meaning(answers.image)
+        if (told, end) not in [state[which] for state in fitting]:
+            states = {id(self.old): "old", id(self.new): "new"}
+            wanted = " or ".join(f"{state[which][0]} of the {states[id(state)]} state" for state in fitting)
+            image = "is another" if end else "is not clean"
+            raise answers.wrong(f"{told}, and not {wanted}, or the image {image}")
 
-    def try_alone(self, count, fill, keep=0):
+    def try_alone(self, count, fill, keep, which):
         """Cuts the event: the states that it may then be in, or none where it was not stopped."""
-        script = Script().add(*self.cut_event(count, fill, keep), DISARMED, *self.view(), *self.ending())
+        rest = self.ending() if which == 2 else self.again()
+        script = Script().add(*self.cut_event(count, fill, keep), DISARMED, *self.view(), *rest)
         answers = Answers(self.program, self.event.image, script)
         if not self.is_stopped(answers):
             return []
         fitting = self.shows(answers)
-        self.ends(answers, fitting)
+        self.ends(answers, fitting, which)
         return fitting
 
-    def writes(self, fill, keep_of=lambda count: 0):
-        """Cuts the event at each of its writes: how many, and the first of them after which it may have counted."""
+    def writes(self, fill, which=1, keep_of=lambda count: 0):
+        """Cuts the event at each of its writes: how many, and the first of them after which it may have counted. Where
+        `which` is 2, the next event of the life follows each time."""
         first = None
         for count in range(1, MOST_WRITES + 2):
-            fitting = self.try_alone(count, fill, keep_of(count))
+            fitting = self.try_alone(count, fill, keep_of(count), which)
+            if not fitting and first is None and count > 1:
+                raise Wrong(f"{self.event.name}: it counts after none of its cuts")
             if not fitting:
                 return count - 1, first
             if self.new in fitting and first is None:
@@ -179,11 +193,11 @@ class Cutter:
                 return
 
     def try_boot(self, image, count, fill):
-        """Cuts the boot of what a cut has left, and the two boots after that. Whether the first boot was stopped."""
-        script = Script().add(*boots((count, 1, 2), fill), DISARMED, *self.view(), *self.again())
+        """Cuts the boot of what a cut has left, and then the next one. Whether the first boot was stopped."""
+        script = Script().add(*boots((count, 1 + count % 2), fill), DISARMED, *self.view(), *self.again())
         answers = Answers(self.program, image, script)
-        stopped = self.take_boots(answers, 3)
-        self.repeats(answers, self.shows(answers))
+        stopped = self.take_boots(answers, 2)
+        self.ends(answers, self.shows(answers), 1)
         return stopped
 
     def cut_boots(self, count, first_fill, fills_of):
@@ -195,12 +209,6 @@ class Cutter:
             if not any([self.try_boot(answers.image, each, fill) for fill in fills_of(each)]):
                 return
         raise Wrong(f"{self.event.name}: a boot is stopped at write {each}")
-
-    def repeats(self, answers, fitting):
-        """The event is answered as in one of these states, and the memory is clean."""
-        told = answers.take(len(self.again()))
-        if told not in [state[1][: len(told)] for state in fitting] or meaning(answers.image) is None:
-            raise answers.wrong(f"neither as in the old nor in the new state: {told}")
 
     def tamper(self, count, fill):
         """The case is opened after a cut: no more is there than a dead device, also in a run of its own."""
@@ -224,12 +232,12 @@ class Cutter:
 
     def all(self):
         """Every trial of the event: how many writes it has, and how many cuts were made."""
-        writes, first = self.writes(FILLS[0])
+        writes, first = self.writes(FILLS[0], 2)
         if writes == 0:
             return writes, self.made
         for fill in FILLS[1:]:
             self.writes(fill)
-        self.writes(FILLS[writes % 4], lambda count: KEEPS[count % 4] if first + 1 < count < writes - 6 else 1)
+        self.writes(FILLS[writes % 4], 1, lambda count: KEEPS[count % 4] if first + 1 < count < writes - 6 else 1)
         if self.sees:
             self.try_again_and_again(FILLS[first % 4])
         for count in self.with_boots(first, writes):
@@ -239,14 +247,12 @@ class Cutter:
             self.tamper(count, FILLS[count % 4])
         return writes, self.made
 
-
     def with_boots(self, first, writes):
-        """The writes of the event after which boots are cut too: all of few, and of many the first, the last and some."""
-        if writes <= MANY:
+        """The writes after which boots are cut too: all of few, and of many the first, the last and some."""
+        if writes <= MANY and not self.sparse:
             return range(1, writes + 1)
-        step = 12 if self.sparse else 6
-        ends = {first - 1, first, first + 1, first + 2, *range(writes - 4, writes + 1)}
-        return sorted(count for count in ends | set(range(first, writes, step)) if count > 0)
+        ends = {first - 1, first, first + 1, *range(writes - 3, writes + 1)}
+        return sorted(count for count in ends | set(range(first, writes, 12 if self.sparse else 6)) if count > 0)
 
 
 class Works:
@@ -284,11 +290,32 @@ class Works:
 
 
 def made_lives(program, peers):
-    """Each event of each life that is cut, and whether boots are cut after some of its cuts alone."""
+    """The events that are cut, each by its life and number, and whether boots are cut after fewer of its cuts: there was
+    one like it."""
     life = first_life(program)
-    works = [(life, number, False) for number in range(len(life.events))]
+    kinds = [event.name.split(" ")[:2] for event in life.events]
+    sparse = [event.is_order() and kinds[number] in kinds[:number] for number, event in enumerate(life.events)]
+    works = [(life, number, sparse[number]) for number in range(len(life.events))]
     late, other = late_life(program, peers)
     return works + [(late, 0, True), (late, 1, True), (other, 0, True)]
+
+
+def show(wrong):
+    """Tells what was wrong, and keeps the files that show it."""
+    print(wrong)
+    if not wrong.script:
+        return
+    kept = pathlib.Path(tempfile.mkdtemp(prefix="cuts-"))
+    wrong.script.write(kept, wrong.image)
+    for line, reply in itertools.zip_longest(wrong.script.lines, wrong.replies, fillvalue=""):
+        print(f"  {line}\n    {reply}")
+    print(f"image, script and noise are kept in {kept}")
+
+
+def processor_time():
+    """The seconds that this program and the runs of the other took."""
+    used = [resource.getrusage(who) for who in (resource.RUSAGE_SELF, resource.RUSAGE_CHILDREN)]
+    return sum(each.ru_utime + each.ru_stime for each in used)
 
 
 def main():
@@ -305,14 +332,12 @@ def main():
         print(f"{len(works)} events, answered in {time.monotonic() - began:.0f} s where power holds", flush=True)
         total = Works(path, folder, words.j).all(works)
     except Wrong as wrong:
-        print(wrong)
-        if wrong.script:
-            for line, reply in itertools.zip_longest(wrong.script.lines, wrong.replies):
-                print(f"  {line}\n    {reply}")
+        show(wrong)
         return 1
     finally:
         shutil.rmtree(folder)
-    print(f"{total} cuts in {time.monotonic() - began:.0f} s: each left the old or the new state, and nothing was refused")
+    seconds = f"{time.monotonic() - began:.0f} s, {processor_time():.0f} s of processor time"
+    print(f"{total} cuts in {seconds}: each left the old or the new state, and the life went on")
     return 0
 
 

@@ -8,11 +8,11 @@ LIFE = 0xA5
 
 
 class Wrong(Exception):
-    """What was found wrong, with the script that shows it."""
+    """What was found wrong, with the image and the script that show it."""
 
-    def __init__(self, what, script=None, replies=()):
+    def __init__(self, what, image=None, script=None, replies=()):
         super().__init__(what)
-        self.script, self.replies = script, list(replies)
+        self.image, self.script, self.replies = image, script, list(replies)
 
 
 class Script:
@@ -28,6 +28,12 @@ class Script:
             self.lines.append(line)
             self.noise += noise
         return self
+
+    def write(self, folder, image):
+        """The files of a run."""
+        (folder / "image").write_bytes(image)
+        (folder / "script").write_text("\n".join(self.lines) + "\n")
+        (folder / "noise").write_bytes(self.noise)
 
 
 class Program:
@@ -45,12 +51,14 @@ class Program:
 
     def serve(self, image, script):
         """The replies to a script, and the image that is left."""
-        (self.folder / "image").write_bytes(image)
-        (self.folder / "script").write_text("\n".join(script.lines) + "\n")
-        (self.folder / "noise").write_bytes(script.noise)
-        replies = self.run("run", "image", "script", "noise")
+        script.write(self.folder, image)
+        try:
+            replies = self.run("run", "image", "script", "noise")
+        except Wrong as wrong:
+            wrong.image, wrong.script = image, script
+            raise
         if len(replies) != len(script.lines):
-            raise Wrong("the replies are not as many as the events", script, replies)
+            raise Wrong("the replies are not as many as the events", image, script, replies)
         return replies, (self.folder / "image").read_bytes()
 
 
