@@ -72,7 +72,8 @@ class Cutter:
         self.next = life.events[number + 1] if number + 1 < len(life.events) else None
         # Where it is sparse, boots are cut after fewer of the first cuts.
         self.sparse = sparse
-        self.made = 0
+        # how many cuts were made, and whether the event counted after one of them
+        self.made, self.counted = 0, False
         after = self.next.image if self.next else life.image
         self.old, self.new = self.reference(self.event.image), self.reference(after)
         self.sees = self.old[0] != self.new[0]
@@ -166,17 +167,15 @@ class Cutter:
         return fitting
 
     def writes(self, fill, which=1, keep_of=lambda count: 0):
-        """Cuts the event at each of its writes: how many, and the first of them after which it may have counted. Where
-        `which` is 2, the next event of the life follows each time."""
+        """Cuts the event at each of its writes: how many, and the first of them after which it may have counted, or the
+        last. Where `which` is 2, the next event of the life follows each time."""
         first = None
         for count in range(1, MOST_WRITES + 2):
             fitting = self.try_alone(count, fill, keep_of(count), which)
-            if not fitting and first is None and count > 1:
-                raise Wrong(f"{self.event.name}: it counts after none of its cuts")
             if not fitting:
-                return count - 1, first
-            if self.new in fitting and first is None:
-                first = count
+                return count - 1, first or count - 1
+            if self.new in fitting:
+                first, self.counted = first or count, True
         raise Wrong(f"{self.event.name}: it is stopped at write {count}")
 
     def try_again_and_again(self, fill):
@@ -238,6 +237,8 @@ class Cutter:
         for fill in FILLS[1:]:
             self.writes(fill)
         self.writes(FILLS[writes % 4], 1, lambda count: KEEPS[count % 4] if first + 1 < count < writes - 6 else 1)
+        if not self.counted:
+            raise Wrong(f"{self.event.name}: it counts after none of its cuts")
         if self.sees:
             self.try_again_and_again(FILLS[first % 4])
         for count in self.with_boots(first, writes):
