@@ -291,7 +291,7 @@ class Works:
 
 
 def made_lives(program, peers):
-    """The events that are cut, each by its life and number, and whether boots are cut after fewer of its cuts: there was
+    """The events that are cut, by life and number, and whether boots are cut after fewer of its cuts, since there was
     one like it."""
     life = first_life(program)
     kinds = [event.name.split(" ")[:2] for event in life.events]
