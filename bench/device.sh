@@ -1,0 +1,32 @@
+#!/usr/bin/env bash
+# Measures the device of the built program, outside the gate: bench/device.sh [PROGRAM]. It prints the load of the
+# machine and then, in processor time, the least of five runs: loading images, each kind of event and of order, and the
+# boot after a power loss; with the number of an order's write calls, which cutting it tells; and beside each how many
+# trees of a key take as long. An event's time is that of a run with it less that of a run without it, so that reading
+# and writing the files is no part of it.
+set -euo pipefail
+export LC_ALL=C
+
+here=$(cd "$(dirname "${BASH_SOURCE[0]}")" && pwd)
+program=$(realpath "${1:-$here/../crates/miniboot/out/miniboot}")
+
+if [ ! -x "$program" ]; then
+    echo "$program is not there: examples/first-order/run.sh builds the program" >&2
+    exit 1
+fi
+if ! command -v python3 >/dev/null; then
+    echo "python3 is needed, and is not on the PATH" >&2
+    exit 1
+fi
+
+uptime | sed 's/.*load average/load average/'
+python3 "$here/device/measure.py" "$program"
+if command -v openssl >/dev/null; then
+    openssl speed -seconds 1 -bytes 55 sha256 2>/dev/null |
+        awk '$1 == "sha256" {
+            each = 55e6 / $2
+            printf "openssl, SHA-256 of 55 bytes: %.0f ns each, so %.2f ms for 34,399\n", each, each * 34399 / 1e6
+        }'
+else
+    echo "openssl is not there"
+fi

@@ -1,0 +1,171 @@
+#!/usr/bin/env python3
+"""Measures the device of the built program. See bench/device.sh, which runs it."""
+
+import pathlib
+import resource
+import shutil
+import sys
+import tempfile
+
+HERE = pathlib.Path(__file__).resolve().parents[2]
+sys.path[:0] = [str(HERE / "checks" / "cuts"), str(HERE / "peers")]
+
+import device  # noqa: E402
+from lives import first_life, late_life, opening  # noqa: E402
+from program import Program, Script, Wrong  # noqa: E402
+
+EVENTS = 65_536
+ROUNDS = 5
+# An event has at most 471 write calls.
+MOST_WRITES = 471
+
+
+def spent():
+    used = resource.getrusage(resource.RUSAGE_CHILDREN)
+    return used.ru_utime + used.ru_stime
+
+
+class Bench:
+    """Times of runs, in seconds of the processor: the least of some rounds."""
+
+    def __init__(self, program):
+        self.program = program
+
+    def time(self, image, *events):
+        """The time of a run, with its replies."""
+        times = []
+        for _ in range(ROUNDS):
+            began = spent()
+            replies, _ = self.program.serve(image, Script().add(*events))
+            times.append(spent() - began)
+        return min(times), replies
+
+    def keygen(self):
+        """The time of making a key, beside that of saying the version."""
+        times = [[], []]
+        (self.program.folder / "noise").write_bytes(bytes(32))
+        for _ in range(ROUNDS):
+            for number, words in enumerate((["--version"], ["keygen", "noise", "key", "public"])):
+                began = spent()
+                self.program.run(*words)
+                times[number].append(spent() - began)
+        return min(times[1]) - min(times[0])
+
+    def more(self, image, before, events, wanted):
+        """How much longer a run takes with some more events, whose replies all begin so."""
+        alone, _ = self.time(image, *before, "off")
+        both, replies = self.time(image, *before, *events, "off")
+        told = replies[len(before) : -1]
+        if not all(reply.startswith(wanted) for reply in told):
+            raise Wrong(f"{set(told)}, and not {wanted}")
+        return both - alone
+
+    def cut(self, event, count):
+        """Whether power failed in this write of an event, and the image that is left."""
+        script = Script().add(*opening(event.level), f"cut {count} fill 00", event.line)
+        replies, image = self.program.serve(event.image, script)
+        return replies[-1] == "stopped", image
+
+    def counts(self, event, count):
+        """Whether the event counts where power failed in this write: its log is longer then."""
+        shown = self.program.serve(self.cut(event, count)[1], Script().add("boot", "status"))[0][-1]
+        return shown.split(" ")[3] == event.reply.split(" ")[2]
+
+
+def first_that(holds, low, high):
+    """The first number from low to high of which this holds, where it holds of all from it on; high, where of none."""
+    while low < high:
+        middle = (low + high) // 2
+        low, high = (low, middle) if holds(middle) else (middle + 1, high)
+    return low
+
+
+class Table:
+    """Rows of what is measured, beside how many trees of a key take as long."""
+
+    def __init__(self, bench):
+        self.tree = bench.keygen()
+        self.row("keygen: one tree of 34,399 hashes", self.tree)
+
+    def row(self, what, seconds, each=1, note=""):
+        time = seconds / each
+        print(f"{what:36} {time * 1e3:9.4f} ms {time / self.tree:8.4f} trees  {note}".rstrip(), flush=True)
+
+
+def measure_loads(table, bench, life, full):
+    """Loading images, with a script that says `off` alone."""
+    for what, image in ("a new device", life.events[0].image), ("a log of 128, 16 keys", full):
+        table.row("loading " + what, bench.time(image, "off")[0])
+
+
+def measure_many(table, bench, image):
+    """Many events of a kind that writes nothing, and of those that write a region."""
+    last = "value 35363738"
+    count = EVENTS - 2
+    for what, line, wanted in ("status", "status", "status "), ("get", "get 2 pin", last):
+        table.row(what, bench.more(image, ["boot"], [line] * count, wanted), count, f"of {count}")
+    puts = ["put 2 pin 31323334", "put 2 pin 35363738"] * 1000
+    table.row("put of a known name", bench.more(image, ["boot"], puts, "kept"), len(puts), "of 2000")
+    table.row("put of what stands there", bench.more(image, ["boot"], puts[1:2] * 2000, "kept"), 2000, "of 2000")
+    table.row("sign", bench.more(image, ["boot"], ["sign 3 2 68656c6c6f"] * 30, "signed "), 30, "of 30")
+    boots = ["boot", "off"] * 2000
+    table.row("boot of a clean memory, and off", bench.more(image, [], boots, ("booted", "off")), 2000, "of 2000")
+
+
+def turned(line):
+    """An order whose signature has the lowest bit of the last node of its path turned."""
+    return f"{line[:-3]}{int(line[-3], 16) ^ 1:x}{line[-2:]}"
+
+
+def measure_refused(table, bench, event):
+    """An order that is refused for its signature, and bytes that are no order."""
+    line, noise = event.line
+    refused = [(turned(line), noise)] * 400
+    seconds = bench.more(event.image, ["boot"], refused, "refused 13 ")
+    table.row("an order refused for its signature", seconds, 400, "of 400")
+    none = [("command 00", noise)] * 20000
+    table.row("bytes that are no order", bench.more(event.image, ["boot"], none, "refused 10 "), 20000, "of 20000")
+
+
+def measure_orders(table, bench, events):
+    """Orders, each with the number of its write calls, and the boot after the first cut that leaves work pending."""
+    for event in events:
+        writes = first_that(lambda count: not bench.cut(event, count)[0], 1, MOST_WRITES + 1) - 1
+        first = first_that(lambda count: bench.counts(event, count), 1, writes)
+        seconds = bench.more(event.image, ["boot"], [event.line], "done ")
+        table.row(event.name, seconds, 1, f"{writes} writes, log of {event.reply.split(' ')[2]} afterwards")
+        left = bench.cut(event, first)[1]
+        table.row("  the boot after a cut", bench.more(left, [], ["boot"], "booted"), 1, f"in write {first}")
+
+
+def orders(life):
+    """The first order of each name."""
+    found = {}
+    for event in life.events:
+        if event.is_order():
+            found.setdefault(event.name, event)
+    return found.values()
+
+
+def main():
+    folder = tempfile.mkdtemp()
+    try:
+        program = Program(pathlib.Path(sys.argv[1]).resolve(), pathlib.Path(folder) / "lives")
+        bench = Bench(program)
+        life = first_life(program)
+        late, other = late_life(program, str(HERE / "peers"))
+        table = Table(bench)
+        measure_loads(table, bench, life, device.full()[1])
+        measure_many(table, bench, next(event for event in life.events if event.name == "status").image)
+        measure_refused(table, bench, life.events[0])
+        measure_orders(table, bench, [*orders(life), *orders(late), *orders(other)])
+    except Wrong as wrong:
+        print(wrong)
+        return 1
+    finally:
+        shutil.rmtree(folder)
+    return 0
+
+
+if __name__ == "__main__":
+    sys.exit(main())

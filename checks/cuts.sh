@@ -1,0 +1,34 @@
+#!/usr/bin/env bash
+# Cuts power in each write of each event of a device's life, outside the gate: checks/cuts.sh [-j N] [PROGRAM]. The
+# built program makes the keys, signs the orders and serves the life. Each event is cut at each of its writes, with four
+# fillings and with a part of the write kept, and the boots that follow are cut again at each of theirs. Each time the
+# device has to show the old or the new state, to answer the event given again and the next one so, and to come to the
+# same image as it does without cuts, clean. It prints a line for each event, and how many cuts were made. Where
+# something is wrong, it prints the script and the replies, keeps the files, and ends with status 1. With -j N it runs
+# the program N at a time.
+set -euo pipefail
+export LC_ALL=C
+usage="usage: checks/cuts.sh [-j N] [PROGRAM]"
+
+here=$(cd "$(dirname "${BASH_SOURCE[0]}")" && pwd)
+processes=1
+if [ "${1-}" = -j ]; then
+    processes=${2-}
+    shift 2 || true
+fi
+if [ $# -gt 1 ] || ! [[ "$processes" =~ ^[1-9][0-9]?$ ]]; then
+    echo "$usage" >&2
+    exit 2
+fi
+program=$(realpath "${1:-$here/../crates/miniboot/out/miniboot}")
+
+if [ ! -x "$program" ]; then
+    echo "$program is not there: examples/first-order/run.sh builds the program" >&2
+    exit 1
+fi
+if ! command -v python3 >/dev/null; then
+    echo "python3 is needed, and is not on the PATH" >&2
+    exit 1
+fi
+
+exec python3 "$here/cuts/cuts.py" -j "$processes" "$program"
