@@ -1,6 +1,6 @@
 #!/usr/bin/env bash
-# Measures the device of the built program, outside the gate: bench/device.sh [PROGRAM]. It prints the load of the
-# machine and then, in processor time, the least of five runs: loading images, each kind of event and of order, and the
+# Measures the built program, outside the gate: bench/device.sh [PROGRAM]. It prints the load of the machine and then, in
+# processor time, the least of five runs: a key, a new device, loading images, each kind of event and of order, and the
 # boot after a power loss; with the number of an order's write calls, which cutting it tells; and beside each how many
 # trees of a key take as long. An event's time is that of a run with it less that of a run without it, so that reading
 # and writing the files is no part of it.

@@ -51,6 +51,23 @@ class Bench:
                 times[number].append(spent() - began)
         return min(times[1]) - min(times[0])
 
+    def factory(self):
+        """The time of making a new device, beside that of saying the version."""
+        folder = self.program.folder
+        (folder / "noise").write_bytes(bytes(48))
+        (folder / "code").write_bytes(b"code")
+        self.program.run("keygen", "noise", "key", "public")
+        key = (folder / "key").read_bytes()
+        times = [[], []]
+        for _ in range(ROUNDS):
+            (folder / "key").write_bytes(key)
+            words = ["factory", "noise", "key", "public", "code", "device"]
+            for number, words in enumerate((["--version"], words)):
+                began = spent()
+                self.program.run(*words)
+                times[number].append(spent() - began)
+        return min(times[1]) - min(times[0])
+
     def more(self, image, before, events, wanted):
         """How much longer a run takes with some more events, whose replies all begin so."""
         alone, _ = self.time(image, *before, "off")
@@ -86,6 +103,7 @@ class Table:
     def __init__(self, bench):
         self.tree = bench.keygen()
         self.row("keygen: one tree of 34,399 hashes", self.tree)
+        self.row("factory", bench.factory())
 
     def row(self, what, seconds, each=1, note=""):
         time = seconds / each
