@@ -25,8 +25,6 @@ handles='has to be the one line: Handles allowed: none.'
 [ "$(cat HANDLES 2>/dev/null)" = 'Handles allowed: none.' ] && handles=
 check 'HANDLES' "$handles"
 
-# (Four lines of two files of the model are a word too long. Mending them proves every crate anew, so it goes with the
-# next change of the model.)
 wide=$(find crates -path '*/specs/*.antt' -not -path '*/out/*' \
     -exec env LC_ALL=C.UTF-8 grep -nHE '^.{121,}' {} + |
     cut -d: -f1,2)
