@@ -15,7 +15,7 @@ use Rattle.mb_log.specs.declared.figures.Figures.{Figures}
 use Rattle.mb_log.specs.Figures.{figures_of}
 use Rattle.mb_log.specs.Following.{InOrder}
 use Rattle.mb_image.specs.Verified.{IsVerified}
-use Rattle.mb_image.proofs.LogSteps.{entries_more}
+use Rattle.mb_lemmas.proofs.LogLemmas.{entries_more}
 
 -- ---- one entry
 

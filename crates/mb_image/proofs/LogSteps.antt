@@ -1,27 +1,17 @@
 -- One more entry of a log.
-use Rattle.std.proofs.Common.{◌≡◌, ◌<◌, ◌+◌, ℕ, List, [], ◌∷◌, ◌++◌, length, take, map, get_or, Option, None, Bool, true, false, cond, refl, sym, ap, subst, ◌∙◌, arith}
+use Rattle.std.proofs.Common.{◌≡◌, ◌<◌, ◌+◌, ℕ, List, [], ◌∷◌, ◌++◌, length, take, map, get_or, Bool, true, false, cond, refl, sym, ap, subst, ◌∙◌, arith}
 use Rattle.std.specs.Prelude.{filter, not, unwrap_or}
-use Rattle.std.specs.Option.{option_or}
 use Rattle.mb_model.specs.declared.layer.Layers.{Layers}
 use Rattle.mb_model.specs.Layers.{unowned_layers}
-use Rattle.mb_lemmas.proofs.LogLemmas.{layers_of-push}
-use Rattle.mb_lemmas.proofs.ValidLogs.{serial_of-push}
-use Rattle.std.proofs.lemmas.List.{map-append, take_more}
+use Rattle.mb_lemmas.proofs.LogLemmas.{layers_of-push, entries_more}
 use Rattle.mb_model.specs.declared.entry.Entry.{Entry}
 use Rattle.mb_model.specs.declared.entry.SignedEntry.{SignedEntry}
-use Rattle.mb_model.specs.Log.{entries_of, last_of, layers_in, layers_of, serial_in, serial_of}
+use Rattle.mb_model.specs.Log.{entries_of, last_of, layers_in, layers_of}
 use Rattle.mb_model.specs.Lives.{alive_keys}
 use Rattle.mb_lemmas.specs.AliveLaws.{goes_on, made_by}
 use Rattle.mb_lemmas.proofs.AliveLemmas.{alive_keys-push}
 use Rattle.mb_image.specs.declared.alive.MadeKey.{MadeKey}
 use Rattle.mb_image.specs.Keys.{as_listed, listed}
-
--- the entries up to one more
-pub entries_more : (log : List SignedEntry) (i : ℕ) (d : SignedEntry) → i < length log
-    → entries_of (take (i + 1) log) ≡ entries_of (take i log) ++ (get_or log i d).entry ∷ []
-entries_more log i d within =
-    ap entries_of (take_more log i d within)
-    ∙ map-append (λ (s : SignedEntry). s.entry) (take i log) (get_or log i d ∷ [])
 
 filter-map : {X Y : Type 0} (p : Y → Bool) (f : X → Y) (xs : List X) → filter p (map f xs) ≡ map f (filter (λ x. p (f x)) xs)
 filter-map p f [] = refl
@@ -47,17 +37,6 @@ alive_more log i L d before after within was is =
     ∙ ap (λ es. alive_keys es L) (sym (entries_more log i d within))
 
 -- ---- what is named last
-
-pub serial_none : serial_of [] ≡ None
-unfolding serial_of last_of
-serial_none = refl
-
-pub serial_more : (log : List SignedEntry) (i : ℕ) (d : SignedEntry) (serial : Option (List ℕ)) → i < length log
-    → serial ≡ serial_of (entries_of (take i log)) → option_or (serial_in (get_or log i d).entry) serial ≡ serial_of (entries_of (take (i + 1) log))
-serial_more log i d serial within was =
-    ap (option_or (serial_in (get_or log i d).entry)) was
-    ∙ sym (serial_of-push (entries_of (take i log)) (get_or log i d).entry)
-    ∙ ap serial_of (sym (entries_more log i d within))
 
 pub layers_none : layers_of [] ≡ unowned_layers
 unfolding layers_of last_of

@@ -3,7 +3,7 @@
 ghost use Rattle.std.specs.Prelude.{◌≡◌, ◌↔◌, ◌+◌, ◌-◌, ◌^◌, ◌<◌, List, length, All, IfOk, IsTrue, MatchOption, OnOk};
 ghost use Rattle.mb_model.specs.declared.entry.Entry.{Entry};
 ghost use Rattle.mb_model.specs.EntryFormat.{entry_format};
-ghost use Rattle.mb_model.specs.Log.{entries_of, layers_in, layers_of, serial_in, serial_of};
+ghost use Rattle.mb_model.specs.Log.{entries_of, layers_in, layers_of};
 ghost use Rattle.mb_model.specs.Layers.{unowned_layers};
 ghost use Rattle.mb_model.specs.Valid.{Follows, EachFollows};
 ghost use Rattle.mb_log.specs.Figures.{figures_of};
@@ -57,29 +57,7 @@ fn verifies(alloc: Global, figures: &Figures, signed: &SignedEntry) -> Result<bo
     Ok(verify(key, &[ENTRY], text.as_slice(), &signed.signature))
 }
 
-/// The serial that a birth of the log names.
-pub(crate) fn serial_of(log: &[SignedEntry]) -> Option<[u8; 16]>
-    ensures { result ≡ serial_of (entries_of log.now) }
-{
-    let mut serial = None;
-    for signed in log {
-        serial = serial_in(&signed.entry).or(serial);
-    }
-    serial
-}
-
-/// The serial that an entry names.
-fn serial_in(entry: &Entry) -> Option<[u8; 16]>
-    ensures { result ≡ serial_in entry.now }
-{
-    match entry {
-        Entry::Birth { serial, .. } => Some(*serial),
-        _ => None,
-    }
-}
-
 /// The layers of the last birth or change of the log.
-
 pub(crate) fn layers_of(log: &[SignedEntry]) -> Layers
     ensures { result ≡ layers_of (entries_of log.now) }
 {

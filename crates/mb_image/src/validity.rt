@@ -8,10 +8,10 @@ ghost use Rattle.mb_model.specs.Valid.{IsValidState};
 ghost use Rattle.mb_log.specs.Figures.{figures_of};
 
 use crate::codes::are_named;
-use crate::log::{figures_of, serial_of};
+use crate::log::figures_of;
 use crate::regions::is_valid_region;
 use mb_lms::Steps;
-use mb_log::Figures;
+use mb_log::{Figures, serial_of};
 use mb_model::{NoMemory, PublicKey, SignedEntry, State};
 use std::alloc::Global;
 use std::sync::ledger::Ledger;

@@ -9,7 +9,7 @@ use Rattle.mb_model.specs.Log.{entries_of, RuledLog}
 use Rattle.mb_model.specs.Lives.{lives_of}
 use Rattle.mb_model.specs.Valid.{EachFollows}
 use Rattle.mb_model.specs.Acceptance.{ChainRefusal, Accepts, IsRefused, Honest}
-use Rattle.mb_model.specs.Listing.{Report}
+use Rattle.mb_model.specs.declared.state.Report.{Report}
 
 -- bytes are never both accepted and refused
 abbrev pub NeverBoth : Type 0

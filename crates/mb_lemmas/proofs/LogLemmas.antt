@@ -1,8 +1,8 @@
 -- What the entries of a log say together, after one more.
-use Rattle.std.proofs.Common.{◌≡◌, ◌≢◌, ◌⊎◌, inl, inr, ◌≤◌, ℕ, ◌+◌, List, [], ◌∷◌, ◌++◌, length, Option, None, Some, Bool, true, false, cond, refl, sym, ap, subst, ◌∙◌, arith, append_assoc, length-append}
+use Rattle.std.proofs.Common.{◌≡◌, ◌≢◌, ◌⊎◌, inl, inr, ◌≤◌, ◌<◌, ℕ, ◌+◌, List, [], ◌∷◌, ◌++◌, length, take, get_or, Option, None, Some, Bool, true, false, cond, refl, sym, ap, subst, ◌∙◌, arith, append_assoc, length-append}
 use Rattle.std.specs.Prelude.{take_while, reverse, is_some, is_none, unwrap_or, All, if◌then◌else◌}
 use Rattle.std.specs.Option.{option_or}
-use Rattle.std.proofs.lemmas.List.{reverse-append, append-nil}
+use Rattle.std.proofs.lemmas.List.{reverse-append, append-nil, map-append, take_more}
 use Rattle.std.proofs.lemmas.List.Elements.{All-tail, All-head}
 use Rattle.std.proofs.Math.Seq.{append_snoc}
 use Rattle.std.proofs.lemmas.List.Sums.{sum_by_push, sum_by-append, sum_by-cons, count_by-le-length, take_while-cons}
@@ -12,8 +12,9 @@ use Rattle.mb_model.specs.declared.layer.Pair.{Pair}
 use Rattle.mb_model.specs.declared.order.ChangeKind.{ChangeKind}
 use Rattle.mb_model.specs.declared.entry.Entry.{Entry}
 use Rattle.mb_model.specs.declared.entry.Entry.TheVariants.{Birth, Change, NewKey, Succession}
+use Rattle.mb_model.specs.declared.entry.SignedEntry.{SignedEntry}
 use Rattle.mb_model.specs.Layers.{unowned_layers}
-use Rattle.mb_model.specs.Log.{is_change, layers_in, device_in, keys_in, last_of, number_of, layers_of, device_of, used, made, Ruled, RuledLog}
+use Rattle.mb_model.specs.Log.{entries_of, is_change, layers_in, device_in, keys_in, last_of, number_of, layers_of, device_of, used, made, Ruled, RuledLog}
 
 pub number_of-push : (log : List Entry) (entry : Entry) → number_of (log ++ entry ∷ []) ≡ number_of log + (if is_change entry then 1 else 0)
 unfolding number_of
@@ -224,3 +225,10 @@ number-le log before position number kind k cosigned layers kept next rest ruled
     let own : number ≡ number_of before + 1 = (ruled before (Change position number kind k cosigned layers kept next) rest split).1.counted in
     let whole : number_of log ≡ number_of before + number_of (Change position number kind k cosigned layers kept next ∷ rest) = ap number_of split ∙ number_of-append before _ in
     omega (arith, own, whole, number_of-change position number kind k cosigned layers kept next rest)
+
+-- the entries up to one more
+pub entries_more : (log : List SignedEntry) (i : ℕ) (d : SignedEntry) → i < length log
+    → entries_of (take (i + 1) log) ≡ entries_of (take i log) ++ (get_or log i d).entry ∷ []
+entries_more log i d within =
+    ap entries_of (take_more log i d within)
+    ∙ map-append (λ (s : SignedEntry). s.entry) (take i log) (get_or log i d ∷ [])

@@ -3,3 +3,4 @@ pub mod Allowed
 pub mod Fronts
 pub mod KeyLives
 pub mod Pushes
+pub mod Serials

@@ -2,10 +2,10 @@
 //! configurations in which a key lived.
 //!
 //! This crate owns how many entries an order needs and which they are, how a device makes its keys of an event's draw,
-//! what a list of entries says together, the tests by which an entry follows, and what a list of entries says of one
-//! key. It stands on `mb_model`, which has the entries and the definitions, on `mb_signer`, which makes public keys, on
-//! `mb_lms`, which has the count of hashes, on `mb_authority`, which has the rules of layers, on the lemmas on logs in
-//! `mb_lemmas`, and on `sha2`.
+//! what a list of entries says together and of which device, the tests by which an entry follows, and what a list of
+//! entries says of one key. It stands on `mb_model`, which has the entries and the definitions, on `mb_signer`, which
+//! makes public keys, on `mb_lms`, which has the count of hashes, on `mb_authority`, which has the rules of layers, on the
+//! lemmas on logs in `mb_lemmas`, and on `sha2`.
 #![tactic(auto)]
 
 mod additions;
@@ -13,12 +13,14 @@ mod figures;
 mod keys;
 mod life;
 mod rules;
+mod serial;
 
 pub use additions::{bodies, needed};
 pub use figures::Figures;
 pub use keys::born;
 pub use life::{BornKey, Life, ends, lives};
 pub use rules::follows;
+pub use serial::serial_of;
 
 #[cfg(test)]
 mod tests;

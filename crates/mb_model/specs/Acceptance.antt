@@ -10,9 +10,9 @@ use Rattle.mb_model.specs.declared.entry.Entry.{Entry}
 use Rattle.mb_model.specs.declared.entry.Entry.TheVariants.{Birth, Change, NewKey, Succession}
 use Rattle.mb_model.specs.declared.entry.SignedEntry.{SignedEntry}
 use Rattle.mb_model.specs.declared.entry.Statement.{Statement}
+use Rattle.mb_model.specs.declared.state.Report.{Report}
 use Rattle.mb_model.specs.Merkle.{leaf_number, Verifies}
 use Rattle.mb_model.specs.Log.{entries_of, device_in, last_of, number_of, device_of, serial_of, Ordered, Ruled}
-use Rattle.mb_model.specs.Listing.{Report}
 use Rattle.mb_model.specs.Lives.{alive_keys, lives_of}
 use Rattle.mb_model.specs.ChainFormat.{chain_format}
 use Rattle.mb_model.specs.SignedTexts.{entry_text, statement_text, IsSignedBy}
@@ -85,6 +85,12 @@ pub record IsNext
   pub index : i ≡ length before
   pub good : AreGood maker before
 
+-- the maker signed the birth
+abbrev pub IsBornOf : PublicKey → List SignedEntry → Type 0
+IsBornOf maker log =
+    (birth : SignedEntry) (rest : List SignedEntry) → log ≡ birth ∷ rest
+    → Verifies maker (entry_text birth.entry) birth.signature
+
 -- ---- the key and the statement
 
 -- what the entry that makes a key of a region says of it
@@ -138,6 +144,7 @@ report_of chain n made = record {
   kind = made.kind;
   alive = is_alive (entries_of chain.entries) n made.layer;
   lives = lives_of (entries_of chain.entries) n;
+  entries = length chain.entries;
   message = message_of chain.statement;
 }
 
@@ -192,6 +199,15 @@ IsRefused maker bytes n (wrong_number named last) =
 IsRefused maker bytes n key_ended =
     (log : List Entry) × (made : KeyEntry) × (statement : Statement) × IsGoodFor maker bytes n log made statement
     × IsStated log n made.key statement × (statement.number ≡ number_of log) × (is_alive log n made.layer ≡ false)
+
+-- what a verifier says of bytes: it accepts them, and says this of the key, or refuses them for this
+pub data Verdict : Type 0 where
+  accepting : Report → Verdict
+  refusing : ChainRefusal → Verdict
+
+abbrev pub IsVerdict : PublicKey → List ℕ → ℕ → Verdict → Type 0
+IsVerdict maker bytes n (accepting report) = Accepts maker bytes n report
+IsVerdict maker bytes n (refusing why) = IsRefused maker bytes n why
 
 -- ---- chains without forged entries
 

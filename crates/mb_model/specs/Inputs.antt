@@ -7,6 +7,8 @@ use Rattle.mb_model.specs.declared.role.Role.TheVariants as role
 use Rattle.mb_model.specs.declared.role.Place.{Place}
 use Rattle.mb_model.specs.declared.role.Place.TheVariants as fault
 use Rattle.mb_model.specs.declared.key.PublicKey.{PublicKey}
+use Rattle.mb_model.specs.declared.entry.Chain.{Chain}
+use Rattle.mb_model.specs.declared.entry.Statement.{Statement}
 use Rattle.mb_model.specs.declared.event.Event.{Event}
 use Rattle.mb_model.specs.declared.state.State.{State}
 use Rattle.mb_model.specs.declared.order.Order.{Order}
@@ -14,7 +16,8 @@ use Rattle.mb_model.specs.declared.tools.Keyfile.{Keyfile}
 use Rattle.mb_model.specs.KeyFormat.{public_key_format, keyfile_format}
 use Rattle.mb_model.specs.Lines.{Reads, TextFailsAtLine}
 use Rattle.mb_model.specs.Drafts.{IsDraft}
-use Rattle.mb_model.specs.OrderLines.{IsOrderLine}
+use Rattle.mb_model.specs.OrderLines.{IsOrderLine, IsStatementLine}
+use Rattle.mb_model.specs.ChainFormat.{chain_format}
 use Rattle.mb_model.specs.Script.{IsScript, IsShortNoise, Drawn}
 use Rattle.mb_model.specs.Meaning.{IsWellFormed}
 use Rattle.mb_model.specs.Faults.{Fault, HasFault, bad_length, bad_root, bad_public, bad_region_two}
@@ -117,6 +120,27 @@ image_input name = record {
 -- a script, which stands for events
 abbrev pub script_input : List ℕ → Input (List Event)
 script_input name = text_input role.Script IsScript name
+
+-- the public key of a device's maker
+abbrev pub root_input : List ℕ → Input PublicKey
+root_input name = binary_input role.Root public_key_format name
+
+-- a chain of certificates
+abbrev pub chain_input : List ℕ → Input Chain
+chain_input name = binary_input role.Chain chain_format name
+
+-- the bytes of a chain that is to be judged: whether they spell one is the verifier's to say
+abbrev pub chain_bytes_input : List ℕ → Input (List ℕ)
+chain_bytes_input name = record {
+  role = role.Chain;
+  name = name;
+  Is = λ bytes whole. whole ≡ bytes;
+  FaultyAt = λ bytes place. ⊥;
+}
+
+-- what a region's key signed, as a line
+abbrev pub statement_input : List ℕ → Input Statement
+statement_input name = text_input role.Statement IsStatementLine name
 
 -- the noise that gives the commands among the events their draws
 abbrev pub draws_input : List Event → List ℕ → Input (List Event)

@@ -12,6 +12,9 @@ pub mod Keygen
 pub mod Sign
 pub mod FactoryCommand
 pub mod RunCommand
+pub mod VerifyCommand
+pub mod ChainCommands
+pub mod AuditCommand
 pub mod Top
 pub mod Layers
 pub mod Rules

@@ -9,21 +9,13 @@ use Rattle.mb_model.specs.declared.layer.CodeName.{CodeName}
 use Rattle.mb_model.specs.declared.layer.Layer.{Layer}
 use Rattle.mb_model.specs.declared.order.KeyKind.{KeyKind}
 use Rattle.mb_model.specs.declared.state.Configuration.{Configuration}
+use Rattle.mb_model.specs.declared.state.Report.{Report}
 use Rattle.mb_model.specs.declared.event.Answered.{Answered}
 use Rattle.mb_model.specs.declared.reply.Reply.{Reply}
 use Rattle.mb_model.specs.declared.reply.Reply.TheVariants as reply
 use Rattle.mb_model.specs.Key.{key_bytes}
 use Rattle.mb_model.specs.Lines.{spaced, hex_word}
 use Rattle.mb_model.specs.Drafts.{trust_word, kind_word}
-
--- What a verifier found out about a key: its layer and kind, whether it is alive at the chain's end, the configurations
--- in which it lived, and the message of the chain's statement, where it has one.
-pub record Report : Type 0 where
-  pub layer : ℕ
-  pub kind : KeyKind
-  pub alive : Bool
-  pub lives : List Configuration
-  pub message : Option (List ℕ)
 
 abbrev pub life_word : Bool → List ℕ
 life_word true = codes "alive"

@@ -1,17 +1,28 @@
 -- What can be relied on over a whole run of the machine, whatever power does. Does a device ever take back what its log
 -- tells, or does a key sign twice with one index?
-use Rattle.std.specs.Prelude.{◌≡◌, ℕ, ◌<◌, ◌≤◌, List, [], ◌∷◌, ◌++◌, length, All, AllPairs, Contains}
+use Rattle.std.specs.Prelude.{◌≡◌, ℕ, ◌<◌, ◌≤◌, IsTrue, List, [], ◌∷◌, ◌++◌, length, All, AllPairs, Any, Contains}
 use Rattle.std.specs.Prelude.{Option, None, Some, IsSome}
+use Rattle.mb_format.specs.Format.{Spells}
+use Rattle.mb_model.specs.declared.key.PublicKey.{PublicKey}
+use Rattle.mb_model.specs.declared.order.KeyKind.{KeyKind}
 use Rattle.mb_model.specs.declared.entry.SignedEntry.{SignedEntry}
+use Rattle.mb_model.specs.declared.entry.Statement.{Statement}
 use Rattle.mb_model.specs.declared.event.Answered.{Answered}
 use Rattle.mb_model.specs.declared.region.RegionKey.{RegionKey}
 use Rattle.mb_model.specs.declared.reply.Reply.TheVariants as reply
+use Rattle.mb_model.specs.declared.state.Configuration.{Configuration}
 use Rattle.mb_model.specs.declared.state.State.{State}
 use Rattle.mb_model.specs.Merkle.{leaf_number}
-use Rattle.mb_model.specs.Log.{device_in}
+use Rattle.mb_model.specs.Layers.{is_upper}
+use Rattle.mb_model.specs.Log.{entries_of, device_in}
+use Rattle.mb_model.specs.Lives.{Alive, configuration, lives_of}
+use Rattle.mb_model.specs.Signing.{public_of}
+use Rattle.mb_model.specs.ChainFormat.{statement_format, chain_format}
+use Rattle.mb_model.specs.Attach.{stated_chain}
+use Rattle.mb_model.specs.Acceptance.{IsBornOf, KeyEntry, report_of, Accepts}
 use Rattle.mb_model.specs.OrderStep.{region_of}
 use Rattle.mb_model.specs.Machine.{World, Run}
-use Rattle.mb_model.specs.Valid.{Valid}
+use Rattle.mb_model.specs.Valid.{as_made, Valid}
 
 -- the worlds of a run, in order: that before it, and those to which the events lead
 abbrev pub worlds_of : (world : World) (answered : List Answered) (next : World) → Run world answered next → List World
@@ -72,15 +83,57 @@ SignsAfterUses state answered =
     (live : State) (L : ℕ) (key : RegionKey) → state ≡ Some live → Contains (region_of live L).keys key
     → All (λ a. (i : ℕ) → IsSignedAt key.number i a → key.uses ≤ i) answered
 
+-- A key of layer L stands in its region exactly where it is alive by the log. The last of the configurations in which
+-- it lived has the layers that stand now.
+pub record HoldsLivingKeys (live : State) (L : ℕ) : Type 0 where
+  pub alive : (key : RegionKey)
+      → Contains (region_of live L).keys key
+      → Alive (entries_of live.log) key.number L key.kind (public_of key.seed)
+  pub held : (n : ℕ) (kind : KeyKind) (key : PublicKey)
+      → Alive (entries_of live.log) n L kind key
+      → Any (λ k. as_made k ≡ record { number = n; kind = kind; key = key }) (region_of live L).keys
+  pub now : (key : RegionKey)
+      → Contains (region_of live L).keys key
+      → (sooner : List Configuration) × (number : ℕ)
+      × (lives_of (entries_of live.log) key.number ≡ sooner ++ configuration L number live.layers ∷ [])
+
+-- ---- statements
+
+-- Bytes that spell the log with this statement attached to it are accepted for the key with the number n.
+pub record StaysAccepted (maker : PublicKey) (log : List SignedEntry) (n : ℕ) (bytes : List ℕ) : Type 0 where
+  pub statement : Statement
+  pub made : KeyEntry
+  pub is : bytes ≡ statement_format.spelling statement
+  pub accepted : (chain : List ℕ)
+      → Spells chain_format chain (stated_chain log statement)
+      → Accepts maker chain n (report_of (stated_chain log statement) n made)
+
+-- in this world they are, wherever the maker signed the device's birth
+abbrev pub IsAcceptedIn : ℕ → List ℕ → World → Type 0
+IsAcceptedIn n bytes world =
+    (maker : PublicKey) (live : State) → world.state ≡ Some live → IsBornOf maker live.log
+    → StaysAccepted maker live.log n bytes
+
+-- each statement that a run answers is accepted with the log of each live state from then on
+abbrev pub StatementsStayAccepted :
+    (world : World) (answered : List Answered) (next : World) → Run world answered next → Type 0
+StatementsStayAccepted world [] next run = Unit {0}
+StatementsStayAccepted world (this ∷ rest) next run =
+    ((n index : ℕ) (bytes : List ℕ) → this.reply ≡ reply.Signed n index bytes
+    → All (IsAcceptedIn n bytes) (worlds_of run.0 rest next run.2))
+    × StatementsStayAccepted run.0 rest next run.2
+
 -- ---- a history
 
--- a state that a device can have, in whose log no device key signs two entries with one index
+-- A state that a device can have, whose regions hold the keys that are alive, and in whose log no device key signs two
+-- entries with one index.
 pub record IsSoundWorld (world : World) : Type 0 where
   pub valid : Valid world.state
+  pub keys : (live : State) (L : ℕ) → world.state ≡ Some live → IsTrue (is_upper L) → HoldsLivingKeys live L
   pub once : (live : State) → world.state ≡ Some live → SignsEntriesOnce live.log
 
--- What a run tells: each of its worlds is sound, each log begins each later one, and no key of a region signs two
--- statements with one index, nor with one that was used before the run.
+-- What a run tells: each of its worlds is sound, each log begins each later one, no key of a region signs two statements
+-- with one index, nor with one that was used before the run, and each statement stays accepted.
 pub record IsSoundRun
     (world : World)
     (answered : List Answered)
@@ -90,3 +143,4 @@ pub record IsSoundRun
   pub logs : AllPairs LogGoesOn (worlds_of world answered next run)
   pub statements : SignsStatementsOnce answered
   pub uses : SignsAfterUses world.state answered
+  pub accepted : StatementsStayAccepted world answered next run

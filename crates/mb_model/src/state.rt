@@ -118,3 +118,19 @@ pub struct Configuration {
 
 /// The configurations in which a key lived, in order.
 pub type Lives = Items<Configuration>;
+
+/// What a verifier finds out about a key of a region by a chain that it accepts.
+#[derive(Drop)]
+pub struct Report {
+    /// The key's layer, 2 or 3.
+    pub layer: u8,
+    pub kind: KeyKind,
+    /// Whether the key is alive at the chain's end.
+    pub alive: bool,
+    /// The configurations in which it lived.
+    pub lives: Lives,
+    /// How many entries the chain has.
+    pub entries: u32,
+    /// The message of the chain's statement, where it has one.
+    pub message: Option<Bytes>,
+}

@@ -6,23 +6,14 @@ use Rattle.mb_model.specs.declared.order.KeyKind.{KeyKind}
 use Rattle.mb_model.specs.declared.entry.Chain.{Chain}
 use Rattle.mb_model.specs.declared.entry.Entry.{Entry}
 use Rattle.mb_model.specs.declared.entry.Entry.TheVariants.{NewKey}
-use Rattle.mb_model.specs.declared.entry.SignedEntry.{SignedEntry}
 use Rattle.mb_model.specs.declared.state.State.{State}
-use Rattle.mb_model.specs.Merkle.{Verifies}
 use Rattle.mb_model.specs.Log.{entries_of}
 use Rattle.mb_model.specs.ChainFormat.{chain_format}
-use Rattle.mb_model.specs.SignedTexts.{entry_text}
 use Rattle.mb_model.specs.Valid.{IsValidState}
 use Rattle.mb_model.specs.Attach.{bare_chain}
-use Rattle.mb_model.specs.Acceptance.{AreGood, report_of, Accepts}
+use Rattle.mb_model.specs.Acceptance.{IsBornOf, AreGood, report_of, Accepts}
 
--- the maker signed the birth
-abbrev pub IsBornOf : PublicKey → List SignedEntry → Type 0
-IsBornOf maker log =
-    (birth : SignedEntry) (rest : List SignedEntry) → log ≡ birth ∷ rest
-    → Verifies maker (entry_text birth.entry) birth.signature
-
--- then each entry of the device's log follows, as a verifier looks at it
+-- Where the maker signed the birth, each entry of the device's log follows, as a verifier looks at it.
 abbrev pub LogsAreGood : Type 0
 LogsAreGood =
     (maker : PublicKey) (state : State) → IsValidState state → IsBornOf maker state.log → AreGood maker state.log

@@ -16,9 +16,8 @@ use Rattle.mb_model.specs.LayerEvents.{statement_of}
 use Rattle.mb_model.specs.Machine.{World, Step, Run}
 use Rattle.mb_model.specs.Valid.{Valid}
 use Rattle.mb_model.specs.Attach.{stated_chain}
-use Rattle.mb_model.specs.Acceptance.{KeyEntry, report_of, Accepts}
-use Rattle.mb_run_laws.specs.BirthLaws.{IsBornOf}
-use Rattle.mb_model.specs.Runs.{worlds_of}
+use Rattle.mb_model.specs.Acceptance.{IsBornOf, KeyEntry, report_of, Accepts}
+use Rattle.mb_model.specs.Runs.{worlds_of, IsAcceptedIn}
 
 -- ---- statements
 
@@ -57,21 +56,10 @@ StatementsAreAccepted =
     → Accepts maker bytes key.number
     (report_of (stated_chain later.log (statement_of state key message)) key.number (entry_of L key))
 
--- Bytes that spell the log with this statement attached to it are accepted for the key with the number n.
-pub record StaysAccepted (maker : PublicKey) (log : List SignedEntry) (n : ℕ) (bytes : List ℕ) : Type 0 where
-  pub statement : Statement
-  pub made : KeyEntry
-  pub is : bytes ≡ statement_format.spelling statement
-  pub accepted : (chain : List ℕ)
-      → Spells chain_format chain (stated_chain log statement)
-      → Accepts maker chain n (report_of (stated_chain log statement) n made)
-
 -- So what an event was answered by, in a valid state, is accepted with the log of each later live state of a run.
 abbrev pub AnswersStayAccepted : Type 0
 AnswersStayAccepted =
-    (maker : PublicKey) (world : World) (event : Event) (n index : ℕ) (bytes : List ℕ) (mid : World)
+    (world : World) (event : Event) (n index : ℕ) (bytes : List ℕ) (mid : World)
     (answered : List Answered) (next : World) (run : Run mid answered next)
     → Valid world.state → Step world event (reply.Signed n index bytes) mid
-    → All
-    (λ w. (later : State) → w.state ≡ Some later → IsBornOf maker later.log → StaysAccepted maker later.log n bytes)
-    (worlds_of mid answered next run)
+    → All (IsAcceptedIn n bytes) (worlds_of mid answered next run)

@@ -1,7 +1,7 @@
 use Rattle.std.proofs.Common.{sym, ap, ◌∙◌}
 use Rattle.std.specs.Option.{option_or}
-use Rattle.mb_image.proofs.LogSteps.{serial_none, serial_more}
-use Rattle.mb_image.proofs.log.serial_of.Goals as goal
+use Rattle.mb_log.proofs.Serials.{serial_none, serial_more}
+use Rattle.mb_log.proofs.serial.serial_of.Goals as goal
 
 pub loop-signed-init : goal.loop-signed-init
 loop-signed-init c = sym serial_none

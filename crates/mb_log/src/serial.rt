@@ -1,0 +1,27 @@
+//! The serial of the device whose log a list of entries is.
+
+ghost use Rattle.std.specs.Prelude.{◌≡◌};
+ghost use Rattle.mb_model.specs.Log.{entries_of, serial_in, serial_of};
+
+use mb_model::{Entry, SignedEntry};
+
+/// The serial that a birth of the log names.
+pub fn serial_of(log: &[SignedEntry]) -> Option<[u8; 16]>
+    ensures { result ≡ serial_of (entries_of log.now) }
+{
+    let mut serial = None;
+    for signed in log {
+        serial = serial_in(&signed.entry).or(serial);
+    }
+    serial
+}
+
+/// The serial that an entry names.
+fn serial_in(entry: &Entry) -> Option<[u8; 16]>
+    ensures { result ≡ serial_in entry.now }
+{
+    match entry {
+        Entry::Birth { serial, .. } => Some(*serial),
+        _ => None,
+    }
+}

@@ -1,0 +1,70 @@
+-- What the command `audit` does. Does a chain list exactly the configurations in which the device held its key?
+use Rattle.std.specs.Prelude.{◌≡◌, ℕ, List, ◌++◌, take, codes, Option, None, Some}
+use Rattle.mb_format.specs.Format.{Spells}
+use Rattle.mb_model.specs.declared.key.PublicKey.{PublicKey}
+use Rattle.mb_model.specs.declared.entry.Chain.{Chain}
+use Rattle.mb_model.specs.declared.entry.Entry.{Entry}
+use Rattle.mb_model.specs.declared.state.Configuration.{Configuration}
+use Rattle.mb_model.specs.declared.state.Report.{Report}
+use Rattle.mb_model.specs.declared.state.State.{State}
+use Rattle.mb_model.specs.Texts.{ended}
+use Rattle.mb_model.specs.Log.{entries_of}
+use Rattle.mb_model.specs.Lives.{lives_of}
+use Rattle.mb_model.specs.ChainFormat.{chain_format}
+use Rattle.mb_model.specs.Acceptance.{Verdict, accepting, refusing, IsVerdict, Honest}
+use Rattle.mb_model.specs.Commands.{Command, read, find, either, print, refuse}
+use Rattle.mb_model.specs.Inputs.{image_input, root_input, chain_bytes_input}
+use Rattle.mb_model.specs.VerifyCommand.{refused_line}
+
+-- the names of the files, and the number of the key that is asked for
+pub record AuditNames : Type 0 where
+  pub image : List ℕ
+  pub root : List ℕ
+  pub chain : List ℕ
+  pub key : ℕ
+
+-- the configurations in which the device held the key with the number n, by the first entries of its own log
+abbrev pub own_lives : State → ℕ → ℕ → List Configuration
+own_lives state count n = lives_of (take count (entries_of state.log)) n
+
+-- The chain tells of this device: its entries are the first of the device's log, and the verifier's list is that of the
+-- device up to there.
+pub record TellsOfDevice (state : State) (n : ℕ) (chain : Chain) (report : Report) : Type 0 where
+  pub later : List Entry
+  pub begins : entries_of state.log ≡ entries_of chain.entries ++ later
+  pub lists : report.lives ≡ own_lives state report.entries n
+
+-- What an audit finds: the verdict on the chain. Where it is accepted, and no entry of it was forged, it tells of the
+-- device.
+pub record IsAudited
+    (state : State)
+    (maker : PublicKey)
+    (bytes : List ℕ)
+    (n : ℕ)
+    (verdict : Verdict) : Type 0 where
+  pub is : IsVerdict maker bytes n verdict
+  pub honest : (report : Report) (chain : Chain)
+      → verdict ≡ accepting report → Spells chain_format bytes chain
+      → Honest chain.entries maker (entries_of state.log) → TellsOfDevice state n chain report
+
+-- the lists are compared, or the chain is refused
+abbrev pub compare : State → ℕ → Verdict → Command
+compare state n (accepting report) =
+    either (report.lives ≡ own_lives state report.entries n) (print (ended (codes "agrees"))) (refuse (codes "differs"))
+compare state n (refusing why) = refuse (refused_line why)
+
+-- a dead device has no log, whatever the chain is
+abbrev pub audit_chain : AuditNames → Option State → PublicKey → List ℕ → Command
+audit_chain names None maker bytes = refuse (codes "zeroised")
+audit_chain names (Some state) maker bytes =
+    find (IsAudited state maker bytes names.key) (compare state names.key)
+
+abbrev pub audit_under : AuditNames → Option State → PublicKey → Command
+audit_under names state maker = read (chain_bytes_input names.chain) (audit_chain names state maker)
+
+abbrev pub audit_device : AuditNames → Option State → Command
+audit_device names state = read (root_input names.root) (audit_under names state)
+
+-- the device's image, the maker's public key and the chain are read, and the chain is judged
+unfoldable pub audit : AuditNames → Command
+audit names = read (image_input names.image) (audit_device names)

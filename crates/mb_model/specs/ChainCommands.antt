@@ -1,0 +1,70 @@
+-- What the commands `chain` and `attach` do. Is what a device hands out accepted wherever its maker is trusted?
+use Rattle.std.specs.Prelude.{◌≡◌, ◌≢◌, ℕ, List, ◌++◌, length, codes, Option, None, Some}
+use Rattle.std.specs.Fmt.{decimal}
+use Rattle.mb_format.specs.Format.{Spells}
+use Rattle.mb_model.specs.declared.key.PublicKey.{PublicKey}
+use Rattle.mb_model.specs.declared.entry.Chain.{Chain}
+use Rattle.mb_model.specs.declared.entry.Statement.{Statement}
+use Rattle.mb_model.specs.declared.role.Role.TheVariants as role
+use Rattle.mb_model.specs.declared.state.State.{State}
+use Rattle.mb_model.specs.Texts.{ended}
+use Rattle.mb_model.specs.Log.{entries_of}
+use Rattle.mb_model.specs.ChainFormat.{chain_format}
+use Rattle.mb_model.specs.Attach.{bare_chain, stated_chain}
+use Rattle.mb_model.specs.Acceptance.{IsBornOf, AreGood, KeyEntry, key_of, report_of, Accepts}
+use Rattle.mb_model.specs.Commands.{Command, read, find, either, write, print, refuse}
+use Rattle.mb_model.specs.Inputs.{image_input, chain_input, statement_input}
+
+-- the names of the files of `chain`
+pub record ChainNames : Type 0 where
+  pub image : List ℕ
+  pub out : List ℕ
+
+-- the names of the files of `attach`
+pub record AttachNames : Type 0 where
+  pub chain : List ℕ
+  pub statement : List ℕ
+  pub out : List ℕ
+
+-- the line that tells how many entries a chain has
+abbrev pub entries_text : ℕ → List ℕ
+entries_text n = ended (codes "entries " ++ decimal n)
+
+-- a chain is written, and the number of its entries is told
+unfoldable pub write_entries : List ℕ → Chain → Command
+write_entries out chain =
+    write (record { role = role.Out; name = out; bytes = chain_format.spelling chain })
+    (print (entries_text (length chain.entries)))
+
+-- ---- chain
+
+-- The chain is the whole log of a device. Under the key that signed its birth no entry is refused, and it is accepted
+-- for each key that was born in a region.
+pub record IsChainOf (state : State) (chain : Chain) : Type 0 where
+  pub is : chain ≡ bare_chain state.log
+  pub good : (maker : PublicKey) → IsBornOf maker state.log → AreGood maker chain.entries
+  pub accepted : (maker : PublicKey) (bytes : List ℕ) (n : ℕ) (made : KeyEntry)
+      → IsBornOf maker state.log → Spells chain_format bytes chain → key_of (entries_of state.log) n ≡ Some made
+      → Accepts maker bytes n (report_of chain n made)
+
+-- a dead device has no log
+abbrev pub chain_of : ChainNames → Option State → Command
+chain_of names None = refuse (codes "zeroised")
+chain_of names (Some state) = find (IsChainOf state) (write_entries names.out)
+
+unfoldable pub chain : ChainNames → Command
+chain names = read (image_input names.image) (chain_of names)
+
+-- ---- attach
+
+-- the statement is attached, unless the chain has one
+unfoldable pub attach_statement : AttachNames → Chain → Statement → Command
+attach_statement names chain statement =
+    either (chain.statement ≢ None) (refuse (codes "has statement"))
+    (write_entries names.out (stated_chain chain.entries statement))
+
+abbrev pub attach_to : AttachNames → Chain → Command
+attach_to names chain = read (statement_input names.statement) (attach_statement names chain)
+
+unfoldable pub attach : AttachNames → Command
+attach names = read (chain_input names.chain) (attach_to names)
