@@ -2,4 +2,3 @@ pub mod SaidLemmas
 pub mod ClearTexts
 pub mod ReplyLemmas
 pub mod WorkloadLemmas
-pub mod AuditLemmas
