@@ -1,13 +1,13 @@
 //! Whole chains of certificates.
 
-ghost use Rattle.std.specs.Prelude.{◌≡◌, ◌<◌, ◌≤◌, length};
-ghost use Rattle.std.specs.List.{All};
+ghost use Rattle.std.specs.Prelude.{◌≡◌, ◌≤◌, length};
 ghost use Rattle.mb_format.specs.Combinators.{mark, optional};
 ghost use Rattle.mb_model.specs.EntryFormat.{entry_format, signed_entry_format};
 ghost use Rattle.mb_model.specs.ChainFormat.{chain_word, statement_format, chain_format};
 ghost use Rattle.mb_bytes.specs.Reads.{Reads, ReadsWhole, bad_at};
 ghost use Rattle.mb_bytes.specs.Puts.{Puts, Writes};
 ghost use Rattle.mb_cert.specs.Ends.{chain_at};
+ghost use Rattle.mb_cert.specs.Bounds.{StatementFits, LogFits, ChainFits};
 ghost use Rattle.mb_cert.specs.Parts.{log_format};
 
 use crate::end::ChainEnd;
@@ -118,9 +118,9 @@ pub fn write_chain(chain: &Chain, out: &mut Vec<u8>) -> Result<(), NoMemory>
     }
 }
 
-#[tactic(auto, unfolding(mb_model::specs::ChainFormat::chain_format))]
+#[tactic(auto, unfolding(mb_model::specs::ChainFormat::chain_format, crate::specs::Parts::log_format))]
 fn put_chain(out: &mut Vec<u8>, chain: &Chain) -> Result<(), NoMemory>
-    requires { chain_format.Allowed chain.now }
+    requires { ChainFits chain.now }
     ensures { Puts (chain_format.spelling chain.now) out.old result out.new }
 {
     put_slice(out, &WORD)?;
@@ -130,7 +130,7 @@ fn put_chain(out: &mut Vec<u8>, chain: &Chain) -> Result<(), NoMemory>
 
 #[tactic(auto, unfolding(crate::specs::Parts::log_format))]
 fn put_entries(out: &mut Vec<u8>, entries: &[SignedEntry]) -> Result<(), NoMemory>
-    requires { log_format.Allowed entries.now }
+    requires { LogFits entries.now }
     ensures { Puts (log_format.spelling entries.now) out.old result out.new }
 {
     put_u16(out, entries.len() as u16)?;
@@ -157,7 +157,7 @@ fn put_entry(out: &mut Vec<u8>, entry: &Entry) -> Result<(), NoMemory>
 }
 
 fn put_optional_statement(out: &mut Vec<u8>, statement: &Option<Statement>) -> Result<(), NoMemory>
-    requires { (optional statement_format).Allowed statement.now }
+    requires { StatementFits statement.now }
     ensures { Puts ((optional statement_format).spelling statement.now) out.old result out.new }
 {
     match statement {
