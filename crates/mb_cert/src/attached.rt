@@ -1,6 +1,7 @@
 //! Chains to which a statement is attached.
 
 ghost use Rattle.std.specs.Prelude.{◌≡◌, take, None};
+ghost use Rattle.std.specs.List.{position};
 ghost use Rattle.mb_model.specs.Attach.{is_change_above, cut_at, stated_chain};
 ghost use Rattle.mb_model.specs.ChainFormat.{statement_format, chain_format};
 
@@ -29,21 +30,27 @@ fn count_before_cut(entries: &[SignedEntry], number: u32) -> usize
     let Some((_birth, rest)) = entries.split_first() else {
         return 0;
     };
-    match rest
-        .iter()
-        .position(|signed| is_change_above(number, &signed.entry))
-    {
+    match first_change_above(number, rest) {
         Some(before) => 1 + before,
         None => entries.len(),
     }
 }
 
+/// The index of the first change with a configuration number above this one.
+fn first_change_above(number: u32, entries: &[SignedEntry]) -> Option<usize>
+    ensures { result ≡ position (λ signed. is_change_above number signed.entry) entries.now }
+{
+    entries
+        .iter()
+        .position(|signed| is_change_above(number, &signed.entry))
+}
+
 /// Whether the entry is a change with a configuration number above this one.
-fn is_change_above(least: u32, entry: &Entry) -> bool
-    ensures { result ≡ is_change_above least entry.now }
+fn is_change_above(number: u32, entry: &Entry) -> bool
+    ensures { result ≡ is_change_above number entry.now }
 {
     match entry {
-        Entry::Change { number, .. } => least < *number,
+        Entry::Change { number: later, .. } => number < *later,
         Entry::Birth { .. } | Entry::NewKey { .. } | Entry::Succession { .. } => false,
     }
 }
