@@ -26,9 +26,11 @@ cut_allowed : (n : ℕ) (log : List SignedEntry) → (times (length log) signed_
 unfolding items
 cut_allowed n [] h = h
 cut_allowed n (birth ∷ rest) h =
-    let whole : rest ≡ take_while (stays n) rest ++ drop (prefix_len (stays n) rest) rest = sym (take-append-drop (prefix_len (stays n) rest) rest) in
-    (h.0, front_allowed signed_entry_format (take_while (stays n) rest) (drop (prefix_len (stays n) rest) rest)
-    (subst (λ (log : List SignedEntry). (times (length log) signed_entry_format).Allowed log) whole h.1))
+    let whole : rest ≡ take_while (stays n) rest ++ drop (prefix_len (stays n) rest) rest = sym (take-append-drop (prefix_len (stays n) rest) rest) in (
+      h.0,
+      front_allowed signed_entry_format (take_while (stays n) rest) (drop (prefix_len (stays n) rest) rest)
+          (subst (λ (log : List SignedEntry). (times (length log) signed_entry_format).Allowed log) whole h.1),
+    )
 
 cut_some : (n : ℕ) (log : List SignedEntry) → 1 ≤ length log → 1 ≤ length (cut_at n log)
 cut_some n [] some = some
@@ -42,6 +44,7 @@ pub stated_allowed : (chain : Chain) (statement : Statement) → chain_format.Al
 unfolding chain_format
 stated_allowed chain statement h stated =
     let n = statement.number in
-    let fewer = cut_shorter n chain.entries in
-    ( tt,
-      (((cut_some n chain.entries h.1.0.0.0, omega (arith, fewer, h.1.0.0.1)), cut_allowed n chain.entries h.1.0.1), (tt, stated)) )
+    let fewer = cut_shorter n chain.entries in (
+      tt,
+      (((cut_some n chain.entries h.1.0.0.0, omega (arith, fewer, h.1.0.0.1)), cut_allowed n chain.entries h.1.0.1), (tt, stated)),
+    )
