@@ -5,8 +5,8 @@ ghost use Rattle.std.specs.Prelude.{◌≡◌};
 use mb_cert::ChainEnd;
 use mb_model::NoMemory;
 
-/// Why a chain is not accepted. If several apply, the first in this list is returned, and of two entries the earlier one
-/// is named; `NoMemory` may stand in place of any.
+/// Why a chain is not accepted: the first check that fails, in the order of this list, where the three of an entry are
+/// tried for one entry after another. `NoMemory` may stand in place of any.
 #[derive(Clone, Copy, Debug, PartialEq, Eq)]
 pub enum ChainRefusal {
     /// The bytes are no chain.
