@@ -193,6 +193,8 @@ def spelled(entries, statement=None):
 
 def log_in(image):
     """The signed entries of the log in a device's image, or None of a dead device."""
+    if len(image) != FLASH + BBRAM:
+        raise Ended(3, "input image length")
     bbram = image[FLASH:]
     if not any(bbram):
         return None

@@ -12,6 +12,7 @@ bytes and more in the tests that no reader here has looked at are counted on a l
 import pathlib
 import sys
 
+import chain_readers
 import readers
 import top_readers
 from sources import Source
@@ -32,6 +33,7 @@ READERS = {
     "crates/mb_cuts/src/tests/roots.rt": readers.next_root,
     "crates/mb_orders/src/tests/signed.rt": readers.judged_orders,
     "crates/mb_top/src/tests/births.rt": top_readers.births,
+    "crates/mb_top/src/tests/chains.rt": chain_readers.chains_tests,
     "crates/mb_top/src/tests/devices.rt": top_readers.plays,
     "crates/mb_top/src/tests/keys.rt": top_readers.plays,
     "crates/mb_top/src/tests/sign.rt": top_readers.signed_orders,
