@@ -260,3 +260,12 @@ def chains_tests(source):
                 compare_turned(source, world)
             for step in steps.get(name, ()):
                 follow(source, world, step)
+
+
+def sample_signatures(source):
+    """The key, the text and the signature of each entry of the first chain of the tests, and of its statement."""
+    world, steps = born(source), tables(source, {})
+    for step in (*steps["A_WHOLE_LIFE"], *steps["A_STATEMENT_IS_ATTACHED"]):
+        follow(source, world, step)
+    yield from chains.signatures(world.files["public0"], world.files["chain"])
+    yield chains.statement_signature(world.files["attached"], 1)

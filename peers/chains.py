@@ -5,7 +5,7 @@
     chains.py attach CHAIN STATEMENT OUT
     chains.py verify ROOT CHAIN KEY
     chains.py audit IMAGE ROOT CHAIN KEY
-    chains.py signatures ROOT CHAIN        prints each entry's signature as a line KEY TEXT SIGNATURE
+    chains.py signatures ROOT CHAIN        prints the signature of each entry as a line KEY TEXT SIGNATURE
 
 The image of a device has to be one of whose log no entry is left to be signed. Nothing here is taken from the program: the
 log is walked once, with the device key in charge, and the lives of a key are followed from its birth on.
@@ -30,7 +30,7 @@ LAST_INDEX = 31
 TRUSTS = "always", "never", "countersigned"
 FLASH, BBRAM, AREA, FLASH_AREA = 1_048_576, 28_672, 4_096, 524_288
 
-verifies = functools.lru_cache(65_536)(lms.verify)
+verifies = functools.lru_cache(1_024)(lms.verify)
 
 
 class Unformed(Exception):
@@ -361,6 +361,11 @@ def lived(key, born, later):
     return Life(key.layer, key.kind, key.key, True, tuple(configurations))
 
 
+def stated_text(serial, n, statement):
+    """What the device with this serial signs of a statement, by the key with this number."""
+    return u8(4) + serial + u32(n) + u32(statement.number) + statement.message
+
+
 def accepted(maker, bytes_, n):
     """The life of the key with this number by a chain, its statement or none, and the number of its entries."""
     try:
@@ -374,8 +379,7 @@ def accepted(maker, bytes_, n):
     if life is None:
         raise Refused(24)
     if statement:
-        text = u8(4) + log.serial + u32(n) + u32(statement.number) + statement.message
-        if not verifies(life.key, text, statement.signature):
+        if not verifies(life.key, stated_text(log.serial, n, statement), statement.signature):
             raise Refused(25)
         if statement.number != log.number:
             raise Refused(26)
@@ -527,11 +531,19 @@ def answer(words, content):
 
 
 def signatures(maker, chain):
-    """The key, the text and the signature of each entry of a chain, by the key in charge, and of its statement none."""
+    """The key in charge, the text and the signature of each entry of a chain."""
     log = Log(maker)
     for entry, signature in read_chain(chain)[0]:
         yield log.in_charge, u8(3) + entry.text, signature
         log.judge(entry, signature)
+
+
+def statement_signature(chain, n):
+    """The same of the statement of a chain, which the key with this number made."""
+    entries, statement = read_chain(chain)
+    log = [entry for entry, _ in entries]
+    text = stated_text(log[0].serial, n, statement)
+    return life_of(log, n).key, text, statement.signature
 
 
 def content_of(name):

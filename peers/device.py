@@ -151,6 +151,21 @@ class Device:
     def put(self, layer, name, value):
         self.regions[layer]["secrets"].append((name, value, self.number))
 
+    # ---- what it hands out
+
+    def sign(self, layer, number, message):
+        """The index and the statement of the region's key with this number, or None where it has no such key."""
+        keys = [key for _, key in self.regions[layer]["keys"] if key.number == number]
+        if not keys:
+            return None
+        key = keys[0]
+        text = u8(4) + self.serial + u32(number) + u32(self.number) + message
+        return key.uses, u32(self.number) + u8(len(message)) + message + key.sign(text)
+
+    def chain(self):
+        """Its chain without a statement."""
+        return b"MBC1" + u16(len(self.log)) + b"".join(entry + signature for entry, signature in self.log) + u8(0)
+
     # ---- records
 
     @staticmethod

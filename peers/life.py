@@ -4,7 +4,7 @@ Nothing is verified here: it is for making the values that a device comes to, no
 """
 
 from device import ALWAYS, COUNTERSIGNED, EMERGENCY, EPOCH, ESTABLISH, LOAD, UNOWNED, Device
-from lms import sha256, u8, u16, u32
+from lms import sha256
 from officer import KEY_KINDS, TRUSTS, unhex
 
 LOADS = {"load": LOAD, "emergency": EMERGENCY}
@@ -73,15 +73,3 @@ class Living(Device):
             if m > layer:
                 self.layers[m] = dict(layer_m, reliable=layer_m["reliable"] and stays)
         self.change(kind, layer, cosigned, renews, [m for m in (2, 3) if m < layer or m in admitting])
-
-    def sign(self, layer, number, message):
-        """The index and the statement of the region's key with this number, or None where it has no such key."""
-        keys = [key for _, key in self.regions[layer]["keys"] if key.number == number]
-        if not keys:
-            return None
-        key = keys[0]
-        text = u8(4) + self.serial + u32(number) + u32(self.number) + message
-        return key.uses, u32(self.number) + u8(len(message)) + message + key.sign(text)
-
-    def chain(self):
-        return b"MBC1" + u16(len(self.log)) + b"".join(entry + signature for entry, signature in self.log) + u8(0)
