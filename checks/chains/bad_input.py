@@ -16,7 +16,7 @@ sys.path.insert(0, str(pathlib.Path(__file__).resolve().parents[2] / "peers"))
 
 import chains  # noqa: E402
 import forged  # noqa: E402
-from device import Device, owned  # noqa: E402
+from device import owned  # noqa: E402
 
 RANDOM = 400
 # one call has to end within so many seconds of the processor, and is given up after so many of the clock
@@ -113,6 +113,22 @@ class Random(Kind):
         yield ["verify", "bad", "chain", "1"], bytes_[: chance.randrange(60)]
 
 
+class Long(Kind):
+    """Files of the greatest length, and longer ones."""
+
+    def count(self):
+        return 2
+
+    def calls(self, number):
+        for name in ("chain", "statement"):
+            bytes_ = self.files[name].ljust(chains.LONGEST_FILE + number, b"\0")
+            yield ["verify", "root", "bad", "1"], bytes_
+            yield ["audit", "image", "root", "bad", "1"], bytes_
+            yield ["attach", "bad", "statement", "out"], bytes_
+            yield ["attach", "chain", "bad", "out"], bytes_
+            yield ["verify", "bad", "chain", "1"], bytes_
+
+
 class Cut(Kind):
     """A chain that ends at an offset."""
 
@@ -162,7 +178,6 @@ class Forged(Kind):
     def __init__(self, name, files):
         super().__init__(name, files)
         self.forged = list(forged.all_chains())
-        self.files = files | {"root": Device().maker.public()}
 
     def count(self):
         return len(self.forged)
@@ -179,6 +194,7 @@ class Forged(Kind):
 KINDS = {
     "what is right": Good,
     "random bytes": Random,
+    "long files": Long,
     "cuts of entries and statement": Cut,
     "turned bits of entries and statement": Turned,
     "lines of statements": StatementLine,
@@ -217,12 +233,11 @@ class Worker:
     def seen(self):
         return {path.name: path.stat().st_mtime_ns for path in self.folder.iterdir()}
 
-    def wrong_in(self, kind, words, bytes_):
+    def wrong_in(self, words, bytes_):
         """What is wrong with a call, or None, and how long it took."""
         bad = self.folder / "bad"
         bad.write_bytes(bytes_)
-        content = (kind.files | {"bad": bytes_}).get
-        wanted, line, written = chains.answer(words, content)
+        wanted, line, written = chains.answer(words, (self.files | {"bad": bytes_}).get)
         before = self.seen()
         try:
             status, printed, seconds = self.run(words)
@@ -243,11 +258,9 @@ class Worker:
     def trials(self, name, numbers):
         """How many calls were made, the longest time, and what was wrong, with a folder of the files."""
         kind, tried, longest, wrong = self.kind(name), 0, 0, []
-        if kind.files is not self.files:
-            (self.folder / "root").write_bytes(kind.files["root"])
         for number in numbers:
             for words, bytes_ in kind.calls(number):
-                what, seconds = self.wrong_in(kind, words, bytes_)
+                what, seconds = self.wrong_in(words, bytes_)
                 tried, longest = tried + 1, max(longest, seconds)
                 if what:
                     kept = tempfile.mkdtemp(prefix="chains-")
