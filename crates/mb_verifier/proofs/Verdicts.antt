@@ -1,12 +1,11 @@
 -- From what is judged of a chain's entries, key and statement to what is said of its bytes.
-use Rattle.std.proofs.Common.{◌≡◌, ◌≤◌, ℕ, Bool, List, [], ◌∷◌, length, Option, None, Some, refl, sym, ap, subst, ◌∙◌}
+use Rattle.std.proofs.Common.{◌≡◌, ◌≤◌, ℕ, Bool, List, length, Option, None, Some, refl, sym, ap, subst, ◌∙◌}
 use Rattle.std.specs.Prelude.{All, IfSome, IfOk, IfErr, Result, Ok, Err}
 use Rattle.std.proofs.lemmas.List.{length-map}
 use Rattle.mb_format.specs.Format.{IsBytes, Spells, IsClearWhole}
 use Rattle.mb_format.proofs.Whole.{IsClearWhole-from_exact}
 use Rattle.mb_model.specs.declared.key.PublicKey.{PublicKey}
 use Rattle.mb_model.specs.declared.entry.Chain.{Chain}
-use Rattle.mb_model.specs.declared.entry.Entry.{Entry}
 use Rattle.mb_model.specs.declared.entry.SignedEntry.{SignedEntry}
 use Rattle.mb_model.specs.declared.entry.Statement.{Statement}
 use Rattle.mb_model.specs.declared.order.KeyKind.{KeyKind}
@@ -15,7 +14,7 @@ use Rattle.mb_model.specs.declared.state.Report.{Report}
 use Rattle.mb_model.specs.Log.{entries_of, RuledLog}
 use Rattle.mb_model.specs.EntryFormat.{entry_format}
 use Rattle.mb_model.specs.ChainFormat.{chain_format}
-use Rattle.mb_model.specs.Acceptance.{ChainRefusal, bad_form, bad_signature, bad_order, breaks_rules, key_unknown, bad_statement, wrong_number, key_ended, AreGood, IsNext, KeyEntry, key_of, IfStatement, IsCurrent, IsGoodFor, message_of, Accepts, IsRefused}
+use Rattle.mb_model.specs.Acceptance.{ChainRefusal, bad_form, bad_signature, bad_order, breaks_rules, key_unknown, bad_statement, wrong_number, key_ended, AreGood, IsNext, IfStatement, IsCurrent, message_of, Accepts, IsRefused}
 use Rattle.mb_cert.proofs.Sizes.{chain_fits}
 use Rattle.mb_log.specs.declared.figures.Figures.{Figures}
 use Rattle.mb_log.specs.declared.life.BornKey.{BornKey}
@@ -28,7 +27,7 @@ use Rattle.mb_model.proofs.EntryFormatLaws.{chain_exact}
 use Rattle.mb_lemmas.proofs.ChainLemmas.{accepted_is_ruled}
 use Rattle.mb_verifier.specs.declared.refusal.ChainRefusal as why
 use Rattle.mb_verifier.specs.Ends.{refusal_of}
-use Rattle.mb_verifier.specs.Checked.{HasBadEntry, IsBadStatement}
+use Rattle.mb_verifier.specs.Checked.{HasBadEntry}
 
 -- ---- the entries of a chain
 
