@@ -41,20 +41,19 @@ entries_few chain is = is.1.0.0.1
 -- ---- refusals
 
 module _ (maker : PublicKey) (bytes : List ℕ) (n : ℕ) (chain : Chain) (spelled : Spells chain_format bytes chain) where
-  place : (before : List SignedEntry) (i : ℕ) → i ≡ length (entries_of before) → i ≡ length before
-  place before i is = is ∙ length-map before (λ (s : SignedEntry). s.entry)
+  next_at : (i : ℕ) (why : ChainRefusal) (has : HasBadEntry maker chain.entries why) → i ≡ length (entries_of has.before) → IsNext maker chain.entries i has.before has.signed
+  next_at i why has is = record {
+    rest = has.rest;
+    split = has.split;
+    index = is ∙ length-map has.before (λ (s : SignedEntry). s.entry);
+    good = has.good;
+  }
 
   -- an entry that is not good
   pub entry_refuses : (why : ChainRefusal) → HasBadEntry maker chain.entries why → IsRefused maker bytes n why
-  entry_refuses (bad_signature i) has =
-      let next : IsNext maker chain.entries i has.before has.signed = record { rest = has.rest; split = has.split; index = place has.before i has.bad.0; good = has.good } in
-      (chain, spelled, has.before, has.signed, next, has.bad.1)
-  entry_refuses (bad_order i) has =
-      let next : IsNext maker chain.entries i has.before has.signed = record { rest = has.rest; split = has.split; index = place has.before i has.bad.0; good = has.good } in
-      (chain, spelled, has.before, has.signed, next, has.bad.1, has.bad.2)
-  entry_refuses (breaks_rules i) has =
-      let next : IsNext maker chain.entries i has.before has.signed = record { rest = has.rest; split = has.split; index = place has.before i has.bad.0; good = has.good } in
-      (chain, spelled, has.before, has.signed, next, has.bad.1, has.bad.2, has.bad.3)
+  entry_refuses (bad_signature i) has = (chain, spelled, has.before, has.signed, next_at i (bad_signature i) has has.bad.0, has.bad.1)
+  entry_refuses (bad_order i) has = (chain, spelled, has.before, has.signed, next_at i (bad_order i) has has.bad.0, has.bad.1, has.bad.2)
+  entry_refuses (breaks_rules i) has = (chain, spelled, has.before, has.signed, next_at i (breaks_rules i) has has.bad.0, has.bad.1, has.bad.2, has.bad.3)
   entry_refuses (bad_form offset) has = absurd has.bad
   entry_refuses key_unknown has = absurd has.bad
   entry_refuses bad_statement has = absurd has.bad
