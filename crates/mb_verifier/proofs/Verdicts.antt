@@ -1,12 +1,11 @@
 -- From what is judged of a chain's entries, key and statement to what is said of its bytes.
-use Rattle.std.proofs.Common.{◌≡◌, ◌≤◌, ℕ, Bool, List, [], ◌∷◌, length, Option, None, Some, refl, sym, ap, subst, ◌∙◌}
+use Rattle.std.proofs.Common.{◌≡◌, ◌≤◌, ℕ, Bool, List, length, Option, None, Some, refl, sym, ap, subst, ◌∙◌}
 use Rattle.std.specs.Prelude.{All, IfSome, IfOk, IfErr, Result, Ok, Err}
 use Rattle.std.proofs.lemmas.List.{length-map}
 use Rattle.mb_format.specs.Format.{IsBytes, Spells, IsClearWhole}
 use Rattle.mb_format.proofs.Whole.{IsClearWhole-from_exact}
 use Rattle.mb_model.specs.declared.key.PublicKey.{PublicKey}
 use Rattle.mb_model.specs.declared.entry.Chain.{Chain}
-use Rattle.mb_model.specs.declared.entry.Entry.{Entry}
 use Rattle.mb_model.specs.declared.entry.SignedEntry.{SignedEntry}
 use Rattle.mb_model.specs.declared.entry.Statement.{Statement}
 use Rattle.mb_model.specs.declared.order.KeyKind.{KeyKind}
@@ -15,7 +14,7 @@ use Rattle.mb_model.specs.declared.state.Report.{Report}
 use Rattle.mb_model.specs.Log.{entries_of, RuledLog}
 use Rattle.mb_model.specs.EntryFormat.{entry_format}
 use Rattle.mb_model.specs.ChainFormat.{chain_format}
-use Rattle.mb_model.specs.Acceptance.{ChainRefusal, bad_form, bad_signature, bad_order, breaks_rules, key_unknown, bad_statement, wrong_number, key_ended, AreGood, IsNext, KeyEntry, key_of, IfStatement, IsCurrent, IsGoodFor, message_of, Accepts, IsRefused}
+use Rattle.mb_model.specs.Acceptance.{ChainRefusal, bad_form, bad_signature, bad_order, breaks_rules, key_unknown, bad_statement, wrong_number, key_ended, AreGood, IsNext, IfStatement, IsCurrent, message_of, Accepts, IsRefused}
 use Rattle.mb_cert.proofs.Sizes.{chain_fits}
 use Rattle.mb_log.specs.declared.figures.Figures.{Figures}
 use Rattle.mb_log.specs.declared.life.BornKey.{BornKey}
@@ -28,7 +27,7 @@ use Rattle.mb_model.proofs.EntryFormatLaws.{chain_exact}
 use Rattle.mb_lemmas.proofs.ChainLemmas.{accepted_is_ruled}
 use Rattle.mb_verifier.specs.declared.refusal.ChainRefusal as why
 use Rattle.mb_verifier.specs.Ends.{refusal_of}
-use Rattle.mb_verifier.specs.Checked.{HasBadEntry, IsBadStatement}
+use Rattle.mb_verifier.specs.Checked.{HasBadEntry}
 
 -- ---- the entries of a chain
 
@@ -42,20 +41,19 @@ entries_few chain is = is.1.0.0.1
 -- ---- refusals
 
 module _ (maker : PublicKey) (bytes : List ℕ) (n : ℕ) (chain : Chain) (spelled : Spells chain_format bytes chain) where
-  place : (before : List SignedEntry) (i : ℕ) → i ≡ length (entries_of before) → i ≡ length before
-  place before i is = is ∙ length-map before (λ (s : SignedEntry). s.entry)
+  next_at : (i : ℕ) (why : ChainRefusal) (has : HasBadEntry maker chain.entries why) → i ≡ length (entries_of has.before) → IsNext maker chain.entries i has.before has.signed
+  next_at i why has is = record {
+    rest = has.rest;
+    split = has.split;
+    index = is ∙ length-map has.before (λ (s : SignedEntry). s.entry);
+    good = has.good;
+  }
 
   -- an entry that is not good
   pub entry_refuses : (why : ChainRefusal) → HasBadEntry maker chain.entries why → IsRefused maker bytes n why
-  entry_refuses (bad_signature i) has =
-      let next : IsNext maker chain.entries i has.before has.signed = record { rest = has.rest; split = has.split; index = place has.before i has.bad.0; good = has.good } in
-      (chain, spelled, has.before, has.signed, next, has.bad.1)
-  entry_refuses (bad_order i) has =
-      let next : IsNext maker chain.entries i has.before has.signed = record { rest = has.rest; split = has.split; index = place has.before i has.bad.0; good = has.good } in
-      (chain, spelled, has.before, has.signed, next, has.bad.1, has.bad.2)
-  entry_refuses (breaks_rules i) has =
-      let next : IsNext maker chain.entries i has.before has.signed = record { rest = has.rest; split = has.split; index = place has.before i has.bad.0; good = has.good } in
-      (chain, spelled, has.before, has.signed, next, has.bad.1, has.bad.2, has.bad.3)
+  entry_refuses (bad_signature i) has = (chain, spelled, has.before, has.signed, next_at i (bad_signature i) has has.bad.0, has.bad.1)
+  entry_refuses (bad_order i) has = (chain, spelled, has.before, has.signed, next_at i (bad_order i) has has.bad.0, has.bad.1, has.bad.2)
+  entry_refuses (breaks_rules i) has = (chain, spelled, has.before, has.signed, next_at i (breaks_rules i) has has.bad.0, has.bad.1, has.bad.2, has.bad.3)
   entry_refuses (bad_form offset) has = absurd has.bad
   entry_refuses key_unknown has = absurd has.bad
   entry_refuses bad_statement has = absurd has.bad

@@ -16,8 +16,8 @@ use mb_cert::{ChainEnd, read_chain};
 use mb_model::{Bytes, Chain, PublicKey, Report, Statement};
 use std::alloc::Global;
 
-/// What the bytes of a chain, of which there are at most 4,194,304, say of the key with the number `key`, where they are
-/// accepted under the maker's key `root`. Each entry's signature is checked once.
+/// What a chain of at most 4,194,304 bytes says of the key with the number `key`, where it is accepted under the maker's
+/// key `root`. Each signature is checked once, and the text of one entry at a time is in memory; no clause says so.
 ///
 /// Errors: those of `ChainRefusal`.
 pub fn verify(

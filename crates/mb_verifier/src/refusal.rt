@@ -11,8 +11,8 @@ use mb_model::NoMemory;
 pub enum ChainRefusal {
     /// The bytes are no chain.
     Form {
-        /// The offset at which the first field begins that lacks bytes or is not allowed, or of the first byte after the
-        /// last field.
+        /// The offset at which the first field begins that lacks bytes or is not allowed, or of the first byte after
+        /// the last field.
         at: u32,
     },
     /// An entry is not signed by the key in charge: the maker's at the first, and at each other the device key that the
