@@ -32,7 +32,7 @@ MESSAGE = b"a message"
 
 
 def sample():
-    """The files that each trial has: of a device whose key 1 made a statement, after which layers 1 and 3 were loaded."""
+    """The files that each trial has: of a device whose key 1 made a statement, and then layers 1 and 3 were loaded."""
     device = owned()
     device.make_key(3)
     _, statement = device.sign(3, 1, MESSAGE)
