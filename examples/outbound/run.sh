@@ -160,7 +160,9 @@ the_morning() {
     hash_of chain chain
 
     echo
-    echo "Which code could sign with key 1? That of each configuration from the key's birth on:"
+    echo "Which code could sign with key 1? That of each configuration from the key's birth on. A layer's line has the"
+    echo "hashes of its owner's key and of its code, the version, whether it is reliable, and when it trusts a load"
+    echo "beneath it:"
     ask verify maker.public chain 1
 
     echo
