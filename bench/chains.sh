@@ -1,8 +1,8 @@
 #!/usr/bin/env bash
 # Measures `verify` of the built program, outside the gate: bench/chains.sh [PROGRAM]. It prints the load of the machine
-# and then, in processor time, the least of five runs for chains of 8 and of 128 entries, which peers/device.py makes: the
-# whole call, each entry, and the hashes that the signatures of the chain take. Beside that it prints what OpenSSL takes
-# for as many hashes, and Bouncy Castle for verifying the same signatures; where Java or its library (Debian's
+# and then, in processor time, the least of five runs for chains of 8 and of 128 entries, which peers/device.py makes:
+# the whole call, each entry, and the hashes that the signatures of the chain take. Beside that it prints what OpenSSL
+# takes for as many hashes, and Bouncy Castle for verifying the same signatures; where Java or its library (Debian's
 # libbcprov-java, or JAR) is missing, it says so.
 set -euo pipefail
 export LC_ALL=C
@@ -26,12 +26,13 @@ trap 'rm -rf "$work"' EXIT
 # most of those here.
 nanoseconds=
 if command -v openssl >/dev/null; then
-    nanoseconds=$(openssl speed -seconds 1 -bytes 55 sha256 2>/dev/null | awk '$1 == "sha256" { printf "%.1f", 55e6 / $2 }')
+    nanoseconds=$(openssl speed -seconds 1 -bytes 55 sha256 2>/dev/null |
+        awk '$1 == "sha256" { printf "%.1f", 55e6 / $2 }')
 else
     echo "openssl is not there"
 fi
 uptime | sed 's/.*load average/load average/'
-python3 "$here/chains/measure.py" "$program" "$work" "$nanoseconds"
+python3 -B "$here/chains/measure.py" "$program" "$work" "$nanoseconds"
 
 for tool in java javac; do
     if ! command -v "$tool" >/dev/null; then

@@ -1,10 +1,11 @@
 #!/usr/bin/env bash
-# Gives the built program bad chains and statements, outside the gate: checks/chains.sh [-j N] [PROGRAM]. Random bytes of
-# random lengths; each cut, and each bit turned, of the first two entries of a chain and of its statement; and chains that
-# a device signed against the rules. Each is given to `verify`, and some to `attach` and `audit` too. Each call has to
-# end within a second of the processor, with the status and the line that peers/chains.py predicts, and to write nothing
-# but what it should, and nothing where it refuses. It prints a line for each kind, with how many were tried, and each
-# that was wrong, whose files it keeps, and ends with status 1 then. With -j N it works in N processes.
+# Gives the built program bad chains and statements, outside the gate: checks/chains.sh [-j N] [PROGRAM]. Random bytes
+# of random lengths; each cut, and each bit turned, of the first two entries of a chain and of its statement; lines that
+# are no statement; files that are too long; and chains that a device signed against the rules. Each chain is given to
+# `verify`, and some to `attach` and `audit` too. Each call has to end within a second of the processor, with the status
+# and the line that peers/chains.py predicts, and to write what it should, which is nothing where it refuses. It prints a
+# line for each kind, with how many calls were tried, and those that were wrong, whose files it keeps; it ends with
+# status 1 then. With -j N it works in N processes.
 set -euo pipefail
 export LC_ALL=C
 usage="usage: checks/chains.sh [-j N] [PROGRAM]"
@@ -30,4 +31,4 @@ if ! command -v python3 >/dev/null; then
     exit 1
 fi
 
-exec python3 "$here/chains/bad_input.py" -j "$processes" "$program"
+exec python3 -B "$here/chains/bad_input.py" -j "$processes" "$program"

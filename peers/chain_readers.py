@@ -1,7 +1,7 @@
 """What is computed anew of chains: the tests of the commands on them, and the example of a relying party.
 
-The steps of the tests are followed over files that are all made here: keys and orders by `officer.py`, devices by `life.py`,
-and what the commands on chains do by `chains.py`.
+The steps of the tests are followed over files that are all made here: keys and orders by `officer.py`, devices by
+`life.py`, and what the commands on chains do by `chains.py`.
 """
 
 import copy

@@ -7,8 +7,8 @@
     chains.py audit IMAGE ROOT CHAIN KEY
     chains.py signatures ROOT CHAIN        prints the signature of each entry as a line KEY TEXT SIGNATURE
 
-The image of a device has to be one of whose log no entry is left to be signed. Nothing here is taken from the program: the
-log is walked once, with the device key in charge, and the lives of a key are followed from its birth on.
+The image of a device has to be one of whose log no entry is left to be signed. Nothing here is taken from the program:
+the log is walked once, with the device key in charge, and the lives of a key are followed from its birth on.
 """
 
 import dataclasses

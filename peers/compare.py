@@ -74,7 +74,8 @@ def main(words):
     asked = words[0] if words[:1] in (["--signatures"], ["--chain"]) else None
     root = pathlib.Path(words[-1]) if len(words) > (asked is not None) else HERE.parent
     if asked:
-        for row in signatures(root) if asked == "--signatures" else chain_readers.sample_signatures(Source(root, CHAINS)):
+        chain = chain_readers.sample_signatures(Source(root, CHAINS))
+        for row in signatures(root) if asked == "--signatures" else chain:
             print(*(part.hex() or "-" for part in row))
         return 0
     sources = {name: read(root, name) for name in READERS if (root / name).exists()}

@@ -23,13 +23,23 @@ def unescaped(word):
     return text.encode("latin-1")
 
 
+def joined(lines):
+    """Lines of a block as one."""
+    return re.sub(r"\n *", "; ", lines)
+
+
+def turns(name, words, statement):
+    """The statement of a loop, once for each of the words."""
+    return "\n".join(statement.replace(f'"${name}"', word) for word in words.split())
+
+
 def statements(script):
     """The statements of the functions that make the steps, each in one line; a loop is written out."""
     functions = re.findall(r"^(?:before_the_morning|the_\w+)\(\) \{\n(.*?)^\}", script, re.DOTALL | re.MULTILINE)
     steps = "    echo\n".join(functions)
-    steps = re.sub(r"\{\n(.*?)\n\s*\} >", lambda found: f"{{ {re.sub(chr(10) + ' *', '; ', found[1])}; }} >", steps, flags=re.DOTALL)
+    steps = re.compile(r"\{\n(.*?)\n\s*\} >", re.DOTALL).sub(lambda found: f"{{ {joined(found[1])}; }} >", steps)
     loop = re.compile(r"for (\w+) in ([^;]*); do\n\s*(.*?)\n\s*done", re.DOTALL)
-    steps = loop.sub(lambda found: "\n".join(found[3].replace(f'"${found[1]}"', word) for word in found[2].split()), steps)
+    steps = loop.sub(lambda found: turns(*found.groups()), steps)
     return [line.strip() for line in steps.splitlines() if line.strip()]
 
 

@@ -48,7 +48,7 @@ class Bench:
 
 
 def hashes(key, text, signature):
-    """How many hashes it takes to verify a signature of types 5 and 3: the text, the chains, their ends, leaf and path."""
+    """The hashes of verifying a signature of types 5 and 3: of the text, the chains, their ends, the leaf and the path."""
     identifier, leaf = key[8:24], signature[:4]
     hashed = sha256(identifier, leaf, u16(D_MESG), signature[8:40], text)
     return 1 + sum(W4.last - steps for steps in W4.spread(hashed)) + 2 + 5
@@ -77,9 +77,10 @@ def measure(bench, made, nanoseconds):
     if printed.splitlines() != list(chains.listing(1, *chains.accepted(maker, chain, 1)[:2])):
         sys.exit(f"the listing of {count} entries is not that of peers/chains.py")
     total = sum(hashes(*row) for row in rows)
-    time = f"verify, {count} entries: {whole * 1e3:.2f} ms with the start of the program, {alone * 1e3:.2f} ms"
-    each = f"each entry {(whole - alone) / count * 1e3:.3f} ms"
-    print(f"{time}; {each}; {total:,} hashes, {total / count:.0f} a signature, {(whole - alone) / total * 1e9:.0f} ns each")
+    time = whole - alone
+    print(f"verify, {count} entries: {whole * 1e3:.2f} ms, of which {alone * 1e3:.2f} ms for the start of the program")
+    each = f"{time / total * 1e9:.0f} ns each"
+    print(f"  each entry {time / count * 1e3:.3f} ms; {total:,} hashes, {total / count:.0f} a signature, {each}")
     if nanoseconds:
         time = total * nanoseconds / 1e6
         print(f"  OpenSSL, as many hashes: {time:.2f} ms, {time / count:.3f} ms a signature, {nanoseconds:.0f} ns each")

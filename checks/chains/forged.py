@@ -1,6 +1,7 @@
 """Chains that a device signs against the rules, and what each is refused for."""
 
-from device import ALWAYS, CONFIGURATION, EMERGENCY, EPOCH, ESTABLISH, LOAD, SURRENDER, UNOWNED, Device, optional, owned, pair
+from device import ALWAYS, CONFIGURATION, EMERGENCY, EPOCH, ESTABLISH, LOAD, SURRENDER, UNOWNED
+from device import Device, optional, owned, pair
 from lms import sha256, u8, u16, u32
 from officer import Officer
 

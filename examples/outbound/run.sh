@@ -1,12 +1,12 @@
 #!/usr/bin/env bash
-# A relying party's morning. Somebody who trusts the public key of a maker of devices, and nothing else, is handed what a
-# device said and the chain of certificates that goes with it, and asks which code it was that said so; then come chains
-# that a host has cut, changed, and taken from another device; and an auditor, who has the device's memory, compares.
-# Builds the proved program, makes keys and the devices with it, and shows each step. Fails where what was printed is not
-# what expected.txt says, which other programs made. The noise is known here, so that the same keys can be made; people
-# take bytes that nobody can guess, as `head -c 48 /dev/urandom` gives them. run.sh [PROGRAM] tries a program that is
-# built. Works from any current folder; beside the build in crates/*/out/ it writes in a temporary folder alone, which it
-# removes.
+# A relying party's morning. Somebody who trusts the public key of a maker of devices, and nothing else, is handed what
+# a device said and the chain of certificates that goes with it, and asks which code it was that said so; then come
+# chains that a host has cut, changed, and taken from another device; and an auditor, who has the device's memory,
+# compares. Builds the proved program, makes keys and the devices with it, and shows each step. Fails where what was
+# printed is not what expected.txt says, which other programs made (peers/outbound.py). The noise is known here, so that
+# the same keys can be made; people take bytes that nobody can guess, as `head -c 48 /dev/urandom` gives them. run.sh
+# [PROGRAM] tries a program that is built. Works from any current folder; beside the build in crates/*/out/ it writes in
+# a temporary folder alone, which it removes.
 set -euo pipefail
 export LC_ALL=C
 
@@ -123,8 +123,8 @@ before_the_morning() {
     hash_of image image
 
     echo
-    echo "The owners sign orders: two get their layers and load code there, the third has a key made, and later layers 1"
-    echo "and 3 are loaded with new code, of which the other owners approve:"
+    echo "The owners sign orders: the second and the third get their layers and the first code there, and the third a"
+    echo "key; later layer 1 is loaded with new code, of which both others approve, and layer 3 by its own owner:"
     order order1 first "order establish 2\nowner $(hex <second.public)\ntrust countersigned\n"
     order order2 second "order establish 3\nowner $(hex <third.public)\ntrust countersigned\n"
     order order3 first 'order emergency 2\nversion 1\ntrust countersigned\ncode 616263\n'
@@ -160,12 +160,14 @@ the_morning() {
     hash_of chain chain
 
     echo
-    echo "Which code could sign with key 1? That of each configuration from the key's birth on:"
+    echo "Which code could sign with key 1? That of each configuration from the key's birth on. A layer's line has the"
+    echo "hashes of its owner's key and of its code, the version, whether it is reliable, and when it trusts a load"
+    echo "beneath it:"
     ask verify maker.public chain 1
 
     echo
-    echo "The host hands you a statement of that key. What did it say, and which code was there by then? The chain is cut"
-    echo "where the statement was made, so that what came later does not count:"
+    echo "The host hands you a statement of that key. What did it say, and which code was there by then? The chain is"
+    echo "cut where the statement was made, so that what came later does not count:"
     ask attach chain hello attached
     hash_of attached attached
     ask verify maker.public attached 1
@@ -180,7 +182,7 @@ the_morning() {
 }
 
 the_host_cheats() {
-    echo "Can the host hide the last load? A chain without its last entry is a chain, which tells less and nothing wrong:"
+    echo "Can the host hide the last load? A chain without its last entry is one that tells less and nothing wrong:"
     { printf 'MBC1\0\7'; part chain 6 17984; printf '\0'; } >shorter
     ask verify maker.public shorter 1
     echo "But no statement of today goes with it: it names configuration 6, and this chain ends with 5."
@@ -195,8 +197,8 @@ the_host_cheats() {
     { part chain 0 2525; part chain 5041 7613; part chain 2525 5041; part chain 7613 20629; } >swapped
     ask verify maker.public swapped 1
     echo "And a file that lacks its last byte is no chain from there on:"
-    part chain 0 20628 >cut
-    ask verify maker.public cut 1
+    part chain 0 20628 >spoilt
+    ask verify maker.public spoilt 1
 
     echo
     echo "Can it show you another device of the same maker? This one got the same orders, the new key last:"
