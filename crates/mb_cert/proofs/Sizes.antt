@@ -1,12 +1,12 @@
 -- A statement or a chain that has a spelling keeps the bounds on sizes.
-use Rattle.std.proofs.Common.{◌<◌, ℕ, zero, suc, ◌+◌, Option, Some, None, List, [], ◌∷◌, length, get_or, ap, arith}
+use Rattle.std.proofs.Common.{◌<◌, ℕ, zero, suc, Option, Some, None, List, [], ◌∷◌, length, get_or, ap, arith}
 use Rattle.mb_format.specs.Combinators.{items, times, optional}
 use Rattle.mb_model.specs.declared.entry.SignedEntry.{SignedEntry}
 use Rattle.mb_model.specs.declared.entry.Statement.{Statement}
 use Rattle.mb_model.specs.declared.entry.Chain.{Chain}
 use Rattle.mb_model.specs.EntryFormat.{entry_format, signed_entry_format}
 use Rattle.mb_model.specs.ChainFormat.{statement_format, chain_format}
-use Rattle.mb_cert.specs.Bounds.{StatementFits, LogFits, ChainFits}
+use Rattle.mb_cert.specs.Bounds.{StatementFits, ChainFits}
 
 pub message_fits : (statement : Statement) → statement_format.Allowed statement → length statement.message < 256
 unfolding statement_format

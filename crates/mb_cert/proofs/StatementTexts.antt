@@ -1,5 +1,5 @@
 -- The line of a statement, and the text that has no other.
-use Rattle.std.proofs.Common.{◌≡◌, ℕ, zero, suc, ◌+◌, ◌<◌, inl, inr, List, [], ◌∷◌, ◌++◌, length, refl, sym, ap, subst, ◌∙◌, arith, length-append, lit≤}
+use Rattle.std.proofs.Common.{◌≡◌, ℕ, zero, suc, ◌<◌, inr, List, [], ◌∷◌, length, refl, sym, ap, subst, arith, lit≤}
 use Rattle.std.specs.Prelude.{replicate, codes, Result, Ok, Err}
 use Rattle.std.proofs.lemmas.List.{nil_from_length, length-replicate}
 use Rattle.hex.specs.Hex.{encode_lower}

@@ -145,15 +145,8 @@ fn put_signed_entry(out: &mut Vec<u8>, signed: &SignedEntry) -> Result<(), NoMem
     requires { entry_format.Allowed signed.now.entry }
     ensures { Puts (signed_entry_format.spelling signed.now) out.old result out.new }
 {
-    put_entry(out, &signed.entry)?;
+    write_entry(&signed.entry, out)?;
     put_slice(out, &signed.signature)
-}
-
-fn put_entry(out: &mut Vec<u8>, entry: &Entry) -> Result<(), NoMemory>
-    requires { entry_format.Allowed entry.now }
-    ensures { Puts (entry_format.spelling entry.now) out.old result out.new }
-{
-    write_entry(entry, out)
 }
 
 fn put_optional_statement(out: &mut Vec<u8>, statement: &Option<Statement>) -> Result<(), NoMemory>
