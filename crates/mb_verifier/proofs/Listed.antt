@@ -52,7 +52,7 @@ lives_more lives i d start before after within was is =
     let front = flat_map configuration_lines (take i lives) in
     let own = configuration_lines (get_or lives i d) in
     let lines : flat_map configuration_lines (take (i + 1) lives) ≡ front ++ (own ++ []) =
-        ap (flat_map configuration_lines) (take_more lives i d within) ∙ flat_map-append configuration_lines (take i lives) (get_or lives i d ∷ []) in
+    ap (flat_map configuration_lines) (take_more lives i d within) ∙ flat_map-append configuration_lines (take i lives) (get_or lives i d ∷ []) in
     is ∙ ap (λ t. t ++ text_of own) was ∙ append_assoc start (text_of front) (text_of own)
     ∙ ap (λ t. start ++ t) (sym (text_of-append front own) ∙ ap text_of (ap (λ t. front ++ t) (sym (append-nil own)) ∙ sym lines))
 
@@ -72,7 +72,7 @@ pub layer_text : (number : ℕ) (layer : Layer) (line owner code reliable trust 
 layer_text number layer line owner code reliable trust owner_is code_is reliable_is trust_is is =
     let words = layer_words (owner_word layer.owner) layer.code (reliable_word layer.reliable) (trust_word layer.trust) in
     let whole : ended (layer_line number layer) ≡ codes "layer " ++ (decimal number ++ 32 ∷ (owner_word layer.owner ++ 32 ∷ (spaced (code_words layer.code) ++ 32 ∷ (reliable_word layer.reliable ++ 32 ∷ (trust_word layer.trust ++ 10 ∷ []))))) =
-        ap (λ ws. ended (codes "layer " ++ (decimal number ++ 32 ∷ ws))) words ∙ simp append_assoc in
+    ap (λ ws. ended (codes "layer " ++ (decimal number ++ 32 ∷ ws))) words ∙ simp append_assoc in
     is ∙ rw (owner_is, code_is, reliable_is, trust_is) (sym whole)
 
 -- ---- the whole
@@ -90,8 +90,8 @@ configuration_whole item out start one two three start_is one_is two_is three_is
     let b = line_upto item.upto 2 item.layers.two in
     let c = line_upto item.upto 3 item.layers.three in
     let lines : text_of (configuration_lines item) ≡ first ++ (text_of a ++ (text_of b ++ text_of c)) =
-        ap (λ ls. first ++ text_of ls) (lines_upto item.upto item.layers)
-        ∙ ap (λ t. first ++ t) (text_of-append a (b ++ c) ∙ ap (λ t. text_of a ++ t) (text_of-append b c)) in
+    ap (λ ls. first ++ text_of ls) (lines_upto item.upto item.layers)
+    ∙ ap (λ t. first ++ t) (text_of-append a (b ++ c) ∙ ap (λ t. text_of a ++ t) (text_of-append b c)) in
     three_is ∙ ap (λ t. t ++ text_of c) (two_is ∙ ap (λ t. t ++ text_of b) (one_is ∙ ap (λ t. t ++ text_of a) start_is))
     ∙ regroup out first (text_of a) (text_of b) (text_of c)
     ∙ ap (λ t. out ++ t) (sym lines)

@@ -1,11 +1,8 @@
 -- From what is judged of a chain's entries, key and statement to what is said of its bytes.
 use Rattle.std.proofs.Common.{◌≡◌, ◌≤◌, ℕ, Bool, List, [], ◌∷◌, length, Option, None, Some, refl, sym, ap, subst, ◌∙◌}
 use Rattle.std.specs.Prelude.{All, IfSome, IfOk, IfErr, Result, Ok, Err}
-use Rattle.std.specs.List.{AllByRecursion}
-use Rattle.std.proofs.lemmas.List.Elements.{All-nil, All-cons}
 use Rattle.std.proofs.lemmas.List.{length-map}
 use Rattle.mb_format.specs.Format.{IsBytes, Spells, IsClearWhole}
-use Rattle.mb_format.proofs.Compositions.{items_all}
 use Rattle.mb_format.proofs.Whole.{IsClearWhole-from_exact}
 use Rattle.mb_model.specs.declared.key.PublicKey.{PublicKey}
 use Rattle.mb_model.specs.declared.entry.Chain.{Chain}
@@ -16,9 +13,10 @@ use Rattle.mb_model.specs.declared.order.KeyKind.{KeyKind}
 use Rattle.mb_model.specs.declared.state.Configuration.{Configuration}
 use Rattle.mb_model.specs.declared.state.Report.{Report}
 use Rattle.mb_model.specs.Log.{entries_of, RuledLog}
-use Rattle.mb_model.specs.EntryFormat.{entry_format, signed_entry_format}
+use Rattle.mb_model.specs.EntryFormat.{entry_format}
 use Rattle.mb_model.specs.ChainFormat.{chain_format}
 use Rattle.mb_model.specs.Acceptance.{ChainRefusal, bad_form, bad_signature, bad_order, breaks_rules, key_unknown, bad_statement, wrong_number, key_ended, AreGood, IsNext, KeyEntry, key_of, IfStatement, IsCurrent, IsGoodFor, message_of, Accepts, IsRefused}
+use Rattle.mb_cert.proofs.Sizes.{chain_fits}
 use Rattle.mb_log.specs.declared.figures.Figures.{Figures}
 use Rattle.mb_log.specs.declared.life.BornKey.{BornKey}
 use Rattle.mb_log.specs.declared.life.Life.{Life}
@@ -34,14 +32,8 @@ use Rattle.mb_verifier.specs.Checked.{HasBadEntry, IsBadStatement}
 
 -- ---- the entries of a chain
 
-each_spelled : (log : List SignedEntry) → AllByRecursion signed_entry_format.Allowed log → All (λ (signed : SignedEntry). entry_format.Allowed signed.entry) log
-unfolding signed_entry_format
-each_spelled [] are = All-nil (λ (signed : SignedEntry). entry_format.Allowed signed.entry)
-each_spelled (signed ∷ rest) are = All-cons (λ (s : SignedEntry). entry_format.Allowed s.entry) signed rest are.0.0 (each_spelled rest are.1)
-
 pub entries_spelled : (chain : Chain) → chain_format.Allowed chain → All (λ (signed : SignedEntry). entry_format.Allowed signed.entry) chain.entries
-unfolding chain_format
-entries_spelled chain is = each_spelled chain.entries (items_all signed_entry_format (length chain.entries) chain.entries is.1.0.1).1
+entries_spelled chain is = (chain_fits chain is).entries.each
 
 pub entries_few : (chain : Chain) → chain_format.Allowed chain → length chain.entries ≤ 128
 unfolding chain_format

@@ -49,11 +49,7 @@ fn put_lives(alloc: Global, lives: &[Configuration], out: &mut Vec<u8>) -> Resul
 }
 
 /// Appends the line of a configuration, and those of its layers.
-fn put_configuration(
-    alloc: Global,
-    item: &Configuration,
-    out: &mut Vec<u8>,
-) -> Result<(), NoMemory>
+fn put_configuration(alloc: Global, item: &Configuration, out: &mut Vec<u8>) -> Result<(), NoMemory>
     ensures { OnOk result (out.new.items ≡ out.old.items ++ text_of (configuration_lines item.now)) }
 {
     let number = item.number;
@@ -93,11 +89,7 @@ fn layer_line(alloc: Global, number: u8, layer: &Layer) -> Result<String, NoMemo
 }
 
 /// Appends the line of a statement with this message, where there is one.
-fn put_statement(
-    alloc: Global,
-    message: &Option<Bytes>,
-    out: &mut Vec<u8>,
-) -> Result<(), NoMemory>
+fn put_statement(alloc: Global, message: &Option<Bytes>, out: &mut Vec<u8>) -> Result<(), NoMemory>
     ensures { OnOk result (out.new.items ≡ out.old.items ++ text_of (statement_lines message.now)) }
 {
     if let Some(message) = message {
