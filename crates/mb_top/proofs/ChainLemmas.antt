@@ -32,7 +32,7 @@ use Rattle.mb_model.specs.AuditCommand.{AuditNames, own_lives, IsAudited, compar
 use Rattle.mb_storing.specs.Storable.{IsStorableState}
 use Rattle.mb_lemmas.proofs.LogLemmas.{RuledLog-front}
 use Rattle.mb_lemmas.proofs.ValidStates.{valid_is_ruled}
-use Rattle.mb_laws.proofs.AuditLemmas.{audited}
+use Rattle.mb_lemmas.proofs.AuditLemmas.{audited}
 use Rattle.mb_run_laws.proofs.BirthLemmas.{chain_is_of}
 use Rattle.mb_top.specs.declared.end.End.{End}
 use Rattle.mb_top.specs.declared.end.End.TheVariants as end
