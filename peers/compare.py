@@ -3,6 +3,7 @@
 
     compare.py [ROOT]              prints a line for each source and each value that differs, then `N agree, M differ`
     compare.py --signatures [ROOT] prints the signatures of other programs as lines KEY TEXT SIGNATURE (`-`: no text)
+    compare.py --chain [ROOT]      prints those of the entries and the statement of the first chain of the tests
 
 ROOT is the top of the repository, the folder above this one where it is not given. The values are read out of the
 sources themselves, so that none stands twice. A source of which nothing is read counts as one that differs. Words of 32
@@ -12,12 +13,15 @@ bytes and more in the tests that no reader here has looked at are counted on a l
 import pathlib
 import sys
 
+import chain_readers
+import outbound
 import readers
 import top_readers
 from sources import Source
 
 HERE = pathlib.Path(__file__).resolve().parent
 
+CHAINS = "crates/mb_top/src/tests/chains.rt"
 READERS = {
     "peers/rfc8554.txt": readers.standard,
     "crates/mb_lms/src/tests.rt": readers.lms_keys,
@@ -32,10 +36,12 @@ READERS = {
     "crates/mb_cuts/src/tests/roots.rt": readers.next_root,
     "crates/mb_orders/src/tests/signed.rt": readers.judged_orders,
     "crates/mb_top/src/tests/births.rt": top_readers.births,
+    CHAINS: chain_readers.chains_tests,
     "crates/mb_top/src/tests/devices.rt": top_readers.plays,
     "crates/mb_top/src/tests/keys.rt": top_readers.plays,
     "crates/mb_top/src/tests/sign.rt": top_readers.signed_orders,
     "examples/first-order/expected.txt": readers.first_order,
+    "examples/outbound/expected.txt": outbound.outbound,
     "examples/two-officers/expected.txt": readers.officers,
 }
 
@@ -58,13 +64,19 @@ def unseen(root, sources):
             yield f"{name}: {len(words)} words that nothing here has looked at"
 
 
+def signatures(root):
+    """The signatures of other programs that stand in the tests."""
+    for name in (name for name, reader in READERS.items() if reader is readers.lms_signatures):
+        yield from readers.signatures(Source(root, name))
+
+
 def main(words):
-    asked = words[:1] == ["--signatures"]
-    root = pathlib.Path(words[-1]) if len(words) > asked else HERE.parent
+    asked = words[0] if words[:1] in (["--signatures"], ["--chain"]) else None
+    root = pathlib.Path(words[-1]) if len(words) > (asked is not None) else HERE.parent
     if asked:
-        for name in (name for name, reader in READERS.items() if reader is readers.lms_signatures):
-            for row in readers.signatures(Source(root, name)):
-                print(*(part.hex() or "-" for part in row))
+        chain = chain_readers.sample_signatures(Source(root, CHAINS))
+        for row in signatures(root) if asked == "--signatures" else chain:
+            print(*(part.hex() or "-" for part in row))
         return 0
     sources = {name: read(root, name) for name in READERS if (root / name).exists()}
     for source in sources.values():

@@ -59,6 +59,9 @@ class Device:
         self.maker, self.owner = Officer(sha256(b"maker")), {n: Officer(sha256(b"owner", u8(n))) for n in (1, 2, 3)}
         self.codes = {1: b"code of layer 1", 2: None, 3: None}
         self.layers = {1: self.running(1, self.codes[1], 1, ALWAYS), 2: dict(UNOWNED), 3: dict(UNOWNED)}
+        self.be_born(signed)
+
+    def be_born(self, signed=True):
         self.made = self.number = 0
         self.regions = {2: {"secrets": [], "keys": []}, 3: {"secrets": [], "keys": []}}
         self.key, self.outgoing, self.log = self.new_key(), None, []
@@ -99,10 +102,14 @@ class Device:
             self.append(u8(3) + u32(len(self.log)) + after.key.public())
             self.key = after
 
-    def change(self, kind, layer, cosigned=(), renews=False):
-        """The entry of a change whose layers stand already; all regions above are kept, but for an owner's change."""
+    def kept(self, kind, layer, cosigned):
+        """The regions that a change keeps: all above, but for an owner's change."""
+        return [m for m in (2, 3) if m < layer or kind == LOAD or (kind == EMERGENCY and m > layer)]
+
+    def change(self, kind, layer, cosigned=(), renews=False, kept=None):
+        """The entry of a change whose layers stand already."""
         self.number += 1
-        kept = [m for m in (2, 3) if m < layer or kind == LOAD or (kind == EMERGENCY and m > layer)]
+        kept = self.kept(kind, layer, cosigned) if kept is None else kept
         after = self.new_key() if renews else None
         entry = u8(1) + u32(len(self.log)) + u32(self.number) + u8(kind) + u8(layer) + u8(pair(cosigned))
         entry += u8(pair(kept)) + self.spelled_layers() + optional(after and after.key.public())
@@ -143,6 +150,21 @@ class Device:
 
     def put(self, layer, name, value):
         self.regions[layer]["secrets"].append((name, value, self.number))
+
+    # ---- what it hands out
+
+    def sign(self, layer, number, message):
+        """The index and the statement of the region's key with this number, or None where it has no such key."""
+        keys = [key for _, key in self.regions[layer]["keys"] if key.number == number]
+        if not keys:
+            return None
+        key = keys[0]
+        text = u8(4) + self.serial + u32(number) + u32(self.number) + message
+        return key.uses, u32(self.number) + u8(len(message)) + message + key.sign(text)
+
+    def chain(self):
+        """Its chain without a statement."""
+        return b"MBC1" + u16(len(self.log)) + b"".join(entry + signature for entry, signature in self.log) + u8(0)
 
     # ---- records
 

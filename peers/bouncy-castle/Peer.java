@@ -1,4 +1,6 @@
 import java.io.IOException;
+import java.lang.management.ManagementFactory;
+import java.lang.management.ThreadMXBean;
 import java.nio.file.Files;
 import java.nio.file.Path;
 import java.util.Arrays;
@@ -18,12 +20,25 @@ import org.bouncycastle.pqc.crypto.lms.LMSigParameters;
  * Peer verify ORDER SPAN PUBLIC [LAYER PUBLIC]..   whether the order's signatures are of these keys
  * Peer sign KEY BODY                    prints the line of the order with this body, signed at the key's next index
  * Peer signatures FILE                  verifies lines KEY TEXT SIGNATURE, each also with a bit turned
+ * Peer time FILE                        verifies such lines again and again, and prints how long that takes
  * </pre>
  *
  * KEY, PUBLIC and ORDER are files; BODY stands in hexadecimal; SPAN is the length of the order's body.
  */
 public final class Peer {
     private static final HexFormat HEX = HexFormat.of();
+    /** How many signatures are verified before those that are timed, and in how many rounds these are. */
+    private static final int WARM = 4_000;
+    private static final int ROUNDS = 5;
+
+    /** A signature with its key and its text. */
+    private record Row(byte[] key, byte[] text, byte[] signature) {
+        static Row of(String line) {
+            String[] parts = line.split(" ");
+            byte[] text = parts[1].equals("-") ? new byte[0] : HEX.parseHex(parts[1]);
+            return new Row(HEX.parseHex(parts[0]), text, HEX.parseHex(parts[2]));
+        }
+    }
 
     public static void main(String[] words) throws IOException {
         boolean right = switch (words[0]) {
@@ -31,6 +46,7 @@ public final class Peer {
             case "verify" -> verifyOrder(words);
             case "sign" -> printOrder(Path.of(words[1]), HEX.parseHex(words[2]));
             case "signatures" -> verifyAll(Path.of(words[1]));
+            case "time" -> printTime(Path.of(words[1]));
             default -> throw new IllegalArgumentException(words[0]);
         };
         System.exit(right ? 0 : 1);
@@ -93,10 +109,8 @@ public final class Peer {
         List<String> lines = Files.readAllLines(path);
         boolean right = !lines.isEmpty();
         for (String line : lines) {
-            String[] parts = line.split(" ");
-            byte[] text = parts[1].equals("-") ? new byte[0] : HEX.parseHex(parts[1]);
-            byte[] signature = HEX.parseHex(parts[2]);
-            byte[] key = HEX.parseHex(parts[0]);
+            Row row = Row.of(line);
+            byte[] key = row.key(), text = row.text(), signature = row.signature();
             boolean verifies = verifies(key, text, signature);
             signature[signature.length - 1] ^= 1;
             if (!verifies || verifies(key, text, signature)) {
@@ -105,6 +119,38 @@ public final class Peer {
             }
         }
         return right;
+    }
+
+    /** In processor time of this thread, the least of the rounds. */
+    private static boolean printTime(Path path) throws IOException {
+        List<Row> rows = Files.readAllLines(path).stream().map(Row::of).toList();
+        ThreadMXBean threads = ManagementFactory.getThreadMXBean();
+        boolean right = !rows.isEmpty();
+        for (int done = 0; right && done < WARM; done += rows.size()) {
+            right = verifyRows(rows);
+        }
+        long least = Long.MAX_VALUE;
+        for (int round = 0; right && round < ROUNDS; round += 1) {
+            long began = threads.getCurrentThreadCpuTime();
+            right = verifyRows(rows);
+            least = Math.min(least, threads.getCurrentThreadCpuTime() - began);
+        }
+        if (right) {
+            double milliseconds = least / 1e6;
+            System.out.printf("%.2f ms, %.3f ms a signature%n", milliseconds, milliseconds / rows.size());
+        } else {
+            System.out.println("a signature does not verify");
+        }
+        return right;
+    }
+
+    private static boolean verifyRows(List<Row> rows) throws IOException {
+        for (Row row : rows) {
+            if (!verifies(row.key(), row.text(), row.signature())) {
+                return false;
+            }
+        }
+        return true;
     }
 
     private static boolean verifies(Path path, byte[] text, byte[] signature) throws IOException {

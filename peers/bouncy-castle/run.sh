@@ -1,6 +1,6 @@
 #!/usr/bin/env bash
-# Compares the built program's keys and signed orders with the LMS of Bouncy Castle, and has the program serve an order
-# that Bouncy Castle signed: run.sh [PROGRAM]. With no PROGRAM it takes the one that is built, and proves and builds it
+# Compares the built program's keys and signed orders with the LMS of Bouncy Castle, verifies each signature of a chain with
+# it, and has the program serve an order that Bouncy Castle signed: run.sh [PROGRAM]. With no PROGRAM it takes the one that is built, and proves and builds it
 # first where there is none. It skips with a message where Java or the library (Debian's libbcprov-java) is missing; JAR
 # may name the library. It is no part of the gate, and writes in a temporary folder alone, which it removes.
 set -euo pipefail
@@ -88,6 +88,10 @@ if command -v python3 >/dev/null; then
     python3 -B "$top/peers/compare.py" --signatures >signatures
     compare 'widths and heights' "$(wc -l <signatures)" 8
     compare 'their signatures' "$(peer signatures signatures && echo verify)" verify
+    # Of the tests' first chain, those of each entry and of the statement.
+    python3 -B "$top/peers/compare.py" --chain >chain
+    compare 'entries and a statement' "$(wc -l <chain)" 9
+    compare 'the signatures of a chain' "$(peer signatures chain && echo verify)" verify
 else
     echo "python3 is not there: the signatures in the tests were not verified"
 fi

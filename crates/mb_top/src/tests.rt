@@ -2,6 +2,7 @@
 //! Tests are tables of plays: words one after another, how each ends, and what files then hold.
 
 mod births;
+mod chains;
 mod devices;
 mod keys;
 mod lives;
@@ -73,6 +74,8 @@ enum Step {
     EndsInZeros(&'static str, usize),
     /// Power is lost at each write in turn.
     IsCut(&'static Cut),
+    /// The file of this name becomes the line of the statement that was printed last.
+    KeepsStatement(&'static str),
 }
 
 /// A script on an image, in which power is lost at each write in turn of what comes after these lines.
@@ -95,6 +98,8 @@ enum Part {
     File(&'static str),
     /// The content of the file of this name, without so many of its last bytes.
     Without(&'static str, usize),
+    /// The content of the file of this name from the first of these offsets up to the second.
+    Slice(&'static str, usize, usize),
 }
 
 /// Each play goes as it says, over a host of its own with these files.
@@ -130,6 +135,7 @@ fn take(rt: &(impl Abort + AllocGlobal), host: &mut MemoryHost, step: &Step) -> 
         Step::Matches(name, other) => file_matches(rt, host, name, other),
         Step::EndsInZeros(name, count) => ends_in_zeros(rt, host, name, *count),
         Step::IsCut(cut) => is_cut(rt, host, cut),
+        Step::KeepsStatement(name) => keep_statement(rt.alloc(), host, name),
     }
 }
 
@@ -211,6 +217,7 @@ fn part_of<'a>(host: &'a MemoryHost, part: &Part) -> Result<&'a [u8], Fail> {
         Part::Text(text) => Ok(text.as_bytes()),
         Part::File(name) => file_of(host, name),
         Part::Without(name, count) => without(file_of(host, name)?, *count),
+        Part::Slice(name, from, to) => slice(file_of(host, name)?, *from, *to),
     }
 }
 
@@ -221,6 +228,22 @@ fn without(bytes: &[u8], count: usize) -> Result<&[u8], Fail> {
             .get(..bytes.len().saturating_sub(count))
             .ok_or("no such part")?,
     )
+}
+
+/// The bytes from the first of these offsets up to the second.
+fn slice(bytes: &[u8], from: usize, to: usize) -> Result<&[u8], Fail> {
+    Ok(bytes.get(from..to).ok_or("no such part")?)
+}
+
+/// Writes the line of the statement that was printed last.
+fn keep_statement(alloc: Global, host: &mut MemoryHost, name: &str) -> Result<(), Fail> {
+    let mut statement = Vec::new(alloc);
+    for line in host.printed().split(|byte| *byte == b'\n') {
+        if let Some(word) = line.strip_prefix(b"signed 1 0 ") {
+            statement = Vec::from_slice(alloc, word)?;
+        }
+    }
+    store(host, name, &statement)
 }
 
 /// The files of these names have the same bytes.

@@ -123,6 +123,16 @@ const FILES: &[Given] = &[
         name: "noise",
         content: Content::Sevens(4_096),
     },
+    Given {
+        name: "draws",
+        content: Content::Hex(
+            "5a987be47b7794ba2aaa984652c5d4ff3afc13c02a0f5a8bbac5a1588077979c690b773fb0d924a596ac06ce1f466354\
+                422955444d76cd3675fb06e09f9f30f4da2dc294bfea6634fe54b0131112488438c36ec36db8b34410d46f5daa6e00cf\
+                0a024813f2f239dfee11d1e30d6ea88579a7eaf5c59e01a09c9f4bc356c0025167d84c2e9f44b415aaed06982d746d93\
+                985ecaf0095ac280c445bc05ad58a247da98bc3d71ca439ee3f9ab2eadc53b025429783c78bd26fea3b0ceeb08cd50ee\
+                b97ac61e5047188853c2c5d218bf691c9e6ac1ae4788b3a8358fd8be7ccf9f20",
+        ),
+    },
 ];
 
 /// The device and the officers' keys are made.

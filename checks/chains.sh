@@ -1,0 +1,34 @@
+#!/usr/bin/env bash
+# Gives the built program bad chains and statements, outside the gate: checks/chains.sh [-j N] [PROGRAM]. Random bytes
+# of random lengths; each cut, and each bit turned, of the first two entries of a chain and of its statement; lines that
+# are no statement; files that are too long; and chains that a device signed against the rules. Each chain is given to
+# `verify`, and some to `attach` and `audit` too. Each call has to end within a second of the processor, with the status
+# and the line that peers/chains.py predicts, and to write what it should, which is nothing where it refuses. It prints a
+# line for each kind, with how many calls were tried, and those that were wrong, whose files it keeps; it ends with
+# status 1 then. With -j N it works in N processes.
+set -euo pipefail
+export LC_ALL=C
+usage="usage: checks/chains.sh [-j N] [PROGRAM]"
+
+here=$(cd "$(dirname "${BASH_SOURCE[0]}")" && pwd)
+processes=1
+if [ "${1-}" = -j ]; then
+    processes=${2-}
+    shift 2 || true
+fi
+if [ $# -gt 1 ] || ! [[ "$processes" =~ ^[1-9][0-9]?$ ]]; then
+    echo "$usage" >&2
+    exit 2
+fi
+program=$(realpath "${1:-$here/../crates/miniboot/out/miniboot}")
+
+if [ ! -x "$program" ]; then
+    echo "$program is not there: examples/first-order/run.sh builds the program" >&2
+    exit 1
+fi
+if ! command -v python3 >/dev/null; then
+    echo "python3 is needed, and is not on the PATH" >&2
+    exit 1
+fi
+
+exec python3 -B "$here/chains/bad_input.py" -j "$processes" "$program"

@@ -1,0 +1,271 @@
+"""What is computed anew of chains: the tests of the commands on them, and the example of a relying party.
+
+The steps of the tests are followed over files that are all made here: keys and orders by `officer.py`, devices by
+`life.py`, and what the commands on chains do by `chains.py`.
+"""
+
+import copy
+import functools
+import re
+import types
+
+import chains
+from life import Living
+from lms import sha256
+from officer import body, order, order_line
+from sources import HEX
+from top_readers import Host, private_key
+
+TOKEN = re.compile(r'"(?:[^"\\]|\\.)*"|[A-Za-z_][\w:]*|\d[\d_]*|[()\[\]]')
+BIRTHS = "crates/mb_top/src/tests/births.rt"
+DEAD = b"\xff" * chains.FLASH + bytes(chains.BBRAM)
+
+
+# ---- tables of steps
+
+
+def unescaped(word):
+    known = {"n": "\n", "0": "\0", '"': '"', "\\": "\\"}
+    return re.sub(r"\\(?:u\{(\w+)\}|(.))", lambda found: chr(int(found[1], 16)) if found[1] else known[found[2]], word)
+
+
+def values(text):
+    """The values of a table: texts, numbers, names with what follows in brackets, and lists."""
+    tokens = TOKEN.findall(text)
+
+    def several(end):
+        found = []
+        while tokens and tokens[0] != end:
+            found.append(one())
+        if tokens:
+            tokens.pop(0)
+        return found
+
+    def one():
+        token = tokens.pop(0)
+        if token in "([":
+            return several(")" if token == "(" else "]")
+        if token[0] == '"':
+            return unescaped(token[1:-1])
+        if token[0].isdigit():
+            return int(token.replace("_", ""))
+        if tokens and tokens[0] == "(":
+            tokens.pop(0)
+            return (token, *several(")"))
+        return (token,)
+
+    return several(None)
+
+
+def tables(source, constants):
+    """The tables of steps of a source by their names, with the texts for the constants' names."""
+    found = {}
+    for name, text in re.findall(r"const ([A-Z_]+): &\[Step\] = &\[(.*?)\n\];", source.text, re.DOTALL):
+        source.seen.update(re.findall(HEX, text))
+        for constant, value in constants.items():
+            text = re.sub(rf"\b{constant}\b", lambda _, value=value: f'"{value}"', text)
+        found[name] = values(text)
+    return found
+
+
+def fits(printed, wanted):
+    """The lines are those that are wanted, of which one that ends in `*` stands for all that begin so."""
+    found, lines = printed.splitlines(), wanted.splitlines()
+    ends = [line.removesuffix("*") for line in lines]
+    return len(found) == len(lines) and all(
+        here.startswith(end) if end != line else here == line for here, end, line in zip(found, ends, lines)
+    )
+
+
+# ---- a host, and the devices on it
+
+
+class World(Host):
+    """The files as commands leave them, with a device for each image that is not dead."""
+
+    def __init__(self, files):
+        super().__init__(files)
+        self.devices, self.drafts, self.statement = {}, {}, None
+
+    def content(self, name):
+        """The bytes of a file, or None."""
+        if name in self.devices:
+            return self.devices[name].image()
+        return self.files.get(name)
+
+    def answer(self, words):
+        """The status of a command, and what it prints."""
+        command, *names = words
+        if command in chains.COMMANDS:
+            status, printed, written = chains.answer(words, self.content)
+            self.files.update(written)
+            return status, printed
+        if command == "factory":
+            return 0, self.factory(*names)
+        if command == "run":
+            return 0, self.run(*names)
+        printed = self.does(command, *names)
+        if command == "sign":
+            text, *_ = self.orders[names[-1]]
+            self.drafts[text] = self.files[names[1]].decode()
+        return 0, printed
+
+    def factory(self, noise, key, owner, code, image):
+        file, used = self.files[key], self.next_index(key)
+        maker = types.SimpleNamespace(sign=functools.partial(private_key(file[4:20], file[20:52]).sign, used))
+        self.devices[image] = Living(self.files[noise], maker, self.files[owner], self.files[code])
+        return f"serial {self.devices[image].serial.hex()}\n"
+
+    def run(self, image, script, noise):
+        """What a device prints that serves the script, or None where its power is cut, after which it is dead."""
+        lines, draws = self.files[script].decode().splitlines(), self.files[noise]
+        if any(line.startswith("cut ") for line in lines):
+            del self.devices[image]
+            self.files[image] = DEAD
+            return None
+        served = Served(self, self.devices[image], draws)
+        return "".join(served.reply(line) + "\n" for line in lines)
+
+    def order_of(self, line):
+        """The draft of an order's line, and the layers that countersigned it."""
+        for text, signature, beside in self.orders.values():
+            if order_line(order(text, signature, beside)) == line + "\n":
+                return self.drafts[text], {layer for layer, _ in beside}
+        raise ValueError("an order that nobody signed")
+
+    def writes(self, name, parts):
+        """Makes a file of its parts, or a copy of a device."""
+        self.devices.pop(name, None)
+        if len(parts) == 1 and parts[0][-1] in self.devices:
+            self.devices[name] = copy.deepcopy(self.devices[parts[0][-1]])
+        else:
+            self.files[name] = b"".join(map(self.part, parts))
+
+    def part(self, part):
+        kind, what, *numbers = part
+        if kind == "Part::Text":
+            return what.encode()
+        bytes_ = self.content(what)
+        if kind == "Part::Slice":
+            return bytes_[slice(*numbers)]
+        return bytes_[: len(bytes_) - sum(numbers)]
+
+
+class Served:
+    """A device that serves a script, in which it is given nothing that it refuses but for want of a key."""
+
+    def __init__(self, world, device, draws):
+        self.world, self.device, self.draws, self.level = world, device, draws, 0
+
+    def reply(self, line):
+        word, *words = line.split(" ")
+        return getattr(self, word)(line, *words)
+
+    def boot(self, line):
+        self.level = 1
+        return "booted"
+
+    def go(self, line):
+        self.level += 1
+        return f"at {self.level}"
+
+    def off(self, line):
+        return "off"
+
+    def command(self, line, _):
+        draw, self.draws = self.draws[:32], self.draws[32:]
+        draft, cosigned = self.world.order_of(line)
+        return self.device.obey(draft, draw, cosigned)
+
+    def put(self, line, layer, name, value):
+        self.device.put(int(layer), name.encode(), bytes.fromhex(value))
+        return "kept"
+
+    def get(self, line, layer, name):
+        secrets = {known: value for known, value, _ in self.device.regions[int(layer)]["secrets"]}
+        return f"value {secrets[name.encode()].hex()}"
+
+    def sign(self, line, layer, number, message):
+        signed = self.device.sign(int(layer), int(number), bytes.fromhex(message.replace("-", "")))
+        if signed is None:
+            return "refused 6 key"
+        self.world.statement = signed[1].hex().encode()
+        return f"signed {number} {signed[0]} {signed[1].hex()}"
+
+    def status(self, line):
+        device = self.device
+        stands = " ".join("runnable" if device.layers[n]["reliable"] else "unreliable" for n in (1, 2, 3))
+        return f"status {device.serial.hex()} {device.number} {len(device.log)} {stands}"
+
+
+# ---- the sources
+
+
+def follow(source, world, step):
+    kind, *words = step
+    if kind == "Step::Writes":
+        world.writes(*words)
+    elif kind == "Step::KeepsStatement":
+        world.files[words[0]] = world.statement
+    elif kind == "Step::HasHash":
+        source.compare(f"hash of {words[0]}", sha256(world.content(words[0])).hex(), words[1])
+    elif kind == "Step::IsMissing":
+        source.compare(f"file {words[0]}", world.content(words[0]), None)
+    elif kind == "Step::Ends":
+        compare_end(source, world, *words)
+
+
+def compare_end(source, world, words, status, lines):
+    found, printed = world.answer(words.split(" "))
+    if printed is not None:
+        right = (found, fits(printed, lines)) == (status, True)
+        source.compare(words, (status, lines) if right else (found, printed), (status, lines))
+
+
+def born(source):
+    """The world in which the tests begin: keys, orders, and a device whose layers have code."""
+    births = type(source)(source.root, BIRTHS)
+    constants = {name: births.owner(name).constant(name) for name in ("MAKER", "OWNER", "SERIAL", "IMAGE")}
+    files = {"noise": b"\7" * 4_096}
+    for name, kind, word in births.rows(r'name: "(\w+)",\s*content: Content::(Hex|Text)\(\s*"([^"]*)",?\s*\)'):
+        files[name] = bytes.fromhex(word) if kind == "Hex" else unescaped(word).encode()
+    world, steps = World(files), tables(births, constants)
+    for name in ("MADE", "FIRST_ORDERS", "ORDERS_OF_A_LIFE", "LAYERS_ARE_GIVEN"):
+        for step in steps[name]:
+            if step[0] in ("Step::Ends", "Step::Writes"):
+                world.answer(step[1].split(" ")) if step[0] == "Step::Ends" else world.writes(*step[1:])
+    return world
+
+
+def compare_turned(source, world):
+    """Each entry's bytes that are turned, and what is refused then."""
+    row = r"Turned {\s*entry: (\d+),\s*unsigned: &\[([\d_,\s]*)\],\s*formless: &\[([\d_,()\s]*)\],\s*}"
+    for entry, unsigned, formless in source.rows(row):
+        numbers = [int(word.replace("_", "")) for word in re.findall(r"[\d_]+", formless)]
+        wanted = {at: f"refused 20 {told}\n" for at, told in zip(numbers[::2], numbers[1::2])}
+        wanted |= {int(word.replace("_", "")): f"refused 21 {entry}\n" for word in re.findall(r"[\d_]+", unsigned)}
+        for at, line in wanted.items():
+            chain = world.files["chain"]
+            world.files["turned"] = chain[:at] + bytes([chain[at] ^ 1]) + chain[at + 1 :]
+            compare_end(source, world, "verify public0 turned 1", 7, line)
+
+
+def chains_tests(source):
+    """The tables in the order of the tests, each test over a world of its own."""
+    steps, start = tables(source, {}), born(source)
+    for test in source.text.split("#[test]")[1:]:
+        world = copy.deepcopy(start)
+        for name, turned in re.findall(r"go_on\(&rt, &mut host, ([A-Z_]+)\)|(entries_are_turned)\(", test):
+            if turned:
+                compare_turned(source, world)
+            for step in steps.get(name, ()):
+                follow(source, world, step)
+
+
+def sample_signatures(source):
+    """The key, the text and the signature of each entry of the first chain of the tests, and of its statement."""
+    world, steps = born(source), tables(source, {})
+    for step in (*steps["A_WHOLE_LIFE"], *steps["A_STATEMENT_IS_ATTACHED"]):
+        follow(source, world, step)
+    yield from chains.signatures(world.files["public0"], world.files["chain"])
+    yield chains.statement_signature(world.files["attached"], 1)
