@@ -1,5 +1,5 @@
 -- When configurations are the same by the test that is derived for them.
-use Rattle.std.proofs.Common.{◌≡◌, ℕ, Bool, true, false, true≢false, List, Option, None, Some, unwrap_or, ◌&&◌, Decides, refl, sym, ap, rules}
+use Rattle.std.proofs.Common.{◌≡◌, Bool, true≢false, Option, None, Some, unwrap_or, Decides, refl, sym, ap, rules}
 use Rattle.std.specs.Cmp.{booleans_Decides}
 use Rattle.std.specs.Option.{option_eq}
 use Rattle.std.proofs.lemmas.Bool.Decides.{Decides-and, Decides-eqb}
@@ -30,9 +30,10 @@ keys_decide : (a b : PublicKey) → Decides (key.ghosts.eq a b) (a ≡ b)
 keys_decide a b =
     let parts = Decides-and _ _ (same_true tree.the_type tt a.tree b.tree, true_same tree.the_type a.tree b.tree)
     (Decides-and _ _ (same_true chains.the_type tt a.chains b.chains, true_same chains.the_type a.chains b.chains)
-    (Decides-and _ _ (bytes_eq-Decides a.identifier b.identifier) (bytes_eq-Decides a.root b.root))) in
-    (λ yes. let p = parts.0 yes in search (rules, p),
-    λ is. parts.1 (ap (λ (k : PublicKey). k.tree) is, (ap (λ (k : PublicKey). k.chains) is, (ap (λ (k : PublicKey). k.identifier) is, ap (λ (k : PublicKey). k.root) is))))
+    (Decides-and _ _ (bytes_eq-Decides a.identifier b.identifier) (bytes_eq-Decides a.root b.root))) in (
+      λ yes. let p = parts.0 yes in search (rules, p),
+      λ is. parts.1 (ap (λ (k : PublicKey). k.tree) is, (ap (λ (k : PublicKey). k.chains) is, (ap (λ (k : PublicKey). k.identifier) is, ap (λ (k : PublicKey). k.root) is))),
+    )
 
 names_decide : (a b : CodeName) → Decides (name.ghosts.eq a b) (a ≡ b)
 names_decide a b =
@@ -43,9 +44,10 @@ layer_decides : (a b : Layer) → Decides (layer.ghosts.eq a b) (a ≡ b)
 layer_decides a b =
     let parts = Decides-and _ _ (options_decide key.ghosts.eq keys_decide a.owner b.owner)
     (Decides-and _ _ (options_decide name.ghosts.eq names_decide a.code b.code)
-    (Decides-and _ _ (booleans_Decides a.reliable b.reliable) (same_true trust.the_type tt a.trust b.trust, true_same trust.the_type a.trust b.trust))) in
-    (λ yes. let p = parts.0 yes in search (rules, p),
-    λ is. parts.1 (ap (λ (l : Layer). l.owner) is, (ap (λ (l : Layer). l.code) is, (ap (λ (l : Layer). l.reliable) is, ap (λ (l : Layer). l.trust) is))))
+    (Decides-and _ _ (booleans_Decides a.reliable b.reliable) (same_true trust.the_type tt a.trust b.trust, true_same trust.the_type a.trust b.trust))) in (
+      λ yes. let p = parts.0 yes in search (rules, p),
+      λ is. parts.1 (ap (λ (l : Layer). l.owner) is, (ap (λ (l : Layer). l.code) is, (ap (λ (l : Layer). l.reliable) is, ap (λ (l : Layer). l.trust) is))),
+    )
 
 layers_decide : (a b : Layers) → Decides (layers.ghosts.eq a b) (a ≡ b)
 layers_decide a b =
@@ -54,6 +56,7 @@ layers_decide a b =
 
 pub configurations_decide : (a b : Configuration) → Decides (configuration.ghosts.eq a b) (a ≡ b)
 configurations_decide a b =
-    let parts = Decides-and _ _ (Decides-eqb a.number b.number) (Decides-and _ _ (Decides-eqb a.upto b.upto) (layers_decide a.layers b.layers)) in
-    (λ yes. let p = parts.0 yes in search (rules, p),
-    λ is. parts.1 (ap (λ (c : Configuration). c.number) is, (ap (λ (c : Configuration). c.upto) is, ap (λ (c : Configuration). c.layers) is)))
+    let parts = Decides-and _ _ (Decides-eqb a.number b.number) (Decides-and _ _ (Decides-eqb a.upto b.upto) (layers_decide a.layers b.layers)) in (
+      λ yes. let p = parts.0 yes in search (rules, p),
+      λ is. parts.1 (ap (λ (c : Configuration). c.number) is, (ap (λ (c : Configuration). c.upto) is, ap (λ (c : Configuration). c.layers) is)),
+    )

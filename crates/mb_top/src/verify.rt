@@ -41,12 +41,7 @@ fn verify_under<H: Host>(
 }
 
 /// Prints what an accepted chain says of the key with this number.
-fn print_report<H: Host>(
-    alloc: Global,
-    key: u32,
-    report: &Report,
-    host: &mut H,
-) -> Result<(), End>
+fn print_report<H: Host>(alloc: Global, key: u32, report: &Report, host: &mut H) -> Result<(), End>
     ensures { CarriesOut (tell_verdict key (accepting report.now)) (H.outside host.old) result (H.outside host.new) }
 {
     match write_listing(alloc, key, report) {
