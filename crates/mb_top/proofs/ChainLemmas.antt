@@ -1,5 +1,5 @@
 -- What carries out `verify`, `audit`, `chain` and `attach`.
-use Rattle.std.proofs.Common.{◌≡◌, ◌≢◌, ℕ, ◌≤◌, List, [], ◌∷◌, ◌++◌, codes, length, Bool, true, false, is_some, true≢false, map, take, drop, min, Option, None, Some, Result, Ok, Err, refl, sym, ◌∙◌, ap, subst, arith, length-append}
+use Rattle.std.proofs.Common.{◌≡◌, ◌≢◌, ℕ, ◌≤◌, List, [], ◌∷◌, codes, length, Bool, false, is_some, true≢false, take, drop, min, Option, None, Some, Result, Ok, Err, refl, sym, ◌∙◌, ap, subst, arith}
 use Rattle.std.proofs.lemmas.List.{map-append, take-map, take_min, take-append-drop}
 use Rattle.std.proofs.lemmas.List.Elements.{recursion_from_All}
 use Rattle.std.specs.Prelude.{IfOk}
@@ -25,7 +25,7 @@ use Rattle.mb_model.specs.Lines.{text_of}
 use Rattle.mb_model.specs.Listing.{listing}
 use Rattle.mb_model.specs.Acceptance.{ChainRefusal, bad_form, bad_signature, bad_order, breaks_rules, key_unknown, bad_statement, wrong_number, key_ended, refusal_code, Accepts, IsRefused, accepting, refusing, IsVerdict}
 use Rattle.mb_model.specs.Outside.{Outside}
-use Rattle.mb_model.specs.Commands.{Command, Output, find, print, refuse, at_first}
+use Rattle.mb_model.specs.Commands.{print, refuse, at_first}
 use Rattle.mb_model.specs.ChainCommands.{ChainNames, AttachNames, entries_text, write_entries, IsChainOf, chain_of, attach_statement}
 use Rattle.mb_model.specs.VerifyCommand.{VerifyNames, refused_line, tell_verdict, verify_chain}
 use Rattle.mb_model.specs.AuditCommand.{AuditNames, own_lives, IsAudited, compare, audit_chain}

@@ -1,5 +1,5 @@
 -- When configurations are the same by the test that is derived for them.
-use Rattle.std.proofs.Common.{◌≡◌, ℕ, Bool, true, false, true≢false, List, Option, None, Some, unwrap_or, ◌&&◌, Decides, refl, sym, ap, rules}
+use Rattle.std.proofs.Common.{◌≡◌, Bool, true≢false, Option, None, Some, unwrap_or, Decides, refl, sym, ap, rules}
 use Rattle.std.specs.Cmp.{booleans_Decides}
 use Rattle.std.specs.Option.{option_eq}
 use Rattle.std.proofs.lemmas.Bool.Decides.{Decides-and, Decides-eqb}

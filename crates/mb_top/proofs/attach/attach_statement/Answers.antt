@@ -1,5 +1,4 @@
-use Rattle.std.proofs.Common.{◌≡◌, true, false, None, is_some, refl, sym, ◌∙◌, ap, subst}
-use Rattle.mb_model.specs.ChainFormat.{chain_format}
+use Rattle.std.proofs.Common.{◌≡◌, true, false, is_some, sym, ◌∙◌, ap, subst}
 use Rattle.mb_model.specs.ChainCommands.{write_entries}
 use Rattle.mb_top.specs.Words.{attach_files}
 use Rattle.mb_top.specs.Ending.{CarriesOut}
