@@ -1,4 +1,4 @@
--- Why no statement was read, as a place. Where do the bytes fail?
+-- Why no chain or statement was read, as an offset. Where do the bytes fail?
 use Rattle.std.specs.Prelude.{ℕ, Option, Some, None}
 use Rattle.mb_cert.specs.declared.end.ChainEnd.{ChainEnd}
 use Rattle.mb_cert.specs.declared.end.ChainEnd.TheVariants.{BadChain, NoMemory}

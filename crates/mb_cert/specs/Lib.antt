@@ -1,1 +1,4 @@
 pub mod Ends
+pub mod Parts
+pub mod Bounds
+pub mod StatementReading

@@ -1,21 +1,21 @@
-//! Why no statement was read.
+//! Why no chain or statement was read.
 
 ghost use Rattle.std.specs.Prelude.{◌≡◌};
 
 use mb_bytes::Short;
 use mb_model::{BadRecord, NoMemory};
 
-/// Why no statement was read.
+/// Why no chain or statement was read.
 #[derive(Clone, Copy, Debug, PartialEq, Eq)]
 pub enum ChainEnd {
     /// The bytes spell none.
     BadChain {
-        /// The place at which the first field begins that lacks bytes or is not allowed, or of the first byte after the
+        /// The offset at which the first field begins that lacks bytes or is not allowed, or of the first byte after the
         /// last field, in bytes from 0.
         at: u32,
     },
     /// An allocation failed. No clause of a reader says when, so one that always answers this is proved too: the tests
-    /// read statements where there is enough.
+    /// read chains and statements where there is enough memory.
     NoMemory,
 }
 

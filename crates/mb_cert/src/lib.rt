@@ -1,14 +1,26 @@
-//! Statements as bytes, both ways.
+//! Chains of certificates and statements.
 //!
-//! This crate owns how what a region's key signed is read and written. How it is spelled is defined in `mb_model`
-//! (`ChainFormat`). It stands on that crate, on `mb_format` and on `mb_bytes`.
+//! This crate owns how a chain and a statement are read and written as bytes, how a statement is read from its line of
+//! text and attached to a chain, and whether a key signed an entry. How chains and statements are spelled, and which
+//! entries stand beside a statement, is defined in `mb_model` (`ChainFormat`, `OrderLines`, `Attach`). It stands on that
+//! crate, on `mb_format`, on `mb_bytes` and `mb_layout`, by which fields and entries are read and written, on `mb_words`,
+//! which reads lines and hexadecimal words, on the lemmas on such lines in `mb_lemmas`, on `mb_lms`, which verifies, and
+//! on `sha2` and `hex`.
 #![tactic(auto)]
 
+mod attached;
+mod certificate;
+mod chain;
 mod end;
 mod statement;
+mod statement_line;
 #[cfg(test)]
 mod tests;
 
+pub use attached::attach;
+pub use certificate::{certifies, leaf_number};
+pub use chain::{read_chain, write_chain};
 pub use end::ChainEnd;
-pub use mb_model::Statement;
+pub use mb_model::{Chain, Statement};
 pub use statement::{read_statement, write_statement};
+pub use statement_line::{StatementLineEnd, read_statement_line};

@@ -11,8 +11,9 @@ use mb_bytes::{Cursor, bytes_after_u8, put_after_u8, put_slice, put_u32};
 use mb_model::{Bytes, NoMemory, Statement};
 use std::alloc::Global;
 
+/// The statement at the cursor's offset; after an error the cursor may stand anywhere.
 #[tactic(auto, unfolding(mb_model::specs::ChainFormat::statement_format))]
-fn statement_at(alloc: Global, cursor: &mut Cursor) -> Result<Statement, ChainEnd>
+pub(crate) fn statement_at(alloc: Global, cursor: &mut Cursor) -> Result<Statement, ChainEnd>
     ensures { Reads chain_at statement_format cursor.old result cursor.new }
 {
     let number = cursor.take_u32()?;
@@ -25,9 +26,9 @@ fn statement_at(alloc: Global, cursor: &mut Cursor) -> Result<Statement, ChainEn
     })
 }
 
-/// The statement that the whole of the bytes spells, of which there are at most 4,194,304. Else `BadChain` with the place
-/// of the first field that lacks bytes or is not allowed, or of the first byte after the last field, or `NoMemory` where
-/// an allocation fails.
+/// The statement that the whole of the bytes spells, of which there are at most 4,194,304. Else `BadChain` with the
+/// offset of the first field that lacks bytes or is not allowed, or of the first byte after the last field, or `NoMemory`
+/// where an allocation fails.
 pub fn read_statement(alloc: Global, bytes: &[u8]) -> Result<Statement, ChainEnd>
     requires { length bytes.now ≤ 4194304 }
     ensures { ReadsWhole chain_at statement_format bytes.now result }
@@ -42,8 +43,9 @@ pub fn read_statement(alloc: Global, bytes: &[u8]) -> Result<Statement, ChainEnd
     Ok(statement)
 }
 
+/// Appends the spelling, or a part of it where an allocation fails.
 #[tactic(auto, unfolding(mb_model::specs::ChainFormat::statement_format))]
-fn put_statement(out: &mut Vec<u8>, statement: &Statement) -> Result<(), NoMemory>
+pub(crate) fn put_statement(out: &mut Vec<u8>, statement: &Statement) -> Result<(), NoMemory>
     requires { length statement.now.message < 256 }
     ensures { Puts (statement_format.spelling statement.now) out.old result out.new }
 {

@@ -11,9 +11,9 @@ use Rattle.mb_model.specs.Acknowledged.{Shows, MayAnswer}
 use Rattle.mb_model.specs.Board.{Held, Ledger}
 use Rattle.mb_model.specs.Clean.{Clean}
 use Rattle.mb_model.specs.Machine.{World, Step, Run}
-use Rattle.mb_model.specs.Regions.{KeptRightly}
 use Rattle.mb_model.specs.Script.{IsScriptEvent}
 use Rattle.mb_model.specs.Valid.{Valid}
+use Rattle.mb_lemmas.proofs.ValidStates.{kept_rightly}
 use Rattle.mb_device.specs.declared.device.Device.{Device}
 use Rattle.mb_device.specs.Sound.{IsSound, HasSound, taken, CanStep, Steps}
 use Rattle.mb_device.specs.Served.{IsServedFrom}
@@ -57,11 +57,6 @@ can_step start first at_first device ledger held now e rest inv waits same = rec
 run_more : (answered : List Answered) (one : Answered) (first mid last : World) → Run first answered mid → Step mid one.event one.reply last → Run first (answered ++ one ∷ []) last
 run_more [] one first mid last run step = (last, subst (λ (w : World). Step w one.event one.reply last) run step, refl)
 run_more (answer ∷ answered) one first mid last run step = (run.0, run.1, run_more answered one run.0 mid last run.2 step)
-
--- in a valid state each secret and key was kept rightly
-kept_rightly : (state : Option State) → Valid state → KeptRightly state
-kept_rightly None valid = tt
-kept_rightly (Some state) valid = record { two = valid.two.kept; three = valid.three.kept }
 
 -- what is asked of an answer
 pub may_answer : (start : Ledger) (first : Device) (at_first : Held) (device next : Device) (ledger out kept : Ledger) (held stepped : Held) (e : Event) (rest : List Event) (reply : Reply)

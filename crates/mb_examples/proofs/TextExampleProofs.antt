@@ -1,8 +1,8 @@
 -- The examples of texts, computed.
-use Rattle.std.proofs.Common.{◌≡◌, ℕ, ◌≤◌, inl, inr, List, [], ◌∷◌, ◌++◌, length, replicate, refl, sym, ap, ◌∙◌, arith, true, Bool, not, ◌&&◌, eq-eqb, lit≤, append_assoc}
+use Rattle.std.proofs.Common.{◌≡◌, ℕ, ◌≤◌, inl, inr, List, [], ◌∷◌, ◌++◌, length, replicate, refl, sym, ap, ◌∙◌, arith, true, Bool, not, ◌&&◌, eq-eqb, lit≤}
 use Rattle.std.specs.Prelude.{All, codes, ◌==◌, filter, Ok}
 use Rattle.std.specs.List.{AllZip}
-use Rattle.std.specs.Fmt.{digits, decimal}
+use Rattle.std.specs.Fmt.{digits}
 use Rattle.std.proofs.lemmas.Bool.{and_parts}
 use Rattle.std.proofs.lemmas.List.Elements.{All-nil, All-cons}
 use Rattle.hex.specs.Hex.{encode_with, decode_pairs, decode_of}
@@ -12,8 +12,6 @@ use Rattle.mb_model.specs.declared.key.Trust.TheVariants.{Never}
 use Rattle.mb_model.specs.declared.order.Act.{Act}
 use Rattle.mb_model.specs.declared.order.Act.TheVariants as act
 use Rattle.mb_model.specs.declared.order.Order.{Order}
-use Rattle.mb_model.specs.declared.reply.Reply.TheVariants as reply
-use Rattle.mb_model.specs.Replies.{reply_line}
 use Rattle.mb_model.specs.Texts.{IsHex}
 use Rattle.mb_model.specs.Lines.{IsLine, IsBeginning, ends_early, Reads, TextFailsAtLine}
 use Rattle.mb_model.specs.Script.{IsName, SaysEvent, is_skipped, IsScript, with_before, commands_in, drawn_events}

@@ -3,7 +3,6 @@ use Rattle.std.specs.Prelude.{◌≡◌, ℕ, List, [], ◌∷◌, ◌++◌, rep
 use Rattle.mb_model.specs.declared.key.Trust.TheVariants.{Never}
 use Rattle.mb_model.specs.declared.order.Act.TheVariants as act
 use Rattle.mb_model.specs.declared.order.Order.{Order}
-use Rattle.mb_model.specs.declared.order.Target.TheVariants as target
 use Rattle.mb_model.specs.declared.event.Event.{Event}
 use Rattle.mb_model.specs.declared.event.Event.TheVariants as event
 use Rattle.mb_model.specs.declared.reply.Reply.TheVariants as reply

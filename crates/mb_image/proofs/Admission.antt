@@ -1,7 +1,7 @@
 -- Which secrets and keys a layer admitted at each change, by a log that obeys the rules.
-use Rattle.std.proofs.Common.{◌≡◌, ◌<◌, ◌≤◌, ◌+◌, ℕ, zero, suc, List, [], ◌∷◌, ◌++◌, inl, inr, length, map, get_or, Bool, Option, true, false, true≢false, refl, sym, ap, subst, ◌∙◌, arith, append_assoc}
-use Rattle.std.specs.Prelude.{◌||◌, ◌==◌, not, nat_lt, nat_le, All, Contains, IsTrue, if◌then◌else◌}
-use Rattle.std.proofs.lemmas.List.Elements.{All-nil, All-cons, All-head, All-tail}
+use Rattle.std.proofs.Common.{◌≡◌, ◌<◌, ◌≤◌, ◌+◌, ℕ, zero, suc, List, [], ◌∷◌, ◌++◌, inl, inr, length, map, get_or, Bool, Option, true, false, true≢false, refl, sym, ap, subst, ◌∙◌, arith}
+use Rattle.std.specs.Prelude.{◌||◌, not, nat_lt, All, Contains, IsTrue, if◌then◌else◌}
+use Rattle.std.proofs.lemmas.List.Elements.{All-nil, All-cons}
 use Rattle.mb_model.specs.declared.key.PublicKey.{PublicKey}
 use Rattle.mb_model.specs.declared.layer.Layers.{Layers}
 use Rattle.mb_model.specs.declared.layer.Pair.{Pair}
@@ -12,7 +12,7 @@ use Rattle.mb_model.specs.declared.entry.Entry.{Entry}
 use Rattle.mb_model.specs.declared.entry.Entry.TheVariants.{Birth, Change, NewKey, Succession}
 use Rattle.mb_model.specs.declared.region.RegionKey.{RegionKey}
 use Rattle.mb_model.specs.Layers.{is_upper, is_in}
-use Rattle.mb_model.specs.Rules.{admits, Admits, is_kept, kept_regions}
+use Rattle.mb_model.specs.Rules.{admits, is_kept, kept_regions}
 use Rattle.mb_model.specs.Log.{number_of, layers_of, RuledLog}
 use Rattle.mb_model.specs.Lives.{ends, Alive, MadeKey, alive_keys}
 use Rattle.mb_model.specs.Regions.{AdmittedSince, KeyAdmitted}

@@ -1,5 +1,5 @@
 -- Stored entries that are signed, and those that are not.
-use Rattle.std.proofs.Common.{◌≡◌, ◌<◌, ℕ, zero, suc, List, [], ◌∷◌, length, map, get_or, Some, None, arith, refl, sym, ap, subst, ◌∙◌, true, true≢false}
+use Rattle.std.proofs.Common.{◌≡◌, ◌<◌, ℕ, zero, suc, List, [], ◌∷◌, length, map, get_or, None, arith, refl, sym, ap, subst, ◌∙◌, true, true≢false}
 use Rattle.std.specs.Prelude.{is_some}
 use Rattle.mb_model.specs.declared.entry.Entry.{Entry}
 use Rattle.mb_model.specs.declared.entry.SignedEntry.{SignedEntry}

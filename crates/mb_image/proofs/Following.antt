@@ -1,11 +1,10 @@
 -- Whether each entry follows from those before it.
-use Rattle.std.proofs.Common.{◌≡◌, ◌≢◌, ◌<◌, ◌+◌, ℕ, List, [], ◌∷◌, ◌++◌, length, take, drop, map, get_or, Option, None, Some, Bool, true, false, true≢false, refl, sym, ap, subst, ◌∙◌, arith, append_assoc, length-append}
+use Rattle.std.proofs.Common.{◌≡◌, ◌≢◌, ◌<◌, ◌+◌, ℕ, List, [], ◌∷◌, ◌++◌, length, take, drop, get_or, Option, None, Some, Bool, true, false, true≢false, refl, sym, ap, subst, ◌∙◌, arith, append_assoc, length-append}
 use Rattle.std.specs.Prelude.{◌↔◌, IsTrue, IfOk, Result, Ok, Err}
 use Rattle.std.proofs.lemmas.List.{take_more, nil_from_length, take-append-drop, length-map, length-take-le}
 use Rattle.mb_model.specs.declared.key.PublicKey.{PublicKey}
 use Rattle.mb_model.specs.declared.entry.Entry.{Entry}
 use Rattle.mb_model.specs.declared.entry.SignedEntry.{SignedEntry}
-use Rattle.mb_model.specs.EntryFormat.{entry_format}
 use Rattle.mb_model.specs.Merkle.{Verifies, leaf_number}
 use Rattle.mb_model.specs.SignedTexts.{entry_text, IsSignedBy}
 use Rattle.mb_model.specs.Log.{entries_of, device_of, number_of, layers_of, Ruled}
@@ -46,15 +45,13 @@ none_verifies figures before signed is some no_key = (
 )
 
 -- else it is the key that is named last by which it verifies
-pub verified_by : (figures : Figures) (before : List Entry) (signed : SignedEntry) (key : PublicKey) (text : List ℕ) (result : Bool)
-    → figures ≡ figures_of before → figures.length ≢ 0 → figures.device ≡ Some key → text ≡ entry_format.spelling signed.entry
-    → (IsTrue result ↔ Verifies key (3 ∷ [] ++ text) signed.signature) → (IsTrue result ↔ IsVerified before signed)
-unfolding entry_text
-verified_by figures before signed key text result is some named text_is verifies =
-    let key_is : device_of before ≡ Some key = sym (named_device figures before is) ∙ named in
-    let P : List ℕ → Type 0 = λ t. Verifies key (3 ∷ t) signed.signature in (
-      (λ on. λ others. subst (λ (k : Option PublicKey). IsSignedBy k (entry_text signed.entry) signed.signature) (sym key_is) (subst P text_is (verifies.0 on))),
-      (λ verified. verifies.1 (subst P (sym text_is) (subst (λ (k : Option PublicKey). IsSignedBy k (entry_text signed.entry) signed.signature) key_is (verified (some_entries figures before is some))))),
+pub verified_by : (figures : Figures) (before : List Entry) (signed : SignedEntry) (key : PublicKey)
+    → figures ≡ figures_of before → figures.length ≢ 0 → figures.device ≡ Some key
+    → (result : Bool) → (IsTrue result ↔ Verifies key (entry_text signed.entry) signed.signature) → (IsTrue result ↔ IsVerified before signed)
+verified_by figures before signed key is some named result verifies =
+    let key_is : device_of before ≡ Some key = sym (named_device figures before is) ∙ named in (
+      (λ on. λ others. subst (λ (k : Option PublicKey). IsSignedBy k (entry_text signed.entry) signed.signature) (sym key_is) (verifies.0 on)),
+      (λ verified. verifies.1 (subst (λ (k : Option PublicKey). IsSignedBy k (entry_text signed.entry) signed.signature) key_is (verified (some_entries figures before is some)))),
     )
 
 -- an entry that the rules allow in its place follows exactly where it verifies

@@ -1,5 +1,5 @@
 -- Loops over the secrets and the keys of a region.
-use Rattle.std.proofs.Common.{◌≡◌, ◌≢◌, ◌<◌, ◌≤◌, ◌+◌, ℕ, List, [], ◌∷◌, ◌++◌, length, take, map, get_or, Bool, true, false, true≢false, refl, sym, ap, subst, ◌∙◌, arith}
+use Rattle.std.proofs.Common.{◌≡◌, ◌≢◌, ◌<◌, ◌≤◌, ◌+◌, ℕ, List, [], ◌∷◌, ◌++◌, length, take, map, get_or, Bool, false, true≢false, sym, ap, subst, ◌∙◌, arith}
 use Rattle.std.proofs.lemmas.List.{length-take, length-take-le, get_or_default, get_or-map}
 use Rattle.std.specs.Prelude.{◌↔◌, All, AllPairs, Any, IsTrue}
 use Rattle.std.specs.Ordering.{ord_max, nat_cmp}

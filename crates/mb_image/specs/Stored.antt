@@ -1,5 +1,5 @@
 -- What is stored, as it was read. Can the work that is pending be completed?
-use Rattle.std.specs.Prelude.{ℕ, ◌+◌, ◌≤◌, length, All, IfSome}
+use Rattle.std.specs.Prelude.{◌+◌, ◌≤◌, length, All, IfSome}
 use Rattle.mb_model.specs.EntryFormat.{entry_format}
 use Rattle.mb_model.specs.StoredLog.{outgoing_of}
 use Rattle.mb_model.specs.Meaning.{Contents}

@@ -6,12 +6,15 @@ ghost use Rattle.mb_model.specs.OrderStep.{signed_by};
 ghost use Rattle.mb_model.specs.StoredLog.{signed_for, outgoing_of, completed};
 ghost use Rattle.mb_signer.specs.Tree.{IsTreeOf};
 
-use crate::text::{ENTRY, spelling_of};
+use mb_layout::write_entry;
 use mb_lms::Steps;
 use mb_model::{Entry, KeySeed, Log, NoMemory, Outgoing, Root, SignedEntry};
 use mb_signer::{KeptTree, Uses, sign_kept, take_index};
 use std::alloc::Global;
 use std::sync::ledger::Ledger;
+
+/// What the text begins with that a device key signs of an entry.
+const ENTRY: u8 = 3;
 
 /// The log for which the entries of a memory stand: the unsigned ones, of which there are at most two, get their
 /// signatures, by the outgoing key and by the device key, whose tree is given.
@@ -127,7 +130,8 @@ fn signed_by<L: Ledger>(
     ensures signed { IfOk result (λ signed. signed ≡ signed_by key.now index entry.now) }
     ensures cost { steps.new ≤ steps.old + 1074 }
 {
-    let text = spelling_of(alloc, entry)?;
+    let mut spelling = Vec::new(alloc);
+    write_entry(entry, &mut spelling)?;
     let mut uses = Uses::stored(index);
     let Some(right) = take_index(&mut uses) else {
         unreachable!();
@@ -138,7 +142,7 @@ fn signed_by<L: Ledger>(
         tree,
         key,
         &[ENTRY],
-        text.as_slice(),
+        spelling.as_slice(),
         &mut signature,
         steps,
     );

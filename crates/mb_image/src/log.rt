@@ -9,8 +9,7 @@ ghost use Rattle.mb_model.specs.Valid.{Follows, EachFollows};
 ghost use Rattle.mb_log.specs.Figures.{figures_of};
 ghost use Rattle.mb_image.specs.Verified.{IsVerified};
 
-use crate::text::{ENTRY, leaf_number, spelling_of};
-use mb_lms::verify;
+use mb_cert::{certifies, leaf_number};
 use mb_log::Figures;
 use mb_model::{Entry, Follow, Layer, Layers, NoMemory, SignedEntry, Trust};
 use std::alloc::Global;
@@ -53,8 +52,7 @@ fn verifies(alloc: Global, figures: &Figures, signed: &SignedEntry) -> Result<bo
     let Some(key) = &figures.device else {
         return Ok(false);
     };
-    let text = spelling_of(alloc, &signed.entry)?;
-    Ok(verify(key, &[ENTRY], text.as_slice(), &signed.signature))
+    certifies(alloc, key, signed)
 }
 
 /// The layers of the last birth or change of the log.

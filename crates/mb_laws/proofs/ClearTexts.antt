@@ -1,11 +1,11 @@
 -- Texts are clear where the lines of the grammar stand for at most one value, and some lines stand for one.
-use Rattle.std.proofs.Common.{◌≡◌, ℕ, ◌+◌, ◌<◌, suc, zero, List, [], ◌∷◌, ◌++◌, length, refl, sym, ap, subst, ◌∙◌, arith, append_assoc, rules, lit≤}
+use Rattle.std.proofs.Common.{◌≡◌, ℕ, ◌+◌, suc, zero, List, [], ◌∷◌, ◌++◌, length, refl, sym, subst, ◌∙◌, append_assoc, rules, lit≤}
 use Rattle.std.specs.Prelude.{replicate, codes}
 use Rattle.mb_format.specs.Combinators.{number_bytes}
 use Rattle.std.proofs.lemmas.List.{append-nil, length-replicate}
 use Rattle.mb_format.specs.Format.{IsBytes, Spells}
 use Rattle.mb_model.specs.declared.entry.Statement.{Statement}
-use Rattle.mb_model.specs.Lines.{IsBeginning, FailsAtLine, bad_line, ends_early, Reads, TextFailsAtLine, hex_word}
+use Rattle.mb_model.specs.Lines.{IsBeginning, FailsAtLine, bad_line, ends_early, hex_word}
 use Rattle.mb_model.specs.Script.{IsScript}
 use Rattle.mb_model.specs.Drafts.{IsDraft}
 use Rattle.mb_model.specs.ChainFormat.{statement_format}

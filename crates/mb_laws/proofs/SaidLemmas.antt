@@ -1,11 +1,9 @@
--- Lemmas on what scripts give and what lines can say.
-use Rattle.std.proofs.Common.{ℕ, ◌-◌, inl, inr, List, [], ◌∷◌, ◌++◌, length, get_or, replicate, refl, ap, ◌∙◌, arith}
-use Rattle.std.specs.Prelude.{All, codes, not, filter}
-use Rattle.std.specs.List.{AllZip}
+-- Lemmas on what lines can say.
+use Rattle.std.proofs.Common.{ℕ, ◌-◌, inl, inr, List, [], ◌∷◌, ◌++◌, length, get_or, replicate, refl, ap, arith}
+use Rattle.std.specs.Prelude.{codes}
 use Rattle.std.specs.Fmt.{decimal}
 use Rattle.std.proofs.lemmas.Bool.{cases_lt}
-use Rattle.std.proofs.lemmas.List.{length-replicate, get_or_append_left, get_or_past}
-use Rattle.std.proofs.lemmas.List.Elements.{All-nil, All-cons}
+use Rattle.std.proofs.lemmas.List.{get_or_append_left, get_or_past}
 use Rattle.hex.specs.Hex.{IsBytes}
 use Rattle.hex.proofs.HexLemmas.{decode_of-encode_lower, length-encode_with}
 use Rattle.mb_model.specs.declared.event.Event.{Event}
@@ -13,33 +11,8 @@ use Rattle.mb_model.specs.declared.event.Event.TheVariants as event
 use Rattle.mb_model.specs.declared.event.Tear.{Tear}
 use Rattle.mb_model.specs.Texts.{IsHex}
 use Rattle.mb_model.specs.Lines.{spaced, hex_word}
-use Rattle.mb_model.specs.Script.{IsTear, IsCut, IsScriptEvent, IsCutLine, EndsInHex, SaysEvent, is_skipped, IsScript}
+use Rattle.mb_model.specs.Script.{IsTear, IsCut, IsScriptEvent, IsCutLine, EndsInHex, SaysEvent}
 use Rattle.mb_laws.specs.TextLaws.{HoldsBytes, undrawn}
-
--- ---- a line gives what a line can give
-
-says_script : (line : List ℕ) (e : Event) → SaysEvent line e → IsScriptEvent e
-says_script line event.Boot says = tt
-says_script line event.Off says = tt
-says_script line event.Tamper says = tt
-says_script line event.Status says = tt
-says_script line event.Go says = tt
-says_script line (event.Cut count tear) says = (says.fill, says.allowed)
-says_script line (event.Command text draw) says = ap length says.1 ∙ length-replicate {A = ℕ} 32 0
-says_script line (event.Put region name value) says = (says.0, says.1, says.2)
-says_script line (event.Get region name) says = (says.0, says.1)
-says_script line (event.Drop region name) says = (says.0, says.1)
-says_script line (event.Sign region key message) says = (says.0, says.1, says.2)
-
-all_script : (lines : List (List ℕ)) (events : List Event) → AllZip SaysEvent lines events → All IsScriptEvent events
-all_script [] [] says = All-nil IsScriptEvent
-all_script [] (e ∷ events) says = absurd says
-all_script (line ∷ lines) [] says = absurd says
-all_script (line ∷ lines) (e ∷ events) says =
-    All-cons IsScriptEvent e events (says_script line e says.0) (all_script lines events says.1)
-
-pub IsScript-events : (lines : List (List ℕ)) (events : List Event) → IsScript lines events → All IsScriptEvent events
-IsScript-events lines events is = all_script (filter (λ line. not (is_skipped line)) lines) events is.said
 
 -- ---- written words
 

@@ -5,11 +5,13 @@ use Rattle.mb_format.specs.Format.{IsBytes}
 use Rattle.mb_model.specs.declared.key.PublicKey.{PublicKey}
 use Rattle.mb_model.specs.declared.entry.Entry.{Entry}
 use Rattle.mb_model.specs.declared.entry.SignedEntry.{SignedEntry}
+use Rattle.mb_model.specs.declared.state.Report.{Report}
+use Rattle.mb_model.specs.declared.state.State.{State}
 use Rattle.mb_model.specs.Log.{entries_of, RuledLog}
 use Rattle.mb_model.specs.Lives.{lives_of}
-use Rattle.mb_model.specs.Valid.{EachFollows}
-use Rattle.mb_model.specs.Acceptance.{ChainRefusal, Accepts, IsRefused, Honest}
-use Rattle.mb_model.specs.declared.state.Report.{Report}
+use Rattle.mb_model.specs.Valid.{EachFollows, IsValidState}
+use Rattle.mb_model.specs.Acceptance.{ChainRefusal, Accepts, IsRefused, Verdict, IsVerdict, Honest}
+use Rattle.mb_model.specs.AuditCommand.{IsAudited}
 
 -- bytes are never both accepted and refused
 abbrev pub NeverBoth : Type 0
@@ -55,3 +57,10 @@ HonestIsPrefix =
     (log : List SignedEntry) → EachFollows log → Honest accepts.chain.entries root (entries_of log)
     → (past : List Entry) × (later : List Entry) × (entries_of log ≡ past ++ later)
     × (past ≡ entries_of accepts.chain.entries) × (report.lives ≡ lives_of past n)
+
+-- So a verdict on a chain is all that an audit needs: where the chain is accepted and no entry of it was forged, it tells
+-- of the device.
+abbrev pub VerdictsAreAudits : Type 0
+VerdictsAreAudits =
+    (state : State) (maker : PublicKey) (bytes : List ℕ) (n : ℕ) (verdict : Verdict)
+    → IsBytes bytes → IsValidState state → IsVerdict maker bytes n verdict → IsAudited state maker bytes n verdict

@@ -1,6 +1,6 @@
 //! Laws of the chains of certificates.
 
-ghost use Rattle.mb_laws.specs.ChainLaws.{NeverBoth, NeverNeither, OneRefusal, OneReport, AcceptedIsRuled, AcceptedFollows, HonestIsPrefix};
+ghost use Rattle.mb_laws.specs.ChainLaws.{NeverBoth, NeverNeither, OneRefusal, OneReport, AcceptedIsRuled, AcceptedFollows, HonestIsPrefix, VerdictsAreAudits};
 
 /// Bytes are either accepted or refused as a chain, never both and never neither; they are refused for one thing at most,
 /// and say one thing at most of a key.
@@ -17,7 +17,9 @@ pub fn accepted_chains_obey_the_rules()
     ensures follows { AcceptedFollows }
 {}
 
-/// An accepted chain, none of whose entries was forged, is the beginning of its device's log.
+/// An accepted chain, none of whose entries was forged, is the beginning of its device's log. So a verdict on it is what
+/// an audit of the device finds.
 pub fn honest_chains_tell_of_their_device()
-    ensures { HonestIsPrefix }
+    ensures prefix { HonestIsPrefix }
+    ensures audited { VerdictsAreAudits }
 {}

@@ -2,7 +2,7 @@
 
 ghost use Rattle.std.specs.Prelude.{ℕ, List};
 ghost use Rattle.mb_model.specs.declared.event.Event.{Event};
-ghost use Rattle.mb_model.specs.Inputs.{IsClearInput, key_noise_input, key_input, draft_input, order_input, image_input, script_input, draws_input};
+ghost use Rattle.mb_model.specs.Inputs.{IsClearInput, key_noise_input, key_input, draft_input, order_input, image_input, script_input, root_input, chain_input, chain_bytes_input, statement_input, draws_input};
 
 /// No input of a command both stands for a value and is at fault.
 pub fn inputs_are_clear()
@@ -12,5 +12,9 @@ pub fn inputs_are_clear()
     ensures order { (name : List ℕ) → IsClearInput (order_input name) }
     ensures image { (name : List ℕ) → IsClearInput (image_input name) }
     ensures script { (name : List ℕ) → IsClearInput (script_input name) }
+    ensures root { (name : List ℕ) → IsClearInput (root_input name) }
+    ensures chain { (name : List ℕ) → IsClearInput (chain_input name) }
+    ensures chain_bytes { (name : List ℕ) → IsClearInput (chain_bytes_input name) }
+    ensures statement { (name : List ℕ) → IsClearInput (statement_input name) }
     ensures noise { (events : List Event) (name : List ℕ) → IsClearInput (draws_input events name) }
 {}

@@ -27,3 +27,5 @@ pub mod FactoryLemmas
 pub mod ChainLemmas
 pub mod OrderLemmas
 pub mod RefusalLemmas
+pub mod AuditLemmas
+pub mod ScriptLemmas

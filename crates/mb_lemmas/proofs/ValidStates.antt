@@ -21,12 +21,12 @@ use Rattle.mb_model.specs.declared.state.State.{State}
 use Rattle.mb_model.specs.Layers.{layer_of, is_upper, is_runnable, Runnable}
 use Rattle.mb_model.specs.Rules.{kind_of, change_of, renews, Condition, placed, kept_regions, after}
 use Rattle.mb_model.specs.Log.{entries_of, layers_of, number_of, made, Ruled, RuledLog}
-use Rattle.mb_model.specs.Regions.{region_after, with_key}
+use Rattle.mb_model.specs.Regions.{region_after, with_key, KeptRightly}
 use Rattle.mb_model.specs.OrderStep.{region_of, with_region, signed_by, log_with, next_key, cosigned_by, succeeded, changed, keyed}
 use Rattle.mb_model.specs.Refusals.{wrong_layer, refused}
 use Rattle.mb_model.specs.Signing.{public_of}
 use Rattle.mb_model.specs.LayerEvents.{Outcome, has_name, has_number, put_event, get_event, drop_event, sign_with, sign_event}
-use Rattle.mb_model.specs.Valid.{EachFollows, IsValidRegion, IsValidState}
+use Rattle.mb_model.specs.Valid.{EachFollows, IsValidRegion, IsValidState, Valid}
 use Rattle.mb_lemmas.specs.RegionLaws.{KeepsStatesValid, HasValidRegions}
 use Rattle.mb_lemmas.proofs.Splits.{map_split}
 use Rattle.mb_lemmas.proofs.RuleLemmas.{placed_can}
@@ -178,3 +178,8 @@ keyed_keeps state L kind draw ruled allowed room valid =
       three = subst (λ es. IsValidRegion es state.layers 3 (with_key key state.three)) (sym (same 3)) (valid_over_new_key past state.layers size 3 kind seed state.three ruled may few valid.three);
     })
     allowed room
+
+-- what a state that a device can have has kept
+pub kept_rightly : (state : Option State) → Valid state → KeptRightly state
+kept_rightly None valid = tt
+kept_rightly (Some state) valid = record { two = valid.two.kept; three = valid.three.kept }

@@ -7,20 +7,20 @@ use Rattle.mb_format.specs.Format.{Spells}
 use Rattle.mb_model.specs.declared.key.PublicKey.{PublicKey}
 use Rattle.mb_model.specs.declared.order.KeyKind.{KeyKind}
 use Rattle.mb_model.specs.declared.entry.Entry.{Entry}
-use Rattle.mb_model.specs.declared.entry.Entry.TheVariants.{Birth, Change, NewKey, Succession}
+use Rattle.mb_model.specs.declared.entry.Entry.TheVariants.{NewKey}
 use Rattle.mb_model.specs.declared.entry.SignedEntry.{SignedEntry}
 use Rattle.mb_model.specs.declared.state.State.{State}
 use Rattle.mb_model.specs.Log.{entries_of, made, RuledLog}
 use Rattle.mb_model.specs.ChainFormat.{chain_format}
 use Rattle.mb_model.specs.Valid.{EachFollows, IsValidState}
-use Rattle.mb_model.specs.Acceptance.{IsGood, AreGood, KeyEntry, key_in, key_of, report_of, Accepts}
+use Rattle.mb_model.specs.Attach.{bare_chain}
+use Rattle.mb_model.specs.Acceptance.{IsGood, AreGood, IsBornOf, KeyEntry, key_in, key_of, report_of, Accepts}
+use Rattle.mb_model.specs.ChainCommands.{IsChainOf}
 use Rattle.mb_lemmas.specs.AliveLaws.{makes, IsUnmade}
 use Rattle.mb_lemmas.proofs.LogLemmas.{made-push, last_of-split}
 use Rattle.mb_lemmas.proofs.AliveLemmas.{later_is_unmade}
 use Rattle.mb_lemmas.proofs.ValidStates.{valid_is_ruled}
-use Rattle.mb_lemmas.proofs.ReaderLemmas.{makes_none}
-use Rattle.mb_model.specs.Attach.{bare_chain}
-use Rattle.mb_run_laws.specs.BirthLaws.{IsBornOf}
+use Rattle.mb_lemmas.proofs.ReaderLemmas.{made_stands, makes_none}
 
 -- ---- entries
 
@@ -74,3 +74,13 @@ born_key_accepted maker state bytes before position number n L kind key later va
       current = tt;
       report_is = refl;
     }
+
+-- The chain of a valid state's log is what the device hands out.
+pub chain_is_of : (state : State) → IsValidState state → IsChainOf state (bare_chain state.log)
+chain_is_of state valid = record {
+  is = refl;
+  good = λ maker born. log_is_good maker state valid born;
+  accepted = λ maker bytes n made born spelled named.
+      let at = made_stands (entries_of state.log) n made named in
+      born_key_accepted maker state bytes at.0 at.1 at.2 n made.layer made.kind made.key at.3 valid born spelled at.4;
+}

@@ -15,6 +15,7 @@ use Rattle.mb_model.specs.declared.entry.Statement.{Statement}
 use Rattle.mb_model.specs.declared.event.Answered.{Answered}
 use Rattle.mb_model.specs.declared.event.Event.{Event}
 use Rattle.mb_model.specs.declared.region.RegionKey.{RegionKey}
+use Rattle.mb_model.specs.declared.reply.Reply.{Reply}
 use Rattle.mb_model.specs.declared.reply.Reply.TheVariants as reply
 use Rattle.mb_model.specs.declared.state.State.{State}
 use Rattle.mb_model.specs.Merkle.{Verifies}
@@ -27,16 +28,15 @@ use Rattle.mb_model.specs.OrderStep.{region_of}
 use Rattle.mb_model.specs.LayerEvents.{statement_of}
 use Rattle.mb_model.specs.Machine.{World, Step, Run}
 use Rattle.mb_model.specs.Valid.{IsValidState, Valid}
-use Rattle.mb_model.specs.Acceptance.{AreGood, KeyEntry, key_of, IsCurrent, report_of, Accepts}
+use Rattle.mb_model.specs.Acceptance.{AreGood, IsBornOf, KeyEntry, key_of, IsCurrent, report_of, Accepts}
 use Rattle.mb_lemmas.proofs.LogLemmas.{last_of-more, RuledLog-front, number_of-append, number-le}
 use Rattle.mb_lemmas.proofs.ValidStates.{valid_is_ruled}
-use Rattle.mb_lemmas.proofs.ValidSteps.{run_valid}
+use Rattle.mb_lemmas.proofs.ValidSteps.{step_valid, run_valid}
 use Rattle.mb_lemmas.proofs.ReaderLemmas.{living_is_flagged, not_true}
 use Rattle.mb_lemmas.proofs.SignatureLemmas.{signature_verifies}
-use Rattle.mb_model.specs.Runs.{BeginsWith, worlds_of}
-use Rattle.mb_run_laws.specs.BirthLaws.{IsBornOf}
+use Rattle.mb_model.specs.Runs.{BeginsWith, worlds_of, StaysAccepted, IsAcceptedIn, StatementsStayAccepted}
 use Rattle.mb_model.specs.Attach.{is_change_above, cut_at, stated_chain}
-use Rattle.mb_run_laws.specs.StatementLaws.{IsStatedIn, entry_of, StaysAccepted}
+use Rattle.mb_run_laws.specs.StatementLaws.{IsStatedIn, entry_of}
 use Rattle.mb_run_laws.proofs.GrowthLemmas.{logs_grow}
 use Rattle.mb_run_laws.proofs.BirthLemmas.{log_is_good, key_of-split}
 use Rattle.mb_run_laws.proofs.KeyLemmas.{key_lives}
@@ -357,10 +357,21 @@ accepted_there maker world given n index bytes mid answered next valid step run 
           (statement_accepted maker world (this ∷ answered) next it.state later it.signs.L key it.signs.message chain valid it.was it.signs.within it.signs.few (mid, step, run) is born spelled);
     }
 
-pub answer_stays_accepted : (maker : PublicKey) (world : World) (given : Event) (n index : ℕ) (bytes : List ℕ) (mid : World) (answered : List Answered) (next : World) (run : Run mid answered next)
+pub answer_stays_accepted : (world : World) (given : Event) (n index : ℕ) (bytes : List ℕ) (mid : World) (answered : List Answered) (next : World) (run : Run mid answered next)
     → Valid world.state → Step world given (reply.Signed n index bytes) mid
-    → All (λ w. (later : State) → w.state ≡ Some later → IsBornOf maker later.log → StaysAccepted maker later.log n bytes) (worlds_of mid answered next run)
-answer_stays_accepted maker world given n index bytes mid answered next run valid step =
+    → All (IsAcceptedIn n bytes) (worlds_of mid answered next run)
+answer_stays_accepted world given n index bytes mid answered next run valid step =
     let Q : World → Type 0 = λ w. (part : List Answered) × Run mid part w in
-    let P : World → Type 0 = λ w. (later : State) → w.state ≡ Some later → IsBornOf maker later.log → StaysAccepted maker later.log n bytes in
-    All-weaker Q P (λ w part. accepted_there maker world given n index bytes mid part.0 w valid step part.1) (worlds_of mid answered next run) (runs_lead_there mid answered next run)
+    All-weaker Q (IsAcceptedIn n bytes)
+    (λ w part maker later is born. accepted_there maker world given n index bytes mid part.0 w valid step part.1 later is born)
+    (worlds_of mid answered next run) (runs_lead_there mid answered next run)
+
+-- so it is for each statement of a run
+pub statements_stay_accepted : (world : World) (answered : List Answered) (next : World) (run : Run world answered next) → Valid world.state
+    → StatementsStayAccepted world answered next run
+statements_stay_accepted world [] next run valid = tt
+statements_stay_accepted world (this ∷ rest) next run valid = (
+  λ n index bytes is.
+      answer_stays_accepted world this.event n index bytes run.0 rest next run.2 valid (subst (λ (r : Reply). Step world this.event r run.0) is run.1),
+  statements_stay_accepted run.0 rest next run.2 (step_valid world this.event this.reply run.0 valid run.1),
+)

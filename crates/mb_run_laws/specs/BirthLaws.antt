@@ -1,9 +1,8 @@
 -- Laws of the chain that a device hands out. Is each key that was born in a device accepted?
-use Rattle.std.specs.Prelude.{◌≡◌, ℕ, List, ◌∷◌, ◌++◌, None}
+use Rattle.std.specs.Prelude.{◌≡◌, ℕ, List, ◌∷◌, ◌++◌}
 use Rattle.mb_format.specs.Format.{Spells}
 use Rattle.mb_model.specs.declared.key.PublicKey.{PublicKey}
 use Rattle.mb_model.specs.declared.order.KeyKind.{KeyKind}
-use Rattle.mb_model.specs.declared.entry.Chain.{Chain}
 use Rattle.mb_model.specs.declared.entry.Entry.{Entry}
 use Rattle.mb_model.specs.declared.entry.Entry.TheVariants.{NewKey}
 use Rattle.mb_model.specs.declared.state.State.{State}
@@ -12,6 +11,7 @@ use Rattle.mb_model.specs.ChainFormat.{chain_format}
 use Rattle.mb_model.specs.Valid.{IsValidState}
 use Rattle.mb_model.specs.Attach.{bare_chain}
 use Rattle.mb_model.specs.Acceptance.{IsBornOf, AreGood, report_of, Accepts}
+use Rattle.mb_model.specs.ChainCommands.{IsChainOf}
 
 -- Where the maker signed the birth, each entry of the device's log follows, as a verifier looks at it.
 abbrev pub LogsAreGood : Type 0
@@ -26,3 +26,7 @@ BornKeysAreAccepted =
     → IsValidState state → IsBornOf maker state.log → Spells chain_format bytes (bare_chain state.log)
     → entries_of state.log ≡ before ++ NewKey position number n L kind key ∷ later
     → Accepts maker bytes n (report_of (bare_chain state.log) n (record { layer = L; kind = kind; key = key }))
+
+-- so the chain of its log is what a device hands out
+abbrev pub DeviceChainsAreWhole : Type 0
+DeviceChainsAreWhole = (state : State) → IsValidState state → IsChainOf state (bare_chain state.log)

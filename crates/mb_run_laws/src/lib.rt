@@ -1,8 +1,8 @@
 //! What the definitions give of whole runs, of the log and the chain of a device, and of the orders that officers sign.
 //!
-//! This crate owns no type and does nothing when it runs, and no crate stands on it. Each law stands on a function with
-//! an empty body. It stands on `mb_model`, whose definitions it speaks of, on `mb_lemmas`, whose lemmas it cites, on
-//! `mb_format`, and on the kit's crates whose functions these use.
+//! This crate owns no type and does nothing when it runs. Each law stands on a function with an empty body; `mb_top` cites
+//! the lemmas on runs and chains. It stands on `mb_model`, whose definitions it speaks of, on `mb_lemmas`, whose lemmas it
+//! cites, on `mb_format`, and on the kit's crates whose functions these use.
 #![tactic(auto)]
 
 mod chains;

@@ -8,8 +8,9 @@ pub fn logs_only_grow()
     ensures ends { LogsGrowOverRuns }
 {}
 
-/// Each world of a run from a valid state is valid, and no device key signs two entries of its log with one index. No key
-/// of a region signs two statements of the run with one index, nor with one that was used before the run.
+/// Each world of a run from a valid state is valid, its regions hold the keys that are alive, and no device key signs two
+/// entries of its log with one index. No key of a region signs two statements of the run with one index, nor with one
+/// that was used before the run, and each statement is accepted with the log of each later world.
 pub fn runs_are_sound()
     ensures { RunsAreSound }
 {}

@@ -75,13 +75,19 @@ finds Is rest past answered final before now value (Err why) is carried = λ aft
 
 -- ---- refusals and failed allocations
 
+pub refuse_as : (line : List ℕ) (why : End) (past : Past) (answered : List Answered) (final : Held) (before : Outside)
+    → end_line why ≡ line → end_status why ≡ 7 → answered ≡ past.answered → CarriesOutRest (refuse line) past answered final before (Err why) before
+unfolding CarriesOutRest CommandEnds
+refuse_as line why past answered final before is seven same = λ after says.
+    inl (record { says = subst (λ l. SaysLine l before after) is says; answered = same; status_is = seven })
+
 pub refuse_here : (why : End) (past : Past) (answered : List Answered) (final : Held) (before : Outside)
     → end_status why ≡ 7 → answered ≡ past.answered → CarriesOutRest (refuse (end_line why)) past answered final before (Err why) before
 unfolding CarriesOutRest CommandEnds
 refuse_here why past answered final before seven same = λ after says.
     inl (record { says = says; answered = same; status_is = seven })
 
--- an allocation fails before an output, before events are served, or before a choice
+-- an allocation fails before an output, before a text, before events are served, before a choice, or while a value is made
 pub memory_here : (output : Output) (rest : Command) (past : Past) (answered : List Answered) (final : Held) (before : Outside)
     → past.wrote ≡ false → answered ≡ past.answered → CarriesOutRest (write output rest) past answered final before (Err end.NoMemory) before
 unfolding CarriesOutRest CommandEnds
@@ -93,6 +99,18 @@ pub memory_chosen : (If : Type 0) (first second : Command) (past : Past) (answer
 unfolding CarriesOutRest CommandEnds
 memory_chosen If first second past answered final before none same = λ after says.
     inr (inr (wanted past answered final before after none same says))
+
+pub memory_unfound : {A : Type 0} (Is : A → Type 0) (rest : A → Command) (past : Past) (answered : List Answered) (final : Held) (before : Outside)
+    → past.wrote ≡ false → answered ≡ past.answered → CarriesOutRest (find Is rest) past answered final before (Err end.NoMemory) before
+unfolding CarriesOutRest CommandEnds
+memory_unfound Is rest past answered final before none same = λ after says.
+    inr (wanted past answered final before after none same says)
+
+pub memory_unprinted : (text : List ℕ) (past : Past) (answered : List Answered) (final : Held) (before : Outside)
+    → past.wrote ≡ false → answered ≡ past.answered → CarriesOutRest (print text) past answered final before (Err end.NoMemory) before
+unfolding CarriesOutRest CommandEnds
+memory_unprinted text past answered final before none same = λ after says.
+    inr (wanted past answered final before after none same says)
 
 pub memory_unserved : (IsServed : List Answered → Held → Type 0) (rest : List Answered → Held → Command) (past : Past) (answered : List Answered) (final : Held) (before : Outside)
     → past.wrote ≡ false → answered ≡ past.answered → CarriesOutRest (serve IsServed rest) past answered final before (Err end.NoMemory) before

@@ -9,3 +9,5 @@ pub mod Requests
 pub mod SignLemmas
 pub mod LineLemmas
 pub mod FactoryLemmas
+pub mod SameLists
+pub mod ChainLemmas

@@ -1,14 +1,17 @@
 -- From a command to what its words say; and that the words of a request are those of no other.
-use Rattle.std.proofs.Common.{◌≡◌, ℕ, ◌⊎◌, List, [], ◌∷◌, codes, Option, None, Some, Result, Ok, Err, if◌then◌else◌, IsTrue, refl, sym, ◌∙◌, ap, subst, inl, inr, arith}
+use Rattle.std.proofs.Common.{◌≡◌, ℕ, ◌≤◌, List, [], ◌∷◌, codes, Option, None, Some, Result, Ok, Err, if◌then◌else◌, IsTrue, refl, sym, ◌∙◌, ap, subst, arith}
 use Rattle.std.specs.Fmt.{decimal}
-use Rattle.std.proofs.lemmas.Fmt.{decimal_digit}
+use Rattle.std.specs.Str.Parse.{digits_value}
+use Rattle.std.proofs.lemmas.Fmt.{digits_value-decimal}
+use Rattle.std.proofs.lemmas.Str.Parse.{numerals_by_value, tells_digits}
 use Rattle.mb_format.specs.Combinators.{same_bytes}
 use Rattle.mb_model.specs.declared.event.Answered.{Answered}
 use Rattle.mb_model.specs.Layers.{is_upper}
+use Rattle.mb_model.specs.Lines.{number_limit}
 use Rattle.mb_model.specs.Outside.{Outside}
 use Rattle.mb_model.specs.Board.{Held}
 use Rattle.mb_model.specs.Commands.{Ended, CommandEnds, HasInputsFor, IsFaultless, at_first}
-use Rattle.mb_model.specs.Top.{Request, runs, makes_key, signs, countersigns, makes_device, IsRequest, command_of, Ends, no_command, did}
+use Rattle.mb_model.specs.Top.{Request, runs, makes_key, signs, countersigns, makes_device, verifies, audits, shows_chain, attaches, IsRequest, command_of, Ends, no_command, did}
 use Rattle.mb_top.specs.declared.end.End.{End}
 use Rattle.mb_top.specs.declared.end.End.TheVariants as end
 use Rattle.mb_top.specs.Ending.{CarriesOutRest, CarriesOut, CarriesOutWords}
@@ -34,37 +37,57 @@ none_carried_out words answered final before none same = λ after says. no_comma
 
 -- ---- one request
 
--- the layer of a word
-layer_of_word : List ℕ → ℕ
-layer_of_word word = if same_bytes word (codes "2") then 2 else 3
+-- the number that a word is
+number_of_word : List ℕ → ℕ
+number_of_word word = digits_value 10 word
+
+number_again : (n : ℕ) → n ≤ number_limit → number_of_word (decimal n) ≡ n
+unfolding number_of_word
+number_again n fits = digits_value-decimal (numerals_by_value _ tells_digits) n (omega (arith, fits))
+
+upper_fits : (layer : ℕ) → IsTrue (is_upper layer) → layer ≤ number_limit
+upper_fits layer upper = grind (arith, upper)
+
+-- the requests of a command and three words
+of_three : List ℕ → List ℕ → List ℕ → List ℕ → Request
+of_three command first second third =
+    if same_bytes command (codes "run") then runs (record { image = first; script = second; noise = third })
+    else if same_bytes command (codes "verify") then verifies (record { root = first; chain = second; key = number_of_word third })
+    else if same_bytes command (codes "attach") then attaches (record { chain = first; statement = second; out = third })
+    else if same_bytes command (codes "keygen") then makes_key (record { noise = first; key = second; public = third })
+    else signs (record { key = first; draft = second; out = third })
+
+-- those of a command and four words
+of_four : List ℕ → List ℕ → List ℕ → List ℕ → List ℕ → Request
+of_four command first second third fourth =
+    if same_bytes command (codes "audit") then audits (record { image = first; root = second; chain = third; key = number_of_word fourth })
+    else countersigns (record { key = first; layer = number_of_word second; order = third; out = fourth })
 
 -- the request of which words are the spelling
 request_of : List (List ℕ) → Option Request
-request_of (command ∷ first ∷ second ∷ third ∷ []) =
-    if same_bytes command (codes "run") then Some (runs (record { image = first; script = second; noise = third }))
-    else if same_bytes command (codes "keygen") then Some (makes_key (record { noise = first; key = second; public = third }))
-    else Some (signs (record { key = first; draft = second; out = third }))
-request_of (command ∷ key ∷ layer ∷ order ∷ out ∷ []) = Some (countersigns (record { key = key; layer = layer_of_word layer; order = order; out = out }))
-request_of (command ∷ noise ∷ key ∷ owner ∷ code ∷ image ∷ []) =
-    Some (makes_device (record { noise = noise; key = key; owner = owner; code = code; image = image }))
+request_of (command ∷ first ∷ second ∷ []) = Some (shows_chain (record { image = first; out = second }))
+request_of (command ∷ first ∷ second ∷ third ∷ []) = Some (of_three command first second third)
+request_of (command ∷ first ∷ second ∷ third ∷ fourth ∷ []) = Some (of_four command first second third fourth)
+request_of (command ∷ first ∷ second ∷ third ∷ fourth ∷ fifth ∷ []) =
+    Some (makes_device (record { noise = first; key = second; owner = third; code = fourth; image = fifth }))
 request_of _ = None
 
-layer_again : (layer : ℕ) → (layer ≡ 2) ⊎ (layer ≡ 3) → layer_of_word (decimal layer) ≡ layer
-unfolding layer_of_word
-layer_again layer (inl two) = subst (λ n. layer_of_word (decimal n) ≡ n) (sym two) (ap layer_of_word (decimal_digit 2 (omega arith)))
-layer_again layer (inr three) = subst (λ n. layer_of_word (decimal n) ≡ n) (sym three) (ap layer_of_word (decimal_digit 3 (omega arith)))
-
-upper_layer : (layer : ℕ) → IsTrue (is_upper layer) → (layer ≡ 2) ⊎ (layer ≡ 3)
-upper_layer layer upper = grind (arith, upper)
-
 request_again : (words : List (List ℕ)) (request : Request) → IsRequest words request → request_of words ≡ Some request
-unfolding request_of
+unfolding request_of of_three of_four
 request_again words (runs names) is = ap request_of is.spelled
 request_again words (makes_key names) is = ap request_of is.spelled
 request_again words (signs names) is = ap request_of is.spelled
 request_again words (countersigns names) is =
-    ap request_of is.spelled ∙ ap (λ n. Some (countersigns (record { key = names.key; layer = n; order = names.order; out = names.out }))) (layer_again names.layer (upper_layer names.layer is.allowed.3))
+    ap request_of is.spelled
+    ∙ ap (λ n. Some (countersigns (record { key = names.key; layer = n; order = names.order; out = names.out }))) (number_again names.layer (upper_fits names.layer is.allowed.3))
 request_again words (makes_device names) is = ap request_of is.spelled
+request_again words (verifies names) is =
+    ap request_of is.spelled ∙ ap (λ n. Some (verifies (record { root = names.root; chain = names.chain; key = n }))) (number_again names.key is.allowed.2)
+request_again words (audits names) is =
+    ap request_of is.spelled
+    ∙ ap (λ n. Some (audits (record { image = names.image; root = names.root; chain = names.chain; key = n }))) (number_again names.key is.allowed.3)
+request_again words (shows_chain names) is = ap request_of is.spelled
+request_again words (attaches names) is = ap request_of is.spelled
 
 one_request : (words : List (List ℕ)) (a b : Request) → IsRequest words a → IsRequest words b → a ≡ b
 one_request words a b is_a is_b =

@@ -9,7 +9,6 @@ use Rattle.mb_model.specs.Outside.{Outside}
 use Rattle.mb_model.specs.Machine.{opening}
 use Rattle.mb_model.specs.Meaning.{StandsFor, IsWellFormed}
 use Rattle.mb_model.specs.Valid.{Valid}
-use Rattle.mb_model.specs.Regions.{KeptRightly}
 use Rattle.mb_model.specs.Board.{Memory, Ledger, Meter, Held, IsLoaded, image_of, phase_at, loaded}
 use Rattle.mb_model.specs.Acknowledged.{Shows}
 use Rattle.mb_model.specs.Replies.{replies_text}
@@ -18,6 +17,7 @@ use Rattle.mb_model.specs.Commands.{print, at_first}
 use Rattle.mb_board.specs.Calls.{held_by}
 use Rattle.mb_device.specs.Served.{IsServedFrom}
 use Rattle.mb_lemmas.proofs.FaultLemmas.{image_parts}
+use Rattle.mb_lemmas.proofs.ValidStates.{kept_rightly}
 use Rattle.mb_run_laws.proofs.SoundLemmas.{run_is_sound}
 use Rattle.mb_top.specs.declared.end.End.{End}
 use Rattle.mb_top.specs.Ending.{CarriesOutAfter, CarriesOutRest}
@@ -38,11 +38,6 @@ loaded_shows memory power level meter image state sized is dark none held =
     }
 
 -- ---- the events
-
--- what a state that a device can have has kept
-kept_rightly : (state : Option State) → Valid state → KeptRightly state
-kept_rightly None valid = tt
-kept_rightly (Some live) valid = record { two = valid.two.kept; three = valid.three.kept }
 
 -- the events were served from the world that opens with an image's state
 pub served_whole : (state : Option State) (events : List Event) (memory : Memory) (before after : Ledger) (final : Held) → Valid state → before ≡ loaded memory events

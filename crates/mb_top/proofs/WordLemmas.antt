@@ -1,12 +1,18 @@
 -- Which request words are.
-use Rattle.std.proofs.Common.{◌≡◌, ◌≢◌, ℕ, List, [], ◌∷◌, All, map, codes, IsTrue, refl, sym, ◌∙◌, ap, subst, ◌⊎◌, inl, inr, arith}
-use Rattle.std.proofs.lemmas.Fmt.{decimal_digit}
+use Rattle.std.proofs.Common.{◌≡◌, ◌≢◌, ℕ, ◌≤◌, List, [], ◌∷◌, length, All, map, codes, IsTrue, refl, sym, ◌∙◌, ap, subst, ◌⊎◌, inl, inr, arith}
+use Rattle.std.proofs.lemmas.Fmt.{decimal_digit, decimal_nonempty}
 use Rattle.std.proofs.lemmas.List.Elements.{All-nil, All-cons, All-head, All-tail, All-map}
 use Rattle.std.specs.Fmt.{decimal}
 use Rattle.mb_model.specs.Layers.{is_upper}
-use Rattle.mb_model.specs.Sign.{CountersignNames}
+use Rattle.mb_model.specs.Lines.{IsNumber, number_limit}
+use Rattle.mb_model.specs.RunCommand.{RunNames}
+use Rattle.mb_model.specs.Keygen.{KeygenNames}
+use Rattle.mb_model.specs.Sign.{SignNames, CountersignNames}
 use Rattle.mb_model.specs.FactoryCommand.{FactoryNames}
-use Rattle.mb_model.specs.Top.{Request, runs, makes_key, signs, countersigns, makes_device, IsRequest}
+use Rattle.mb_model.specs.VerifyCommand.{VerifyNames}
+use Rattle.mb_model.specs.AuditCommand.{AuditNames}
+use Rattle.mb_model.specs.ChainCommands.{ChainNames, AttachNames}
+use Rattle.mb_model.specs.Top.{Request, runs, makes_key, signs, countersigns, makes_device, verifies, audits, shows_chain, attaches, IsRequest}
 use Rattle.mb_top.specs.Words.{IsCalled, IsLayerWord}
 
 pub layer_two : (word : List ℕ) → word ≡ codes "2" → IsLayerWord word 2
@@ -35,9 +41,6 @@ all_unmapped bytes [] all = All-nil (λ name. bytes name ≢ [])
 all_unmapped bytes (name ∷ names) all =
     All-cons (λ n. bytes n ≢ []) name names (All-head IsNoName (bytes name) (map bytes names) all) (all_unmapped bytes names (All-tail IsNoName (bytes name) (map bytes names) all))
 
-three_given : (a b c : List ℕ) → a ≢ [] → b ≢ [] → c ≢ [] → All IsNoName (a ∷ b ∷ c ∷ [])
-three_given a b c first second third = All-cons IsNoName a (b ∷ c ∷ []) first (All-cons IsNoName b (c ∷ []) second (All-cons IsNoName c [] third (All-nil IsNoName)))
-
 module _ {N : Type 0} (bytes : N → List ℕ) (words names : List N) (command : N) (word wanted : List ℕ) (split : words ≡ command ∷ names) (is : word ≡ bytes command) where
   spelled : map bytes words ≡ word ∷ map bytes names
   spelled = ap (map bytes) split ∙ ap (λ (w : List ℕ). w ∷ map bytes names) (sym is)
@@ -57,15 +60,73 @@ module _ {N : Type 0} (bytes : N → List ℕ) (words names : List N) (command :
       let same : map bytes names ≡ others = cc in
       never (all_unmapped bytes names (subst (All IsNoName) (sym same) called.given))
 
+-- ---- the number of a key
+
+number_given : (n : ℕ) → n ≤ number_limit → decimal n ≢ []
+number_given n fits none = omega (arith, decimal_nonempty n (omega (arith, fits)), ap length none)
+
+pub verify_asked : (words : List (List ℕ)) (root chain word : List ℕ) (key : ℕ) → IsCalled words (codes "verify") (root ∷ chain ∷ word ∷ []) → IsNumber number_limit word key
+    → IsRequest words (verifies (record { root = root; chain = chain; key = key }))
+verify_asked words root chain word key is number = record {
+  spelled = is.spelled ∙ ap (λ (w : List ℕ). codes "verify" ∷ root ∷ chain ∷ w ∷ []) number.0;
+  allowed =
+      let later = All-tail IsNoName root (chain ∷ word ∷ []) is.given in
+      (All-head IsNoName root (chain ∷ word ∷ []) is.given, All-head IsNoName chain (word ∷ []) later, number.1);
+}
+
+pub verify_unnumbered : (words : List (List ℕ)) (root chain word : List ℕ) → IsCalled words (codes "verify") (root ∷ chain ∷ word ∷ []) → ((n : ℕ) → IsNumber number_limit word n → ⊥)
+    → (names : VerifyNames) → IsRequest words (verifies names) → ⊥
+verify_unnumbered words root chain word called none names is =
+    let both : codes "verify" ∷ root ∷ chain ∷ word ∷ [] ≡ codes "verify" ∷ names.root ∷ names.chain ∷ decimal names.key ∷ [] = sym called.spelled ∙ is.spelled in
+    let same : word ≡ decimal names.key = cc in
+    none names.key (same, is.allowed.2)
+
+pub no_verify : (words : List (List ℕ)) → ((root chain word : List ℕ) → IsCalled words (codes "verify") (root ∷ chain ∷ word ∷ []) → ⊥) → (names : VerifyNames) → IsRequest words (verifies names) → ⊥
+no_verify words never names is = never names.root names.chain (decimal names.key) (record {
+  spelled = is.spelled;
+  given =
+      let last = All-cons IsNoName (decimal names.key) [] (number_given names.key is.allowed.2) (All-nil IsNoName) in
+      All-cons IsNoName names.root (names.chain ∷ decimal names.key ∷ []) is.allowed.0 (All-cons IsNoName names.chain (decimal names.key ∷ []) is.allowed.1 last);
+})
+
+pub audit_asked : (words : List (List ℕ)) (image root chain word : List ℕ) (key : ℕ) → IsCalled words (codes "audit") (image ∷ root ∷ chain ∷ word ∷ []) → IsNumber number_limit word key
+    → IsRequest words (audits (record { image = image; root = root; chain = chain; key = key }))
+audit_asked words image root chain word key is number = record {
+  spelled = is.spelled ∙ ap (λ (w : List ℕ). codes "audit" ∷ image ∷ root ∷ chain ∷ w ∷ []) number.0;
+  allowed =
+      let later = All-tail IsNoName image (root ∷ chain ∷ word ∷ []) is.given in
+      let last = All-tail IsNoName root (chain ∷ word ∷ []) later in
+      (All-head IsNoName image (root ∷ chain ∷ word ∷ []) is.given, All-head IsNoName root (chain ∷ word ∷ []) later, All-head IsNoName chain (word ∷ []) last, number.1);
+}
+
+pub audit_unnumbered : (words : List (List ℕ)) (image root chain word : List ℕ) → IsCalled words (codes "audit") (image ∷ root ∷ chain ∷ word ∷ []) → ((n : ℕ) → IsNumber number_limit word n → ⊥)
+    → (names : AuditNames) → IsRequest words (audits names) → ⊥
+audit_unnumbered words image root chain word called none names is =
+    let both : codes "audit" ∷ image ∷ root ∷ chain ∷ word ∷ [] ≡ codes "audit" ∷ names.image ∷ names.root ∷ names.chain ∷ decimal names.key ∷ [] = sym called.spelled ∙ is.spelled in
+    let same : word ≡ decimal names.key = cc in
+    none names.key (same, is.allowed.3)
+
+pub no_audit : (words : List (List ℕ)) → ((image root chain word : List ℕ) → IsCalled words (codes "audit") (image ∷ root ∷ chain ∷ word ∷ []) → ⊥) → (names : AuditNames) → IsRequest words (audits names) → ⊥
+no_audit words never names is = never names.image names.root names.chain (decimal names.key) (record {
+  spelled = is.spelled;
+  given =
+      let last = All-cons IsNoName (decimal names.key) [] (number_given names.key is.allowed.3) (All-nil IsNoName) in
+      All-cons IsNoName names.image (names.root ∷ names.chain ∷ decimal names.key ∷ []) is.allowed.0
+      (All-cons IsNoName names.root (names.chain ∷ decimal names.key ∷ []) is.allowed.1 (All-cons IsNoName names.chain (decimal names.key ∷ []) is.allowed.2 last));
+})
+
 -- words that are none of the requests are none
-pub no_request : (words : List (List ℕ)) → ((a b c : List ℕ) → IsCalled words (codes "run") (a ∷ b ∷ c ∷ []) → ⊥) → ((a b c : List ℕ) → IsCalled words (codes "keygen") (a ∷ b ∷ c ∷ []) → ⊥)
-    → ((a b c : List ℕ) → IsCalled words (codes "sign") (a ∷ b ∷ c ∷ []) → ⊥) → ((names : CountersignNames) → IsRequest words (countersigns names) → ⊥)
-    → ((names : FactoryNames) → IsRequest words (makes_device names) → ⊥) → (request : Request) → IsRequest words request → ⊥
-no_request words not_run not_keygen not_sign not_countersign not_factory (runs names) is =
-    not_run names.image names.script names.noise (record { spelled = is.spelled; given = three_given names.image names.script names.noise is.allowed.0 is.allowed.1 is.allowed.2 })
-no_request words not_run not_keygen not_sign not_countersign not_factory (makes_key names) is =
-    not_keygen names.noise names.key names.public (record { spelled = is.spelled; given = three_given names.noise names.key names.public is.allowed.0 is.allowed.1 is.allowed.2 })
-no_request words not_run not_keygen not_sign not_countersign not_factory (signs names) is =
-    not_sign names.key names.draft names.out (record { spelled = is.spelled; given = three_given names.key names.draft names.out is.allowed.0 is.allowed.1 is.allowed.2 })
-no_request words not_run not_keygen not_sign not_countersign not_factory (countersigns names) is = not_countersign names is
-no_request words not_run not_keygen not_sign not_countersign not_factory (makes_device names) is = not_factory names is
+pub no_request : (words : List (List ℕ)) → ((names : RunNames) → IsRequest words (runs names) → ⊥) → ((names : VerifyNames) → IsRequest words (verifies names) → ⊥)
+    → ((names : AuditNames) → IsRequest words (audits names) → ⊥) → ((names : ChainNames) → IsRequest words (shows_chain names) → ⊥)
+    → ((names : AttachNames) → IsRequest words (attaches names) → ⊥) → ((names : FactoryNames) → IsRequest words (makes_device names) → ⊥)
+    → ((names : KeygenNames) → IsRequest words (makes_key names) → ⊥) → ((names : SignNames) → IsRequest words (signs names) → ⊥)
+    → ((names : CountersignNames) → IsRequest words (countersigns names) → ⊥) → (request : Request) → IsRequest words request → ⊥
+no_request words not_run not_verify not_audit not_chain not_attach not_factory not_keygen not_sign not_countersign (runs names) is = not_run names is
+no_request words not_run not_verify not_audit not_chain not_attach not_factory not_keygen not_sign not_countersign (verifies names) is = not_verify names is
+no_request words not_run not_verify not_audit not_chain not_attach not_factory not_keygen not_sign not_countersign (audits names) is = not_audit names is
+no_request words not_run not_verify not_audit not_chain not_attach not_factory not_keygen not_sign not_countersign (shows_chain names) is = not_chain names is
+no_request words not_run not_verify not_audit not_chain not_attach not_factory not_keygen not_sign not_countersign (attaches names) is = not_attach names is
+no_request words not_run not_verify not_audit not_chain not_attach not_factory not_keygen not_sign not_countersign (makes_device names) is = not_factory names is
+no_request words not_run not_verify not_audit not_chain not_attach not_factory not_keygen not_sign not_countersign (makes_key names) is = not_keygen names is
+no_request words not_run not_verify not_audit not_chain not_attach not_factory not_keygen not_sign not_countersign (signs names) is = not_sign names is
+no_request words not_run not_verify not_audit not_chain not_attach not_factory not_keygen not_sign not_countersign (countersigns names) is = not_countersign names is

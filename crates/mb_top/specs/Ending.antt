@@ -1,6 +1,7 @@
 -- What carries out a part of a command, before the line of its status is printed. Does each end have its line and its
 -- status?
-use Rattle.std.specs.Prelude.{◌≡◌, ℕ, List, [], ◌++◌, codes, Result, Ok, Err}
+use Rattle.std.specs.Prelude.{◌≡◌, ℕ, List, [], ◌++◌, codes, Option, None, Some, Result, Ok, Err}
+use Rattle.std.specs.Fmt.{decimal}
 use Rattle.mb_model.specs.declared.event.Answered.{Answered}
 use Rattle.mb_model.specs.declared.role.Role.{Role}
 use Rattle.mb_model.specs.declared.role.Place.{Place}
@@ -14,10 +15,19 @@ use Rattle.mb_top.specs.declared.end.End.TheVariants as end
 use Rattle.mb_top.specs.declared.end.Refusal.{Refusal}
 use Rattle.mb_top.specs.declared.end.Refusal.TheVariants as refusal
 
+-- the number after a space, or nothing where there is none
+abbrev pub after_space : Option ℕ → List ℕ
+after_space None = []
+after_space (Some n) = codes " " ++ decimal n
+
 -- the line of a refusal
 abbrev pub refusal_line : Refusal → List ℕ
 refusal_line refusal.Spent = codes "spent"
 refusal_line refusal.NotCountersignable = codes "not countersignable"
+refusal_line refusal.Zeroised = codes "zeroised"
+refusal_line refusal.HasStatement = codes "has statement"
+refusal_line refusal.Differs = codes "differs"
+refusal_line (refusal.NotAccepted code place) = codes "refused " ++ decimal code ++ after_space place
 
 -- the exit status of an end
 abbrev pub end_status : End → ℕ

@@ -6,12 +6,16 @@ ghost use Rattle.mb_model.specs.Top.{Request as Asked, IsRequest, command_of, En
 ghost use Rattle.mb_board.specs.Calls.{held_by};
 ghost use Rattle.mb_top.specs.Ending.{CarriesOutWords};
 
+use crate::attach::attach;
+use crate::audit::audit;
+use crate::chain::chain;
 use crate::end::End;
 use crate::factory::factory;
 use crate::keygen::keygen;
 use crate::output::stop;
 use crate::run::run;
 use crate::sign::{countersign, sign};
+use crate::verify::verify;
 use crate::words::{Request, request_in};
 use mb_board::Board;
 use mb_host::Host;
@@ -58,10 +62,14 @@ fn counted_command<H: Host, B: Board, L: Ledger>(
     let mut steps = Steps::<L>::begin(alloc, blank);
     match request_in(words) {
         Some(Request::Run(names)) => run(alloc, &names, host, board, &mut steps),
+        Some(Request::Verify(names)) => verify(alloc, &names, host),
+        Some(Request::Audit(names)) => audit(alloc, &names, host, &mut steps),
+        Some(Request::Chain(names)) => chain(alloc, &names, host, &mut steps),
+        Some(Request::Attach(names)) => attach(alloc, &names, host),
+        Some(Request::Factory(names)) => factory(alloc, &names, host, &mut steps),
         Some(Request::Keygen(names)) => keygen(alloc, &names, host, &mut steps),
         Some(Request::Sign(names)) => sign(alloc, &names, host, &mut steps),
         Some(Request::Countersign(names)) => countersign(alloc, &names, host, &mut steps),
-        Some(Request::Factory(names)) => factory(alloc, &names, host, &mut steps),
         None => Err(End::Words),
     }
 }

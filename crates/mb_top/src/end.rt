@@ -3,7 +3,7 @@
 ghost use Rattle.std.specs.Prelude.{◌≡◌, ◌≤◌, ◌++◌, length, codes, decimal};
 ghost use Rattle.mb_model.specs.Texts.{ended};
 ghost use Rattle.mb_model.specs.Commands.{role_word, place_words};
-ghost use Rattle.mb_top.specs.Ending.{refusal_line, end_line, end_status};
+ghost use Rattle.mb_top.specs.Ending.{after_space, refusal_line, end_line, end_status};
 
 use arrayvec::ArrayString;
 use mb_model::{Place, Role};
@@ -21,6 +21,19 @@ pub enum Refusal {
     Spent,
     /// The order is no load, or the layer cannot countersign it, or has done so.
     NotCountersignable,
+    /// The device is dead, and has no log.
+    Zeroised,
+    /// The chain has a statement already.
+    HasStatement,
+    /// The chain lists other configurations than the device's own log.
+    Differs,
+    /// The chain is not accepted.
+    NotAccepted {
+        /// The number of the reason, 20 to 27.
+        code: u8,
+        /// The offset or the entry, from 0, where the reason has one.
+        place: Option<u32>,
+    },
 }
 
 /// Why a command is not done.
@@ -73,19 +86,36 @@ impl End {
             End::NotWritten(role) => line_of("write failed ", role_word(role), "", ""),
             End::NotPrinted => line_of("write failed output", "", "", ""),
             End::NoMemory => line_of("no memory", "", "", ""),
-            End::Refused(why) => line_of(refusal_line(why), "", "", ""),
+            End::Refused(why) => refusal_line(why),
         }
     }
 }
 
 /// The line of a refusal.
-fn refusal_line(why: Refusal) -> &'static str
-    ensures line { result.now ≡ refusal_line why }
-    ensures short { length result.now ≤ 20 }
+fn refusal_line(why: Refusal) -> Line
+    ensures { result.bytes ≡ ended (refusal_line why) }
 {
     match why {
-        Refusal::Spent => "spent",
-        Refusal::NotCountersignable => "not countersignable",
+        Refusal::Spent => line_of("spent", "", "", ""),
+        Refusal::NotCountersignable => line_of("not countersignable", "", "", ""),
+        Refusal::Zeroised => line_of("zeroised", "", "", ""),
+        Refusal::HasStatement => line_of("has statement", "", "", ""),
+        Refusal::Differs => line_of("differs", "", "", ""),
+        Refusal::NotAccepted { code, place } => {
+            let number = with_number("refused ", u32::from(code));
+            line_of(number.as_str(), after_space(place).as_str(), "", "")
+        }
+    }
+}
+
+/// The number after a space, or nothing where there is none.
+fn after_space(number: Option<u32>) -> PlaceWords
+    ensures words { result.bytes ≡ after_space number }
+    ensures short { length result.bytes ≤ 20 }
+{
+    match number {
+        Some(number) => with_number(" ", number),
+        None => words_of(""),
     }
 }
 
@@ -129,9 +159,9 @@ fn place_words(place: Place) -> PlaceWords
 
 /// The words themselves.
 fn words_of(words: &str) -> PlaceWords
-    requires { length words.now ≤ 7 }
+    requires { length words.now ≤ 8 }
     ensures words { result.bytes ≡ words.now }
-    ensures short { length result.bytes ≤ 7 }
+    ensures short { length result.bytes ≤ 8 }
 {
     let mut text = ArrayString::new();
     text.push_str(words);
@@ -140,7 +170,7 @@ fn words_of(words: &str) -> PlaceWords
 
 /// The words, and then a number.
 fn with_number(words: &str, number: u32) -> PlaceWords
-    requires { length words.now ≤ 7 }
+    requires { length words.now ≤ 8 }
     ensures words { result.bytes ≡ words.now ++ decimal number }
     ensures short { length result.bytes ≤ 20 }
 {

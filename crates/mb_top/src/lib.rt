@@ -2,9 +2,14 @@
 //!
 //! This crate owns the program over any host and board, the commands, and what they share: the words, the reading of
 //! inputs, the writing of outputs, and the lines of statuses. It stands on every crate below: `run` serves a script by the
-//! device of `mb_device`.
+//! device of `mb_device`, `verify` and `audit` judge chains by `mb_verifier`, `chain` and `attach` write them by
+//! `mb_cert`, and the commands of officers and makers are those of `mb_officer`.
 #![tactic(auto)]
 
+mod attach;
+mod audit;
+mod chain;
+mod chain_input;
 mod commands;
 mod end;
 mod factory;
@@ -16,6 +21,7 @@ mod replies;
 mod run;
 mod run_input;
 mod sign;
+mod verify;
 mod words;
 
 pub use commands::top;

@@ -21,16 +21,26 @@ pub const USAGE: &[u8] = b"miniboot serves a simulated secure coprocessor.
 usage:
   miniboot run IMAGE SCRIPT NOISE    serves the script on the image, writes the new image over it,
                                      and prints a line for each reply
+  miniboot verify ROOT CHAIN KEY     judges the chain under the maker's public key, and prints in which
+                                     configurations the key with this number lived
+  miniboot audit IMAGE ROOT CHAIN KEY
+                                     judges the chain, and compares what it lists for the key with the
+                                     log of the image's device
+  miniboot chain IMAGE OUT           writes the chain of the device's log, and prints how many entries
+                                     it has
+  miniboot attach CHAIN STATEMENT OUT
+                                     attaches a statement to the chain, and prints how many entries
+                                     stand with it
+  miniboot factory NOISE KEY OWNER CODE IMAGE
+                                     makes a device of the noise with this owner and code, writes the
+                                     maker's key with its index used and the device's image, and
+                                     prints the device's serial
   miniboot keygen NOISE KEY PUBLIC   makes an officer's key from the noise, writes its file and its
                                      public key, and prints the public key's hash
   miniboot sign KEY DRAFT OUT        signs the order of the draft, writes the key with its index used
                                      and the order as a line, and prints the index
   miniboot countersign KEY LAYER ORDER OUT
                                      adds the countersignature of a layer's owner to an order line
-  miniboot factory NOISE KEY OWNER CODE IMAGE
-                                     makes a device of the noise with this owner and code, writes the
-                                     maker's key with its index used and the device's image, and
-                                     prints the device's serial
   miniboot --help                    prints this text
   miniboot --version                 prints the version
 

@@ -2,8 +2,10 @@
 
 ghost use Rattle.std.specs.Prelude.{◌≡◌, ◌≤◌, length, All, IfOk, IfErr};
 ghost use Rattle.mb_model.specs.Meaning.{IsWellFormed};
+ghost use Rattle.mb_model.specs.Valid.{Valid};
 ghost use Rattle.mb_model.specs.Script.{IsScriptEvent};
 ghost use Rattle.mb_model.specs.Inputs.{image_input, script_input, draws_input};
+ghost use Rattle.mb_storing.specs.Storable.{Storable};
 ghost use Rattle.mb_image.specs.Ends.{fault_of};
 ghost use Rattle.mb_top.specs.Ending.{HasInput, StopsAt};
 ghost use Rattle.mb_top.specs.Images.{TellsFault};
@@ -33,6 +35,8 @@ pub fn read_image<H: Host, L: Ledger>(
     steps: &mut Steps<L>,
 ) -> Result<Image, End>
     ensures form { IfOk result (λ image. IsWellFormed image.bytes.items image.state) }
+    ensures valid { IfOk result (λ image. Valid image.state) }
+    ensures stored { IfOk result (λ image. Storable image.state) }
     ensures read { IfOk result (λ image. HasInput (image_input name.now) (H.outside host.old) (H.outside host.new) image.state) }
     ensures err { IfErr result (StopsAt (image_input name.now) (H.outside host.old) (H.outside host.new)) }
 {

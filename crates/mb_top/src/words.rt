@@ -1,10 +1,21 @@
 //! Which request the words are.
 
 ghost use Rattle.std.specs.Prelude.{◌≡◌, ◌≢◌, ◌↔◌, ◌∷◌, ℕ, All, IsTrue, List, [], map, MatchOption, string_bytes};
-ghost use Rattle.mb_model.specs.Top.{Request as Asked, countersigns, makes_device, IsRequest};
-ghost use Rattle.mb_model.specs.Sign.{CountersignNames as CountersignFiles};
+ghost use Rattle.mb_model.specs.Lines.{IsNumber, number_limit};
+ghost use Rattle.mb_model.specs.Top.{Request as Asked, runs, makes_key, signs, countersigns, makes_device, IsRequest};
+ghost use Rattle.mb_model.specs.Top.{verifies, audits, shows_chain, attaches};
+ghost use Rattle.mb_model.specs.RunCommand.{RunNames as RunFiles};
+ghost use Rattle.mb_model.specs.Keygen.{KeygenNames as KeygenFiles};
+ghost use Rattle.mb_model.specs.Sign.{SignNames as SignFiles, CountersignNames as CountersignFiles};
 ghost use Rattle.mb_model.specs.FactoryCommand.{FactoryNames as FactoryFiles};
-ghost use Rattle.mb_top.specs.Words.{IsCalled, IsLayerWord, countersign_files, factory_files, asked_by};
+ghost use Rattle.mb_model.specs.VerifyCommand.{VerifyNames as VerifyFiles};
+ghost use Rattle.mb_model.specs.AuditCommand.{AuditNames as AuditFiles};
+ghost use Rattle.mb_model.specs.ChainCommands.{ChainNames as ChainFiles, AttachNames as AttachFiles};
+ghost use Rattle.mb_words.specs.Words.{FindsSome};
+ghost use Rattle.mb_top.specs.Words.{IsCalled, IsLayerWord, run_files, keygen_files, sign_files, countersign_files};
+ghost use Rattle.mb_top.specs.Words.{factory_files, verify_files, audit_files, chain_files, attach_files, asked_by};
+
+use mb_words::read_number;
 
 /// The names of the files of `run`.
 #[derive(Clone, Copy)]
@@ -12,6 +23,38 @@ pub struct RunNames<'a> {
     pub image: &'a str,
     pub script: &'a str,
     pub noise: &'a str,
+}
+
+/// The names of the files of `verify`, and the number of the key that is asked for.
+#[derive(Clone, Copy)]
+pub struct VerifyNames<'a> {
+    pub root: &'a str,
+    pub chain: &'a str,
+    pub key: u32,
+}
+
+/// The names of the files of `audit`, and the number of the key that is asked for.
+#[derive(Clone, Copy)]
+pub struct AuditNames<'a> {
+    pub image: &'a str,
+    pub root: &'a str,
+    pub chain: &'a str,
+    pub key: u32,
+}
+
+/// The names of the files of `chain`.
+#[derive(Clone, Copy)]
+pub struct ChainNames<'a> {
+    pub image: &'a str,
+    pub out: &'a str,
+}
+
+/// The names of the files of `attach`.
+#[derive(Clone, Copy)]
+pub struct AttachNames<'a> {
+    pub chain: &'a str,
+    pub statement: &'a str,
+    pub out: &'a str,
 }
 
 /// The names of the files of `keygen`.
@@ -54,10 +97,21 @@ pub struct FactoryNames<'a> {
 #[derive(Clone, Copy)]
 pub enum Request<'a> {
     Run(RunNames<'a>),
+    Verify(VerifyNames<'a>),
+    Audit(AuditNames<'a>),
+    Chain(ChainNames<'a>),
+    Attach(AttachNames<'a>),
+    Factory(FactoryNames<'a>),
     Keygen(KeygenNames<'a>),
     Sign(SignNames<'a>),
     Countersign(CountersignNames<'a>),
-    Factory(FactoryNames<'a>),
+}
+
+/// Two names, in their order.
+#[derive(Clone, Copy)]
+struct Two<'a> {
+    first: &'a str,
+    second: &'a str,
 }
 
 /// Three names, in their order.
@@ -66,6 +120,15 @@ struct Three<'a> {
     first: &'a str,
     second: &'a str,
     third: &'a str,
+}
+
+/// Four names, in their order.
+#[derive(Clone, Copy)]
+struct Four<'a> {
+    first: &'a str,
+    second: &'a str,
+    third: &'a str,
+    fourth: &'a str,
 }
 
 /// Five names, in their order.
@@ -84,32 +147,32 @@ pub fn request_in(words: &[String]) -> Option<Request<'_>>
         ((asked : Asked) → IsRequest (map string_bytes words.now) asked → ⊥)
         (λ request. IsRequest (map string_bytes words.now) (asked_by request)) }
 {
-    if let Some(names) = three_in(words, "run") {
-        return Some(Request::Run(RunNames {
-            image: names.first,
-            script: names.second,
-            noise: names.third,
-        }));
+    if let Some(names) = run_in(words) {
+        return Some(Request::Run(names));
     }
-    if let Some(names) = three_in(words, "keygen") {
-        return Some(Request::Keygen(KeygenNames {
-            noise: names.first,
-            key: names.second,
-            public: names.third,
-        }));
+    if let Some(names) = verify_in(words) {
+        return Some(Request::Verify(names));
     }
-    if let Some(names) = three_in(words, "sign") {
-        return Some(Request::Sign(SignNames {
-            key: names.first,
-            draft: names.second,
-            out: names.third,
-        }));
+    if let Some(names) = audit_in(words) {
+        return Some(Request::Audit(names));
     }
-    if let Some(names) = countersign_in(words) {
-        return Some(Request::Countersign(names));
+    if let Some(names) = chain_in(words) {
+        return Some(Request::Chain(names));
     }
-    match factory_in(words) {
-        Some(names) => Some(Request::Factory(names)),
+    if let Some(names) = attach_in(words) {
+        return Some(Request::Attach(names));
+    }
+    if let Some(names) = factory_in(words) {
+        return Some(Request::Factory(names));
+    }
+    if let Some(names) = keygen_in(words) {
+        return Some(Request::Keygen(names));
+    }
+    if let Some(names) = sign_in(words) {
+        return Some(Request::Sign(names));
+    }
+    match countersign_in(words) {
+        Some(names) => Some(Request::Countersign(names)),
         None => None,
     }
 }
@@ -151,6 +214,21 @@ fn names_after<'a>(words: &'a [String], wanted: &str) -> Option<&'a [String]>
     }
 }
 
+/// The two names after this command, or None where the words are anything else.
+fn two_in<'a>(words: &'a [String], wanted: &str) -> Option<Two<'a>>
+    ensures { MatchOption result
+        ((first second : List ℕ) → IsCalled (map string_bytes words.now) wanted.now (first ∷ second ∷ []) → ⊥)
+        (λ names. IsCalled (map string_bytes words.now) wanted.now (names.first.now ∷ names.second.now ∷ [])) }
+{
+    let [first, second] = names_after(words, wanted)? else {
+        return None;
+    };
+    Some(Two {
+        first: first.as_str(),
+        second: second.as_str(),
+    })
+}
+
 /// The three names after this command, or None where the words are anything else.
 fn three_in<'a>(words: &'a [String], wanted: &str) -> Option<Three<'a>>
     ensures { MatchOption result
@@ -164,6 +242,24 @@ fn three_in<'a>(words: &'a [String], wanted: &str) -> Option<Three<'a>>
         first: first.as_str(),
         second: second.as_str(),
         third: third.as_str(),
+    })
+}
+
+/// The four names after this command, or None where the words are anything else.
+fn four_in<'a>(words: &'a [String], wanted: &str) -> Option<Four<'a>>
+    ensures { MatchOption result
+        ((first second third fourth : List ℕ) → IsCalled (map string_bytes words.now) wanted.now (first ∷ second ∷ third ∷ fourth ∷ []) → ⊥)
+        (λ names. IsCalled (map string_bytes words.now) wanted.now
+        (names.first.now ∷ names.second.now ∷ names.third.now ∷ names.fourth.now ∷ [])) }
+{
+    let [first, second, third, fourth] = names_after(words, wanted)? else {
+        return None;
+    };
+    Some(Four {
+        first: first.as_str(),
+        second: second.as_str(),
+        third: third.as_str(),
+        fourth: fourth.as_str(),
     })
 }
 
@@ -183,6 +279,113 @@ fn five_in<'a>(words: &'a [String], wanted: &str) -> Option<Five<'a>>
         third: third.as_str(),
         fourth: fourth.as_str(),
         fifth: fifth.as_str(),
+    })
+}
+
+/// The names in the words of `run`, or None where the words are anything else.
+fn run_in(words: &[String]) -> Option<RunNames<'_>>
+    ensures { MatchOption result
+        ((names : RunFiles) → IsRequest (map string_bytes words.now) (runs names) → ⊥)
+        (λ found. IsRequest (map string_bytes words.now) (runs (run_files found))) }
+{
+    let names = three_in(words, "run")?;
+    Some(RunNames {
+        image: names.first,
+        script: names.second,
+        noise: names.third,
+    })
+}
+
+/// The number of a key that the word is, without leading zeros, or None where it is none of 32 bits.
+fn number_in(word: &str) -> Option<u32>
+    ensures { FindsSome (IsNumber number_limit word.now) result }
+{
+    read_number(word.as_bytes(), u32::MAX)
+}
+
+/// The names in the words of `verify` and the number of the key, or None where the words are anything else.
+fn verify_in(words: &[String]) -> Option<VerifyNames<'_>>
+    ensures { MatchOption result
+        ((names : VerifyFiles) → IsRequest (map string_bytes words.now) (verifies names) → ⊥)
+        (λ found. IsRequest (map string_bytes words.now) (verifies (verify_files found))) }
+{
+    let names = three_in(words, "verify")?;
+    let key = number_in(names.third)?;
+    Some(VerifyNames {
+        root: names.first,
+        chain: names.second,
+        key,
+    })
+}
+
+/// The names in the words of `audit` and the number of the key, or None where the words are anything else.
+fn audit_in(words: &[String]) -> Option<AuditNames<'_>>
+    ensures { MatchOption result
+        ((names : AuditFiles) → IsRequest (map string_bytes words.now) (audits names) → ⊥)
+        (λ found. IsRequest (map string_bytes words.now) (audits (audit_files found))) }
+{
+    let names = four_in(words, "audit")?;
+    let key = number_in(names.fourth)?;
+    Some(AuditNames {
+        image: names.first,
+        root: names.second,
+        chain: names.third,
+        key,
+    })
+}
+
+/// The names in the words of `chain`, or None where the words are anything else.
+fn chain_in(words: &[String]) -> Option<ChainNames<'_>>
+    ensures { MatchOption result
+        ((names : ChainFiles) → IsRequest (map string_bytes words.now) (shows_chain names) → ⊥)
+        (λ found. IsRequest (map string_bytes words.now) (shows_chain (chain_files found))) }
+{
+    let names = two_in(words, "chain")?;
+    Some(ChainNames {
+        image: names.first,
+        out: names.second,
+    })
+}
+
+/// The names in the words of `attach`, or None where the words are anything else.
+fn attach_in(words: &[String]) -> Option<AttachNames<'_>>
+    ensures { MatchOption result
+        ((names : AttachFiles) → IsRequest (map string_bytes words.now) (attaches names) → ⊥)
+        (λ found. IsRequest (map string_bytes words.now) (attaches (attach_files found))) }
+{
+    let names = three_in(words, "attach")?;
+    Some(AttachNames {
+        chain: names.first,
+        statement: names.second,
+        out: names.third,
+    })
+}
+
+/// The names in the words of `keygen`, or None where the words are anything else.
+fn keygen_in(words: &[String]) -> Option<KeygenNames<'_>>
+    ensures { MatchOption result
+        ((names : KeygenFiles) → IsRequest (map string_bytes words.now) (makes_key names) → ⊥)
+        (λ found. IsRequest (map string_bytes words.now) (makes_key (keygen_files found))) }
+{
+    let names = three_in(words, "keygen")?;
+    Some(KeygenNames {
+        noise: names.first,
+        key: names.second,
+        public: names.third,
+    })
+}
+
+/// The names in the words of `sign`, or None where the words are anything else.
+fn sign_in(words: &[String]) -> Option<SignNames<'_>>
+    ensures { MatchOption result
+        ((names : SignFiles) → IsRequest (map string_bytes words.now) (signs names) → ⊥)
+        (λ found. IsRequest (map string_bytes words.now) (signs (sign_files found))) }
+{
+    let names = three_in(words, "sign")?;
+    Some(SignNames {
+        key: names.first,
+        draft: names.second,
+        out: names.third,
     })
 }
 

@@ -1,4 +1,4 @@
-use Rattle.std.proofs.Common.{rules, ap}
+use Rattle.std.proofs.Common.{rules}
 use Rattle.std.proofs.lemmas.Fn.{filter_same}
 use Rattle.mb_lemmas.specs.AliveLaws.{goes_on}
 use Rattle.mb_image.specs.Keys.{as_listed}

@@ -1,5 +1,4 @@
-use Rattle.std.proofs.Common.{◌∙◌}
-use Rattle.mb_image.proofs.Following.{first_is_verified, none_verifies, verified_by}
+use Rattle.mb_image.proofs.Following.{first_is_verified, none_verifies, verified_by, IfOk-weaker}
 use Rattle.mb_image.proofs.log.verifies.Goals as goal
 
 pub returns-then-figures-eq0 : goal.returns-then-figures-eq0
@@ -10,5 +9,5 @@ returns-in_default c = λ before is. none_verifies c.args.figures.now before c.a
 
 pub returns : goal.returns
 returns c = λ before is.
-    verified_by c.args.figures.now before c.args.signed.now c.in-Some.key c.as_slice.result.now c.verify.result
-    is c.if-figures-eq0.false c.in-Some.is (c.as_slice.ensures ∙ c.in_ok-text.ensures) c.verify.ensures
+    IfOk-weaker _ _ (verified_by c.args.figures.now before c.args.signed.now c.in-Some.key is c.if-figures-eq0.false c.in-Some.is)
+    c.certifies.result c.certifies.ensures

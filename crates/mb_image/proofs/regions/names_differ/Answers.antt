@@ -1,5 +1,4 @@
-use Rattle.std.proofs.Common.{◌≡◌, get_or, true≢false, refl, sym, ap, ◌∙◌}
-use Rattle.mb_model.specs.declared.region.Secret.{Secret}
+use Rattle.std.proofs.Common.{◌≡◌, get_or, true≢false, refl, sym, ◌∙◌}
 use Rattle.mb_image.proofs.RegionSteps.{name_again, names_more, names_whole}
 use Rattle.mb_image.proofs.regions.names_differ.Goals as goal
 

@@ -1,4 +1,4 @@
-use Rattle.std.proofs.Common.{sym, ap, ◌∙◌, arith}
+use Rattle.std.proofs.Common.{arith}
 use Rattle.mb_format.specs.Format.{IsBytes}
 use Rattle.mb_image.proofs.Reading.{none_begins, none_split}
 use Rattle.mb_image.proofs.stored.public_in.Goals as goal

@@ -1,4 +1,3 @@
-use Rattle.std.specs.Prelude.{MatchOption}
 use Rattle.mb_image.proofs.Reading.{held_area, none_holds, some_holds, matched}
 use Rattle.mb_image.proofs.stored.stored_in.Goals as goal
 

@@ -1,6 +1,7 @@
 use Rattle.std.proofs.Common.{arith}
 use Rattle.mb_format.proofs.Whole.{IsClearWhole-from_exact}
-use Rattle.mb_model.proofs.KeyFormatLaws.{keyfile_exact}
+use Rattle.mb_model.proofs.KeyFormatLaws.{public_key_exact, keyfile_exact}
+use Rattle.mb_model.proofs.EntryFormatLaws.{chain_exact}
 use Rattle.mb_lemmas.proofs.FaultLemmas as faults
 use Rattle.mb_laws.proofs.ClearTexts as texts
 use Rattle.mb_laws.proofs.inputs.inputs_are_clear.Goals as goal
@@ -14,5 +15,11 @@ returns c = record {
   order = λ name bytes value place are is faulty. texts.order_lines.never_both bytes value faulty.0 is faulty.2;
   image = λ name bytes value place are is faulty. faults.well_formed_has_no_fault bytes value faulty.0 are is faulty.2;
   script = λ name bytes value place are is faulty. texts.scripts.never_both bytes value faulty.0 is faulty.2;
+  root = λ name bytes value place are is faulty.
+      (IsClearWhole-from_exact public_key_exact).never_both bytes value faulty.0 are is faulty.2;
+  chain = λ name bytes value place are is faulty.
+      (IsClearWhole-from_exact chain_exact).never_both bytes value faulty.0 are is faulty.2;
+  chain_bytes = λ name bytes value place are is faulty. faulty;
+  statement = λ name bytes value place are is faulty. texts.statement_lines.never_both bytes value faulty.0 is faulty.2;
   noise = λ events name bytes value place are is faulty. omega (arith, is.enough, faulty.1);
 }

@@ -38,3 +38,31 @@ returns-in-Some-Factory g c =
     let outside = g.H.Host.outside in
     let asked = subst (λ r. IsRequest words (asked_by r)) c.in-Some-Factory.field-0-is c.in-Some-Factory.ensures in
     alone_carried_out words _ _ _ (outside c.args.host.now) (outside c.factory.new.host) c.factory.result asked c.requires.none_answered c.factory.ensures
+
+pub returns-in-Some-Verify : goal.returns-in-Some-Verify
+returns-in-Some-Verify g c =
+    let words = map string_bytes c.args.words.now in
+    let outside = g.H.Host.outside in
+    let asked = subst (λ r. IsRequest words (asked_by r)) c.in-Some-Verify.field-0-is c.in-Some-Verify.ensures in
+    alone_carried_out words _ _ _ (outside c.args.host.now) (outside c.verify.new.host) c.verify.result asked c.requires.none_answered c.verify.ensures
+
+pub returns-in-Some-Audit : goal.returns-in-Some-Audit
+returns-in-Some-Audit g c =
+    let words = map string_bytes c.args.words.now in
+    let outside = g.H.Host.outside in
+    let asked = subst (λ r. IsRequest words (asked_by r)) c.in-Some-Audit.field-0-is c.in-Some-Audit.ensures in
+    alone_carried_out words _ _ _ (outside c.args.host.now) (outside c.audit.new.host) c.audit.result asked c.requires.none_answered c.audit.ensures
+
+pub returns-in-Some-Chain : goal.returns-in-Some-Chain
+returns-in-Some-Chain g c =
+    let words = map string_bytes c.args.words.now in
+    let outside = g.H.Host.outside in
+    let asked = subst (λ r. IsRequest words (asked_by r)) c.in-Some-Chain.field-0-is c.in-Some-Chain.ensures in
+    alone_carried_out words _ _ _ (outside c.args.host.now) (outside c.chain.new.host) c.chain.result asked c.requires.none_answered c.chain.ensures
+
+pub returns-in-Some-Attach : goal.returns-in-Some-Attach
+returns-in-Some-Attach g c =
+    let words = map string_bytes c.args.words.now in
+    let outside = g.H.Host.outside in
+    let asked = subst (λ r. IsRequest words (asked_by r)) c.in-Some-Attach.field-0-is c.in-Some-Attach.ensures in
+    alone_carried_out words _ _ _ (outside c.args.host.now) (outside c.attach.new.host) c.attach.result asked c.requires.none_answered c.attach.ensures

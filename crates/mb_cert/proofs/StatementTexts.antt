@@ -1,0 +1,145 @@
+-- The line of a statement, and the text that has no other.
+use Rattle.std.proofs.Common.{◌≡◌, ℕ, zero, suc, ◌<◌, inr, List, [], ◌∷◌, length, refl, sym, ap, subst, arith, lit≤}
+use Rattle.std.specs.Prelude.{replicate, codes, Result, Ok, Err}
+use Rattle.std.proofs.lemmas.List.{nil_from_length, length-replicate}
+use Rattle.hex.specs.Hex.{encode_lower}
+use Rattle.hex.proofs.HexLemmas.{decode_of-encode_lower, length-encode_with}
+use Rattle.mb_format.specs.Format.{IsBytes, Spells, FailsWhole, IsClearWhole}
+use Rattle.mb_format.specs.Combinators.{number_bytes}
+use Rattle.mb_format.proofs.Whole.{IsClearWhole-from_exact}
+use Rattle.mb_model.specs.declared.entry.Statement.{Statement}
+use Rattle.mb_model.specs.Texts.{IsHex}
+use Rattle.mb_model.specs.Lines.{HasLines, Reads, TextFailsAtLine}
+use Rattle.mb_model.specs.ChainFormat.{statement_format}
+use Rattle.mb_model.specs.OrderLines.{IsStatementLine}
+use Rattle.mb_model.proofs.EntryFormatLaws.{statement_exact}
+use Rattle.mb_model.proofs.FormatBounds.{statement_short}
+use Rattle.mb_lemmas.proofs.LineLemmas.{cons_same, HasLines-none, HasLines-nil, HasLines-always, bad_after}
+use Rattle.mb_lemmas.proofs.WordLemmas.{IsHex-same}
+use Rattle.mb_lemmas.proofs.OrderLineLemmas.{empty, statement_one, statement_second}
+use Rattle.mb_words.specs.declared.said.NotSaid.{NotSaid}
+use Rattle.mb_words.specs.declared.said.NotSaid.TheVariants as why
+use Rattle.mb_words.specs.Words.{Finds, SplitsLine}
+use Rattle.mb_words.proofs.NextLines.{with_line}
+
+-- ---- some statement, so that there is a line of one
+
+-- a statement of nothing, with a signature of these bytes
+abbrev sample : List ℕ → Statement
+sample signature = record { number = 0; message = []; signature = signature }
+
+abbrev sample_bytes : List ℕ → List ℕ
+sample_bytes signature = 0 ∷ 0 ∷ 0 ∷ 0 ∷ 0 ∷ signature
+
+zeros_are : (n : ℕ) → IsBytes (replicate n 0)
+zeros_are zero i = lit≤ tt
+zeros_are (suc n) zero = lit≤ tt
+zeros_are (suc n) (suc i) = zeros_are n i
+
+sample_are : (signature : List ℕ) → IsBytes signature → IsBytes (sample_bytes signature)
+sample_are signature are zero = lit≤ tt
+sample_are signature are (suc zero) = lit≤ tt
+sample_are signature are (suc (suc zero)) = lit≤ tt
+sample_are signature are (suc (suc (suc zero))) = lit≤ tt
+sample_are signature are (suc (suc (suc (suc zero)))) = lit≤ tt
+sample_are signature are (suc (suc (suc (suc (suc i))))) = are i
+
+sample_line : (signature : List ℕ) → length signature ≡ 2348 → IsBytes signature → IsStatementLine (encode_lower (sample_bytes signature) ∷ []) (sample signature)
+unfolding statement_format number_bytes
+sample_line signature sized are = record {
+  line = encode_lower (sample_bytes signature);
+  bytes = sample_bytes signature;
+  one = refl;
+  worded = inr ((λ none. omega (arith, length-encode_with (codes "0123456789abcdef") (sample_bytes signature), ap length none)), decode_of-encode_lower (sample_bytes signature) (sample_are signature are));
+  spelled = record { allowed = (lit≤ tt, (((lit≤ tt, lit≤ tt), refl), sized)); whole = refl };
+}
+
+abbrev some_signature : List ℕ
+some_signature = replicate 2348 0
+
+some_line : IsStatementLine (encode_lower (sample_bytes some_signature) ∷ []) (sample some_signature)
+some_line = sample_line some_signature (length-replicate {A = ℕ} 2348 0) (zeros_are 2348)
+
+-- ---- texts
+
+-- the first line is that of a statement, and nothing follows it
+pub read_alone : (text line rest : List ℕ) (statement : Statement) → SplitsLine text line rest → 0 < length text → rest ≡ []
+    → IsStatementLine (line ∷ []) statement → Reads IsStatementLine text statement
+read_alone text line rest statement splits some none is = record {
+  lines = line ∷ [];
+  has = with_line text line rest [] splits some (subst (λ (x : List ℕ). HasLines x []) (sym none) HasLines-nil);
+  stands = is;
+}
+
+-- there is no line
+pub no_line : (text : List ℕ) → text ≡ [] → TextFailsAtLine IsStatementLine text 1
+no_line text none = record {
+  lines = [];
+  has = subst (λ (x : List ℕ). HasLines x []) (sym none) HasLines-nil;
+  fails = empty IsStatementLine statement_one (encode_lower (sample_bytes some_signature) ∷ []) (sample some_signature) some_line;
+}
+
+-- nothing stands after the line of a statement
+alone : (line : List ℕ) (more : List (List ℕ)) (statement : Statement) → IsStatementLine (line ∷ more) statement → IsStatementLine (line ∷ []) statement
+alone line more statement is =
+    let none = nil_from_length more (omega (arith, statement_one (line ∷ more) statement is)) in
+    subst (λ (x : List (List ℕ)). IsStatementLine (line ∷ x) statement) none is
+
+-- the first line is that of no statement
+pub first_wrong : (text line rest : List ℕ) → SplitsLine text line rest → 0 < length text
+    → ((statement : Statement) → IsStatementLine (line ∷ []) statement → ⊥) → TextFailsAtLine IsStatementLine text 1
+first_wrong text line rest splits some none =
+    let remaining = HasLines-always rest in
+    record {
+      lines = line ∷ remaining.0;
+      has = with_line text line rest remaining.0 splits some remaining.1;
+      fails = bad_after IsStatementLine [] line remaining.0
+          (record { more = encode_lower (sample_bytes some_signature) ∷ []; value = sample some_signature; stands = some_line })
+          (λ begins. none begins.value (alone line begins.more begins.value begins.stands));
+    }
+
+second_in : (text line rest : List ℕ) (statement : Statement) (lines : List (List ℕ)) → SplitsLine text line rest → 0 < length text → 0 < length rest
+    → IsStatementLine (line ∷ []) statement → HasLines rest lines → TextFailsAtLine IsStatementLine text 2
+second_in text line rest statement [] splits some more is has = absurd (omega (arith, more, ap length (HasLines-none rest has)))
+second_in text line rest statement (other ∷ later) splits some more is has = record {
+  lines = line ∷ other ∷ later;
+  has = with_line text line rest (other ∷ later) splits some has;
+  fails = statement_second line other later statement is;
+}
+
+-- another line follows that of a statement
+pub second_wrong : (text line rest : List ℕ) (statement : Statement) → SplitsLine text line rest → 0 < length text → 0 < length rest
+    → IsStatementLine (line ∷ []) statement → TextFailsAtLine IsStatementLine text 2
+second_wrong text line rest statement splits some more is =
+    let remaining = HasLines-always rest in
+    second_in text line rest statement remaining.0 splits some more is remaining.1
+
+-- ---- lines
+
+-- a line that is that of a statement is a word of hexadecimal
+pub line_hex : (line : List ℕ) (statement : Statement) (is : IsStatementLine (line ∷ []) statement) → IsHex line is.bytes
+line_hex line statement is = subst (λ (x : List ℕ). IsHex x is.bytes) (sym (cons_same line is.line [] [] is.one).0) is.worded
+
+-- what the bytes of the line spell is what it says
+pub line_finds : (line bytes : List ℕ) → IsHex line bytes → (found : Result Statement NotSaid)
+    → Finds (Spells statement_format bytes) found → Finds (IsStatementLine (line ∷ [])) found
+line_finds line bytes hex (Ok statement) spelled = record { line = line; bytes = bytes; one = refl; worded = hex; spelled = spelled }
+line_finds line bytes hex (Err why.Form) none =
+    λ statement is.
+    let same = IsHex-same line line bytes is.bytes refl hex (line_hex line statement is) in
+    none statement (subst (λ (x : List ℕ). Spells statement_format x statement) (sym same) is.spelled)
+line_finds line bytes hex (Err why.NoMemory) none = tt
+
+-- bytes that fail somewhere spell no statement
+pub no_statement : (bytes : List ℕ) (offset : ℕ) → IsBytes bytes → FailsWhole statement_format bytes offset → (statement : Statement) → Spells statement_format bytes statement → ⊥
+no_statement bytes offset are fails statement spelled =
+    let whole : IsClearWhole statement_format = IsClearWhole-from_exact statement_exact in
+    whole.never_both bytes statement offset are spelled fails
+
+-- nor do bytes that are too many
+pub too_long : (bytes : List ℕ) → 2481 < length bytes → (statement : Statement) → Spells statement_format bytes statement → ⊥
+too_long bytes long statement spelled = omega (arith, long, ap length spelled.whole, statement_short.short statement spelled.allowed)
+
+-- what is not in the grammar is none
+pub none_found : {A : Type 0} (Is : A → Type 0) (e : NotSaid) → e ≡ why.Form → Finds {A = A} Is (Err e) → (a : A) → Is a → ⊥
+none_found {A} Is e form found = subst (λ (x : NotSaid). Finds {A = A} Is (Err x)) form found

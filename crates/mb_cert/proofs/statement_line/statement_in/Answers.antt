@@ -1,0 +1,19 @@
+use Rattle.std.proofs.Common.{List, ℕ, ◌∷◌, [], subst, sym}
+use Rattle.std.proofs.lemmas.Result.{err_from_is_err_and}
+use Rattle.mb_model.specs.Texts.{IsHex}
+use Rattle.mb_model.specs.OrderLines.{IsStatementLine}
+use Rattle.mb_words.proofs.Parts.{passed}
+use Rattle.mb_cert.proofs.StatementTexts.{line_hex, line_finds}
+use Rattle.mb_cert.proofs.statement_line.statement_in.Goals as goal
+
+pub returns-in_err-bytes : goal.returns-in_err-bytes
+returns-in_err-bytes c =
+    let p = err_from_is_err_and c.from_residual.result c.from_residual.ensures.1 in
+    passed (IsStatementLine (c.args.line.now ∷ [])) (λ (bytes : List ℕ). IsHex c.args.line.now bytes) c.from_residual.result _ p.0 p.1 p.2
+    (λ statement is. (is.bytes, line_hex c.args.line.now statement is)) c.in_err-bytes.ensures
+
+pub returns : goal.returns
+returns c =
+    let hex : IsHex c.args.line.now c.as_slice.result.now =
+    subst (λ (x : List ℕ). IsHex c.args.line.now x) (sym c.as_slice.ensures) c.in_ok-bytes.ensures in
+    line_finds c.args.line.now c.as_slice.result.now hex c.statement_of.result c.statement_of.ensures

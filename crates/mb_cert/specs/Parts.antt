@@ -1,0 +1,11 @@
+-- Parts of a chain, as the code reads and writes them one after another.
+use Rattle.std.specs.Prelude.{List}
+use Rattle.std.specs.Int.{w16}
+use Rattle.mb_format.specs.Format.{Format}
+use Rattle.mb_format.specs.Combinators.{between, counted}
+use Rattle.mb_model.specs.declared.entry.SignedEntry.{SignedEntry}
+use Rattle.mb_model.specs.EntryFormat.{signed_entry_format}
+
+-- the entries of a chain, after their number
+unfoldable pub log_format : Format (List SignedEntry)
+log_format = counted (between w16 1 128) signed_entry_format

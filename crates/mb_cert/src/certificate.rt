@@ -1,0 +1,35 @@
+//! Who signed an entry.
+
+ghost use Rattle.std.specs.Prelude.{◌≡◌, ◌↔◌, IfOk, IsTrue};
+ghost use Rattle.mb_model.specs.EntryFormat.{entry_format};
+ghost use Rattle.mb_model.specs.Merkle.{leaf_number, Verifies};
+ghost use Rattle.mb_model.specs.SignedTexts.{entry_text};
+
+use mb_layout::write_entry;
+use mb_lms::verify;
+use mb_model::{NoMemory, PublicKey, SignedEntry};
+use std::alloc::Global;
+
+/// What the text of an entry that is signed begins with.
+const ENTRY: u8 = 3;
+
+/// The index of a signature, which is the number of its leaf (RFC 8554, section 5.4).
+pub fn leaf_number(signature: &[u8; 2348]) -> u32
+    ensures { result ≡ leaf_number signature.now }
+{
+    let mut index = [0; 4];
+    index.copy_from_slice(&signature[..4]);
+    u32::from_be_bytes(index)
+}
+
+/// Whether the key signed the entry, of which the signature is then one (RFC 8554, section 5.4.2); or `NoMemory` where
+/// the allocation of the entry's text fails.
+#[tactic(auto, unfolding(mb_model::specs::SignedTexts::entry_text))]
+pub fn certifies(alloc: Global, key: &PublicKey, signed: &SignedEntry) -> Result<bool, NoMemory>
+    requires { entry_format.Allowed signed.now.entry }
+    ensures { IfOk result (λ yes. IsTrue yes ↔ Verifies key.now (entry_text signed.now.entry) signed.now.signature) }
+{
+    let mut spelling = Vec::new(alloc);
+    write_entry(&signed.entry, &mut spelling)?;
+    Ok(verify(key, &[ENTRY], spelling.as_slice(), &signed.signature))
+}

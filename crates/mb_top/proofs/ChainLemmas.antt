@@ -1,0 +1,207 @@
+-- What carries out `verify`, `audit`, `chain` and `attach`.
+use Rattle.std.proofs.Common.{◌≡◌, ◌≢◌, ℕ, ◌≤◌, List, [], ◌∷◌, ◌++◌, codes, length, Bool, true, false, is_some, true≢false, map, take, drop, min, Option, None, Some, Result, Ok, Err, refl, sym, ◌∙◌, ap, subst, arith, length-append}
+use Rattle.std.proofs.lemmas.List.{map-append, take-map, take_min, take-append-drop}
+use Rattle.std.proofs.lemmas.List.Elements.{recursion_from_All}
+use Rattle.std.specs.Prelude.{IfOk}
+use Rattle.mb_format.specs.Format.{IsBytes}
+use Rattle.mb_format.proofs.Compositions.{all_items}
+use Rattle.mb_model.specs.declared.key.PublicKey.{PublicKey}
+use Rattle.mb_model.specs.declared.entry.Chain.{Chain}
+use Rattle.mb_model.specs.declared.entry.Entry.{Entry}
+use Rattle.mb_model.specs.declared.entry.SignedEntry.{SignedEntry}
+use Rattle.mb_model.specs.declared.entry.Statement.{Statement}
+use Rattle.mb_model.specs.declared.state.Configuration.{Configuration}
+use Rattle.mb_model.specs.declared.state.Report.{Report}
+use Rattle.mb_model.specs.declared.state.State.{State}
+use Rattle.mb_model.specs.declared.role.Role.TheVariants as role
+use Rattle.mb_model.specs.Log.{entries_of, last_of, serial_of, RuledLog}
+use Rattle.mb_model.specs.Lives.{lives_of}
+use Rattle.mb_model.specs.Valid.{IsValidState}
+use Rattle.mb_model.specs.EntryFormat.{signed_entry_format}
+use Rattle.mb_model.specs.ChainFormat.{chain_format}
+use Rattle.mb_model.specs.Attach.{bare_chain, stated_chain}
+use Rattle.mb_model.specs.Texts.{ended}
+use Rattle.mb_model.specs.Lines.{text_of}
+use Rattle.mb_model.specs.Listing.{listing}
+use Rattle.mb_model.specs.Acceptance.{ChainRefusal, bad_form, bad_signature, bad_order, breaks_rules, key_unknown, bad_statement, wrong_number, key_ended, refusal_code, Accepts, IsRefused, accepting, refusing, IsVerdict}
+use Rattle.mb_model.specs.Outside.{Outside}
+use Rattle.mb_model.specs.Commands.{Command, Output, find, print, refuse, at_first}
+use Rattle.mb_model.specs.ChainCommands.{ChainNames, AttachNames, entries_text, write_entries, IsChainOf, chain_of, attach_statement}
+use Rattle.mb_model.specs.VerifyCommand.{VerifyNames, refused_line, tell_verdict, verify_chain}
+use Rattle.mb_model.specs.AuditCommand.{AuditNames, own_lives, IsAudited, compare, audit_chain}
+use Rattle.mb_storing.specs.Storable.{IsStorableState}
+use Rattle.mb_lemmas.proofs.LogLemmas.{RuledLog-front}
+use Rattle.mb_lemmas.proofs.ValidStates.{valid_is_ruled}
+use Rattle.mb_lemmas.proofs.AuditLemmas.{audited}
+use Rattle.mb_run_laws.proofs.BirthLemmas.{chain_is_of}
+use Rattle.mb_top.specs.declared.end.End.{End}
+use Rattle.mb_top.specs.declared.end.End.TheVariants as end
+use Rattle.mb_top.specs.declared.end.Refusal.TheVariants as refusal
+use Rattle.mb_top.specs.Ending.{CarriesOutAfter, CarriesOut, end_line}
+use Rattle.mb_top.specs.Chains.{place_of, TellsRefusal}
+use Rattle.mb_top.specs.Outputs.{writes}
+use Rattle.mb_top.proofs.CommandLemmas.{goes_first, goes_second, finds, refuse_here, memory_here, memory_unfound, memory_chosen, memory_unprinted}
+
+-- ---- a chain that is written
+
+pub entries_written : (out : List ℕ) (chain : Chain) (bytes text : List ℕ) (before now : Outside) (result : Result (Unit {0}) End)
+    → bytes ≡ chain_format.spelling chain → text ≡ entries_text (length chain.entries)
+    → CarriesOutAfter (writes (record { role = role.Out; name = out; bytes = bytes } ∷ []) (print text)) before result now
+    → CarriesOut (write_entries out chain) before result now
+unfolding writes write_entries
+entries_written out chain bytes text before now result is_bytes is_text carried = λ final.
+    (subst (λ b. CarriesOutAfter (writes (record { role = role.Out; name = out; bytes = b } ∷ []) (print (entries_text (length chain.entries)))) before result now) is_bytes
+    (subst (λ t. CarriesOutAfter (writes (record { role = role.Out; name = out; bytes = bytes } ∷ []) (print t)) before result now) is_text carried)) at_first final
+
+pub entries_lack : (out : List ℕ) (chain : Chain) (before : Outside) → CarriesOut (write_entries out chain) before (Err end.NoMemory) before
+unfolding write_entries
+entries_lack out chain before = λ final. memory_here _ _ at_first [] final before refl refl
+
+-- ---- the chain of a device
+
+-- a log that names a serial has an entry
+serial_counts : (log : List SignedEntry) (serial : List ℕ) → serial_of (entries_of log) ≡ Some serial → 1 ≤ length log
+unfolding serial_of last_of
+serial_counts [] serial is = absurd (cc)
+serial_counts (signed ∷ rest) serial is = omega arith
+
+-- the chain of a log that can be stored can be written
+pub bare_allowed : (state : State) → IsValidState state → IsStorableState state → chain_format.Allowed (bare_chain state.log)
+unfolding chain_format
+bare_allowed state valid stored =
+    let entries = all_items signed_entry_format (length state.log) state.log refl (recursion_from_All signed_entry_format.Allowed state.log stored.log) in
+    (tt, (((serial_counts state.log state.serial valid.serial, stored.few), entries), (tt, refl)))
+
+pub log_carried_out : (names : ChainNames) (state : State) (before now : Outside) (result : Result (Unit {0}) End) → IsValidState state
+    → CarriesOut (write_entries names.out (bare_chain state.log)) before result now → CarriesOut (chain_of names (Some state)) before result now
+log_carried_out names state before now result valid carried = λ final.
+    finds (IsChainOf state) (write_entries names.out) at_first [] final before now (bare_chain state.log) result (chain_is_of state valid) (carried final)
+
+pub dead_has_none : (names : ChainNames) (before : Outside) → CarriesOut (chain_of names None) before (Err (end.Refused refusal.Zeroised)) before
+dead_has_none names before = λ final. refuse_here (end.Refused refusal.Zeroised) at_first [] final before refl refl
+
+-- ---- a statement that is attached
+
+-- nothing is there
+pub none_there : {X : Type 0} (found : Option X) (there : Bool) → there ≡ is_some found → there ≡ false → found ≡ None
+none_there None there is off = refl
+none_there (Some x) there is off = absurd (true≢false (sym is ∙ off))
+
+pub statement_attached : (names : AttachNames) (chain : Chain) (statement : Statement) (before now : Outside) (result : Result (Unit {0}) End) → chain.statement ≡ None
+    → CarriesOut (write_entries names.out (stated_chain chain.entries statement)) before result now → CarriesOut (attach_statement names chain statement) before result now
+unfolding attach_statement
+statement_attached names chain statement before now result none carried = λ final.
+    goes_second _ _ _ at_first [] final before now result (λ some. some none) (carried final)
+
+pub has_statement : (names : AttachNames) (chain : Chain) (statement : Statement) (before : Outside) → chain.statement ≢ None
+    → CarriesOut (attach_statement names chain statement) before (Err (end.Refused refusal.HasStatement)) before
+unfolding attach_statement
+has_statement names chain statement before some = λ final.
+    goes_first _ _ _ at_first [] final before before _ some (refuse_here (end.Refused refusal.HasStatement) at_first [] final before refl refl)
+
+-- ---- a chain that is judged
+
+-- the line of a refusal is that of its reason
+same_line : (reason : ChainRefusal) → end_line (end.Refused (refusal.NotAccepted (refusal_code reason) (place_of reason))) ≡ refused_line reason
+same_line (bad_form offset) = refl
+same_line (bad_signature i) = refl
+same_line (bad_order i) = refl
+same_line (breaks_rules i) = refl
+same_line key_unknown = refl
+same_line bad_statement = refl
+same_line (wrong_number named last) = refl
+same_line key_ended = refl
+
+reason_told : (reason : ChainRefusal) (before : Outside)
+    → CarriesOut (refuse (refused_line reason)) before (Err (end.Refused (refusal.NotAccepted (refusal_code reason) (place_of reason)))) before
+reason_told reason before =
+    let why = end.Refused (refusal.NotAccepted (refusal_code reason) (place_of reason)) in
+    subst (λ line. CarriesOut (refuse line) before (Err why) before) (same_line reason) (λ final. refuse_here why at_first [] final before refl refl)
+
+-- what holds of a reason for which a chain may be refused
+abbrev pub IfReason : Option ChainRefusal → (ChainRefusal → Type 0) → Type 0
+IfReason found P = (reason : ChainRefusal) → found ≡ Some reason → P reason
+
+-- ---- verify
+
+pub report_told : (n : ℕ) (report : Report) (text : List ℕ) (before now : Outside) (result : Result (Unit {0}) End) → text ≡ text_of (listing n report)
+    → CarriesOutAfter (writes [] (print text)) before result now → CarriesOut (tell_verdict n (accepting report)) before result now
+unfolding writes
+report_told n report text before now result is carried = λ final.
+    (subst (λ t. CarriesOutAfter (print t) before result now) is carried) at_first final
+
+pub report_lacks : (n : ℕ) (report : Report) (before : Outside) → CarriesOut (tell_verdict n (accepting report)) before (Err end.NoMemory) before
+report_lacks n report before = λ final. memory_unprinted _ at_first [] final before refl refl
+
+pub chain_accepted : (names : VerifyNames) (maker : PublicKey) (bytes : List ℕ) (report : Report) (before now : Outside) (result : Result (Unit {0}) End) → Accepts maker bytes names.key report
+    → CarriesOut (tell_verdict names.key (accepting report)) before result now → CarriesOut (verify_chain names maker bytes) before result now
+chain_accepted names maker bytes report before now result accepts carried = λ final.
+    finds (IsVerdict maker bytes names.key) (tell_verdict names.key) at_first [] final before now (accepting report) result accepts (carried final)
+
+pub chain_refused : (names : VerifyNames) (maker : PublicKey) (bytes : List ℕ) (found : Option ChainRefusal) (why : End) (before : Outside) → IfReason found (IsRefused maker bytes names.key)
+    → TellsRefusal found why → CarriesOut (verify_chain names maker bytes) before (Err why) before
+chain_refused names maker bytes (Some reason) why before refused tells =
+    subst (λ w. CarriesOut (verify_chain names maker bytes) before (Err w) before) (sym tells) (λ final.
+    finds (IsVerdict maker bytes names.key) (tell_verdict names.key) at_first [] final before before (refusing reason) _ (refused reason refl) (reason_told reason before final))
+chain_refused names maker bytes None why before refused tells =
+    subst (λ w. CarriesOut (verify_chain names maker bytes) before (Err w) before) (sym tells) (λ final.
+    memory_unfound (IsVerdict maker bytes names.key) (tell_verdict names.key) at_first [] final before refl refl)
+
+-- ---- audit
+
+pub dead_not_audited : (names : AuditNames) (maker : PublicKey) (bytes : List ℕ) (before : Outside) → CarriesOut (audit_chain names None maker bytes) before (Err (end.Refused refusal.Zeroised)) before
+dead_not_audited names maker bytes before = λ final. refuse_here (end.Refused refusal.Zeroised) at_first [] final before refl refl
+
+pub audit_accepted : (names : AuditNames) (state : State) (maker : PublicKey) (bytes : List ℕ) (report : Report) (before now : Outside) (result : Result (Unit {0}) End)
+    → IsBytes bytes → IsValidState state → Accepts maker bytes names.key report
+    → CarriesOut (compare state names.key (accepting report)) before result now → CarriesOut (audit_chain names (Some state) maker bytes) before result now
+audit_accepted names state maker bytes report before now result are valid accepts carried = λ final.
+    finds (IsAudited state maker bytes names.key) (compare state names.key) at_first [] final before now (accepting report) result
+    (audited state maker bytes names.key (accepting report) are valid accepts) (carried final)
+
+pub audit_refused : (names : AuditNames) (state : State) (maker : PublicKey) (bytes : List ℕ) (found : Option ChainRefusal) (why : End) (before : Outside)
+    → IsBytes bytes → IsValidState state → IfReason found (IsRefused maker bytes names.key) → TellsRefusal found why
+    → CarriesOut (audit_chain names (Some state) maker bytes) before (Err why) before
+audit_refused names state maker bytes (Some reason) why before are valid refused tells =
+    subst (λ w. CarriesOut (audit_chain names (Some state) maker bytes) before (Err w) before) (sym tells) (λ final.
+    finds (IsAudited state maker bytes names.key) (compare state names.key) at_first [] final before before (refusing reason) _
+    (audited state maker bytes names.key (refusing reason) are valid (refused reason refl)) (reason_told reason before final))
+audit_refused names state maker bytes None why before are valid refused tells =
+    subst (λ w. CarriesOut (audit_chain names (Some state) maker bytes) before (Err w) before) (sym tells) (λ final.
+    memory_unfound (IsAudited state maker bytes names.key) (compare state names.key) at_first [] final before refl refl)
+
+-- the chain lists what the device held
+pub lists_agree : (state : State) (n : ℕ) (report : Report) (text : List ℕ) (before now : Outside) (result : Result (Unit {0}) End) → report.lives ≡ own_lives state report.entries n
+    → text ≡ ended (codes "agrees") → CarriesOutAfter (writes [] (print text)) before result now → CarriesOut (compare state n (accepting report)) before result now
+unfolding writes
+lists_agree state n report text before now result same is carried = λ final.
+    goes_first _ _ _ at_first [] final before now result same ((subst (λ t. CarriesOutAfter (print t) before result now) is carried) at_first final)
+
+pub lists_differ : (state : State) (n : ℕ) (report : Report) (before : Outside) → report.lives ≢ own_lives state report.entries n
+    → CarriesOut (compare state n (accepting report)) before (Err (end.Refused refusal.Differs)) before
+lists_differ state n report before other = λ final.
+    goes_second _ _ _ at_first [] final before before _ other (refuse_here (end.Refused refusal.Differs) at_first [] final before refl refl)
+
+pub lists_lack : (state : State) (n : ℕ) (report : Report) (before : Outside) → CarriesOut (compare state n (accepting report)) before (Err end.NoMemory) before
+lists_lack state n report before = λ final. memory_chosen _ _ _ at_first [] final before refl refl
+
+-- ---- the device's own list
+
+-- the first entries of a log keep its rules
+front_ruled : (log : List SignedEntry) (k : ℕ) → RuledLog (entries_of log) → RuledLog (entries_of (take k log))
+front_ruled log k ruled =
+    RuledLog-front (entries_of (take k log)) (entries_of (drop k log))
+    (subst RuledLog (ap entries_of (sym (take-append-drop k log)) ∙ map-append (λ (s : SignedEntry). s.entry) (take k log) (drop k log)) ruled)
+
+-- the first entries of a log, of which there may be fewer
+first_of_log : (log : List SignedEntry) (count : ℕ) → entries_of (take (min count (length log)) log) ≡ take count (entries_of log)
+first_of_log log count = ap entries_of (take_min count log) ∙ sym (take-map (λ (s : SignedEntry). s.entry) count log)
+
+-- they were followed
+pub own_list : {E : Type 0} (state : State) (count n : ℕ) (front : List SignedEntry) (result : Result (List Configuration) E) → IsValidState state
+    → front ≡ take (min count (length state.log)) state.log → (RuledLog (entries_of front) → IfOk result (λ list. list ≡ lives_of (entries_of front) n))
+    → IfOk result (λ list. list ≡ own_lives state count n)
+own_list state count n front (Ok list) valid is followed =
+    let ruled : RuledLog (entries_of front) = subst (λ f. RuledLog (entries_of f)) (sym is) (front_ruled state.log (min count (length state.log)) (valid_is_ruled state valid)) in
+    followed ruled ∙ ap (λ (es : List Entry). lives_of es n) (ap entries_of is ∙ first_of_log state.log count)
+own_list state count n front (Err why) valid is followed = tt

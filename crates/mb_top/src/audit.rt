@@ -1,0 +1,131 @@
+//! The command `audit`.
+
+ghost use Rattle.std.specs.Prelude.{◌≡◌, ◌≤◌, ◌↔◌, length, IfOk, IsTrue, Some};
+ghost use Rattle.mb_model.specs.Valid.{Valid, IsValidState};
+ghost use Rattle.mb_model.specs.Acceptance.{accepting};
+ghost use Rattle.mb_model.specs.AuditCommand.{audit, audit_device, audit_under, audit_chain, compare, own_lives};
+ghost use Rattle.mb_storing.specs.Storable.{Storable, IsStorableState};
+ghost use Rattle.mb_top.specs.Words.{audit_files};
+ghost use Rattle.mb_top.specs.Ending.{CarriesOut};
+
+use crate::chain_input::{read_chain_bytes, read_root};
+use crate::end::{End, Refusal};
+use crate::output::finish;
+use crate::run_input::read_image;
+use crate::verify::end_of;
+use crate::words::AuditNames;
+use mb_host::Host;
+use mb_lms::Steps;
+use mb_log::lives;
+use mb_model::{Configuration, Lives, NoMemory, PublicKey, State};
+use mb_verifier::{Report, verify as judge};
+use std::alloc::Global;
+use std::sync::ledger::Ledger;
+
+/// Whether a chain, judged under the maker's public key, lists exactly the configurations in which a device held a key:
+/// prints that it does, or refuses.
+pub fn audit<H: Host, L: Ledger>(
+    alloc: Global,
+    names: &AuditNames<'_>,
+    host: &mut H,
+    steps: &mut Steps<L>,
+) -> Result<(), End>
+    ensures { CarriesOut (audit (audit_files names.now)) (H.outside host.old) result (H.outside host.new) }
+{
+    let image = read_image(alloc, host, names.image, steps)?;
+    audit_device(alloc, names, image.state, host)
+}
+
+/// Audits a chain of this device, or of a dead one.
+fn audit_device<H: Host>(
+    alloc: Global,
+    names: &AuditNames<'_>,
+    state: Option<State>,
+    host: &mut H,
+) -> Result<(), End>
+    requires valid { Valid state }
+    requires stored { Storable state }
+    ensures { CarriesOut (audit_device (audit_files names.now) state) (H.outside host.old) result (H.outside host.new) }
+{
+    let root = read_root(alloc, host, names.root)?;
+    audit_under(alloc, names, state, &root, host)
+}
+
+/// Audits a chain of this device under this key.
+fn audit_under<H: Host>(
+    alloc: Global,
+    names: &AuditNames<'_>,
+    state: Option<State>,
+    root: &PublicKey,
+    host: &mut H,
+) -> Result<(), End>
+    requires valid { Valid state }
+    requires stored { Storable state }
+    ensures { CarriesOut (audit_under (audit_files names.now) state root.now) (H.outside host.old) result (H.outside host.new) }
+{
+    let chain = read_chain_bytes(alloc, host, names.chain)?;
+    match state {
+        Some(state) => audit_chain(alloc, names, &state, root, &chain, host),
+        None => Err(End::Refused(Refusal::Zeroised)),
+    }
+}
+
+/// Audits this chain of a live device.
+fn audit_chain<H: Host>(
+    alloc: Global,
+    names: &AuditNames<'_>,
+    state: &State,
+    root: &PublicKey,
+    chain: &[u8],
+    host: &mut H,
+) -> Result<(), End>
+    requires valid { IsValidState state.now }
+    requires stored { IsStorableState state.now }
+    requires short { length chain.now ≤ 4194304 }
+    ensures { CarriesOut (audit_chain (audit_files names.now) (Some state.now) root.now chain.now) (H.outside host.old) result (H.outside host.new) }
+{
+    match judge(alloc, root, chain, names.key) {
+        Ok(report) => compare(alloc, names.key, state, &report, host),
+        Err(why) => Err(end_of(why)),
+    }
+}
+
+/// Compares the configurations that a chain lists for the key with those of the device's own log.
+fn compare<H: Host>(
+    alloc: Global,
+    key: u32,
+    state: &State,
+    report: &Report,
+    host: &mut H,
+) -> Result<(), End>
+    requires valid { IsValidState state.now }
+    requires stored { IsStorableState state.now }
+    ensures { CarriesOut (compare state.now key (accepting report.now)) (H.outside host.old) result (H.outside host.new) }
+{
+    let Ok(own) = own_lives(alloc, state, report.entries, key) else {
+        return Err(End::NoMemory);
+    };
+    if are_same(report.lives.as_slice(), own.as_slice()) {
+        finish(host, &[], b"agrees\n")
+    } else {
+        Err(End::Refused(Refusal::Differs))
+    }
+}
+
+/// The configurations in which the device held the key, by as many of the first entries of its log.
+fn own_lives(alloc: Global, state: &State, count: u32, key: u32) -> Result<Lives, NoMemory>
+    requires valid { IsValidState state.now }
+    requires stored { IsStorableState state.now }
+    ensures { IfOk result (λ list. list ≡ own_lives state.now count key) }
+{
+    let log = state.log.as_slice();
+    let count = (count as usize).min(log.len());
+    lives(alloc, &log[..count], key)
+}
+
+/// Whether two lists have the same configurations in the same order.
+fn are_same(first: &[Configuration], second: &[Configuration]) -> bool
+    ensures { IsTrue result ↔ (first.now ≡ second.now) }
+{
+    first == second
+}

@@ -1,0 +1,118 @@
+-- Whether each entry of a log is good, one entry after another.
+use Rattle.std.proofs.Common.{◌≡◌, ◌≢◌, ◌<◌, ◌≤◌, ◌+◌, ◌-◌, ◌^◌, ℕ, List, [], ◌∷◌, ◌++◌, inl, inr, length, take, drop, get_or, Option, None, Some, Bool, false, true≢false, refl, sym, ap, subst, ◌∙◌, arith, append_assoc, length-append}
+use Rattle.std.specs.Prelude.{◌↔◌, IsTrue, IfOk, IfSome, Result}
+use Rattle.std.proofs.lemmas.List.{take_more, take-append-drop, length-map, length-take-le}
+use Rattle.mb_model.specs.declared.key.PublicKey.{PublicKey}
+use Rattle.mb_model.specs.declared.entry.Entry.{Entry}
+use Rattle.mb_model.specs.declared.entry.SignedEntry.{SignedEntry}
+use Rattle.mb_model.specs.Log.{entries_of, Ordered, RuledLog}
+use Rattle.mb_model.specs.Merkle.{leaf_number}
+use Rattle.mb_model.specs.SignedTexts.{entry_text, IsSignedBy}
+use Rattle.mb_model.specs.Acceptance.{ChainRefusal, in_charge, IsCertified, IsInPlace, IsGood, AreGood}
+use Rattle.mb_lemmas.proofs.LogLemmas.{entries_more, split_push}
+use Rattle.mb_lemmas.proofs.ChainLemmas.{good_is_ruled}
+use Rattle.mb_log.specs.declared.figures.Figures.{Figures}
+use Rattle.mb_log.specs.declared.life.Life.{Life}
+use Rattle.mb_log.specs.Figures.{figures_of}
+use Rattle.mb_log.specs.KeyLife.{IsLifeOf}
+use Rattle.mb_log.specs.Following.{InOrder}
+use Rattle.mb_verifier.specs.Checked.{IsBadEntry, HasBadEntry}
+
+-- ---- the key in charge
+
+-- before the first entry it is the maker's
+pub first_in_charge : (maker : PublicKey) (figures : Figures) (before : List Entry) → figures ≡ figures_of before → figures.length ≡ 0
+    → Some maker ≡ in_charge maker before
+unfolding figures_of
+first_in_charge maker figures [] is none = refl
+first_in_charge maker figures (first ∷ rest) is none = absurd (omega (arith, none, ap (λ (f : Figures). f.length) is))
+
+-- and then the device key that is named last
+pub later_in_charge : (maker : PublicKey) (figures : Figures) (before : List Entry) → figures ≡ figures_of before → figures.length ≢ 0
+    → figures.device ≡ in_charge maker before
+unfolding figures_of
+later_in_charge maker figures [] is some = absurd (some (ap (λ (f : Figures). f.length) is))
+later_in_charge maker figures (first ∷ rest) is some = ap (λ (f : Figures). f.device) is
+
+-- an entry that this key signed is certified where it is the key in charge
+pub certified_by : (maker : PublicKey) (before : List Entry) (signed : SignedEntry) {E : Type 0} (key : Option PublicKey) (result : Result Bool E) → key ≡ in_charge maker before
+    → IfOk result (λ yes. IsTrue yes ↔ IsSignedBy key (entry_text signed.entry) signed.signature) → IfOk result (λ yes. IsTrue yes ↔ IsCertified maker before signed)
+certified_by maker before signed key result is tells =
+    subst (λ (k : Option PublicKey). IfOk result (λ yes. IsTrue yes ↔ IsSignedBy k (entry_text signed.entry) signed.signature)) is tells
+
+-- without one no entry is
+pub none_certified : (text signature : List ℕ) → IsTrue false ↔ IsSignedBy None text signature
+none_certified text signature = ((λ on. absurd (true≢false (sym on))), (λ signed. absurd signed))
+
+-- ---- one entry
+
+pub counted : (figures : Figures) (before : List Entry) → figures ≡ figures_of before → figures.length ≡ length before
+unfolding figures_of
+counted figures before is = ap (λ (f : Figures). f.length) is
+
+pub uncertified : (told : Bool) (P : Type 0) → told ≡ false → (IsTrue told ↔ P) → P → ⊥
+uncertified told P off tells holds = true≢false (sym (tells.1 holds) ∙ off)
+
+-- the place of an entry, by the index that is read of its signature
+pub in_place : (before : List Entry) (signed : SignedEntry) (index : ℕ) → index ≡ leaf_number signed.signature → InOrder before signed.entry index → IsInPlace before signed
+in_place before signed index is order some = subst (λ (i : ℕ). Ordered before signed.entry i) is (order some)
+
+pub out_of_place : (before : List Entry) (signed : SignedEntry) (index : ℕ) → index ≡ leaf_number signed.signature → before ≢ [] → (Ordered before signed.entry index → ⊥) → IsInPlace before signed → ⊥
+out_of_place before signed index is some wrong place = wrong (subst (λ (i : ℕ). Ordered before signed.entry i) (sym is) (place some))
+
+-- ---- a list of entries
+
+AreGood-push : (maker : PublicKey) (log : List SignedEntry) (signed : SignedEntry) → AreGood maker log → IsGood maker (entries_of log) signed → AreGood maker (log ++ signed ∷ [])
+AreGood-push maker log signed good next =
+    λ before s rest split. elim (split_push log before rest signed s split) [
+      | inl end ↦ subst (λ (b : List SignedEntry). IsGood maker (entries_of b) s) end.1 (subst (λ (x : SignedEntry). IsGood maker (entries_of log) x) end.2 next)
+      | inr found ↦ good before s found.0 found.2
+    ]
+
+pub AreGood-none : (maker : PublicKey) → AreGood maker []
+AreGood-none maker = λ before signed rest split. absurd (omega (arith, ap length split, length-append before (signed ∷ rest)))
+
+pub AreGood-more : (maker : PublicKey) (log : List SignedEntry) (i : ℕ) (d : SignedEntry) → i < length log → AreGood maker (take i log) → IsGood maker (entries_of (take i log)) (get_or log i d)
+    → AreGood maker (take (i + 1) log)
+AreGood-more maker log i d within good next =
+    subst (AreGood maker) (sym (take_more log i d within)) (AreGood-push maker (take i log) (get_or log i d) good next)
+
+-- the first that is not good
+pub bad_entry : (maker : PublicKey) (log : List SignedEntry) (i : ℕ) (d : SignedEntry) (why : ChainRefusal) → i < length log → AreGood maker (take i log)
+    → IsBadEntry maker (entries_of (take i log)) (get_or log i d) why → HasBadEntry maker log why
+bad_entry maker log i d why within good bad = record {
+  before = take i log;
+  signed = get_or log i d;
+  rest = drop (i + 1) log;
+  split = sym (take-append-drop (i + 1) log) ∙ ap (λ front. front ++ drop (i + 1) log) (take_more log i d within) ∙ append_assoc (take i log) (get_or log i d ∷ []) (drop (i + 1) log);
+  good = good;
+  bad = bad;
+}
+
+-- ---- what they say
+
+-- the figures of the entries up to one more
+pub figures_next : (log : List SignedEntry) (i : ℕ) (d : SignedEntry) (before after : Figures) → i < length log → length log ≤ 128
+    → before ≡ figures_of (entries_of (take i log))
+    → ((front : List Entry) → length front < 2 ^ 32 - 1 → before ≡ figures_of front → after ≡ figures_of (front ++ (get_or log i d).entry ∷ []))
+    → after ≡ figures_of (entries_of (take (i + 1) log))
+figures_next log i d before after within few was next =
+    let short : length (entries_of (take i log)) ≡ i = length-map (take i log) (λ (s : SignedEntry). s.entry) ∙ length-take-le i log (omega (arith, within)) in
+    next (entries_of (take i log)) (omega (arith, short, within, few)) was ∙ ap figures_of (sym (entries_more log i d within))
+
+-- the life of a key by the entries up to one more
+pub life_next : (maker : PublicKey) (log : List SignedEntry) (i : ℕ) (d : SignedEntry) (n : ℕ) (figures : Figures) (before after : Life) → i < length log
+    → AreGood maker (take (i + 1) log) → figures ≡ figures_of (entries_of (take i log)) → IsLifeOf (entries_of (take i log)) n before
+    → ((front : List Entry) (m : ℕ) → figures ≡ figures_of front → RuledLog (front ++ (get_or log i d).entry ∷ []) → IsLifeOf front m before → IsLifeOf (front ++ (get_or log i d).entry ∷ []) m after)
+    → IsLifeOf (entries_of (take (i + 1) log)) n after
+life_next maker log i d n figures before after within good is was next =
+    let more = entries_more log i d within in
+    let ruled : RuledLog (entries_of (take i log) ++ (get_or log i d).entry ∷ []) = subst RuledLog more (good_is_ruled maker (take (i + 1) log) good) in
+    subst (λ (es : List Entry). IsLifeOf es n after) (sym more) (next (entries_of (take i log)) n is ruled was)
+
+-- ---- answers
+
+-- what holds of the refusal that an answer names
+pub if_some_weaker : {X : Type 0} (P Q : X → Type 0) (o : Option X) → ((x : X) → P x → Q x) → IfSome o P → IfSome o Q
+if_some_weaker P Q None weaker holds = holds
+if_some_weaker P Q (Some x) weaker holds = weaker x holds

@@ -1,0 +1,4 @@
+pub mod Judging
+pub mod Listed
+pub mod Stating
+pub mod Verdicts

@@ -1,0 +1,78 @@
+//! Whether a chain is accepted, and what it then says of a key.
+
+ghost use Rattle.std.specs.Prelude.{◌≡◌, ◌≤◌, ℕ, List, length, IfOk, IfErr, IfSome, Some};
+ghost use Rattle.mb_model.specs.declared.entry.Chain.{Chain};
+ghost use Rattle.mb_model.specs.ChainFormat.{chain_format};
+ghost use Rattle.mb_model.specs.Log.{entries_of, RuledLog};
+ghost use Rattle.mb_model.specs.Acceptance.{Accepts, IsRefused, message_of};
+ghost use Rattle.mb_model.specs.Acceptance as acceptance;
+ghost use Rattle.mb_format.specs.Format.{Spells};
+ghost use Rattle.mb_verifier.specs.Ends.{refusal_of};
+
+use crate::entries::judge;
+use crate::refusal::ChainRefusal;
+use crate::statement::check_statement;
+use mb_cert::{ChainEnd, read_chain};
+use mb_model::{Bytes, Chain, PublicKey, Report, Statement};
+use std::alloc::Global;
+
+/// What a chain of at most 4,194,304 bytes says of the key with the number `key`, where it is accepted under the maker's
+/// key `root`. Each signature is checked once, and the text of one entry at a time is in memory; no clause says so.
+///
+/// Errors: those of `ChainRefusal`.
+pub fn verify(
+    alloc: Global,
+    root: &PublicKey,
+    chain: &[u8],
+    key: u32,
+) -> Result<Report, ChainRefusal>
+    requires { length chain.now ≤ 4194304 }
+    ensures accepted { IfOk result (Accepts root.now chain.now key) }
+    ensures refused { IfErr result (λ why. (refusal : acceptance.ChainRefusal) → refusal_of why ≡ Some refusal → IsRefused root.now chain.now key refusal) }
+    ensures ruled { IfOk result (λ report. (whole : Chain) → Spells chain_format chain.now whole → RuledLog (entries_of whole.entries)) }
+{
+    match read_chain(alloc, chain) {
+        Ok(chain) => report_on(alloc, root, chain, key),
+        Err(ChainEnd::BadChain { at }) => Err(ChainRefusal::Form { at }),
+        Err(ChainEnd::NoMemory) => Err(ChainRefusal::NoMemory),
+    }
+}
+
+/// What the chain says of the key with the number `key`, where it is accepted; else why it is refused.
+fn report_on(
+    alloc: Global,
+    root: &PublicKey,
+    chain: Chain,
+    key: u32,
+) -> Result<Report, ChainRefusal>
+    requires { chain_format.Allowed chain }
+    ensures accepted { (bytes : List ℕ) → Spells chain_format bytes chain → IfOk result (Accepts root.now bytes key) }
+    ensures refused { (bytes : List ℕ) → Spells chain_format bytes chain → IfErr result (λ why. IfSome (refusal_of why) (IsRefused root.now bytes key)) }
+{
+    let log = chain.entries.as_slice();
+    let judged = judge(alloc, root, log, key)?;
+    let Some(born) = judged.life.born else {
+        return Err(ChainRefusal::KeyUnknown);
+    };
+    if let Some(statement) = &chain.statement {
+        check_statement(log, &judged, &born, statement)?;
+    }
+    Ok(Report {
+        layer: born.layer,
+        kind: born.kind,
+        alive: judged.life.alive,
+        lives: judged.life.lives,
+        entries: judged.figures.length,
+        message: message_of(chain.statement),
+    })
+}
+
+/// The message of a statement.
+fn message_of(statement: Option<Statement>) -> Option<Bytes>
+    ensures { result ≡ message_of statement }
+{
+    match statement {
+        Some(statement) => Some(statement.message),
+        None => None,
+    }
+}

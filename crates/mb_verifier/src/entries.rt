@@ -1,0 +1,101 @@
+//! Whether each entry of a chain is good: signed by the key in charge, in its place, and within the rules.
+
+ghost use Rattle.std.specs.Prelude.{◌≡◌, ◌↔◌, ◌≤◌, ℕ, List, length, All, IfOk, IfErr, IfSome, OnOk, IsTrue};
+ghost use Rattle.mb_model.specs.declared.entry.Entry.{Entry};
+ghost use Rattle.mb_model.specs.EntryFormat.{entry_format};
+ghost use Rattle.mb_model.specs.Log.{entries_of};
+ghost use Rattle.mb_model.specs.Acceptance.{in_charge, IsCertified, IsGood, AreGood};
+ghost use Rattle.mb_log.specs.Figures.{figures_of};
+ghost use Rattle.mb_log.specs.KeyLife.{IsLifeOf};
+ghost use Rattle.mb_verifier.specs.Checked.{IsBadEntry, HasBadEntry};
+ghost use Rattle.mb_verifier.specs.Ends.{refusal_of};
+
+use crate::refusal::ChainRefusal;
+use mb_cert::{certifies, leaf_number};
+use mb_log::{Figures, Life};
+use mb_model::{Follow, NoMemory, PublicKey, SignedEntry};
+use std::alloc::Global;
+
+/// What good entries say.
+#[derive(Drop)]
+pub(crate) struct Judged {
+    /// What they say together.
+    pub figures: Figures,
+    /// What they say of the key.
+    pub life: Life,
+}
+
+/// What the entries say together, and of the key with the number `key`, where each is good; else why the first that is
+/// not is refused. Each signature is checked once.
+pub(crate) fn judge(
+    alloc: Global,
+    maker: &PublicKey,
+    log: &[SignedEntry],
+    key: u32,
+) -> Result<Judged, ChainRefusal>
+    requires spelled { All (λ signed. entry_format.Allowed signed.entry) log.now }
+    requires short { length log.now ≤ 128 }
+    ensures good { IfOk result (λ judged. AreGood maker.now log.now) }
+    ensures figures { IfOk result (λ judged. judged.figures ≡ figures_of (entries_of log.now)) }
+    ensures life { IfOk result (λ judged. IsLifeOf (entries_of log.now) key judged.life) }
+    ensures refused { IfErr result (λ why. IfSome (refusal_of why) (HasBadEntry maker.now log.now)) }
+{
+    let mut figures = Figures::none();
+    let mut life = Life::begin(alloc, key);
+    for signed in log {
+        check(alloc, maker, &figures, signed)?;
+        life.add(&figures, &signed.entry)?;
+        figures.add(&signed.entry);
+    }
+    Ok(Judged { figures, life })
+}
+
+/// Nothing where the entry, which comes after those with these figures, is good; else why it is refused.
+fn check(
+    alloc: Global,
+    maker: &PublicKey,
+    figures: &Figures,
+    signed: &SignedEntry,
+) -> Result<(), ChainRefusal>
+    requires { entry_format.Allowed signed.now.entry }
+    ensures good { (before : List Entry) → figures.now ≡ figures_of before → OnOk result (IsGood maker.now before signed.now) }
+    ensures refused { (before : List Entry) → figures.now ≡ figures_of before → IfErr result (λ why. IfSome (refusal_of why) (IsBadEntry maker.now before signed.now)) }
+{
+    let entry = figures.length;
+    if !is_certified(alloc, maker, figures, signed)? {
+        return Err(ChainRefusal::Signature { entry });
+    }
+    match figures.follows(&signed.entry, leaf_number(&signed.signature)) {
+        Follow::Yes => Ok(()),
+        Follow::Order => Err(ChainRefusal::Order { entry }),
+        Follow::Rules => Err(ChainRefusal::Rules { entry }),
+    }
+}
+
+/// Whether the key in charge after the entries with these figures signed the next one.
+fn is_certified(
+    alloc: Global,
+    maker: &PublicKey,
+    figures: &Figures,
+    signed: &SignedEntry,
+) -> Result<bool, NoMemory>
+    requires { entry_format.Allowed signed.now.entry }
+    ensures { (before : List Entry) → figures.now ≡ figures_of before → IfOk result (λ yes. IsTrue yes ↔ IsCertified maker.now before signed.now) }
+{
+    match in_charge(maker, figures) {
+        Some(key) => certifies(alloc, &key, signed),
+        None => Ok(false),
+    }
+}
+
+/// The key in charge after the entries with these figures: the maker's before the first, and then the device key that
+/// they name last.
+fn in_charge(maker: &PublicKey, figures: &Figures) -> Option<PublicKey>
+    ensures { (before : List Entry) → figures.now ≡ figures_of before → result ≡ in_charge maker.now before }
+{
+    if figures.length == 0 {
+        Some(*maker)
+    } else {
+        figures.device
+    }
+}

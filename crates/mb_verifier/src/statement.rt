@@ -1,0 +1,76 @@
+//! Whether a statement is of the key, of the chain's last configuration, and of a key that is alive.
+
+ghost use Rattle.std.specs.Prelude.{◌≡◌, ◌↔◌, List, ℕ, IfErr, IfSome, OnOk, IsTrue, Some};
+ghost use Rattle.mb_model.specs.Log.{entries_of, number_of};
+ghost use Rattle.mb_model.specs.Merkle.{Verifies};
+ghost use Rattle.mb_model.specs.SignedTexts.{statement_text};
+ghost use Rattle.mb_model.specs.Acceptance.{KeyEntry, key_of, IsStated, IsCurrent};
+ghost use Rattle.mb_log.specs.Figures.{figures_of};
+ghost use Rattle.mb_log.specs.KeyLife.{as_entry, IsLifeOf};
+ghost use Rattle.mb_verifier.specs.Checked.{IsBadStatement};
+ghost use Rattle.mb_verifier.specs.Ends.{refusal_of};
+
+use crate::entries::Judged;
+use crate::refusal::ChainRefusal;
+use mb_lms::Checker;
+use mb_log::{BornKey, serial_of};
+use mb_model::{PublicKey, SignedEntry, Statement};
+
+/// What the text begins with that the key of a region signs.
+const STATEMENT: u8 = 4;
+
+/// Nothing where the statement is current, of the key that was born as given; else why it is refused. The log has good
+/// entries, which say what was judged.
+pub(crate) fn check_statement(
+    log: &[SignedEntry],
+    judged: &Judged,
+    born: &BornKey,
+    statement: &Statement,
+) -> Result<(), ChainRefusal>
+    requires figures { judged.now.figures ≡ figures_of (entries_of log.now) }
+    requires life { IsLifeOf (entries_of log.now) judged.now.life.number judged.now.life }
+    requires born { judged.now.life.born ≡ Some born.now }
+    ensures current { OnOk result (IsCurrent (entries_of log.now) judged.now.life.number (as_entry born.now) statement.now) }
+    ensures refused { IfErr result (λ why. IfSome (refusal_of why) (IsBadStatement (entries_of log.now) judged.now.life.number (as_entry born.now) statement.now)) }
+{
+    if !is_stated(log, judged.life.number, &born.key, statement) {
+        return Err(ChainRefusal::StatementSignature);
+    }
+    let last = judged.figures.number;
+    if statement.number != last {
+        return Err(ChainRefusal::StatementNumber {
+            named: statement.number,
+            last,
+        });
+    }
+    if !judged.life.alive {
+        return Err(ChainRefusal::NotAlive);
+    }
+    Ok(())
+}
+
+/// Whether the key with the number `number` signed the statement, in the device whose log this is.
+fn is_stated(log: &[SignedEntry], number: u32, key: &PublicKey, statement: &Statement) -> bool
+    ensures { IsTrue result ↔ IsStated (entries_of log.now) number key.now statement.now }
+{
+    match serial_of(log) {
+        Some(serial) => states(&serial, number, key, statement),
+        None => false,
+    }
+}
+
+/// Whether the key with the number `number` signed the statement in the device with this serial (RFC 8554, section
+/// 5.4.2).
+fn states(serial: &[u8; 16], number: u32, key: &PublicKey, statement: &Statement) -> bool
+    ensures { IsTrue result ↔ Verifies key.now (statement_text serial.now number statement.now.number statement.now.message) statement.now.signature }
+{
+    let Some(mut checker) = Checker::begin(key, &statement.signature) else {
+        return false;
+    };
+    checker.feed(&[STATEMENT]);
+    checker.feed(serial);
+    checker.feed(&number.to_be_bytes());
+    checker.feed(&statement.number.to_be_bytes());
+    checker.feed(statement.message.as_slice());
+    checker.finish(&statement.signature)
+}
