@@ -232,8 +232,7 @@ def born(source):
     world, steps = World(files), tables(births, constants)
     for name in ("MADE", "FIRST_ORDERS", "ORDERS_OF_A_LIFE", "LAYERS_ARE_GIVEN"):
         for step in steps[name]:
-            if step[0] in ("Step::Ends", "Step::Writes"):
-                world.answer(step[1].split(" ")) if step[0] == "Step::Ends" else world.writes(*step[1:])
+            follow(births, world, step)
     return world
 
 

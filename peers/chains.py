@@ -216,7 +216,7 @@ def log_in(image):
 # ---- the rules of the log
 
 
-def lowest_signer(kind, layer):
+def signing_layer(kind, layer):
     """The layer whose owner gives the order."""
     return layer - 1 if kind in (ESTABLISH, EMERGENCY) else layer
 
@@ -278,7 +278,7 @@ class Log:
         owned = {n for n in (1, 2, 3) if self.layer(n).owner is not None}
         if kind == LOAD:
             return k in owned and self.layer(k).reliable
-        return k > 1 and lowest_signer(kind, k) in owned and (k not in owned if kind == ESTABLISH else k in owned)
+        return k > 1 and signing_layer(kind, k) in owned and (k not in owned if kind == ESTABLISH else k in owned)
 
     @staticmethod
     def is_placed(entry, old, new):
