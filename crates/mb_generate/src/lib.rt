@@ -7,3 +7,4 @@
 #![tactic(auto)]
 
 mod draws;
+mod officers;
