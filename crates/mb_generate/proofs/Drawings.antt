@@ -1,5 +1,5 @@
 -- Words that a generator gives, one after another, and what they are drawn for.
-use Rattle.std.proofs.Common.{◌≡◌, ℕ, zero, suc, ◌+◌, ◌*◌, ◌/◌, ◌≤◌, ◌<◌, List, [], ◌∷◌, ◌++◌, length, take, map, refl, sym, ap, subst, ◌∙◌, arith, append_assoc, length-append}
+use Rattle.std.proofs.Common.{◌≡◌, ℕ, zero, suc, ◌+◌, ◌*◌, ◌/◌, ◌%◌, ◌≤◌, List, [], ◌∷◌, ◌++◌, length, take, map, refl, sym, ap, subst, ◌∙◌, arith, append_assoc, length-append}
 use Rattle.std.specs.Prelude.{flat_map, replicate, Result, Ok, Err, IfOk}
 use Rattle.std.proofs.lemmas.List.{append-nil, length-take}
 use Rattle.std.proofs.lemmas.Grind.{flat_map-append}
@@ -8,7 +8,10 @@ use Rattle.std.specs.List.{AllZip, concat}
 use Rattle.std.specs.Int.{w32, to_be_bytes, div_ceil}
 use Rattle.rand_core.specs.Steps.{first_words}
 use Rattle.rand_chacha.specs.ChaCha.{ChaCha, next_word, of_seed}
-use Rattle.mb_model.specs.Workload.{generated, DrawnBytes, DrawnSized, DrawnCode, DrawnRound, Draws}
+use Rattle.mb_model.specs.Workload.{generated, DrawnBytes, DrawnSized, DrawnCode, DrawnRound, RoundDraws, Draws}
+use Rattle.std.specs.Prelude.{All}
+use Rattle.std.proofs.lemmas.List.Elements.{All-nil, All-cons}
+use Rattle.mb_generate.specs.Orders.{RoundFits, CodesFit}
 use Rattle.mb_generate.specs.Drawing.{Gives, IsDrawn, DrawnEach, DrawnValues, DrawnRounds, AreDraws}
 
 -- ---- words
@@ -192,3 +195,31 @@ all_drawn number rounds {g} {a} {b} {c} {d} {e} {f} {h} {i} {j} {k} draws start 
         noise = noise.drawn;
       };
     }
+
+-- ---- how long they are
+
+drawn_long : (n : ℕ) (words bytes : List ℕ) → DrawnBytes n words bytes → length bytes ≡ n
+drawn_long n words bytes drawn =
+    let all = bytes_long words in
+    let taken = length-take n (flat_map (to_be_bytes w32) words) in
+    ap length drawn.given ∙ omega (arith, all, taken, drawn.count)
+
+code_short : (words code : List ℕ) → DrawnCode words code → length code ≤ 32768
+code_short words code drawn =
+    let long = drawn_long (1024 + drawn.first % 31745) drawn.others code drawn.drawn in
+    omega (arith, long)
+
+rounds_fit : (lists : List (List ℕ)) (rounds : List RoundDraws) → AllZip DrawnRound lists rounds → All RoundFits rounds
+rounds_fit [] [] each = All-nil RoundFits
+rounds_fit [] (round ∷ rounds) each = absurd each
+rounds_fit (words ∷ lists) [] each = absurd each
+rounds_fit (words ∷ lists) (round ∷ rounds) each =
+    All-cons RoundFits round rounds (record { code = code_short each.0.for_code round.code each.0.code; values = omega (arith, each.0.four) }) (rounds_fit lists rounds each.1)
+
+pub draws_fit : (number rounds : ℕ) (draws : Draws) → AreDraws number rounds draws → CodesFit draws
+draws_fit number rounds draws are = record {
+  one = code_short are.drawn.for_code_one draws.code_one are.drawn.code_one;
+  two = code_short are.drawn.for_code_two draws.code_two are.drawn.code_two;
+  three = code_short are.drawn.for_code_three draws.code_three are.drawn.code_three;
+  rounds = rounds_fit are.drawn.for_rounds draws.rounds are.drawn.each_round;
+}

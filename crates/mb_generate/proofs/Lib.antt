@@ -1,2 +1,3 @@
 mod Drawings
 mod Planning
+mod Scripting

@@ -54,9 +54,14 @@ SignsPlan count planned old result new =
     IfOk result (λ order. (draws : Draws) (before : List Plan) → AreOfficers draws before old → count ≡ length before + 1
     → (order ≡ signed draws before planned) × AreOfficers draws (before ++ planned ∷ []) new)
 
--- no code that is drawn is too long for an order
+-- the code of a round is not too long for an order, and its secrets are no more than four
+pub record RoundFits (round : RoundDraws) : Type 0 where
+  pub code : length round.code ≤ 32768
+  pub values : length round.values ≤ 4
+
+-- so it is for all that is drawn
 pub record CodesFit (draws : Draws) : Type 0 where
   pub one : length draws.code_one ≤ 32768
   pub two : length draws.code_two ≤ 32768
   pub three : length draws.code_three ≤ 32768
-  pub rounds : All (λ round. length round.code ≤ 32768) draws.rounds
+  pub rounds : All RoundFits draws.rounds

@@ -8,3 +8,4 @@
 
 mod draws;
 mod officers;
+mod script;
