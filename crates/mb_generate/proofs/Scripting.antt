@@ -1,8 +1,8 @@
 -- The lines of a script, one after another.
-use Rattle.std.proofs.Common.{◌≡◌, ℕ, suc, ◌+◌, ◌*◌, ◌<◌, List, [], ◌∷◌, ◌++◌, length, map, take, drop, get_or, refl, sym, ap, subst, ◌∙◌, arith, append_assoc, length-append}
-use Rattle.std.specs.Prelude.{codes, zip, flat_map}
+use Rattle.std.proofs.Common.{◌≡◌, ℕ, suc, ◌+◌, ◌-◌, ◌*◌, ◌<◌, ◌≤◌, List, [], ◌∷◌, ◌++◌, length, map, take, drop, get_or, refl, sym, ap, subst, ◌∙◌, arith, append_assoc, length-append}
+use Rattle.std.specs.Prelude.{codes, zip, flat_map, All}
 use Rattle.std.proofs.lemmas.Grind.{common_steps, flat_map-append}
-use Rattle.std.proofs.lemmas.List.{append-nil, map_push, length-map, length-take, length-drop, take_more, take-append-le, drop-append-le}
+use Rattle.std.proofs.lemmas.List.{append-nil, map_push, length-map, length-take, length-drop, take_more, take_all, get_or-map, take-append-le, drop-append-le}
 use Rattle.mb_model.specs.declared.key.PublicKey.{PublicKey}
 use Rattle.mb_model.specs.declared.key.Trust.TheVariants.{Countersigned}
 use Rattle.mb_model.specs.declared.order.KeyKind.TheVariants as kinds
@@ -18,7 +18,9 @@ use Rattle.mb_model.specs.OrderLines.{order_line}
 use Rattle.mb_model.specs.Script.{with_before}
 use Rattle.mb_lemmas.proofs.DrawLemmas.{with_before-push, length-with_before}
 use Rattle.mb_model.specs.Workload.{RoundDraws, Draws, Plan, plan_payload, key_of_officer, first_plans, round_plan, plans, signed, signed_orders, put_line, round_lines, workload_lines}
-use Rattle.mb_generate.specs.Orders.{keyfile_after, AreOfficers, targeted}
+use Rattle.mb_generate.specs.Orders.{keyfile_after, AreOfficers, targeted, RoundFits}
+use Rattle.mb_generate.specs.Drawing.{round_of}
+use Rattle.mb_generate.specs.declared.draws.RoundDrawn.{RoundDrawn}
 use Rattle.mb_generate.specs.Scripts.{puts_text, first_orders_text, with_rounds, lines_before_end}
 use Rattle.mb_generate.specs.declared.officers.Officers.{Officers}
 
@@ -211,3 +213,59 @@ pub officers_more : (draws : Draws) (rounds : List RoundDraws) (round : RoundDra
     → AreOfficers draws (plans (with_rounds draws rounds) ++ round_plan (length rounds + 1) round.code ∷ []) officers
     → AreOfficers draws (plans (with_rounds draws (rounds ++ round ∷ []))) officers
 officers_more draws rounds round officers are = subst (λ (ps : List Plan). AreOfficers draws ps officers) (sym (plans_more draws rounds round)) are
+
+-- ---- a loop over the rounds
+
+pub officers_first : (draws : Draws) (officers : Officers) → AreOfficers draws (first_plans draws) officers → AreOfficers draws (plans (with_rounds draws [])) officers
+unfolding with_before
+officers_first draws officers are = are
+
+-- the first k rounds
+abbrev pub first_rounds : ℕ → List RoundDrawn → List RoundDraws
+first_rounds k drawn = map round_of (take k drawn)
+
+rounds_long : (k : ℕ) (drawn : List RoundDrawn) → k ≤ length drawn → length (first_rounds k drawn) ≡ k
+rounds_long k drawn most = length-map (take k drawn) round_of ∙ omega (arith, length-take k drawn, most)
+
+-- how many orders there were before a round
+pub orders_before : (draws : Draws) (k number : ℕ) (drawn : List RoundDrawn) → k ≤ length drawn → number ≡ k + 1 → 5 + number ≡ length (plans (with_rounds draws (first_rounds k drawn))) + 1
+orders_before draws k number drawn most is = omega (arith, plans_long draws (first_rounds k drawn), rounds_long k drawn most, is)
+
+one_longer : (k : ℕ) (drawn : List RoundDrawn) (round : RoundDrawn) → k < length drawn → round ≡ get_or drawn k round → first_rounds (k + 1) drawn ≡ first_rounds k drawn ++ round_of round ∷ []
+one_longer k drawn round within is =
+    ap (map round_of) (take_more drawn k round within ∙ ap (λ (x : RoundDrawn). take k drawn ++ x ∷ []) (sym is)) ∙ map_push round_of (take k drawn) round
+
+pub text_goes_on : (draws : Draws) (k number : ℕ) (drawn : List RoundDrawn) (round : RoundDrawn) (old new : List ℕ) → k < length drawn → round ≡ get_or drawn k round → number ≡ k + 1
+    → old ≡ text_of (lines_before_end (with_rounds draws (first_rounds k drawn)))
+    → new ≡ old ++ text_of (round_lines (number - 1) (signed draws (plans (with_rounds draws (first_rounds k drawn))) (round_plan number round.code)) (round_of round))
+    → new ≡ text_of (lines_before_end (with_rounds draws (first_rounds (k + 1) drawn)))
+text_goes_on draws k number drawn round old new within is counted was more =
+    let rounds : List RoundDraws = first_rounds k drawn in
+    let before : List Plan = plans (with_rounds draws rounds) in
+    let long = rounds_long k drawn (omega (arith, within)) in
+    let place : number ≡ length rounds + 1 = omega (arith, long, counted) in
+    let less : number - 1 ≡ length rounds = omega (arith, long, counted) in
+    round_put draws rounds (round_of round) old new was (more ∙ (λ i. old ++ text_of (round_lines (less i) (signed draws before (round_plan (place i) round.code)) (round_of round))))
+    ∙ ap (λ (rs : List RoundDraws). text_of (lines_before_end (with_rounds draws rs))) (sym (one_longer k drawn round within is))
+
+pub officers_go_on : (draws : Draws) (k number : ℕ) (drawn : List RoundDrawn) (round : RoundDrawn) (officers : Officers) → k < length drawn → round ≡ get_or drawn k round → number ≡ k + 1
+    → AreOfficers draws (plans (with_rounds draws (first_rounds k drawn)) ++ round_plan number round.code ∷ []) officers
+    → AreOfficers draws (plans (with_rounds draws (first_rounds (k + 1) drawn))) officers
+officers_go_on draws k number drawn round officers within is counted are =
+    let rounds : List RoundDraws = first_rounds k drawn in
+    let place : number ≡ length rounds + 1 = omega (arith, rounds_long k drawn (omega (arith, within)), counted) in
+    subst (λ (rs : List RoundDraws). AreOfficers draws (plans (with_rounds draws rs)) officers) (sym (one_longer k drawn round within is))
+    (officers_more draws rounds (round_of round) officers
+    (subst (λ (n : ℕ). AreOfficers draws (plans (with_rounds draws rounds) ++ round_plan n round.code ∷ []) officers) place are))
+
+pub round_fits : (k : ℕ) (drawn : List RoundDrawn) (round : RoundDrawn) → k < length drawn → round ≡ get_or drawn k round → All RoundFits (map round_of drawn) → RoundFits (round_of round)
+round_fits k drawn round within is fit =
+    subst (λ (x : RoundDraws). RoundFits x) (get_or-map round_of drawn k round (round_of round) within ∙ ap round_of (sym is)) (fit k (round_of round) (omega (arith, length-map drawn round_of, within)))
+
+-- all rounds were written
+pub text_is_whole : (draws : Draws) (k : ℕ) (drawn : List RoundDrawn) (old new : List ℕ) → length drawn ≤ k → draws.rounds ≡ map round_of drawn
+    → old ≡ text_of (lines_before_end (with_rounds draws (first_rounds k drawn))) → new ≡ old ++ ended (codes "off") → new ≡ text_of (workload_lines draws)
+text_is_whole draws k drawn old new most rounds was more =
+    let all : first_rounds k drawn ≡ draws.rounds = ap (map round_of) (take_all k drawn most) ∙ sym rounds in
+    more ∙ ap (λ (xs : List ℕ). xs ++ ended (codes "off")) (was ∙ ap (λ (rs : List RoundDraws). text_of (lines_before_end (with_rounds draws rs))) all)
+    ∙ sym (text_ends draws)
