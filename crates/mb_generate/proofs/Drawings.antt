@@ -1,5 +1,5 @@
 -- Words that a generator gives, one after another, and what they are drawn for.
-use Rattle.std.proofs.Common.{◌≡◌, ℕ, zero, suc, ◌+◌, ◌*◌, ◌/◌, ◌%◌, ◌≤◌, List, [], ◌∷◌, ◌++◌, length, take, map, refl, sym, ap, subst, ◌∙◌, arith, append_assoc, length-append}
+use Rattle.std.proofs.Common.{◌≡◌, ℕ, ◌+◌, ◌*◌, ◌/◌, ◌%◌, ◌≤◌, List, [], ◌∷◌, ◌++◌, length, take, refl, sym, ap, subst, ◌∙◌, arith, append_assoc, length-append}
 use Rattle.std.specs.Prelude.{flat_map, replicate, Result, Ok, Err, IfOk}
 use Rattle.std.proofs.lemmas.List.{append-nil, length-take}
 use Rattle.std.proofs.lemmas.Grind.{flat_map-append}
@@ -158,13 +158,13 @@ unfolding generated
 all_drawn number rounds {g} {a} {b} {c} {d} {e} {f} {h} {i} {j} {k} draws start root one two three device code_one code_two code_three each noise =
     let keys : List ℕ = root.words ++ one.words ++ two.words ++ three.words in
     let given_keys : Gives g keys d =
-        gives_more g (root.words ++ one.words ++ two.words) three.words c d
-        (gives_more g (root.words ++ one.words) two.words b c (gives_more g root.words one.words a b root.given one.given) two.given) three.given in
+    gives_more g (root.words ++ one.words ++ two.words) three.words c d
+    (gives_more g (root.words ++ one.words) two.words b c (gives_more g root.words one.words a b root.given one.given) two.given) three.given in
     let codes : List ℕ = keys ++ device.words ++ code_one.words ++ code_two.words ++ code_three.words in
     let given_codes : Gives g codes i =
-        gives_more g (keys ++ device.words ++ code_one.words ++ code_two.words) code_three.words h i
-        (gives_more g (keys ++ device.words ++ code_one.words) code_two.words f h
-        (gives_more g (keys ++ device.words) code_one.words e f (gives_more g keys device.words d e given_keys device.given) code_one.given) code_two.given) code_three.given in
+    gives_more g (keys ++ device.words ++ code_one.words ++ code_two.words) code_three.words h i
+    (gives_more g (keys ++ device.words ++ code_one.words) code_two.words f h
+    (gives_more g (keys ++ device.words) code_one.words e f (gives_more g keys device.words d e given_keys device.given) code_one.given) code_two.given) code_three.given in
     let words : List ℕ = codes ++ each.words ++ noise.words in
     let given : Gives g words k = gives_more g (codes ++ each.words) noise.words j k (gives_more g codes each.words i j given_codes each.given) noise.given in
     record {

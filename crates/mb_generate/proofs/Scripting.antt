@@ -3,7 +3,6 @@ use Rattle.std.proofs.Common.{◌≡◌, ℕ, suc, ◌+◌, ◌-◌, ◌*◌, �
 use Rattle.std.specs.Prelude.{codes, zip, flat_map, All}
 use Rattle.std.proofs.lemmas.Grind.{common_steps, flat_map-append}
 use Rattle.std.proofs.lemmas.List.{append-nil, map_push, length-map, length-take, length-drop, take_more, take_all, get_or-map, take-append-le, drop-append-le}
-use Rattle.mb_model.specs.declared.key.PublicKey.{PublicKey}
 use Rattle.mb_model.specs.declared.key.Trust.TheVariants.{Countersigned}
 use Rattle.mb_model.specs.declared.order.KeyKind.TheVariants as kinds
 use Rattle.mb_model.specs.declared.order.Act.{Act}
@@ -57,13 +56,13 @@ pub first_put : (draws : Draws) (old s1 s2 s3 s4 s5 : List ℕ) (one two three o
     → s5 ≡ old ++ first_orders_text draws
 first_put draws old s1 s2 s3 s4 s5 one two three once twice o1 o2 o3 o4 o5 is_one is_two is_three is_once is_twice e1 e2 e3 e4 e5 t1 t2 t3 t4 t5 =
     let l1 : line_by one o1 ≡ line_by (keyfile_after draws [] 1) (targeted 2 1 (gives draws 2)) =
-        λ i. line_by (is_one i) ((e1 ∙ ap (λ (k : Keyfile). targeted 2 1 (act.Establish (public_of k.seed) Countersigned)) is_two) i) in
+    λ i. line_by (is_one i) ((e1 ∙ ap (λ (k : Keyfile). targeted 2 1 (act.Establish (public_of k.seed) Countersigned)) is_two) i) in
     let l2 : line_by two o2 ≡ line_by (keyfile_after draws [] 2) (targeted 3 2 (gives draws 3)) =
-        λ i. line_by (is_two i) ((e2 ∙ ap (λ (k : Keyfile). targeted 3 2 (act.Establish (public_of k.seed) Countersigned)) is_three) i) in
+    λ i. line_by (is_two i) ((e2 ∙ ap (λ (k : Keyfile). targeted 3 2 (act.Establish (public_of k.seed) Countersigned)) is_three) i) in
     let l3 : line_by once o3 ≡ line_by (used_once (keyfile_after draws [] 1)) (targeted 2 3 (act.Emergency (plan_payload 1 draws.code_two))) =
-        λ i. line_by ((is_once ∙ ap used_once is_one) i) (e3 i) in
+    λ i. line_by ((is_once ∙ ap used_once is_one) i) (e3 i) in
     let l4 : line_by twice o4 ≡ line_by (used_once (keyfile_after draws [] 2)) (targeted 3 4 (act.Emergency (plan_payload 1 draws.code_three))) =
-        λ i. line_by ((is_twice ∙ ap used_once is_two) i) (e4 i) in
+    λ i. line_by ((is_twice ∙ ap used_once is_two) i) (e4 i) in
     let l5 : line_by three o5 ≡ line_by (keyfile_after draws [] 3) (targeted 3 5 (act.NewKey kinds.Epoch)) = λ i. line_by (is_three i) (e5 i) in
     five_put old s1 s2 s3 s4 s5 _ _ _ _ _ (t1 ∙ ap (λ (xs : List ℕ). old ++ xs) l1) (t2 ∙ ap (λ (xs : List ℕ). s1 ++ xs) l2) (t3 ∙ ap (λ (xs : List ℕ). s2 ++ xs) l3)
     (t4 ∙ ap (λ (xs : List ℕ). s3 ++ xs) l4) (t5 ∙ ap (λ (xs : List ℕ). s4 ++ xs) l5)
@@ -175,16 +174,16 @@ lines_more draws rounds round =
     let left : length (drop 5 orders) ≡ length rounds = omega (arith, length-drop 5 orders, long) in
     let pairs : List (Order × RoundDraws) = zip (drop 5 orders) rounds in
     let first : take 5 (signed_orders (with_rounds draws (rounds ++ round ∷ []))) ≡ take 5 orders =
-        ap (take 5) (orders_more draws rounds round) ∙ take-append-le 5 orders (order ∷ []) (omega (arith, long)) in
+    ap (take 5) (orders_more draws rounds round) ∙ take-append-le 5 orders (order ∷ []) (omega (arith, long)) in
     let others : zip (drop 5 (signed_orders (with_rounds draws (rounds ++ round ∷ [])))) (rounds ++ round ∷ []) ≡ pairs ++ (order, round) ∷ [] =
-        ap (λ os. zip (drop 5 os) (rounds ++ round ∷ [])) (orders_more draws rounds round)
-        ∙ ap (λ os. zip os (rounds ++ round ∷ [])) (drop-append-le 5 orders (order ∷ []) (omega (arith, long)))
-        ∙ zip_push (drop 5 orders) rounds order round left in
+    ap (λ os. zip (drop 5 os) (rounds ++ round ∷ [])) (orders_more draws rounds round)
+    ∙ ap (λ os. zip os (rounds ++ round ∷ [])) (drop-append-le 5 orders (order ∷ []) (omega (arith, long)))
+    ∙ zip_push (drop 5 orders) rounds order round left in
     let last : flat_map lines_at (with_before (pairs ++ (order, round) ∷ [])) ≡ flat_map lines_at (with_before pairs) ++ round_lines (length rounds) order round =
-        ap (flat_map lines_at) (with_before-push pairs (order, round))
-        ∙ flat_map-append lines_at (with_before pairs) ((pairs, (order, round)) ∷ [])
-        ∙ ap (λ ls. flat_map lines_at (with_before pairs) ++ ls) (append-nil (round_lines (length pairs) order round))
-        ∙ ap (λ n. flat_map lines_at (with_before pairs) ++ round_lines n order round) (zip_long (drop 5 orders) rounds left) in
+    ap (flat_map lines_at) (with_before-push pairs (order, round))
+    ∙ flat_map-append lines_at (with_before pairs) ((pairs, (order, round)) ∷ [])
+    ∙ ap (λ ls. flat_map lines_at (with_before pairs) ++ ls) (append-nil (round_lines (length pairs) order round))
+    ∙ ap (λ n. flat_map lines_at (with_before pairs) ++ round_lines n order round) (zip_long (drop 5 orders) rounds left) in
     (λ i. codes "boot" ∷ map order_line (first i) ++ flat_map lines_at (with_before (others i)))
     ∙ ap (λ ls. codes "boot" ∷ map order_line (take 5 orders) ++ ls) last
     ∙ sym (append_assoc (codes "boot" ∷ map order_line (take 5 orders)) (flat_map lines_at (with_before pairs)) (round_lines (length rounds) order round))

@@ -1,15 +1,12 @@
 -- How the orders of a workload are signed, one after another. Is each signed by the right officer, at the next index of
 -- the officer's key?
-use Rattle.std.specs.Prelude.{◌≡◌, ℕ, ◌+◌, ◌≤◌, List, [], ◌∷◌, ◌++◌, length, All, Result, IfOk, OnOk}
-use Rattle.std.specs.Global.{Vec}
+use Rattle.std.specs.Prelude.{◌≡◌, ℕ, ◌+◌, ◌≤◌, List, [], ◌∷◌, ◌++◌, length, All, Result, IfOk}
 use Rattle.mb_model.specs.declared.order.Act.{Act}
 use Rattle.mb_model.specs.declared.order.Target.TheVariants as target
 use Rattle.mb_model.specs.declared.order.Order.{Order}
 use Rattle.mb_model.specs.declared.tools.Keyfile.{Keyfile}
 use Rattle.mb_model.specs.Rules.{kind_of, MayBeFor}
-use Rattle.mb_model.specs.Texts.{ended}
 use Rattle.mb_model.specs.OrderFormat.{act_by}
-use Rattle.mb_model.specs.OrderLines.{order_line}
 use Rattle.mb_model.specs.Workload.{RoundDraws, Draws, Plan, key_of_officer, signatures_by, signed}
 use Rattle.mb_generate.specs.declared.officers.Officers.{Officers}
 

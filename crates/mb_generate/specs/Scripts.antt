@@ -1,6 +1,5 @@
 -- How a script grows, round by round. Is each line written once, and in its place?
-use Rattle.std.specs.Prelude.{◌≡◌, ℕ, ◌+◌, ◌*◌, List, [], ◌∷◌, ◌++◌, length, map, take, drop, codes, zip, flat_map}
-use Rattle.mb_model.specs.declared.tools.Keyfile.{Keyfile}
+use Rattle.std.specs.Prelude.{ℕ, ◌+◌, List, ◌∷◌, ◌++◌, length, map, take, drop, codes, zip, flat_map}
 use Rattle.mb_model.specs.Lines.{text_of}
 use Rattle.mb_model.specs.OrderLines.{order_line}
 use Rattle.mb_model.specs.Script.{with_before}

@@ -132,10 +132,7 @@ fn draw_value(alloc: Global, rng: &mut ChaCha20Rng) -> Result<Bytes, NoMemory>
 }
 
 /// N bytes.
-fn draw_array<const N: usize>(
-    alloc: Global,
-    rng: &mut ChaCha20Rng,
-) -> Result<[u8; N], NoMemory>
+fn draw_array<const N: usize>(alloc: Global, rng: &mut ChaCha20Rng) -> Result<[u8; N], NoMemory>
     ensures { IfOk result (λ bytes. IsDrawn (DrawnBytes N) rng.old bytes rng.new) }
 {
     let bytes = draw_bytes(alloc, rng, N)?;
@@ -145,11 +142,7 @@ fn draw_array<const N: usize>(
 }
 
 /// So many bytes: each word gives four, the highest first, and what the last has over is dropped.
-fn draw_bytes(
-    alloc: Global,
-    rng: &mut ChaCha20Rng,
-    count: usize,
-) -> Result<Bytes, NoMemory>
+fn draw_bytes(alloc: Global, rng: &mut ChaCha20Rng, count: usize) -> Result<Bytes, NoMemory>
     ensures drawn { IfOk result (λ bytes. IsDrawn (DrawnBytes count) rng.old bytes rng.new) }
     ensures length { IfOk result (λ bytes. length bytes ≡ count) }
 {

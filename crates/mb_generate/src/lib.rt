@@ -7,5 +7,9 @@
 #![tactic(auto)]
 
 mod draws;
+mod make;
 mod officers;
 mod script;
+
+pub use make::workload;
+pub use mb_model::Workload;

@@ -127,12 +127,7 @@ fn load_one<L: Ledger>(
 }
 
 /// An order that nobody has signed, for where the log has so many entries.
-pub(crate) fn targeted(
-    alloc: Global,
-    layer: u8,
-    count: u32,
-    what: Act,
-) -> Result<Order, NoMemory>
+pub(crate) fn targeted(alloc: Global, layer: u8, count: u32, what: Act) -> Result<Order, NoMemory>
     requires { CanBeOrdered layer what }
     ensures order { IfOk result (λ order. order ≡ targeted layer count what) }
     ensures spelled { IfOk result order_format.Allowed }

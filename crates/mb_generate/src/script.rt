@@ -18,7 +18,7 @@ ghost use Rattle.mb_generate.specs.Scripts.{puts_text, first_orders_text};
 use crate::draws::{Drawn, RoundDrawn};
 use crate::officers::{Officers, load_of, round_order, sign, targeted};
 use mb_lms::Steps;
-use mb_model::{Act, Bytes, Keyfile, KeyKind, NoMemory, Order, Trust};
+use mb_model::{Act, Bytes, KeyKind, Keyfile, NoMemory, Order, Trust};
 use mb_officer::write_order_line;
 use mb_signer::public;
 use std::alloc::Global;
@@ -68,14 +68,34 @@ fn put_first_orders<L: Ledger>(
     let three = establish_of(&officers.three, steps);
     let code_two = load_of(alloc, 1, drawn.code_two.as_slice())?;
     let code_three = load_of(alloc, 1, drawn.code_three.as_slice())?;
-    let key = Act::NewKey { kind: KeyKind::Epoch };
-    put_order(alloc, &mut officers.one, targeted(alloc, 2, 1, two)?, script, steps)?;
-    put_order(alloc, &mut officers.two, targeted(alloc, 3, 2, three)?, script, steps)?;
+    let key = Act::NewKey {
+        kind: KeyKind::Epoch,
+    };
+    put_order(
+        alloc,
+        &mut officers.one,
+        targeted(alloc, 2, 1, two)?,
+        script,
+        steps,
+    )?;
+    put_order(
+        alloc,
+        &mut officers.two,
+        targeted(alloc, 3, 2, three)?,
+        script,
+        steps,
+    )?;
     let two = targeted(alloc, 2, 3, Act::Emergency(code_two))?;
     put_order(alloc, &mut officers.one, two, script, steps)?;
     let three = targeted(alloc, 3, 4, Act::Emergency(code_three))?;
     put_order(alloc, &mut officers.two, three, script, steps)?;
-    put_order(alloc, &mut officers.three, targeted(alloc, 3, 5, key)?, script, steps)
+    put_order(
+        alloc,
+        &mut officers.three,
+        targeted(alloc, 3, 5, key)?,
+        script,
+        steps,
+    )
 }
 
 /// What gives a layer this officer as its owner, and lets it trust what is countersigned.
@@ -158,12 +178,7 @@ fn put_secrets(
 }
 
 /// Appends the line of a secret that is put after n others.
-fn put_secret(
-    alloc: Global,
-    n: u32,
-    value: &[u8],
-    script: &mut Vec<u8>,
-) -> Result<(), NoMemory>
+fn put_secret(alloc: Global, n: u32, value: &[u8], script: &mut Vec<u8>) -> Result<(), NoMemory>
     ensures { OnOk result (script.new.items ≡ script.old.items ++ ended (put_line n value.now)) }
 {
     let word = hex_word(alloc, value)?;

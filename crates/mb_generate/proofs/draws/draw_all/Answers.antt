@@ -1,4 +1,4 @@
-use Rattle.std.proofs.Common.{◌++◌, List, ℕ, ap, ◌∙◌}
+use Rattle.std.proofs.Common.{ap, ◌∙◌}
 use Rattle.rand_chacha.specs.ChaCha.{of_seed}
 use Rattle.mb_generate.proofs.Drawings.{all_drawn}
 use Rattle.mb_generate.proofs.draws.draw_all.Goals as goal

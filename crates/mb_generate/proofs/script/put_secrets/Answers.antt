@@ -1,4 +1,4 @@
-use Rattle.std.proofs.Common.{◌≡◌, ◌+◌, ℕ, List, [], ◌++◌, sym, ap, ◌∙◌, append-nil, arith}
+use Rattle.std.proofs.Common.{ℕ, List, ◌++◌, sym, ap, ◌∙◌, append-nil, arith}
 use Rattle.mb_model.specs.Texts.{ended}
 use Rattle.mb_model.specs.Workload.{put_line}
 use Rattle.mb_generate.proofs.Scripting.{puts_none, secret_put}

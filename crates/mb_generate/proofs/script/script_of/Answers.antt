@@ -1,4 +1,4 @@
-use Rattle.std.proofs.Common.{◌≡◌, ◌+◌, ◌-◌, ◌*◌, ◌<◌, ◌≤◌, ℕ, List, [], ◌∷◌, ◌++◌, length, get_or, sym, ap, subst, ◌∙◌, refl, arith}
+use Rattle.std.proofs.Common.{◌≡◌, ◌+◌, ◌<◌, ◌≤◌, ℕ, List, [], ◌∷◌, ◌++◌, length, get_or, sym, ap, subst, ◌∙◌, refl, arith}
 use Rattle.mb_model.specs.Workload.{Draws, Plan, plans}
 use Rattle.mb_generate.specs.declared.draws.RoundDrawn.{RoundDrawn}
 use Rattle.mb_generate.specs.Drawing.{draws_of}
@@ -51,7 +51,7 @@ loop-round-preserved g c =
     let k : ℕ = c.loop-round.round-index in
     let within : k < length rounds = subst (λ (xs : List RoundDrawn). k < length xs) c.as_slice-round-items.ensures c.loop-round-test.true in
     let is : c.round-item.result ≡ get_or rounds k c.round-item.result =
-        subst (λ (xs : List RoundDrawn). c.round-item.result ≡ get_or xs k c.round-item.result) c.as_slice-round-items.ensures c.round-item.is in
+    subst (λ (xs : List RoundDrawn). c.round-item.result ≡ get_or xs k c.round-item.result) c.as_slice-round-items.ensures c.round-item.is in
     let before : List Plan = plans (with_rounds draws (first_rounds k rounds)) in
     let counted : 5 + c.loop-round.number ≡ length before + 1 = orders_before draws k c.loop-round.number rounds (omega (arith, within)) c.loop-round.invariant.number in
     let same : 6 + c.loop-round.number ≡ 6 + (k + 1) = omega (arith, c.loop-round.invariant.number) in

@@ -1,4 +1,4 @@
-use Rattle.std.proofs.Common.{◌≡◌, ◌+◌, ◌*◌, ◌≤◌, ◌++◌, take, map}
+use Rattle.std.proofs.Common.{◌≡◌, ◌+◌, ◌*◌, ◌≤◌, take, map}
 use Rattle.mb_model.specs.Lines.{text_of}
 use Rattle.mb_model.specs.Workload.{plans}
 use Rattle.mb_generate.specs.Drawing.{round_of, draws_of}
