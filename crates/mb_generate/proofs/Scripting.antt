@@ -12,7 +12,7 @@ use Rattle.mb_model.specs.declared.tools.Keyfile.{Keyfile}
 use Rattle.mb_model.specs.Signing.{public_of}
 use Rattle.mb_model.specs.SignedOrders.{used_once, signed_order}
 use Rattle.mb_model.specs.Texts.{ended}
-use Rattle.mb_model.specs.Lines.{text_of, spaced, hex_word}
+use Rattle.mb_model.specs.Lines.{text_of}
 use Rattle.mb_model.specs.OrderLines.{order_line}
 use Rattle.mb_model.specs.Script.{with_before}
 use Rattle.mb_lemmas.proofs.DrawLemmas.{with_before-push, length-with_before}
@@ -20,7 +20,7 @@ use Rattle.mb_model.specs.Workload.{RoundDraws, Draws, Plan, plan_payload, key_o
 use Rattle.mb_generate.specs.Orders.{keyfile_after, AreOfficers, targeted, RoundFits}
 use Rattle.mb_generate.specs.Drawing.{round_of}
 use Rattle.mb_generate.specs.declared.draws.RoundDrawn.{RoundDrawn}
-use Rattle.mb_generate.specs.Scripts.{puts_text, first_orders_text, with_rounds, lines_before_end}
+use Rattle.mb_generate.specs.Scripts.{puts_text, first_orders_text, sign_line, with_rounds, lines_before_end}
 use Rattle.mb_generate.specs.declared.officers.Officers.{Officers}
 
 -- ---- the orders before the rounds
@@ -94,9 +94,6 @@ secret_put n k number values value d old now new within is counted was more =
     ∙ ap (λ (xs : List ℕ). old ++ xs) (sym (puts_more n before (get_or values k d)) ∙ ap (puts_text n) (sym (take_more values k d within)))
 
 -- ---- a round
-
-abbrev pub sign_line : List ℕ → List ℕ
-sign_line message = spaced (codes "sign" ∷ codes "3" ∷ codes "1" ∷ hex_word message ∷ [])
 
 round_text : (n : ℕ) (order : Order) (round : RoundDraws) → text_of (round_lines n order round)
     ≡ (codes "off" ++ 10 ∷ codes "boot" ++ 10 ∷ [])

@@ -18,7 +18,12 @@ pub record IsDrawn {A : Type 0} (Draws : List ℕ → A → Type 0) (old : ChaCh
   pub drawn : Draws words value
 
 -- the same for lists of values: the words of each stand after those of the one before
-pub record DrawnEach {A : Type 0} (Draws : List ℕ → A → Type 0) (count : ℕ) (words : List ℕ) (values : List A) : Type 0 where
+pub record DrawnEach
+    {A : Type 0}
+    (Draws : List ℕ → A → Type 0)
+    (count : ℕ)
+    (words : List ℕ)
+    (values : List A) : Type 0 where
   pub for_each : List (List ℕ)
   pub in_order : words ≡ concat for_each
   pub count_is : length values ≡ count

@@ -48,7 +48,8 @@ pub record CanBeOrdered (layer : ℕ) (what : Act) : Type 0 where
 -- The order is the one that is planned, after others that leave the log one entry shorter than `count`.
 abbrev pub SignsPlan : {E : Type 0} → ℕ → Plan → Officers → Result Order E → Officers → Type 0
 SignsPlan count planned old result new =
-    IfOk result (λ order. (draws : Draws) (before : List Plan) → AreOfficers draws before old → count ≡ length before + 1
+    IfOk result
+    (λ order. (draws : Draws) (before : List Plan) → AreOfficers draws before old → count ≡ length before + 1
     → (order ≡ signed draws before planned) × AreOfficers draws (before ++ planned ∷ []) new)
 
 -- the code of a round is not too long for an order, and its secrets are no more than four

@@ -13,7 +13,7 @@ ghost use Rattle.mb_model.specs.SignedOrders.{used_once, signed_order};
 ghost use Rattle.mb_model.specs.Workload.{Draws, Plan, first_plans, round_plan, signed, put_line, round_lines, workload_lines};
 ghost use Rattle.mb_generate.specs.Drawing.{round_of, draws_of};
 ghost use Rattle.mb_generate.specs.Orders.{AreOfficers, HaveUsed, CodesFit};
-ghost use Rattle.mb_generate.specs.Scripts.{puts_text, first_orders_text};
+ghost use Rattle.mb_generate.specs.Scripts.{puts_text, first_orders_text, sign_line, AppendsRound, SignsRound};
 
 use crate::draws::{Drawn, RoundDrawn};
 use crate::officers::{Officers, load_of, round_order, sign, targeted};
@@ -144,8 +144,8 @@ fn put_round<L: Ledger>(
     requires fits { length round.now.code ≤ 32768 }
     requires used { HaveUsed (5 + number) officers.old }
     requires values { length round.now.values ≤ 4 }
-    ensures text { OnOk result ((draws : Draws) (before : List Plan) → AreOfficers draws before officers.old → 5 + number ≡ length before + 1 → script.new.items ≡ script.old.items ++ text_of (round_lines (number - 1) (signed draws before (round_plan number round.now.code)) (round_of round.now))) }
-    ensures officers { OnOk result ((draws : Draws) (before : List Plan) → AreOfficers draws before officers.old → 5 + number ≡ length before + 1 → AreOfficers draws (before ++ round_plan number round.now.code ∷ []) officers.new) }
+    ensures text { OnOk result (AppendsRound number (round_of round.now) officers.old script.old.items script.new.items) }
+    ensures officers { OnOk result (SignsRound number (round_of round.now) officers.old officers.new) }
     ensures used { OnOk result (HaveUsed (6 + number) officers.new) }
     ensures cost { steps.new ≤ steps.old + 106419 }
 {
@@ -193,7 +193,7 @@ fn put_secret(alloc: Global, n: u32, value: &[u8], script: &mut Vec<u8>) -> Resu
 
 /// Appends the line by which the key with number 1 states the message.
 fn put_statement(alloc: Global, message: &[u8], script: &mut Vec<u8>) -> Result<(), NoMemory>
-    ensures { OnOk result (script.new.items ≡ script.old.items ++ ended (spaced (codes "sign" ∷ codes "3" ∷ codes "1" ∷ hex_word message.now ∷ []))) }
+    ensures { OnOk result (script.new.items ≡ script.old.items ++ ended (sign_line message.now)) }
 {
     let word = hex_word(alloc, message)?;
     script.extend_from_slice(b"sign 3 1 ")?;

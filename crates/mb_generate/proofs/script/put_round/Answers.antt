@@ -6,8 +6,8 @@ use Rattle.mb_model.specs.OrderLines.{order_line}
 use Rattle.mb_model.specs.Workload.{round_plan, signed}
 use Rattle.mb_generate.specs.Drawing.{round_of}
 use Rattle.mb_generate.specs.Orders.{AreOfficers}
-use Rattle.mb_generate.specs.Scripts.{puts_text}
-use Rattle.mb_generate.proofs.Scripting.{lines_put, sign_line}
+use Rattle.mb_generate.specs.Scripts.{puts_text, sign_line}
+use Rattle.mb_generate.proofs.Scripting.{lines_put}
 use Rattle.mb_generate.proofs.script.put_round.Goals as goal
 
 pub returns-clause-officers : goal.returns-clause-officers
