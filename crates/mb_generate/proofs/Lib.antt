@@ -1,0 +1,3 @@
+mod Drawings
+mod Planning
+mod Scripting

@@ -1,0 +1,60 @@
+-- How words are drawn one after another, and what all of them are drawn for. Is any word left out, or drawn twice?
+use Rattle.std.specs.Prelude.{◌≡◌, ℕ, List, [], ◌∷◌, length, map}
+use Rattle.std.specs.List.{AllZip, concat}
+use Rattle.rand_chacha.specs.ChaCha.{ChaCha, next_word}
+use Rattle.mb_model.specs.Workload.{generated, DrawnValue, RoundDraws, DrawnRound, Draws, DrawnInOrder}
+use Rattle.mb_generate.specs.declared.draws.RoundDrawn.{RoundDrawn}
+use Rattle.mb_generate.specs.declared.draws.Drawn.{Drawn}
+
+-- the generator gives these words, one after another, and is then another
+abbrev pub Gives : ChaCha → List ℕ → ChaCha → Type 0
+Gives old [] new = new ≡ old
+Gives old (word ∷ words) new = (word ≡ (next_word 10 old).0) × Gives (next_word 10 old).1 words new
+
+-- The words that the generator gives are drawn for this value, by the rule that says which words are.
+pub record IsDrawn {A : Type 0} (Draws : List ℕ → A → Type 0) (old : ChaCha) (value : A) (new : ChaCha) : Type 0 where
+  pub words : List ℕ
+  pub given : Gives old words new
+  pub drawn : Draws words value
+
+-- the same for lists of values: the words of each stand after those of the one before
+pub record DrawnEach
+    {A : Type 0}
+    (Draws : List ℕ → A → Type 0)
+    (count : ℕ)
+    (words : List ℕ)
+    (values : List A) : Type 0 where
+  pub for_each : List (List ℕ)
+  pub in_order : words ≡ concat for_each
+  pub count_is : length values ≡ count
+  pub each : AllZip Draws for_each values
+
+abbrev pub DrawnValues : ℕ → List ℕ → List (List ℕ) → Type 0
+DrawnValues = DrawnEach DrawnValue
+
+abbrev pub DrawnRounds : ℕ → List ℕ → List RoundDraws → Type 0
+DrawnRounds = DrawnEach DrawnRound
+
+-- what the program holds of a round, and of all that is drawn
+abbrev pub round_of : RoundDrawn → RoundDraws
+round_of round = record { code = round.code; values = round.values; message = round.message }
+
+abbrev pub draws_of : Drawn → Draws
+draws_of drawn = record {
+  root = drawn.root;
+  officer_one = drawn.officer_one;
+  officer_two = drawn.officer_two;
+  officer_three = drawn.officer_three;
+  factory = drawn.factory;
+  code_one = drawn.code_one;
+  code_two = drawn.code_two;
+  code_three = drawn.code_three;
+  rounds = map round_of drawn.rounds;
+  noise = drawn.noise;
+}
+
+-- these are the draws of a workload
+pub record AreDraws (number rounds : ℕ) (draws : Draws) : Type 0 where
+  pub words : List ℕ
+  pub first : words ≡ generated number (length words)
+  pub drawn : DrawnInOrder words rounds draws

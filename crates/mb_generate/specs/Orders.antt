@@ -1,0 +1,65 @@
+-- How the orders of a workload are signed, one after another. Is each signed by the right officer, at the next index of
+-- the officer's key?
+use Rattle.std.specs.Prelude.{◌≡◌, ℕ, ◌+◌, ◌≤◌, List, [], ◌∷◌, ◌++◌, length, All, Result, IfOk}
+use Rattle.mb_model.specs.declared.order.Act.{Act}
+use Rattle.mb_model.specs.declared.order.Target.TheVariants as target
+use Rattle.mb_model.specs.declared.order.Order.{Order}
+use Rattle.mb_model.specs.declared.tools.Keyfile.{Keyfile}
+use Rattle.mb_model.specs.Rules.{kind_of, MayBeFor}
+use Rattle.mb_model.specs.OrderFormat.{act_by}
+use Rattle.mb_model.specs.Workload.{RoundDraws, Draws, Plan, key_of_officer, signatures_by, signed}
+use Rattle.mb_generate.specs.declared.officers.Officers.{Officers}
+
+-- ---- officers
+
+-- the key of officer n, who has given these orders their signatures
+abbrev pub keyfile_after : Draws → List Plan → ℕ → Keyfile
+keyfile_after draws before n = record { seed = key_of_officer draws n; next = signatures_by n before }
+
+-- the three officers, after these orders
+pub record AreOfficers (draws : Draws) (before : List Plan) (officers : Officers) : Type 0 where
+  pub one : officers.one ≡ keyfile_after draws before 1
+  pub two : officers.two ≡ keyfile_after draws before 2
+  pub three : officers.three ≡ keyfile_after draws before 3
+
+-- no officer has used more indices than this
+pub record HaveUsed (most : ℕ) (officers : Officers) : Type 0 where
+  pub one : officers.one.next ≤ most
+  pub two : officers.two.next ≤ most
+  pub three : officers.three.next ≤ most
+
+-- ---- orders
+
+-- an order that nobody has signed, whose one target is the length of the log
+abbrev pub targeted : ℕ → ℕ → Act → Order
+targeted layer count what = record {
+  layer = layer;
+  targets = target.Length count ∷ [];
+  act = what;
+  signature = [];
+  countersignatures = [];
+}
+
+-- what an order does can be spelled, and is for this layer
+pub record CanBeOrdered (layer : ℕ) (what : Act) : Type 0 where
+  pub layered : MayBeFor (kind_of what) layer
+  pub spelled : (act_by (kind_of what)).Allowed what
+
+-- The order is the one that is planned, after others that leave the log one entry shorter than `count`.
+abbrev pub SignsPlan : {E : Type 0} → ℕ → Plan → Officers → Result Order E → Officers → Type 0
+SignsPlan count planned old result new =
+    IfOk result
+    (λ order. (draws : Draws) (before : List Plan) → AreOfficers draws before old → count ≡ length before + 1
+    → (order ≡ signed draws before planned) × AreOfficers draws (before ++ planned ∷ []) new)
+
+-- the code of a round is not too long for an order, and its secrets are no more than four
+pub record RoundFits (round : RoundDraws) : Type 0 where
+  pub code : length round.code ≤ 32768
+  pub values : length round.values ≤ 4
+
+-- so it is for all that is drawn
+pub record CodesFit (draws : Draws) : Type 0 where
+  pub one : length draws.code_one ≤ 32768
+  pub two : length draws.code_two ≤ 32768
+  pub three : length draws.code_three ≤ 32768
+  pub rounds : All RoundFits draws.rounds

@@ -1,0 +1,78 @@
+//! A whole workload.
+
+ghost use Rattle.std.specs.Prelude.{◌≡◌, ◌+◌, ◌*◌, ◌≤◌, [], length, IfOk};
+ghost use Rattle.mb_model.specs.Born.{officer_key};
+ghost use Rattle.mb_model.specs.Signing.{public_of};
+ghost use Rattle.mb_model.specs.Factory.{IsFactoryImage};
+ghost use Rattle.mb_model.specs.Workload.{IsWorkload};
+ghost use Rattle.mb_generate.specs.Drawing.{draws_of};
+ghost use Rattle.mb_generate.specs.Orders.{AreOfficers};
+
+use crate::draws::{Drawn, draw_all};
+use crate::officers::Officers;
+use crate::script::script_of;
+use mb_lms::Steps;
+use mb_model::{Bytes, Keyfile, NoMemory, Workload};
+use mb_officer::{SignEnd, factory, make_key};
+use mb_signer::public;
+use std::alloc::Global;
+use std::sync::ledger::Ledger;
+
+/// The workload of a number with so many rounds, 1 to 24: the image of a new device, a script in which officers load
+/// each layer in turn, and the noise of the script's commands. In at most 350,434 steps and 106,419 for each round.
+///
+/// Errors: `NoMemory`. Nothing is said of when memory is found.
+pub fn workload<L: Ledger>(
+    alloc: Global,
+    number: u32,
+    rounds: u32,
+    steps: &mut Steps<L>,
+) -> Result<Workload, NoMemory>
+    requires least { 1 ≤ rounds }
+    requires most { rounds ≤ 24 }
+    ensures made { IfOk result (IsWorkload number rounds) }
+    ensures cost { steps.new ≤ steps.old + 350434 + 106419 * rounds }
+{
+    let drawn = draw_all(alloc, number, rounds)?;
+    let mut officers = officers_of(&drawn);
+    let image = image_of(alloc, &drawn, &officers.one, steps)?;
+    let script = script_of(alloc, &drawn, &mut officers, steps)?;
+    Ok(Workload {
+        image: Bytes::from_vec(image),
+        script: Bytes::from_vec(script),
+        noise: drawn.noise,
+    })
+}
+
+/// The officers, none of whom has signed.
+fn officers_of(drawn: &Drawn) -> Officers
+    ensures { AreOfficers (draws_of drawn.now) [] result }
+{
+    Officers {
+        one: make_key(&drawn.officer_one),
+        two: make_key(&drawn.officer_two),
+        three: make_key(&drawn.officer_three),
+    }
+}
+
+/// The image of the new device, whose layer 1 this officer owns. The maker's key signs its birth.
+fn image_of<L: Ledger>(
+    alloc: Global,
+    drawn: &Drawn,
+    officer: &Keyfile,
+    steps: &mut Steps<L>,
+) -> Result<Vec<u8>, NoMemory>
+    requires { length drawn.now.code_one ≤ 32768 }
+    ensures image { IfOk result (λ image. IsFactoryImage (officer_key drawn.now.root) 0 (public_of officer.now.seed) drawn.now.code_one drawn.now.factory image.items) }
+    ensures cost { steps.new ≤ steps.old + 104271 }
+{
+    let mut maker = make_key(&drawn.root);
+    let owner = public(&officer.seed, steps);
+    let code = drawn.code_one.as_slice();
+    match factory(alloc, &mut maker, &owner, code, &drawn.factory, steps) {
+        Ok(image) => Ok(image),
+        Err(SignEnd::NoMemory) => Err(NoMemory),
+        Err(SignEnd::Spent) => unreachable!(),
+        Err(SignEnd::NotCountersignable) => unreachable!(),
+    }
+}

@@ -1,0 +1,191 @@
+//! The officers of a workload, and the orders that they sign.
+
+ghost use Rattle.std.specs.Prelude.{◌≡◌, ◌+◌, ◌-◌, ◌*◌, ◌<◌, ◌≤◌, ◌∷◌, [], length, IsTrue, IfOk, OnOk};
+ghost use Rattle.mb_model.specs.declared.key.Trust.TheVariants.{Countersigned};
+ghost use Rattle.mb_model.specs.declared.order.Act.TheVariants as act;
+ghost use Rattle.mb_model.specs.Layers.{is_upper};
+ghost use Rattle.mb_model.specs.OrderFormat.{order_format};
+ghost use Rattle.mb_model.specs.SignedOrders.{used_once, signed_order, countersigned_order, IsCountersignable};
+ghost use Rattle.mb_model.specs.Workload.{plan, plan_payload, round_plan};
+ghost use Rattle.mb_generate.specs.Orders.{HaveUsed, targeted, CanBeOrdered, SignsPlan};
+
+use mb_lms::Steps;
+use mb_model::{
+    Act, Bytes, Countersignatures, Items, Keyfile, NoMemory, Order, Payload, Target, Trust,
+};
+use mb_officer::{SignEnd, countersign, sign_order};
+use std::alloc::Global;
+use std::sync::ledger::Ledger;
+
+/// The officers' keys: the officer of each number owns the layer with that number.
+#[derive(Clone, Copy)]
+pub(crate) struct Officers {
+    pub(crate) one: Keyfile,
+    pub(crate) two: Keyfile,
+    pub(crate) three: Keyfile,
+}
+
+/// The order of round `round`, from 1: layers 3, 2 and 1 are loaded in turn, and all above countersign.
+pub(crate) fn round_order<L: Ledger>(
+    alloc: Global,
+    round: u32,
+    code: &[u8],
+    officers: &mut Officers,
+    steps: &mut Steps<L>,
+) -> Result<Order, NoMemory>
+    requires round { round ≤ 24 }
+    requires code { length code.now ≤ 32768 }
+    requires used { HaveUsed (5 + round) officers.old }
+    ensures signs { SignsPlan (5 + round) (round_plan round code.now) officers.old result officers.new }
+    ensures spelled { IfOk result order_format.Allowed }
+    ensures used { OnOk result (HaveUsed (6 + round) officers.new) }
+    ensures cost { steps.new ≤ steps.old + 106419 }
+{
+    let load = load_of(alloc, 1 + round, code)?;
+    match round % 3 {
+        1 => load_three(alloc, 5 + round, load, officers, steps),
+        2 => load_two(alloc, 5 + round, load, officers, steps),
+        _ => load_one(alloc, 5 + round, load, officers, steps),
+    }
+}
+
+/// What a load carries that lets the layer trust what is countersigned.
+pub(crate) fn load_of(alloc: Global, version: u32, code: &[u8]) -> Result<Payload, NoMemory>
+    ensures { IfOk result (λ payload. payload ≡ plan_payload version code.now) }
+{
+    Ok(Payload {
+        version,
+        trust: Trust::Countersigned,
+        code: Bytes::copy(alloc, code)?,
+    })
+}
+
+/// The load of layer 3, where the log has so many entries.
+fn load_three<L: Ledger>(
+    alloc: Global,
+    count: u32,
+    load: Payload,
+    officers: &mut Officers,
+    steps: &mut Steps<L>,
+) -> Result<Order, NoMemory>
+    requires count { count ≤ 30 }
+    requires able { CanBeOrdered 3 (act.Load load) }
+    requires used { HaveUsed count officers.old }
+    ensures signs { SignsPlan count (plan 3 (act.Load load) []) officers.old result officers.new }
+    ensures spelled { IfOk result order_format.Allowed }
+    ensures used { OnOk result (HaveUsed (count + 1) officers.new) }
+    ensures cost { steps.new ≤ steps.old + 106419 }
+{
+    let mut order = targeted(alloc, 3, count, Act::Load(load))?;
+    sign(alloc, &mut officers.three, &mut order, steps)?;
+    Ok(order)
+}
+
+/// The load of layer 2, which the owner of layer 3 countersigns.
+fn load_two<L: Ledger>(
+    alloc: Global,
+    count: u32,
+    load: Payload,
+    officers: &mut Officers,
+    steps: &mut Steps<L>,
+) -> Result<Order, NoMemory>
+    requires count { count ≤ 30 }
+    requires able { CanBeOrdered 2 (act.Load load) }
+    requires used { HaveUsed count officers.old }
+    ensures signs { SignsPlan count (plan 2 (act.Load load) (3 ∷ [])) officers.old result officers.new }
+    ensures spelled { IfOk result order_format.Allowed }
+    ensures used { OnOk result (HaveUsed (count + 1) officers.new) }
+    ensures cost { steps.new ≤ steps.old + 106419 }
+{
+    let mut order = targeted(alloc, 2, count, Act::Load(load))?;
+    sign(alloc, &mut officers.two, &mut order, steps)?;
+    agree(alloc, &mut officers.three, 3, &mut order, steps)?;
+    Ok(order)
+}
+
+/// The load of layer 1, which the owners of layers 2 and 3 countersign.
+fn load_one<L: Ledger>(
+    alloc: Global,
+    count: u32,
+    load: Payload,
+    officers: &mut Officers,
+    steps: &mut Steps<L>,
+) -> Result<Order, NoMemory>
+    requires count { count ≤ 30 }
+    requires able { CanBeOrdered 1 (act.Load load) }
+    requires used { HaveUsed count officers.old }
+    ensures signs { SignsPlan count (plan 1 (act.Load load) (2 ∷ 3 ∷ [])) officers.old result officers.new }
+    ensures spelled { IfOk result order_format.Allowed }
+    ensures used { OnOk result (HaveUsed (count + 1) officers.new) }
+    ensures cost { steps.new ≤ steps.old + 106419 }
+{
+    let mut order = targeted(alloc, 1, count, Act::Load(load))?;
+    sign(alloc, &mut officers.one, &mut order, steps)?;
+    agree(alloc, &mut officers.two, 2, &mut order, steps)?;
+    agree(alloc, &mut officers.three, 3, &mut order, steps)?;
+    Ok(order)
+}
+
+/// An order that nobody has signed, for where the log has so many entries.
+pub(crate) fn targeted(alloc: Global, layer: u8, count: u32, what: Act) -> Result<Order, NoMemory>
+    requires { CanBeOrdered layer what }
+    ensures order { IfOk result (λ order. order ≡ targeted layer count what) }
+    ensures spelled { IfOk result order_format.Allowed }
+{
+    let mut targets = Items::new(alloc);
+    targets.push(Target::Length(count))?;
+    Ok(Order {
+        layer,
+        targets,
+        act: what,
+        signature: Bytes::from_vec(Vec::new(alloc)),
+        countersignatures: Countersignatures::new(alloc),
+    })
+}
+
+/// Signs the order by the officer, who has an index left.
+pub(crate) fn sign<L: Ledger>(
+    alloc: Global,
+    officer: &mut Keyfile,
+    order: &mut Order,
+    steps: &mut Steps<L>,
+) -> Result<(), NoMemory>
+    requires left { officer.old.next < 32 }
+    requires spelled { order_format.Allowed order.old }
+    ensures signed { OnOk result (order.new ≡ signed_order officer.old order.old) }
+    ensures used { OnOk result (officer.new ≡ used_once officer.old) }
+    ensures spelled { OnOk result (order_format.Allowed order.new) }
+    ensures cost { steps.new ≤ steps.old + 35473 }
+{
+    match sign_order(alloc, officer, order, steps) {
+        Ok(_) => Ok(()),
+        Err(SignEnd::NoMemory) => Err(NoMemory),
+        Err(SignEnd::Spent) => unreachable!(),
+        Err(SignEnd::NotCountersignable) => unreachable!(),
+    }
+}
+
+/// Countersigns the order by the officer, the owner of the layer, who has an index left.
+fn agree<L: Ledger>(
+    alloc: Global,
+    officer: &mut Keyfile,
+    layer: u8,
+    order: &mut Order,
+    steps: &mut Steps<L>,
+) -> Result<(), NoMemory>
+    requires left { officer.old.next < 32 }
+    requires spelled { order_format.Allowed order.old }
+    requires layer { IsTrue (is_upper layer) }
+    requires able { IsCountersignable order.old layer }
+    ensures signed { OnOk result (order.new ≡ countersigned_order officer.old layer order.old) }
+    ensures used { OnOk result (officer.new ≡ used_once officer.old) }
+    ensures spelled { OnOk result (order_format.Allowed order.new) }
+    ensures cost { steps.new ≤ steps.old + 35473 }
+{
+    match countersign(alloc, officer, layer, order, steps) {
+        Ok(_) => Ok(()),
+        Err(SignEnd::NoMemory) => Err(NoMemory),
+        Err(SignEnd::Spent) => unreachable!(),
+        Err(SignEnd::NotCountersignable) => unreachable!(),
+    }
+}
