@@ -58,8 +58,8 @@ HonestIsPrefix =
     → (past : List Entry) × (later : List Entry) × (entries_of log ≡ past ++ later)
     × (past ≡ entries_of accepts.chain.entries) × (report.lives ≡ lives_of past n)
 
--- So a verdict on a chain is all that an audit needs: where the chain is accepted and no entry of it was forged, it tells
--- of the device.
+-- So a verdict on a chain is all that an audit needs: where the chain is accepted and no entry of it was forged, it
+-- tells of the device.
 abbrev pub VerdictsAreAudits : Type 0
 VerdictsAreAudits =
     (state : State) (maker : PublicKey) (bytes : List ℕ) (n : ℕ) (verdict : Verdict)

@@ -132,8 +132,8 @@ pub record IsSoundWorld (world : World) : Type 0 where
   pub keys : (live : State) (L : ℕ) → world.state ≡ Some live → IsTrue (is_upper L) → HoldsLivingKeys live L
   pub once : (live : State) → world.state ≡ Some live → SignsEntriesOnce live.log
 
--- What a run tells: each of its worlds is sound, each log begins each later one, no key of a region signs two statements
--- with one index, nor with one that was used before the run, and each statement stays accepted.
+-- What a run tells: each of its worlds is sound, each log begins each later one, no key of a region signs two
+-- statements with one index, nor with one that was used before the run, and each statement stays accepted.
 pub record IsSoundRun
     (world : World)
     (answered : List Answered)
