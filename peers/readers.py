@@ -7,6 +7,7 @@ import two_officers
 from lms import PrivateKey, sha256, u16
 from officer import Officer, body, countersigned_text, order, signed_text
 from sources import HEX, line_of, unhex, verifies
+from workload import workload
 
 
 def sized(signature):
@@ -61,6 +62,15 @@ def officers_orders(source):
             by_three = Officer(*unhex(beside)).sign(countersigned_text(3, text))
             found = sha256(order(text, signature, [(3, by_three)])).hex()
             source.compare(f"{name}, countersigned", found, hashes[1])
+
+
+def workloads(source):
+    """The hashes of the image, the script and the noise of a workload."""
+    ((number, rounds),) = source.rows(r"workload\(alloc, (\d+), (\d+),")
+    made = workload(int(number), int(rounds))
+    hashes = source.rows(rf"made\.(\w+)\.as_slice\(\),\s*{HEX}")
+    for (name, wanted), found in zip(hashes, made, strict=True):
+        source.compare(f"hash of the {name}", sha256(found).hex(), wanted)
 
 
 def commands_orders(source):
