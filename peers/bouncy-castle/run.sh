@@ -75,9 +75,9 @@ body() {
     cut -c "9-$((8 + 2 * $2))" "$1"
 }
 
-# What the program answers to an order on a device whose layer 1 is the first officer's.
+# What the program answers to an order on a new device whose layer 1 is the first officer's.
 serve() {
-    { part "$crate/data/image" 0 17; cat first.public; tail -c +74 "$crate/data/image"; } >image
+    miniboot factory device.noise maker.key first.public code image
     { echo boot; cat "$1"; echo off; } >script
     miniboot run image script first.noise
     sed -n 2p printed
@@ -95,8 +95,12 @@ if command -v python3 >/dev/null; then
 else
     echo "python3 is not there: the signatures in the tests were not verified"
 fi
+# The first order of the stored life, by the officer whose key is made of this noise.
 sed -n 2p "$crate/data/script" >order
-part "$crate/data/image" 17 56 >owner
+for byte in d9 53 21 bd f2 84 c2 03 2c 7a 52 09 b8 47 ea e9 6c 30 80 c8 6b fc 25 85 31 2e 15 36 11 79 d1 ac; do
+    printf "\\x$byte"
+done >owner.noise
+miniboot keygen owner.noise owner.key owner
 compare 'the first order' "$(verified order 60 owner)" yes
 
 # Three keys.
@@ -105,6 +109,10 @@ head -c 32 /dev/zero | tr '\0' '\1' >second.noise
 for number in $(seq 0 31); do
     printf "\\x$(printf '%02x' "$number")"
 done >third.noise
+head -c 32 /dev/zero | tr '\0' '\2' >maker.noise
+head -c 48 /dev/zero >device.noise
+printf 'layer one' >code
+miniboot keygen maker.noise maker.key maker.public
 for officer in first second third; do
     miniboot keygen "$officer.noise" "$officer.key" "$officer.public"
     compare "the $officer public key" "$(hex <"$officer.public")" "$(peer public "$officer.key")"
@@ -168,7 +176,9 @@ compare "the program's order is served" "$(serve establish)" 'done 1 2'
 peer sign first.key "$(body establish 60)" >foreign
 compare 'it is another signature' "$(cmp -s foreign establish && echo same)" ''
 compare "Bouncy Castle's order is served" "$(serve foreign)" 'done 1 2'
-compare 'the owner of layer 2' "$(part image 73 58 | hex)" "01$(hex <third.public)02"
+# In the chain of the device the second entry tells of layer 2 from this offset on: that it has an owner, whom it trusts.
+miniboot chain image chain
+compare 'the owner of layer 2' "$(part chain 2632 58 | hex)" "0102$(hex <third.public)"
 word=$(cat foreign)
 printf '%s%x00\n' "${word:0:-3}" "$((16#${word: -3:1} ^ 1))" >turned
 compare 'a turned bit, by Bouncy Castle' "$(verified turned 60 first.public)" no
