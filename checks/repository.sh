@@ -30,10 +30,6 @@ wide=$(find crates -path '*/specs/*.antt' -not -path '*/out/*' \
     cut -d: -f1,2)
 check 'definitions over 120 columns' "$wide"
 
-image='has to have 1077248 bytes'
-[ -n "$(find crates/miniboot/data/image -size 1077248c 2>/dev/null)" ] && image=
-check 'crates/miniboot/data/image' "$image"
-
 # Every other call hashes on the count of its caller.
 begun=$(grep -rlE 'Blank::new|Steps(::<[^>]*>)?::begin\(' crates --include='*.rt' |
     grep -Ev '^crates/[a-z0-9_]+/out/|^crates/mb_top/src/|^crates/[a-z0-9_]+/src/tests(\.rt$|/)')

@@ -5,7 +5,7 @@
 #
 #     run.sh               proves and builds the program first
 #     run.sh PROGRAM       takes a program that is built
-#     run.sh --unproved    compiles the program without proving anything, and serves this life by its stored script alone
+#     run.sh --unproved    compiles the program without proving anything, and has it make and serve a life of its own
 #
 # What expected.txt has of keys, the device, the seven orders, the life and its chain was made by another program, and
 # peers/run.sh makes all of it anew by a third. The refusals and the power losses follow from docs/commands.md and
@@ -37,18 +37,19 @@ done
 work=$(mktemp -d)
 trap 'rm -rf "$work"' EXIT
 
-# Serves the stored script by a program that is compiled without a proof.
+# Makes and serves a workload by a program that is compiled without a proof, which can be given no files.
 serve_unproved() {
     echo "Compiling the program without proving anything, which takes about half a minute. It is slow then .."
-    local words=(run data/image data/script data/noise)
+    local words=()
+    mapfile -t words <"$crate/args"
     (cd "$crate" && rt try --seconds 900 -- "${words[@]}") >"$work/printed" 2>"$work/try.log" || {
         status=$?
         cat "$work/printed" "$work/try.log" >&2
         echo "the program ended with status $status" >&2
         return 1
     }
-    echo "The program printed, in the device's life:"
-    cut -c 1-100 "$work/printed" | sed 's/^/  /'
+    echo "miniboot ${words[*]} made a device, its owners' orders and its life, served it, and counted the replies:"
+    sed 's/^/  /' "$work/printed"
     if ! diff "$crate/stdout" "$work/printed" >&2; then
         echo "this is not what crates/miniboot/stdout says" >&2
         return 1

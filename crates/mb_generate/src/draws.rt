@@ -119,8 +119,8 @@ fn draw_values(alloc: Global, rng: &mut ChaCha20Rng) -> Result<Items<Bytes>, NoM
 fn draw_code(alloc: Global, rng: &mut ChaCha20Rng) -> Result<Bytes, NoMemory>
     ensures { IfOk result (λ code. IsDrawn DrawnCode rng.old code rng.new) }
 {
-    let word = rng.next_word();
-    draw_bytes(alloc, rng, 1024 + (word % 31_745) as usize)
+    let size = rng.next_word();
+    draw_bytes(alloc, rng, 1024 + (size % 31_745) as usize)
 }
 
 /// The value of a secret: a word says how many bytes, at most 128.

@@ -3,7 +3,7 @@ use Rattle.std.proofs.Common.{◌≡◌, ℕ, true, false, List, ◌++◌, codes
 use Rattle.mb_model.specs.declared.event.Answered.{Answered}
 use Rattle.mb_model.specs.Outside.{Outside, read_once, Writes, FailsToWrite, Prints, FailsToPrint}
 use Rattle.mb_model.specs.Board.{Held}
-use Rattle.mb_model.specs.Commands.{Input, Output, Command, read, find, either, serve, write, print, refuse, Past, SaysLine, Stops, WantsMemory, too_long, faulty, not_read, no_room, printed, not_printed, CommandEnds, input_line, role_word, place_words}
+use Rattle.mb_model.specs.Commands.{Input, Output, Command, read, find, either, serve, write, print, refuse, lack, Past, SaysLine, Stops, WantsMemory, too_long, faulty, not_read, no_room, printed, not_printed, CommandEnds, input_line, role_word, place_words}
 use Rattle.mb_top.specs.declared.end.End.{End}
 use Rattle.mb_top.specs.declared.end.End.TheVariants as end
 use Rattle.mb_top.specs.Ending.{end_line, end_status, ended_at, CarriesOutRest, HasInput, StopsAt}
@@ -152,3 +152,10 @@ pub print_stops : (text : List ℕ) (past : Past) (answered : List Answered) (fi
 unfolding CarriesOutRest CommandEnds
 print_stops text past answered final before mid same fails = λ after says.
     inl (not_printed mid fails (stopped _ 5 past answered final mid after same says))
+
+-- ---- memory that was wanted while events were served
+
+pub lack_here : (past : Past) (answered : List Answered) (final : Held) (before : Outside) → answered ≡ past.answered
+    → CarriesOutRest lack past answered final before (Err end.NoMemory) before
+unfolding CarriesOutRest CommandEnds
+lack_here past answered final before same = λ after says. stopped (codes "no memory") 6 past answered final before after same says

@@ -9,5 +9,7 @@ pub mod Requests
 pub mod SignLemmas
 pub mod LineLemmas
 pub mod FactoryLemmas
+pub mod SummaryLemmas
+pub mod GenerateLemmas
 pub mod SameLists
 pub mod ChainLemmas

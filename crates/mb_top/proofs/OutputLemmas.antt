@@ -1,33 +1,70 @@
 -- Outputs that are written one after another.
-use Rattle.std.proofs.Common.{◌≡◌, ℕ, List, [], ◌∷◌, length, map, true, arith, Result, Err, refl, sym, subst}
+use Rattle.std.proofs.Common.{◌≡◌, List, [], ◌∷◌, length, map, true, arith, Result, Ok, Err, refl, sym, subst, inl, inr}
+use Rattle.std.specs.Prelude.{IfErr}
+use Rattle.mb_model.specs.declared.event.Answered.{Answered}
 use Rattle.mb_model.specs.Outside.{Outside, Writes, FailsToWrite}
-use Rattle.mb_model.specs.Commands.{print}
+use Rattle.mb_model.specs.Board.{Held}
+use Rattle.mb_model.specs.Commands.{Output as Written, Command, write, Past}
 use Rattle.mb_top.specs.declared.output.Output.{Output}
 use Rattle.mb_top.specs.declared.end.End.{End}
 use Rattle.mb_top.specs.declared.end.End.TheVariants as end
-use Rattle.mb_top.specs.Ending.{CarriesOutAfter}
-use Rattle.mb_top.specs.Outputs.{output_of, writes}
+use Rattle.mb_top.specs.Ending.{CarriesOutAfter, CarriesOutRest}
+use Rattle.mb_top.specs.Outputs.{output_of, writes, WritesAll, StopsWriting}
 use Rattle.mb_top.proofs.CommandLemmas.{write_goes, write_stops}
 
-pub none_left : (outputs : List Output) (text : List ℕ) (before now : Outside) (result : Result (Unit {0}) End) → length outputs ≡ 0
-    → CarriesOutAfter (print text) before result now → CarriesOutAfter (writes (map output_of outputs) (print text)) before result now
-unfolding writes
-none_left [] text before now result is carried = carried
-none_left (output ∷ outputs) text before now result is carried = absurd (omega arith)
+-- ---- one after another
 
-pub one_stops : (outputs rest : List Output) (output : Output) (text : List ℕ) (before now : Outside) (why : End) → outputs ≡ output ∷ rest
-    → why ≡ end.NotWritten output.role → FailsToWrite output.name.now before now
-    → CarriesOutAfter (writes (map output_of outputs) (print text)) before (Err why) now
-unfolding writes
-one_stops outputs rest output text before now why is ends fails =
-    subst (λ (l : List Output). CarriesOutAfter (writes (map output_of l) (print text)) before (Err why) now) (sym is)
-    (subst (λ w. CarriesOutAfter (writes (map output_of (output ∷ rest)) (print text)) before (Err w) now) (sym ends)
-    (λ past final. write_stops (output_of output) (writes (map output_of rest) (print text)) past past.answered final before now refl fails))
+pub none_written : (outputs : List Output) (before : Outside) → length outputs ≡ 0 → WritesAll (map output_of outputs) before before
+none_written [] before is = refl
+none_written (output ∷ outputs) before is = absurd (omega (arith, is))
 
-pub one_goes : (outputs rest : List Output) (output : Output) (text : List ℕ) (before mid now : Outside) (result : Result (Unit {0}) End) → outputs ≡ output ∷ rest
-    → Writes output.name.now output.bytes.now before mid → CarriesOutAfter (writes (map output_of rest) (print text)) mid result now
-    → CarriesOutAfter (writes (map output_of outputs) (print text)) before result now
+pub more_written : (outputs rest : List Output) (output : Output) (before mid after : Outside) → outputs ≡ output ∷ rest
+    → Writes output.name.now output.bytes.now before mid → WritesAll (map output_of rest) mid after → WritesAll (map output_of outputs) before after
+more_written outputs rest output before mid after is written others =
+    subst (λ (l : List Output). WritesAll (map output_of l) before after) (sym is) (mid, written, others)
+
+-- the first of them is not written
+pub one_stops : (outputs rest : List Output) (output : Output) (before now : Outside) (why : End) → outputs ≡ output ∷ rest
+    → why ≡ end.NotWritten output.role → FailsToWrite output.name.now before now → StopsWriting (map output_of outputs) before why now
+one_stops outputs rest output before now why is ends fails =
+    subst (λ (l : List Output). StopsWriting (map output_of l) before why now) (sym is) (inl (ends, fails))
+
+-- one that comes later is not
+pub later_stop : (outputs rest : List Output) (output : Output) (before mid now : Outside) (result : Result (Unit {0}) End) → outputs ≡ output ∷ rest
+    → Writes output.name.now output.bytes.now before mid → IfErr result (λ why. StopsWriting (map output_of rest) mid why now)
+    → IfErr result (λ why. StopsWriting (map output_of outputs) before why now)
+later_stop outputs rest output before mid now (Ok u) is written stops = stops
+later_stop outputs rest output before mid now (Err why) is written stops =
+    subst (λ (l : List Output). StopsWriting (map output_of l) before why now) (sym is) (inr (mid, written, stops))
+
+-- ---- and then the rest
+
+-- the outputs were written, and the rest of the command was carried out after them
+pub all_written : (outputs : List Written) (rest : Command) (past : Past) (answered : List Answered) (final : Held) (before mid now : Outside) (result : Result (Unit {0}) End)
+    → WritesAll outputs before mid → ((later : Past) → later.answered ≡ past.answered → CarriesOutRest rest later answered final mid result now)
+    → CarriesOutRest (writes outputs rest) past answered final before result now
 unfolding writes
-one_goes outputs rest output text before mid now result is written carried =
-    subst (λ (l : List Output). CarriesOutAfter (writes (map output_of l) (print text)) before result now) (sym is)
-    (λ past final. write_goes (output_of output) (writes (map output_of rest) (print text)) past past.answered final before mid now result written (carried (record past { wrote = true }) final))
+all_written [] rest past answered final before mid now result same carried =
+    subst (λ o. CarriesOutRest rest past answered final o result now) same (carried past refl)
+all_written (output ∷ outputs) rest past answered final before mid now result all carried =
+    write_goes output (writes outputs rest) past answered final before all.0 now result all.1
+    (all_written outputs rest (record past { wrote = true }) answered final all.0 mid now result all.2 (λ later same. carried later same))
+
+-- the same of a command that leaves the board alone
+pub alone_written : (outputs : List Written) (rest : Command) (before mid now : Outside) (result : Result (Unit {0}) End)
+    → WritesAll outputs before mid → CarriesOutAfter rest mid result now → CarriesOutAfter (writes outputs rest) before result now
+alone_written outputs rest before mid now result all carried = λ past final.
+    all_written outputs rest past past.answered final before mid now result all
+    (λ later same. subst (λ (a : List Answered). CarriesOutRest rest later a final mid result now) same (carried later final))
+
+-- one of them was not written, whatever was to come after them
+pub stops_carried : (outputs : List Written) (rest : Command) (before now : Outside) (why : End) → StopsWriting outputs before why now
+    → CarriesOutAfter (writes outputs rest) before (Err why) now
+unfolding writes
+stops_carried [] rest before now why stops = absurd stops
+stops_carried (output ∷ outputs) rest before now why (inl stops) = λ past final.
+    subst (λ w. CarriesOutRest (write output (writes outputs rest)) past past.answered final before (Err w) now) (sym stops.0)
+    (write_stops output (writes outputs rest) past past.answered final before now refl stops.1)
+stops_carried (output ∷ outputs) rest before now why (inr stops) = λ past final.
+    write_goes output (writes outputs rest) past past.answered final before stops.0 now (Err why) stops.1
+    (stops_carried outputs rest stops.0 now why stops.2 (record past { wrote = true }) final)

@@ -1,9 +1,6 @@
 -- From a command to what its words say; and that the words of a request are those of no other.
 use Rattle.std.proofs.Common.{◌≡◌, ℕ, ◌≤◌, List, [], ◌∷◌, codes, Option, None, Some, Result, Ok, Err, if◌then◌else◌, IsTrue, refl, sym, ◌∙◌, ap, subst, arith}
 use Rattle.std.specs.Fmt.{decimal}
-use Rattle.std.specs.Str.Parse.{digits_value}
-use Rattle.std.proofs.lemmas.Fmt.{digits_value-decimal}
-use Rattle.std.proofs.lemmas.Str.Parse.{numerals_by_value, tells_digits}
 use Rattle.mb_format.specs.Combinators.{same_bytes}
 use Rattle.mb_model.specs.declared.event.Answered.{Answered}
 use Rattle.mb_model.specs.Layers.{is_upper}
@@ -11,11 +8,12 @@ use Rattle.mb_model.specs.Lines.{number_limit}
 use Rattle.mb_model.specs.Outside.{Outside}
 use Rattle.mb_model.specs.Board.{Held}
 use Rattle.mb_model.specs.Commands.{Ended, CommandEnds, HasInputsFor, IsFaultless, at_first}
-use Rattle.mb_model.specs.Top.{Request, runs, makes_key, signs, countersigns, makes_device, verifies, audits, shows_chain, attaches, IsRequest, command_of, Ends, no_command, did}
+use Rattle.mb_model.specs.Top.{Request, runs, makes_key, signs, countersigns, makes_device, verifies, audits, shows_chain, attaches, generates, IsRequest, command_of, Ends, no_command, did}
 use Rattle.mb_top.specs.declared.end.End.{End}
 use Rattle.mb_top.specs.declared.end.End.TheVariants as end
 use Rattle.mb_top.specs.Ending.{CarriesOutRest, CarriesOut, CarriesOutWords}
 use Rattle.mb_top.proofs.Completing.{Completes, command_completes}
+use Rattle.mb_top.proofs.WordLemmas.{number_of_word, number_again}
 
 -- ---- by the words
 
@@ -37,14 +35,6 @@ none_carried_out words answered final before none same = λ after says. no_comma
 
 -- ---- one request
 
--- the number that a word is
-number_of_word : List ℕ → ℕ
-number_of_word word = digits_value 10 word
-
-number_again : (n : ℕ) → n ≤ number_limit → number_of_word (decimal n) ≡ n
-unfolding number_of_word
-number_again n fits = digits_value-decimal (numerals_by_value _ tells_digits) n (omega (arith, fits))
-
 upper_fits : (layer : ℕ) → IsTrue (is_upper layer) → layer ≤ number_limit
 upper_fits layer upper = grind (arith, upper)
 
@@ -63,17 +53,23 @@ of_four command first second third fourth =
     if same_bytes command (codes "audit") then audits (record { image = first; root = second; chain = third; key = number_of_word fourth })
     else countersigns (record { key = first; layer = number_of_word second; order = third; out = fourth })
 
+-- those of a command and five words
+of_five : List ℕ → List ℕ → List ℕ → List ℕ → List ℕ → List ℕ → Request
+of_five command first second third fourth fifth =
+    if same_bytes command (codes "factory") then makes_device (record { noise = first; key = second; owner = third; code = fourth; image = fifth })
+    else generates (record { number = number_of_word first; rounds = number_of_word second; image = third; script = fourth; noise = fifth })
+
 -- the request of which words are the spelling
 request_of : List (List ℕ) → Option Request
 request_of (command ∷ first ∷ second ∷ []) = Some (shows_chain (record { image = first; out = second }))
 request_of (command ∷ first ∷ second ∷ third ∷ []) = Some (of_three command first second third)
 request_of (command ∷ first ∷ second ∷ third ∷ fourth ∷ []) = Some (of_four command first second third fourth)
 request_of (command ∷ first ∷ second ∷ third ∷ fourth ∷ fifth ∷ []) =
-    Some (makes_device (record { noise = first; key = second; owner = third; code = fourth; image = fifth }))
+    Some (of_five command first second third fourth fifth)
 request_of _ = None
 
 request_again : (words : List (List ℕ)) (request : Request) → IsRequest words request → request_of words ≡ Some request
-unfolding request_of of_three of_four
+unfolding request_of of_three of_four of_five
 request_again words (runs names) is = ap request_of is.spelled
 request_again words (makes_key names) is = ap request_of is.spelled
 request_again words (signs names) is = ap request_of is.spelled
@@ -88,6 +84,12 @@ request_again words (audits names) is =
     ∙ ap (λ n. Some (audits (record { image = names.image; root = names.root; chain = names.chain; key = n }))) (number_again names.key is.allowed.3)
 request_again words (shows_chain names) is = ap request_of is.spelled
 request_again words (attaches names) is = ap request_of is.spelled
+request_again words (generates names) is =
+    let again : ℕ → ℕ → Option Request =
+    λ n r. Some (generates (record { number = n; rounds = r; image = names.image; script = names.script; noise = names.noise })) in
+    ap request_of is.spelled
+    ∙ ap (λ n. again n (number_of_word (decimal names.rounds))) (number_again names.number is.allowed.3)
+    ∙ ap (again names.number) (number_again names.rounds (omega (arith, is.allowed.5)))
 
 one_request : (words : List (List ℕ)) (a b : Request) → IsRequest words a → IsRequest words b → a ≡ b
 one_request words a b is_a is_b =

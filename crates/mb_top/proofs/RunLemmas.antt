@@ -1,5 +1,5 @@
 -- What carries out `run`.
-use Rattle.std.proofs.Common.{◌≡◌, ℕ, Bool, false, List, [], ◌∷◌, length, take, drop, ◌++◌, Option, None, Some, Result, sym, ◌∙◌, ap, subst}
+use Rattle.std.proofs.Common.{◌≡◌, ℕ, Bool, false, List, [], ◌∷◌, length, take, drop, ◌++◌, Option, Result, sym, ◌∙◌, ap, subst}
 use Rattle.std.proofs.Math.Seq.{take-append_seam}
 use Rattle.mb_model.specs.declared.event.Event.{Event}
 use Rattle.mb_model.specs.declared.event.Answered.{Answered}

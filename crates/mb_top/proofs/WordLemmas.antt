@@ -1,8 +1,10 @@
 -- Which request words are.
 use Rattle.std.proofs.Common.{◌≡◌, ◌≢◌, ℕ, ◌≤◌, List, [], ◌∷◌, length, All, map, codes, IsTrue, refl, sym, ◌∙◌, ap, subst, ◌⊎◌, inl, inr, arith}
-use Rattle.std.proofs.lemmas.Fmt.{decimal_digit, decimal_nonempty}
+use Rattle.std.proofs.lemmas.Fmt.{decimal_digit, decimal_nonempty, digits_value-decimal}
 use Rattle.std.proofs.lemmas.List.Elements.{All-nil, All-cons, All-head, All-tail, All-map}
 use Rattle.std.specs.Fmt.{decimal}
+use Rattle.std.specs.Str.Parse.{digits_value}
+use Rattle.std.proofs.lemmas.Str.Parse.{numerals_by_value, tells_digits}
 use Rattle.mb_model.specs.Layers.{is_upper}
 use Rattle.mb_model.specs.Lines.{IsNumber, number_limit}
 use Rattle.mb_model.specs.RunCommand.{RunNames}
@@ -12,8 +14,9 @@ use Rattle.mb_model.specs.FactoryCommand.{FactoryNames}
 use Rattle.mb_model.specs.VerifyCommand.{VerifyNames}
 use Rattle.mb_model.specs.AuditCommand.{AuditNames}
 use Rattle.mb_model.specs.ChainCommands.{ChainNames, AttachNames}
-use Rattle.mb_model.specs.Top.{Request, runs, makes_key, signs, countersigns, makes_device, verifies, audits, shows_chain, attaches, IsRequest}
-use Rattle.mb_top.specs.Words.{IsCalled, IsLayerWord}
+use Rattle.mb_model.specs.GenerateCommand.{GenerateNames}
+use Rattle.mb_model.specs.Top.{Request, runs, makes_key, signs, countersigns, makes_device, verifies, audits, shows_chain, attaches, generates, IsRequest}
+use Rattle.mb_top.specs.Words.{IsCalled, IsLayerWord, IsRoundsWord}
 
 pub layer_two : (word : List ℕ) → word ≡ codes "2" → IsLayerWord word 2
 layer_two word is = record { upper = refl; spelled = is ∙ sym (decimal_digit 2 (omega arith)) }
@@ -115,18 +118,91 @@ no_audit words never names is = never names.image names.root names.chain (decima
       (All-cons IsNoName names.root (names.chain ∷ decimal names.key ∷ []) is.allowed.1 (All-cons IsNoName names.chain (decimal names.key ∷ []) is.allowed.2 last));
 })
 
+-- ---- numbers
+
+-- the number that a word is
+pub number_of_word : List ℕ → ℕ
+number_of_word word = digits_value 10 word
+
+pub number_again : (n : ℕ) → n ≤ number_limit → number_of_word (decimal n) ≡ n
+unfolding number_of_word
+number_again n fits = digits_value-decimal (numerals_by_value _ tells_digits) n (omega (arith, fits))
+
+-- ---- the number and the rounds of a workload
+
+pub no_rounds : (word : List ℕ) → ((n : ℕ) → IsNumber 24 word n → ⊥) → (rounds : ℕ) → IsRoundsWord word rounds → ⊥
+no_rounds word none rounds is = none rounds (is.spelled, is.most)
+
+pub zero_rounds : (word : List ℕ) (n : ℕ) → IsNumber 24 word n → n ≡ 0 → (rounds : ℕ) → IsRoundsWord word rounds → ⊥
+zero_rounds word n number zero rounds is =
+    let same : n ≡ rounds = sym (number_again n (omega (arith, zero))) ∙ ap number_of_word (sym number.0 ∙ is.spelled) ∙ number_again rounds (omega (arith, is.most)) in
+    omega (arith, same, zero, is.least)
+
+-- the words of `generate`, with the words of its two numbers
+abbrev generate_words : List ℕ → List ℕ → GenerateNames → List (List ℕ)
+generate_words number rounds names = number ∷ rounds ∷ names.image ∷ names.script ∷ names.noise ∷ []
+
+pub generate_asked : (words : List (List ℕ)) (number rounds : List ℕ) (names : GenerateNames) → IsCalled words (codes "generate") (number ∷ rounds ∷ names.image ∷ names.script ∷ names.noise ∷ [])
+    → IsNumber number_limit number names.number → IsRoundsWord rounds names.rounds → IsRequest words (generates names)
+generate_asked words number rounds names called is_number is_rounds = record {
+  spelled = called.spelled ∙ ap (λ (w : List ℕ). codes "generate" ∷ generate_words w rounds names) is_number.0
+      ∙ ap (λ (w : List ℕ). codes "generate" ∷ generate_words (decimal names.number) w names) is_rounds.spelled;
+  allowed =
+      let one = All-tail IsNoName number (rounds ∷ names.image ∷ names.script ∷ names.noise ∷ []) called.given in
+      let two = All-tail IsNoName rounds (names.image ∷ names.script ∷ names.noise ∷ []) one in
+      let three = All-tail IsNoName names.image (names.script ∷ names.noise ∷ []) two in
+      let four = All-tail IsNoName names.script (names.noise ∷ []) three in (
+        All-head IsNoName names.image (names.script ∷ names.noise ∷ []) two,
+        All-head IsNoName names.script (names.noise ∷ []) three,
+        All-head IsNoName names.noise [] four,
+        is_number.1,
+        is_rounds.least,
+        is_rounds.most,
+      );
+}
+
+pub generate_unnumbered : (words : List (List ℕ)) (number rounds image script noise : List ℕ) → IsCalled words (codes "generate") (number ∷ rounds ∷ image ∷ script ∷ noise ∷ [])
+    → ((n : ℕ) → IsNumber number_limit number n → ⊥) → (names : GenerateNames) → IsRequest words (generates names) → ⊥
+generate_unnumbered words number rounds image script noise called none names is =
+    let both : codes "generate" ∷ number ∷ rounds ∷ image ∷ script ∷ noise ∷ [] ≡ codes "generate" ∷ generate_words (decimal names.number) (decimal names.rounds) names =
+    sym called.spelled ∙ is.spelled in
+    let same : number ≡ decimal names.number = cc in
+    none names.number (same, is.allowed.3)
+
+pub generate_unrounded : (words : List (List ℕ)) (number rounds image script noise : List ℕ) → IsCalled words (codes "generate") (number ∷ rounds ∷ image ∷ script ∷ noise ∷ [])
+    → ((n : ℕ) → IsRoundsWord rounds n → ⊥) → (names : GenerateNames) → IsRequest words (generates names) → ⊥
+generate_unrounded words number rounds image script noise called none names is =
+    let both : codes "generate" ∷ number ∷ rounds ∷ image ∷ script ∷ noise ∷ [] ≡ codes "generate" ∷ generate_words (decimal names.number) (decimal names.rounds) names =
+    sym called.spelled ∙ is.spelled in
+    let same : rounds ≡ decimal names.rounds = cc in
+    none names.rounds (record { spelled = same; least = is.allowed.4; most = is.allowed.5 })
+
+pub no_generate : (words : List (List ℕ)) → ((number rounds image script noise : List ℕ) → IsCalled words (codes "generate") (number ∷ rounds ∷ image ∷ script ∷ noise ∷ []) → ⊥)
+    → (names : GenerateNames) → IsRequest words (generates names) → ⊥
+no_generate words never names is = never (decimal names.number) (decimal names.rounds) names.image names.script names.noise (record {
+  spelled = is.spelled;
+  given =
+      let few : names.rounds ≤ number_limit = omega (arith, is.allowed.5) in
+      let three = All-cons IsNoName names.noise [] is.allowed.2 (All-nil IsNoName) in
+      let two = All-cons IsNoName names.image (names.script ∷ names.noise ∷ []) is.allowed.0 (All-cons IsNoName names.script (names.noise ∷ []) is.allowed.1 three) in
+      All-cons IsNoName (decimal names.number) (decimal names.rounds ∷ names.image ∷ names.script ∷ names.noise ∷ []) (number_given names.number is.allowed.3)
+      (All-cons IsNoName (decimal names.rounds) (names.image ∷ names.script ∷ names.noise ∷ []) (number_given names.rounds few) two);
+})
+
 -- words that are none of the requests are none
 pub no_request : (words : List (List ℕ)) → ((names : RunNames) → IsRequest words (runs names) → ⊥) → ((names : VerifyNames) → IsRequest words (verifies names) → ⊥)
     → ((names : AuditNames) → IsRequest words (audits names) → ⊥) → ((names : ChainNames) → IsRequest words (shows_chain names) → ⊥)
     → ((names : AttachNames) → IsRequest words (attaches names) → ⊥) → ((names : FactoryNames) → IsRequest words (makes_device names) → ⊥)
     → ((names : KeygenNames) → IsRequest words (makes_key names) → ⊥) → ((names : SignNames) → IsRequest words (signs names) → ⊥)
-    → ((names : CountersignNames) → IsRequest words (countersigns names) → ⊥) → (request : Request) → IsRequest words request → ⊥
-no_request words not_run not_verify not_audit not_chain not_attach not_factory not_keygen not_sign not_countersign (runs names) is = not_run names is
-no_request words not_run not_verify not_audit not_chain not_attach not_factory not_keygen not_sign not_countersign (verifies names) is = not_verify names is
-no_request words not_run not_verify not_audit not_chain not_attach not_factory not_keygen not_sign not_countersign (audits names) is = not_audit names is
-no_request words not_run not_verify not_audit not_chain not_attach not_factory not_keygen not_sign not_countersign (shows_chain names) is = not_chain names is
-no_request words not_run not_verify not_audit not_chain not_attach not_factory not_keygen not_sign not_countersign (attaches names) is = not_attach names is
-no_request words not_run not_verify not_audit not_chain not_attach not_factory not_keygen not_sign not_countersign (makes_device names) is = not_factory names is
-no_request words not_run not_verify not_audit not_chain not_attach not_factory not_keygen not_sign not_countersign (makes_key names) is = not_keygen names is
-no_request words not_run not_verify not_audit not_chain not_attach not_factory not_keygen not_sign not_countersign (signs names) is = not_sign names is
-no_request words not_run not_verify not_audit not_chain not_attach not_factory not_keygen not_sign not_countersign (countersigns names) is = not_countersign names is
+    → ((names : CountersignNames) → IsRequest words (countersigns names) → ⊥) → ((names : GenerateNames) → IsRequest words (generates names) → ⊥)
+    → (request : Request) → IsRequest words request → ⊥
+no_request words not_run not_verify not_audit not_chain not_attach not_factory not_keygen not_sign not_countersign not_generate (runs names) is = not_run names is
+no_request words not_run not_verify not_audit not_chain not_attach not_factory not_keygen not_sign not_countersign not_generate (verifies names) is = not_verify names is
+no_request words not_run not_verify not_audit not_chain not_attach not_factory not_keygen not_sign not_countersign not_generate (audits names) is = not_audit names is
+no_request words not_run not_verify not_audit not_chain not_attach not_factory not_keygen not_sign not_countersign not_generate (shows_chain names) is = not_chain names is
+no_request words not_run not_verify not_audit not_chain not_attach not_factory not_keygen not_sign not_countersign not_generate (attaches names) is = not_attach names is
+no_request words not_run not_verify not_audit not_chain not_attach not_factory not_keygen not_sign not_countersign not_generate (makes_device names) is = not_factory names is
+no_request words not_run not_verify not_audit not_chain not_attach not_factory not_keygen not_sign not_countersign not_generate (makes_key names) is = not_keygen names is
+no_request words not_run not_verify not_audit not_chain not_attach not_factory not_keygen not_sign not_countersign not_generate (signs names) is = not_sign names is
+no_request words not_run not_verify not_audit not_chain not_attach not_factory not_keygen not_sign not_countersign not_generate (countersigns names) is = not_countersign names is
+no_request words not_run not_verify not_audit not_chain not_attach not_factory not_keygen not_sign not_countersign not_generate (generates names) is = not_generate names is

@@ -2,6 +2,8 @@ pub mod Words
 pub mod Ending
 pub mod Outputs
 pub mod Images
+pub mod Generated
+pub mod Summaries
 pub mod Chains
 pub mod Program
 pub mod Signing

@@ -1,5 +1,5 @@
 -- Which request the words are. Can words be two requests?
-use Rattle.std.specs.Prelude.{◌≡◌, ◌≢◌, ℕ, List, [], ◌∷◌, All, IsTrue}
+use Rattle.std.specs.Prelude.{◌≡◌, ◌≢◌, ◌≤◌, ℕ, List, [], ◌∷◌, All, IsTrue}
 use Rattle.std.specs.Fmt.{decimal}
 use Rattle.mb_model.specs.Layers.{is_upper}
 use Rattle.mb_model.specs.RunCommand.{RunNames as RunFiles}
@@ -10,7 +10,8 @@ use Rattle.mb_model.specs.VerifyCommand.{VerifyNames as VerifyFiles}
 use Rattle.mb_model.specs.AuditCommand.{AuditNames as AuditFiles}
 use Rattle.mb_model.specs.ChainCommands.{ChainNames as ChainFiles, AttachNames as AttachFiles}
 use Rattle.mb_model.specs.Top.{Request as Asked, runs, makes_key, signs, countersigns, makes_device}
-use Rattle.mb_model.specs.Top.{verifies, audits, shows_chain, attaches}
+use Rattle.mb_model.specs.GenerateCommand.{GenerateNames as GenerateFiles}
+use Rattle.mb_model.specs.Top.{verifies, audits, shows_chain, attaches, generates}
 use Rattle.mb_top.specs.declared.words.RunNames.{RunNames}
 use Rattle.mb_top.specs.declared.words.KeygenNames.{KeygenNames}
 use Rattle.mb_top.specs.declared.words.SignNames.{SignNames}
@@ -20,6 +21,7 @@ use Rattle.mb_top.specs.declared.words.VerifyNames.{VerifyNames}
 use Rattle.mb_top.specs.declared.words.AuditNames.{AuditNames}
 use Rattle.mb_top.specs.declared.words.ChainNames.{ChainNames}
 use Rattle.mb_top.specs.declared.words.AttachNames.{AttachNames}
+use Rattle.mb_top.specs.declared.words.GenerateNames.{GenerateNames}
 use Rattle.mb_top.specs.declared.words.Request.{Request}
 use Rattle.mb_top.specs.declared.words.Request.TheVariants as request
 
@@ -32,6 +34,12 @@ pub record IsCalled (words : List (List ℕ)) (command : List ℕ) (names : List
 pub record IsLayerWord (word : List ℕ) (layer : ℕ) : Type 0 where
   pub upper : IsTrue (is_upper layer)
   pub spelled : word ≡ decimal layer
+
+-- the word is the number of the rounds of a workload
+pub record IsRoundsWord (word : List ℕ) (rounds : ℕ) : Type 0 where
+  pub spelled : word ≡ decimal rounds
+  pub least : 1 ≤ rounds
+  pub most : rounds ≤ 24
 
 -- ---- names as they were read from the words
 
@@ -70,6 +78,15 @@ chain_files names = record { image = names.image.now; out = names.out.now }
 abbrev pub attach_files : AttachNames → AttachFiles
 attach_files names = record { chain = names.chain.now; statement = names.statement.now; out = names.out.now }
 
+abbrev pub generate_files : GenerateNames → GenerateFiles
+generate_files names = record {
+  number = names.number;
+  rounds = names.rounds;
+  image = names.image.now;
+  script = names.script.now;
+  noise = names.noise.now;
+}
+
 abbrev pub asked_by : Request → Asked
 asked_by (request.Run names) = runs (run_files names)
 asked_by (request.Keygen names) = makes_key (keygen_files names)
@@ -80,3 +97,4 @@ asked_by (request.Verify names) = verifies (verify_files names)
 asked_by (request.Audit names) = audits (audit_files names)
 asked_by (request.Chain names) = shows_chain (chain_files names)
 asked_by (request.Attach names) = attaches (attach_files names)
+asked_by (request.Generate names) = generates (generate_files names)

@@ -11,6 +11,7 @@ use crate::audit::audit;
 use crate::chain::chain;
 use crate::end::End;
 use crate::factory::factory;
+use crate::generate::generate;
 use crate::keygen::keygen;
 use crate::output::stop;
 use crate::run::run;
@@ -70,6 +71,7 @@ fn counted_command<H: Host, B: Board, L: Ledger>(
         Some(Request::Keygen(names)) => keygen(alloc, &names, host, &mut steps),
         Some(Request::Sign(names)) => sign(alloc, &names, host, &mut steps),
         Some(Request::Countersign(names)) => countersign(alloc, &names, host, &mut steps),
+        Some(Request::Generate(names)) => generate(alloc, &names, host, board, &mut steps),
         None => Err(End::Words),
     }
 }

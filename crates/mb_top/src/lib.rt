@@ -2,8 +2,8 @@
 //!
 //! This crate owns the program over any host and board, the commands, and what they share: the words, the reading of
 //! inputs, the writing of outputs, and the lines of statuses. It stands on every crate below: `run` serves a script by the
-//! device of `mb_device`, `verify` and `audit` judge chains by `mb_verifier`, `chain` and `attach` write them by
-//! `mb_cert`, and the commands of officers and makers are those of `mb_officer`.
+//! device of `mb_device`, `generate` serves a workload of `mb_generate`, `verify` and `audit` judge chains by `mb_verifier`,
+//! `chain` and `attach` write them by `mb_cert`, and the commands of officers and makers are those of `mb_officer`.
 #![tactic(auto)]
 
 mod attach;
@@ -13,6 +13,7 @@ mod chain_input;
 mod commands;
 mod end;
 mod factory;
+mod generate;
 mod input;
 mod keygen;
 mod line;
@@ -21,6 +22,7 @@ mod replies;
 mod run;
 mod run_input;
 mod sign;
+mod summary;
 mod verify;
 mod words;
 

@@ -41,6 +41,9 @@ usage:
                                      and the order as a line, and prints the index
   miniboot countersign KEY LAYER ORDER OUT
                                      adds the countersignature of a layer's owner to an order line
+  miniboot generate NUMBER ROUNDS IMAGE SCRIPT NOISE
+                                     makes the workload of a number with 1 to 24 rounds, writes its
+                                     files, serves it, and prints a summary
   miniboot --help                    prints this text
   miniboot --version                 prints the version
 

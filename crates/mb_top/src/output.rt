@@ -4,7 +4,7 @@ ghost use Rattle.std.specs.Prelude.{◌≡◌, map, IfErr, OnOk};
 ghost use Rattle.mb_model.specs.Outside.{Writes, FailsToWrite};
 ghost use Rattle.mb_model.specs.Commands.{print, SaysLine};
 ghost use Rattle.mb_top.specs.Ending.{CarriesOutAfter, end_line, end_status};
-ghost use Rattle.mb_top.specs.Outputs.{output_of, writes};
+ghost use Rattle.mb_top.specs.Outputs.{output_of, writes, WritesAll, StopsWriting};
 
 use crate::end::End;
 use mb_host::Host;
@@ -22,11 +22,20 @@ pub struct Output<'n, 'b> {
 pub fn finish<H: Host>(host: &mut H, outputs: &[Output<'_, '_>], text: &[u8]) -> Result<(), End>
     ensures { CarriesOutAfter (writes (map output_of outputs.now) (print text.now)) (H.outside host.old) result (H.outside host.new) }
 {
+    write_all(host, outputs)?;
+    print_text(host, text)
+}
+
+/// Writes the outputs in their order. Takes no memory.
+pub fn write_all<H: Host>(host: &mut H, outputs: &[Output<'_, '_>]) -> Result<(), End>
+    ensures ok { OnOk result (WritesAll (map output_of outputs.now) (H.outside host.old) (H.outside host.new)) }
+    ensures err { IfErr result (λ why. StopsWriting (map output_of outputs.now) (H.outside host.old) why (H.outside host.new)) }
+{
     let Some((output, rest)) = outputs.split_first() else {
-        return print_text(host, text);
+        return Ok(());
     };
     write_output(host, output)?;
-    finish(host, rest, text)
+    write_all(host, rest)
 }
 
 /// Prints the line of an end, and answers its exit status. Where the line cannot be printed the status stays.
@@ -50,7 +59,7 @@ fn write_output<H: Host>(host: &mut H, output: &Output<'_, '_>) -> Result<(), En
 }
 
 /// Prints the text.
-fn print_text<H: Host>(host: &mut H, text: &[u8]) -> Result<(), End>
+pub fn print_text<H: Host>(host: &mut H, text: &[u8]) -> Result<(), End>
     ensures { CarriesOutAfter (print text.now) (H.outside host.old) result (H.outside host.new) }
 {
     match host.print(text) {

@@ -3,7 +3,7 @@
 ghost use Rattle.std.specs.Prelude.{◌≡◌, ◌≢◌, ◌↔◌, ◌∷◌, ℕ, All, IsTrue, List, [], map, MatchOption, string_bytes};
 ghost use Rattle.mb_model.specs.Lines.{IsNumber, number_limit};
 ghost use Rattle.mb_model.specs.Top.{Request as Asked, runs, makes_key, signs, countersigns, makes_device, IsRequest};
-ghost use Rattle.mb_model.specs.Top.{verifies, audits, shows_chain, attaches};
+ghost use Rattle.mb_model.specs.Top.{verifies, audits, shows_chain, attaches, generates};
 ghost use Rattle.mb_model.specs.RunCommand.{RunNames as RunFiles};
 ghost use Rattle.mb_model.specs.Keygen.{KeygenNames as KeygenFiles};
 ghost use Rattle.mb_model.specs.Sign.{SignNames as SignFiles, CountersignNames as CountersignFiles};
@@ -11,11 +11,15 @@ ghost use Rattle.mb_model.specs.FactoryCommand.{FactoryNames as FactoryFiles};
 ghost use Rattle.mb_model.specs.VerifyCommand.{VerifyNames as VerifyFiles};
 ghost use Rattle.mb_model.specs.AuditCommand.{AuditNames as AuditFiles};
 ghost use Rattle.mb_model.specs.ChainCommands.{ChainNames as ChainFiles, AttachNames as AttachFiles};
+ghost use Rattle.mb_model.specs.GenerateCommand.{GenerateNames as GenerateFiles};
 ghost use Rattle.mb_words.specs.Words.{FindsSome};
-ghost use Rattle.mb_top.specs.Words.{IsCalled, IsLayerWord, run_files, keygen_files, sign_files, countersign_files};
+ghost use Rattle.mb_top.specs.Words.{IsCalled, IsLayerWord, IsRoundsWord, generate_files, run_files, keygen_files, sign_files, countersign_files};
 ghost use Rattle.mb_top.specs.Words.{factory_files, verify_files, audit_files, chain_files, attach_files, asked_by};
 
 use mb_words::read_number;
+
+/// The most rounds of a workload.
+const MOST_ROUNDS: u32 = 24;
 
 /// The names of the files of `run`.
 #[derive(Clone, Copy)]
@@ -93,6 +97,17 @@ pub struct FactoryNames<'a> {
     pub image: &'a str,
 }
 
+/// The number of a workload, how many rounds it has, and the names of its files.
+#[derive(Clone, Copy)]
+pub struct GenerateNames<'a> {
+    pub number: u32,
+    /// 1 to 24.
+    pub rounds: u32,
+    pub image: &'a str,
+    pub script: &'a str,
+    pub noise: &'a str,
+}
+
 /// A command and what its words name.
 #[derive(Clone, Copy)]
 pub enum Request<'a> {
@@ -105,6 +120,7 @@ pub enum Request<'a> {
     Keygen(KeygenNames<'a>),
     Sign(SignNames<'a>),
     Countersign(CountersignNames<'a>),
+    Generate(GenerateNames<'a>),
 }
 
 /// Two names, in their order.
@@ -171,8 +187,11 @@ pub fn request_in(words: &[String]) -> Option<Request<'_>>
     if let Some(names) = sign_in(words) {
         return Some(Request::Sign(names));
     }
-    match countersign_in(words) {
-        Some(names) => Some(Request::Countersign(names)),
+    if let Some(names) = countersign_in(words) {
+        return Some(Request::Countersign(names));
+    }
+    match generate_in(words) {
+        Some(names) => Some(Request::Generate(names)),
         None => None,
     }
 }
@@ -296,7 +315,7 @@ fn run_in(words: &[String]) -> Option<RunNames<'_>>
     })
 }
 
-/// The number of a key that the word is, without leading zeros, or None where it is none of 32 bits.
+/// The number of a key or of a workload that the word is, without leading zeros, or None where it is none of 32 bits.
 fn number_in(word: &str) -> Option<u32>
     ensures { FindsSome (IsNumber number_limit word.now) result }
 {
@@ -439,5 +458,34 @@ fn factory_in(words: &[String]) -> Option<FactoryNames<'_>>
         owner: names.third,
         code: names.fourth,
         image: names.fifth,
+    })
+}
+
+/// The number of rounds that the word is, 1 to 24, without leading zeros, or None where it is none.
+fn rounds_in(word: &str) -> Option<u32>
+    ensures { MatchOption result ((rounds : ℕ) → IsRoundsWord word.now rounds → ⊥) (IsRoundsWord word.now) }
+{
+    let rounds = read_number(word.as_bytes(), MOST_ROUNDS)?;
+    if rounds == 0 {
+        return None;
+    }
+    Some(rounds)
+}
+
+/// The numbers and names in the words of `generate`, or None where the words are anything else.
+fn generate_in(words: &[String]) -> Option<GenerateNames<'_>>
+    ensures { MatchOption result
+        ((names : GenerateFiles) → IsRequest (map string_bytes words.now) (generates names) → ⊥)
+        (λ found. IsRequest (map string_bytes words.now) (generates (generate_files found))) }
+{
+    let names = five_in(words, "generate")?;
+    let number = number_in(names.first)?;
+    let rounds = rounds_in(names.second)?;
+    Some(GenerateNames {
+        number,
+        rounds,
+        image: names.third,
+        script: names.fourth,
+        noise: names.fifth,
     })
 }

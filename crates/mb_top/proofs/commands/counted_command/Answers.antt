@@ -66,3 +66,10 @@ returns-in-Some-Attach g c =
     let outside = g.H.Host.outside in
     let asked = subst (λ r. IsRequest words (asked_by r)) c.in-Some-Attach.field-0-is c.in-Some-Attach.ensures in
     alone_carried_out words _ _ _ (outside c.args.host.now) (outside c.attach.new.host) c.attach.result asked c.requires.none_answered c.attach.ensures
+
+pub returns-in-Some-Generate : goal.returns-in-Some-Generate
+returns-in-Some-Generate g c =
+    let words = map string_bytes c.args.words.now in
+    let outside = g.H.Host.outside in
+    let asked = subst (λ r. IsRequest words (asked_by r)) c.in-Some-Generate.field-0-is c.in-Some-Generate.ensures in
+    request_carried_out words _ _ _ (outside c.args.host.now) (outside c.generate.new.host) c.generate.result asked c.generate.ensures

@@ -1,0 +1,54 @@
+use Rattle.std.proofs.Common.{Some, ◌∙◌, ap}
+use Rattle.std.proofs.lemmas.Result.{err_from_is_err_and}
+use Rattle.mb_model.specs.Machine.{opening}
+use Rattle.mb_top.specs.Words.{generate_files}
+use Rattle.mb_top.proofs.RunLemmas.{loaded_shows, served_whole}
+use Rattle.mb_top.proofs.GenerateLemmas.{new_state, new_image, none_made, files_not_written, workload_served}
+use Rattle.mb_top.proofs.generate.load_workload.Goals as goal
+
+pub returns-in-Err : goal.returns-in-Err
+returns-in-Err g c =
+    none_made (generate_files c.args.names.now) _ _ (g.H.Host.outside c.args.host.now) (ap (λ l. l.answered) c.in-Err.ensures.err_ledger ∙ c.requires.none_answered)
+
+pub returns-in_err-write_files : goal.returns-in_err-write_files
+returns-in_err-write_files g c =
+    let p = err_from_is_err_and c.from_residual.result c.from_residual.ensures.1 in
+    let outside = g.H.Host.outside in
+    rw (p.1, p.2) (files_not_written (generate_files c.args.names.now) c.args.files c.args.events _ _ (outside c.args.host.now) (outside c.write_files.new.host) c.in_err-write_files.field-0.0
+    c.requires.generated c.requires.events (ap (λ l. l.answered) c.in-Ok.ensures.ledger) c.in_err-write_files.ensures.err)
+
+pub serve-device-requires-clause-sound : goal.serve-device-requires-clause-sound
+serve-device-requires-clause-sound g c =
+    let board = c.load.new.self in
+    let names = c.args.names.now in
+    let state = Some (new_state names.number names.rounds c.args.files c.requires.generated) in
+    let held = new_image names.number names.rounds c.args.files c.requires.generated in
+    let shown = loaded_shows (g.B.Board.memory board) (g.B.Register.power board) (g.B.Register.level board) (g.B.Board.meter board) c.args.files.image state c.in-Ok.ensures.sized
+    (c.in-Ok.ensures.image ∙ c.as_slice.ensures) c.load.ensures.power (ap (λ m. m.armed) c.in-Ok.ensures.meter) held in
+    record { world = opening state; sound = c.start.ensures.started (opening state) shown held.valid }
+
+pub summarise-requires-clause-shown : goal.summarise-requires-clause-shown
+summarise-requires-clause-shown g c =
+    let board = c.load.new.self in
+    let names = c.args.names.now in
+    let state = Some (new_state names.number names.rounds c.args.files c.requires.generated) in
+    let held = new_image names.number names.rounds c.args.files c.requires.generated in
+    let shown = loaded_shows (g.B.Board.memory board) (g.B.Register.power board) (g.B.Register.level board) (g.B.Board.meter board) c.args.files.image state c.in-Ok.ensures.sized
+    (c.in-Ok.ensures.image ∙ c.as_slice.ensures) c.load.ensures.power (ap (λ m. m.armed) c.in-Ok.ensures.meter) held in
+    let served = c.serve-device.ensures.served (opening state) (c.start.ensures.started (opening state) shown held.valid) in
+    (served.last, served.shown)
+
+pub returns : goal.returns
+returns g c =
+    let outside = g.H.Host.outside in
+    let board = c.load.new.self in
+    let names = c.args.names.now in
+    let state = Some (new_state names.number names.rounds c.args.files c.requires.generated) in
+    let held = new_image names.number names.rounds c.args.files c.requires.generated in
+    let shown = loaded_shows (g.B.Board.memory board) (g.B.Register.power board) (g.B.Register.level board) (g.B.Board.meter board) c.args.files.image state c.in-Ok.ensures.sized
+    (c.in-Ok.ensures.image ∙ c.as_slice.ensures) c.load.ensures.power (ap (λ m. m.armed) c.in-Ok.ensures.meter) held in
+    let sound = c.start.ensures.started (opening state) shown held.valid in
+    let served = served_whole state c.args.events (g.B.Board.memory board) (g.B.Board.ledger board) (g.B.Board.ledger c.serve-device.new.b) _ held.valid c.in-Ok.ensures.ledger
+    (c.serve-device.ensures.served (opening state) sound) in
+    workload_served (generate_files names) c.args.files c.args.events _ _ (outside c.args.host.now) (outside c.write_files.new.host) (outside c.summarise.new.host) c.summarise.result
+    c.requires.generated c.requires.events c.in_ok-write_files.ensures.ok served c.summarise.ensures

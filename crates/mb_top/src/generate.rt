@@ -1,0 +1,156 @@
+//! The command `generate`.
+
+ghost use Rattle.std.specs.Prelude.{◌≡◌, ◌≤◌, [], length, All, IfOk, IfErr, OnOk, None, false};
+ghost use Rattle.mb_model.specs.Board.{IsLoaded};
+ghost use Rattle.mb_model.specs.Machine.{World};
+ghost use Rattle.mb_model.specs.Acknowledged.{Shows};
+ghost use Rattle.mb_model.specs.Script.{IsScriptEvent};
+ghost use Rattle.mb_model.specs.Commands.{Past, at_first};
+ghost use Rattle.mb_model.specs.GenerateCommand.{generate, summarise};
+ghost use Rattle.mb_model.specs.Workload.{IsWorkload};
+ghost use Rattle.mb_board.specs.Calls.{held_by};
+ghost use Rattle.mb_generate.specs.Serving.{CanBeServed};
+ghost use Rattle.mb_top.specs.Words.{generate_files};
+ghost use Rattle.mb_top.specs.Ending.{CarriesOutRest};
+ghost use Rattle.mb_top.specs.Outputs.{WritesAll, StopsWriting};
+ghost use Rattle.mb_top.specs.Generated.{HasEvents, workload_outputs};
+
+use crate::end::End;
+use crate::output::{Output, print_text, write_all};
+use crate::summary::{summary_of, wants_memory};
+use crate::words::GenerateNames;
+use mb_board::Board;
+use mb_device::Device;
+use mb_generate::workload;
+use mb_host::Host;
+use mb_image::log_length;
+use mb_lms::Steps;
+use mb_model::{Events, NoMemory, Role, Workload};
+use mb_script::{ScriptEnd, ShortNoise, place_draws, read_script};
+use sha2::{Digest, Sha256};
+use std::alloc::Global;
+use std::sync::ledger::Ledger;
+
+/// Makes a workload, loads it on the board, writes its three files, serves it, and prints the summary.
+pub fn generate<H: Host, B: Board, L: Ledger>(
+    alloc: Global,
+    names: &GenerateNames<'_>,
+    host: &mut H,
+    board: &mut B,
+    steps: &mut Steps<L>,
+) -> Result<(), End>
+    requires least { 1 ≤ names.now.rounds }
+    requires most { names.now.rounds ≤ 24 }
+    requires off { B.power board.old ≡ false }
+    requires none_out { (B.ledger board.old).out ≡ None }
+    requires none_answered { (B.ledger board.old).answered ≡ [] }
+    ensures { CarriesOutRest (generate (generate_files names.now)) at_first (B.ledger board.new).answered
+        (held_by (B.memory board.new) (B.power board.new) (B.level board.new) (B.meter board.new))
+        (H.outside host.old) result (H.outside host.new) }
+{
+    let Ok(files) = workload(alloc, names.number, names.rounds, steps) else {
+        return Err(End::NoMemory);
+    };
+    let Ok(events) = events_of(alloc, &files) else {
+        return Err(End::NoMemory);
+    };
+    load_workload(alloc, names, files, events, host, board, steps)
+}
+
+/// The events of the workload's script, with the draws that its noise gives them.
+fn events_of(alloc: Global, files: &Workload) -> Result<Events, NoMemory>
+    requires { CanBeServed files.now }
+    ensures events { IfOk result (HasEvents files.now) }
+    ensures count { IfOk result (λ events. length events ≤ 65536) }
+    ensures each { IfOk result (All IsScriptEvent) }
+{
+    let mut events = match read_script(alloc, files.script.as_slice()) {
+        Ok(events) => events,
+        Err(ScriptEnd::NoMemory) => return Err(NoMemory),
+        Err(ScriptEnd::BadLine { .. }) => unreachable!(),
+    };
+    match place_draws(&mut events, files.noise.as_slice()) {
+        Ok(()) => Ok(events),
+        Err(ShortNoise) => unreachable!(),
+    }
+}
+
+/// Loads the workload, of which these are the events, writes its files, and goes on with serving it.
+fn load_workload<H: Host, B: Board, L: Ledger>(
+    alloc: Global,
+    names: &GenerateNames<'_>,
+    files: Workload,
+    events: Events,
+    host: &mut H,
+    board: &mut B,
+    steps: &mut Steps<L>,
+) -> Result<(), End>
+    requires generated { IsWorkload names.now.number names.now.rounds files }
+    requires events { HasEvents files events }
+    requires count { length events ≤ 65536 }
+    requires each { All IsScriptEvent events }
+    requires off { B.power board.old ≡ false }
+    requires none_out { (B.ledger board.old).out ≡ None }
+    requires none_answered { (B.ledger board.old).answered ≡ [] }
+    ensures { CarriesOutRest (generate (generate_files names.now)) at_first (B.ledger board.new).answered
+        (held_by (B.memory board.new) (B.power board.new) (B.level board.new) (B.meter board.new))
+        (H.outside host.old) result (H.outside host.new) }
+{
+    match board.load(alloc, files.image.as_slice(), events) {
+        Ok(()) => {}
+        Err(_) => return Err(End::NoMemory),
+    }
+    write_files(names, &files, host)?;
+    let _device = Device::start(board).serve(alloc, board, steps);
+    summarise(files.image.into_vec(), host, board)
+}
+
+/// Writes the three files of a workload.
+fn write_files<H: Host>(
+    names: &GenerateNames<'_>,
+    files: &Workload,
+    host: &mut H,
+) -> Result<(), End>
+    ensures ok { OnOk result (WritesAll (workload_outputs (generate_files names.now) files.now) (H.outside host.old) (H.outside host.new)) }
+    ensures err { IfErr result (λ why. StopsWriting (workload_outputs (generate_files names.now) files.now) (H.outside host.old) why (H.outside host.new)) }
+{
+    let outputs = [
+        Output {
+            role: Role::Image,
+            name: names.image,
+            bytes: files.image.as_slice(),
+        },
+        Output {
+            role: Role::Script,
+            name: names.script,
+            bytes: files.script.as_slice(),
+        },
+        Output {
+            role: Role::Noise,
+            name: names.noise,
+            bytes: files.noise.as_slice(),
+        },
+    ];
+    write_all(host, &outputs)
+}
+
+/// Prints the summary of what was answered, with the length of the log and the hash of the image as the board holds them
+/// now, for which the bytes make room. Where memory was wanted while the events were served, there is none.
+fn summarise<H: Host, B: Board>(mut image: Vec<u8>, host: &mut H, board: &B) -> Result<(), End>
+    requires loaded { IsLoaded (B.memory board.now) }
+    requires room { length image.items ≡ 1077248 }
+    requires shown { (last : World) × Shows (held_by (B.memory board.now) (B.power board.now) (B.level board.now) (B.meter board.now)) last }
+    ensures { (past : Past) → past.answered ≡ (B.ledger board.now).answered
+        → CarriesOutRest (summarise (B.ledger board.now).answered (held_by (B.memory board.now) (B.power board.now) (B.level board.now) (B.meter board.now)))
+        past (B.ledger board.now).answered (held_by (B.memory board.now) (B.power board.now) (B.level board.now) (B.meter board.now))
+        (H.outside host.old) result (H.outside host.new) }
+{
+    let answered = board.answered();
+    if wants_memory(answered) {
+        return Err(End::NoMemory);
+    }
+    board.copy_image(&mut image);
+    let hash = Sha256::digest(&image);
+    let summary = summary_of(answered, log_length(&image), &hash);
+    print_text(host, summary.as_slice())
+}
