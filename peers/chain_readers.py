@@ -12,7 +12,7 @@ import types
 import chains
 from life import Living
 from lms import sha256
-from officer import body, order, order_line
+from officer import body, order, order_line, unhex
 from sources import HEX
 from top_readers import Host, private_key
 
@@ -189,7 +189,7 @@ class Served:
         return self.device.obey(draft, draw, cosigned)
 
     def put(self, line, layer, name, value):
-        self.device.put(int(layer), name.encode(), bytes.fromhex(value))
+        self.device.put(int(layer), name.encode(), unhex(value))
         return "kept"
 
     def get(self, line, layer, name):
@@ -197,7 +197,7 @@ class Served:
         return f"value {secrets[name.encode()].hex()}"
 
     def sign(self, line, layer, number, message):
-        signed = self.device.sign(int(layer), int(number), bytes.fromhex(message.replace("-", "")))
+        signed = self.device.sign(int(layer), int(number), unhex(message))
         if signed is None:
             return "refused 6 key"
         self.world.statement = signed[1].hex().encode()

@@ -149,7 +149,11 @@ class Device:
         self.regions[layer]["keys"].append((kind, key))
 
     def put(self, layer, name, value):
-        self.regions[layer]["secrets"].append((name, value, self.number))
+        """A secret of a known name keeps its place."""
+        secrets = self.regions[layer]["secrets"]
+        names = [known for known, _, _ in secrets]
+        at = names.index(name) if name in names else len(secrets)
+        secrets[at : at + 1] = [(name, value, self.number)]
 
     # ---- what it hands out
 

@@ -1,11 +1,25 @@
-"""The generated workload of a number, made from the formats alone: `workload.py NUMBER ROUNDS` prints the SHA-256 hashes
-of its image, its script and its noise, a line each."""
+#!/usr/bin/env python3
+"""The generated workload of a number, made and served by the formats alone.
 
+    workload.py NUMBER ROUNDS      prints the SHA-256 hashes of its image, its script and its noise, a line each
+    workload.py compare PROGRAM    compares what the built program generates and serves with what is made here
+"""
+
+import itertools
+import pathlib
+import subprocess
 import sys
+import tempfile
 
-from device import ALWAYS, Device, Key
-from lms import sha256, u8, u32
+from chain_readers import Served
+from life import Living
+from lms import sha256, u32
 from officer import Officer, body, countersigned_text, order, order_line, signed_text
+
+HERE = pathlib.Path(__file__).resolve().parent
+sys.path.insert(0, str(HERE.parent / "checks" / "cuts"))
+
+from program import meaning  # noqa: E402
 
 MASK = 0xFFFFFFFF
 
@@ -62,22 +76,13 @@ def word(some):
     return some.hex() or "-"
 
 
-def new_device(maker, owner, code, noise):
-    """A device with this owner and this code of layer 1, made of 48 bytes of noise, whose birth the maker signed."""
-    device = Device(signed=False)
-    device.serial, device.owner[1], device.codes[1] = noise[32:], owner, code
-    device.key = Key(noise[:32], device.serial, 0)
-    device.layers[1] = device.running(1, code, 1, ALWAYS)
-    birth = u8(0) + device.serial + device.key.key.public() + device.spelled_layers()
-    device.log = [(birth, maker.sign(u8(3) + birth))]
-    return device
-
-
 class Script:
     """The lines, and the officers who sign the orders among them."""
 
     def __init__(self, officers):
         self.officers, self.text, self.length = officers, "", 0
+        # the draft of each order, by its line, and who countersigned it
+        self.drafts = {}
 
     def put(self, *lines):
         self.text += "".join(line + "\n" for line in lines)
@@ -85,10 +90,17 @@ class Script:
     def order(self, signer, draft, countersigners=()):
         self.length += 1
         first, *rest = draft.splitlines()
-        text = body("\n".join([first, f"target length {self.length}", *rest]))
+        draft = "\n".join([first, f"target length {self.length}", *rest])
+        text = body(draft)
         signature = self.officers[signer].sign(signed_text(text))
         by = [(n, self.officers[n].sign(countersigned_text(n, text))) for n in countersigners]
-        self.text += order_line(order(text, signature, by))
+        line = order_line(order(text, signature, by))
+        self.drafts[line] = draft, set(countersigners)
+        self.text += line
+
+    def order_of(self, line):
+        """The draft of an order's line, and the layers that countersigned it."""
+        return self.drafts[line + "\n"]
 
     def establish(self, layer):
         owner = self.officers[layer].public()
@@ -108,15 +120,15 @@ class Script:
         self.put(f"sign 3 1 {word(message)}")
 
 
-def workload(number, rounds):
-    """The image, the script and its noise."""
+def made(number, rounds):
+    """The new device, the script and its noise."""
     draws = Draws(number)
     maker, *officers = (Officer(draws.bytes(32)) for _ in range(4))
     noise = draws.bytes(48)
     codes = [draws.code() for _ in range(3)]
     played = [draws.round() for _ in range(rounds)]
     commands = draws.bytes(32 * (5 + rounds))
-    image = new_device(maker, officers[0], codes[0], noise).image()
+    device = Living(noise, maker, officers[0].public(), codes[0])
     script = Script(dict(enumerate(officers, 1)))
     script.put("boot")
     script.establish(2)
@@ -127,9 +139,87 @@ def workload(number, rounds):
     for at, each in enumerate(played, 1):
         script.round(at, *each)
     script.put("off")
-    return image, script.text.encode(), commands
+    return device, script, commands
+
+
+def workload(number, rounds):
+    """The image, the script and its noise."""
+    device, script, commands = made(number, rounds)
+    return device.image(), script.text.encode(), commands
+
+
+def stands_for(device):
+    """What the records of its image are, but for the areas in which they stand."""
+    root = device.root(0, None)
+    return root[:1] + root[2:], device.region(2), device.region(3), device.public(0)
+
+
+def summary(replies, length):
+    """The lines that `generate` prints, but for the hash of the image."""
+    yield f"events {len(replies)}"
+    for word in ("done", "signed", "refused"):
+        yield f"{word} {sum(reply.split(' ')[0] == word for reply in replies)}"
+    yield f"length {length}"
+
+
+class Comparison:
+    """The program in a folder, and how many values of a workload agree and differ."""
+
+    def __init__(self, program, folder):
+        self.program, self.folder, self.agree, self.differ = program, folder, 0, 0
+
+    def run(self, *words):
+        done = subprocess.run([self.program, *words], cwd=self.folder, capture_output=True, text=True)
+        self.compare(f"status of {' '.join(words)}", done.returncode, 0)
+        return done.stdout.splitlines()
+
+    def compare(self, what, found, wanted):
+        self.agree, self.differ = self.agree + (found == wanted), self.differ + (found != wanted)
+        if found != wanted:
+            print(f"generate: {what}: {wanted} here, {found} by the program")
+
+    def compare_lines(self, what, found, wanted):
+        """Of lines that differ the first is shown."""
+        rows = enumerate(itertools.zip_longest(found, wanted), 1)
+        at = next((number for number, (here, there) in rows if here != there), None)
+        first = slice(at and at - 1, at)
+        self.compare(what if at is None else f"{what}, line {at}", found[first], wanted[first])
+
+    def hash_of(self, name):
+        file = self.folder / name
+        return sha256(file.read_bytes()).hex() if file.exists() else None
+
+    def workload(self, number, rounds):
+        device, script, noise = made(number, rounds)
+        files = {"image": device.image(), "script": script.text.encode(), "noise": noise}
+        replies = Served(script, device, noise).replies(script.text)
+        printed = self.run("generate", str(number), str(rounds), *files)
+        for name, bytes_ in files.items():
+            self.compare(f"hash of the {name}", self.hash_of(name), sha256(bytes_).hex())
+        self.compare_lines("summary", printed[:-1], list(summary(replies, len(device.log))))
+        self.compare_lines("replies", self.run("run", *files), replies)
+        self.compare("image at the end", printed[-1:], [f"image {self.hash_of('image')}"])
+        if self.hash_of("image"):
+            found = meaning((self.folder / "image").read_bytes())
+            self.compare("the image stands for the device", found == stands_for(device), True)
+
+
+def compare(program):
+    with tempfile.TemporaryDirectory() as folder:
+        comparison = Comparison(program, pathlib.Path(folder))
+        for rounds in (3, 24):
+            comparison.workload(1, rounds)
+    print(f"miniboot generate: {comparison.agree} agree, {comparison.differ} differ")
+    return 1 if comparison.differ else 0
+
+
+def main(words):
+    if words[0] == "compare":
+        return compare(pathlib.Path(words[1]).resolve())
+    for each in workload(int(words[0]), int(words[1])):
+        print(sha256(each).hex())
+    return 0
 
 
 if __name__ == "__main__":
-    for each in workload(int(sys.argv[1]), int(sys.argv[2])):
-        print(sha256(each).hex())
+    sys.exit(main(sys.argv[1:]))

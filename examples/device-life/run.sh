@@ -27,7 +27,7 @@ if [ $# -gt 1 ]; then
     echo "$usage" >&2
     exit 2
 fi
-for tool in cut od paste sed sha256sum tail tr uniq; do
+for tool in cut head od paste sed sha256sum tr uniq; do
     if ! command -v "$tool" >/dev/null; then
         echo "$tool is needed, and is not on the PATH" >&2
         exit 1

@@ -1,0 +1,32 @@
+#!/usr/bin/env bash
+# Measures workloads of the built program, outside the gate: bench/run.sh [PROGRAM]. The program generates one of 3 rounds
+# and one of 24, and serves them. For each the script prints, in processor time, the least of five runs: generating and
+# serving; orders, puts and signatures a second, each with its write calls of the board; how much of serving is hashing,
+# by the number of hashes that trees and signatures take and the time of one, of which keygen tells; and the memory that
+# the program takes, where GNU time is there. It fails where the summary is not what `run` then comes to.
+set -euo pipefail
+export LC_ALL=C
+
+here=$(cd "$(dirname "${BASH_SOURCE[0]}")" && pwd)
+program=$(realpath "${1:-$here/../crates/miniboot/out/miniboot}")
+
+if [ ! -x "$program" ]; then
+    echo "$program is not there: examples/device-life/run.sh builds the program" >&2
+    exit 1
+fi
+if ! command -v python3 >/dev/null; then
+    echo "python3 is needed, and is not on the PATH" >&2
+    exit 1
+fi
+work=$(mktemp -d)
+trap 'rm -rf "$work"' EXIT
+# shellcheck source=program.sh
+. "$here/program.sh"
+
+uptime | sed 's/.*load average/load average/'
+cd "$work"
+for rounds in 3 24; do
+    python3 -B "$here/run/measure.py" "$program" "$rounds"
+    "$program" generate 1 "$rounds" image script noise >/dev/null
+    echo "  memory                  $(memory_of "$program" run image script noise)"
+done
