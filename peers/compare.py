@@ -35,7 +35,7 @@ READERS = {
     "crates/mb_cuts/src/tests/regions.rt": readers.replaced_regions,
     "crates/mb_cuts/src/tests/roots.rt": readers.next_root,
     "crates/mb_generate/src/tests.rt": readers.workloads,
-    "crates/mb_orders/src/tests/signed.rt": readers.judged_orders,
+    "crates/mb_rules/src/tests/signed.rt": readers.judged_orders,
     "crates/mb_top/src/tests/births.rt": top_readers.births,
     CHAINS: chain_readers.chains_tests,
     "crates/mb_top/src/tests/devices.rt": top_readers.plays,

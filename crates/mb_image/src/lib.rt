@@ -22,6 +22,3 @@ mod stored;
 mod validity;
 
 pub use image::{ImageEnd, stand_for};
-
-#[cfg(test)]
-mod tests;

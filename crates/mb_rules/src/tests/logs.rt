@@ -2,9 +2,9 @@
 
 ghost use Rattle.std.specs.Prelude.{◌≡◌, ◌<◌};
 
-use super::*;
 use hex::FromHex;
 use mb_lms::Steps;
+use mb_log::{Figures, Life, bodies, follows, lives};
 use mb_model::{
     Bodies, Chains, ChangeKind, CodeName, Entry, Fact, Follow, KeyKind, KeySeed, Layer, Layers,
     NoMemory, Pair, PublicKey, SignedEntry, Tree, Trust, View,

@@ -7,8 +7,10 @@ ghost use Rattle.mb_model.specs.Board.{IsLoaded, image_of, loaded};
 ghost use Rattle.mb_board.specs.Calls.{power_of, level_of};
 ghost use Rattle.mb_board.specs.Cuts.{is_armed};
 
-use super::*;
-use mb_model::{IMAGE_LENGTH, Tear};
+use mb_board::{Board, SimBoard, Stopped};
+use mb_model::{Event, Events, FLASH_LENGTH, IMAGE_LENGTH, NoMemory, Reply, Tear};
+use mb_ratchet::Register;
+use std::alloc::Global;
 use std::test::Fail;
 
 // So many of the same byte.

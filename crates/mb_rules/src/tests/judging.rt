@@ -3,17 +3,15 @@
 ghost use Rattle.std.specs.Prelude.{◌≡◌, ◌<◌, ◌≤◌, IfOk};
 ghost use Rattle.mb_model.specs.OrderFormat.{order_format};
 
-mod signed;
-
-use crate::{JudgeEnd, Plan, judge};
+use super::signed::{
+    ESTABLISH_AT_SEVEN, LOAD_ONE, LOAD_ONE_BY_ONE, LOAD_ONE_BY_THREE, LOAD_TWO, LOAD_TWO_BY_TWO,
+    NEW_KEY, NEW_KEY_BY_THREE, ONE, THREE, TWO,
+};
 use hex::FromHex;
 use mb_command::read_order;
 use mb_lms::{Steps, parse_key};
 use mb_model::{CodeName, Fate, KeySeed, Layer, Layers, Order, Trust, View};
-use signed::{
-    ESTABLISH_AT_SEVEN, LOAD_ONE, LOAD_ONE_BY_ONE, LOAD_ONE_BY_THREE, LOAD_TWO, LOAD_TWO_BY_TWO,
-    NEW_KEY, NEW_KEY_BY_THREE, ONE, THREE, TWO,
-};
+use mb_orders::{JudgeEnd, Plan, judge};
 use std::alloc::Global;
 use std::marker::Brand;
 use std::process::Abort;

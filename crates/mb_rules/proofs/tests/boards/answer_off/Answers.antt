@@ -10,7 +10,7 @@ use Rattle.mb_model.specs.Meaning.{is_dead}
 use Rattle.mb_model.specs.Machine.{World, off, answered}
 use Rattle.mb_model.specs.Acknowledged.{Shows, MayAnswer}
 use Rattle.mb_board.specs.Cuts.{is_armed}
-use Rattle.mb_board.proofs.sim.tests.answer_off.Goals as goal
+use Rattle.mb_rules.proofs.tests.boards.answer_off.Goals as goal
 
 -- a dead device whose power is off
 dead : World

@@ -1,6 +1,6 @@
 //! Conditions, and what changes leave, by the rules of the device.
 
-use super::*;
+use mb_authority::{after, condition, kept_regions, layer_of, may_cosign};
 use mb_model::{Chains, ChangeKind, CodeName, Layer, Layers, Pair, PublicKey, Tree, Trust};
 
 /// A layer with an owner, which trusts so.

@@ -3,10 +3,10 @@
 
 ghost use Rattle.std.specs.Prelude.{◌≤◌, vec_len, IfOk};
 
-use crate::{ChainRefusal, verify, write_listing};
 use hex::FromHex;
 use mb_lms::parse_key;
 use mb_model::{Bytes, CodeName, Configuration, KeyKind, Layer, Layers, Lives, Report, Trust};
+use mb_verifier::{ChainRefusal, verify, write_listing};
 use std::alloc::Global;
 use std::process::Abort;
 use std::test::Fail;

@@ -1,5 +1,5 @@
 use Rattle.std.proofs.Common.{[], ◌∷◌, refl, arith}
-use Rattle.mb_board.proofs.sim.tests.armed_board.Goals as goal
+use Rattle.mb_rules.proofs.tests.boards.armed_board.Goals as goal
 
 pub loaded_board-requires-clause-event : goal.loaded_board-requires-clause-event
 loaded_board-requires-clause-event c = (

@@ -2,7 +2,7 @@
 
 ghost use Rattle.std.specs.Prelude.{◌≡◌, ◌<◌};
 
-use super::*;
+use mb_image::{ImageEnd, stand_for};
 use mb_lms::Steps;
 use mb_model::{FLASH_LENGTH, IMAGE_LENGTH, State};
 use sha2::{Digest, Sha256};

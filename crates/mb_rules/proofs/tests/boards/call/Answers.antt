@@ -1,7 +1,7 @@
 use Rattle.std.proofs.Common.{length, ap, ◌∙◌, arith}
 use Rattle.mb_board.specs.Reach.{first_area}
 use Rattle.mb_board.proofs.TornLemmas.{torn_length}
-use Rattle.mb_board.proofs.sim.tests.call.Goals as goal
+use Rattle.mb_rules.proofs.tests.boards.call.Goals as goal
 
 pub bbram_write-requires-clause-reached : goal.bbram_write-requires-clause-reached
 bbram_write-requires-clause-reached c =

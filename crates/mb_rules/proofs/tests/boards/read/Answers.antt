@@ -1,6 +1,6 @@
 use Rattle.std.proofs.Common.{◌≡◌, inl, arith}
 use Rattle.mb_board.specs.Reach.{first_area}
-use Rattle.mb_board.proofs.sim.tests.read.Goals as goal
+use Rattle.mb_rules.proofs.tests.boards.read.Goals as goal
 
 pub bbram_read-requires-clause-reached : goal.bbram_read-requires-clause-reached
 bbram_read-requires-clause-reached c =
