@@ -4,13 +4,13 @@ ghost use Rattle.std.specs.Prelude.{◌≡◌, ◌<◌, ◌≤◌, IfOk, OnOk, O
 ghost use Rattle.mb_model.specs.Layers.{is_upper};
 ghost use Rattle.mb_model.specs.OrderFormat.{order_format};
 
-use crate::{
-    SignEnd, countersign, make_key, read_draft, read_order_line, sign_order, write_order_line,
-};
 use hex::FromHex;
 use mb_command::{body_length, write_order};
 use mb_lms::Steps;
 use mb_model::{Keyfile, Order};
+use mb_officer::{
+    SignEnd, countersign, make_key, read_draft, read_order_line, sign_order, write_order_line,
+};
 use sha2::{Digest, Sha256};
 use std::alloc::Global;
 use std::marker::Brand;
@@ -19,7 +19,7 @@ use std::sync::ledger::{Blank, Ledger};
 use std::test::Fail;
 
 /// The key of the owner in charge.
-pub(super) fn signer() -> Result<Keyfile, Fail>
+pub fn signer() -> Result<Keyfile, Fail>
     ensures { IfOk result (λ key. key.next ≡ 0) }
 {
     let noise = <[u8; 32] as FromHex>::from_hex(
@@ -39,7 +39,7 @@ fn countersigner() -> Result<Keyfile, Fail>
 }
 
 /// Signs the order, on a count of its own.
-pub(super) fn signed(alloc: Global, k: &mut Keyfile, order: &mut Order) -> Result<u32, SignEnd>
+pub fn signed(alloc: Global, k: &mut Keyfile, order: &mut Order) -> Result<u32, SignEnd>
     requires next { k.old.next ≤ 32 }
     requires spelled { order_format.Allowed order.old }
     ensures spelled { OnOk result (order_format.Allowed order.new) }

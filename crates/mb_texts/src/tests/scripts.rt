@@ -1,9 +1,7 @@
 //! Scripts, draws and replies, by texts and bytes that are written out.
 
-mod limits;
-
-use crate::{ScriptEnd, place_draws, read_script, write_reply};
 use mb_model::{Bytes, Event, Events, NoMemory, Reply, Standing, Tear};
+use mb_script::{ScriptEnd, place_draws, read_script, write_reply};
 use std::alloc::Global;
 use std::process::Abort;
 use std::test::Fail;
@@ -168,7 +166,7 @@ fn short_noise_gives_no_draws(rt: HostRuntime) -> Result<(), Fail> {
 }
 
 /// Whether this is what is written of the reply.
-fn is_written(alloc: Global, reply: &Reply, line: &[u8]) -> bool {
+pub fn is_written(alloc: Global, reply: &Reply, line: &[u8]) -> bool {
     let mut out = Vec::new(alloc);
     write_reply(reply, &mut out).is_ok() && out.as_slice() == line
 }

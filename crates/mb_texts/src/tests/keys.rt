@@ -1,12 +1,7 @@
 //! Keys made, written and read, by values of another program.
 
-mod drafts;
-mod limits;
-mod order_lines;
-mod orders;
-
-use crate::{BadRecord, make_key, read_keyfile, write_keyfile};
 use hex::FromHex;
+use mb_officer::{BadRecord, make_key, read_keyfile, write_keyfile};
 use std::process::Abort;
 use std::test::Fail;
 

@@ -1,6 +1,6 @@
 //! What no clause says: which calls fail, that calls succeed, and that the system's files are reached.
 
-use crate::{Host, HostEnd, HostFailed, MemoryHost, RealHost};
+use mb_host::{Host, HostEnd, HostFailed, MemoryHost, RealHost};
 use mb_model::{Bytes, Calls, File, Files, NoMemory};
 use std::alloc::Global;
 use std::test::Fail;

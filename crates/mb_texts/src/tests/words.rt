@@ -1,6 +1,6 @@
 //! Words and lines, by bytes that are written out.
 
-use crate::{NotSaid, after_word, read_array, read_hex, read_number, split_at_byte, split_line};
+use mb_words::{NotSaid, after_word, read_array, read_hex, read_number, split_at_byte, split_line};
 use std::alloc::Global;
 use std::test::Fail;
 

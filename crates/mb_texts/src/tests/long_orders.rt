@@ -5,19 +5,12 @@ ghost use Rattle.std.specs.Prelude.{IfOk, OnOk};
 ghost use Rattle.mb_model.specs.OrderFormat.{order_format};
 
 use super::orders::{signed, signer};
-use crate::{read_draft, read_order_line, write_order_line};
+use super::pieces::append;
 use mb_model::{Act, Order};
+use mb_officer::{read_draft, read_order_line, write_order_line};
 use std::alloc::Global;
 use std::process::Abort;
 use std::test::Fail;
-
-/// Appends the piece so many times.
-fn append(out: &mut Vec<u8>, piece: &[u8], times: usize) -> Result<(), Fail> {
-    for _i in 0..times {
-        out.extend_from_slice(piece)?;
-    }
-    Ok(())
-}
 
 /// How many bytes of code the order carries.
 fn code_length(order: &Order) -> usize {
@@ -51,7 +44,7 @@ fn the_largest_order_is_drafted(rt: HostRuntime) -> Result<(), Fail> {
 /// Appends a signature of 9,324 bytes, after its length.
 fn append_signature(out: &mut Vec<u8>, byte: &[u8]) -> Result<(), Fail> {
     append(out, b"246c", 1)?;
-    append(out, byte, 9_324)
+    Ok(append(out, byte, 9_324)?)
 }
 
 /// The line of a load with eight targets, 32,768 bytes of code, a signature and two countersignatures.

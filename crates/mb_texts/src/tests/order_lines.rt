@@ -1,6 +1,6 @@
 //! Lines of orders, by bytes that are written out.
 
-use crate::{OrderLineEnd, read_order_line, write_order_line};
+use mb_officer::{OrderLineEnd, read_order_line, write_order_line};
 use std::alloc::Global;
 use std::process::Abort;
 use std::test::Fail;

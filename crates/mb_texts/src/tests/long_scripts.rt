@@ -1,18 +1,11 @@
 //! Where there is memory, the longest scripts are read, each event is copied, and each line is written.
 
-use super::is_written;
-use crate::{ScriptEnd, read_script, write_reply};
-use mb_model::{Bytes, Event, Events, NoMemory, Reply};
+use super::pieces::append;
+use super::scripts::is_written;
+use mb_model::{Bytes, Event, Events, Reply};
+use mb_script::{ScriptEnd, read_script, write_reply};
 use std::alloc::Global;
 use std::test::Fail;
-
-/// Appends the piece so many times.
-fn append(out: &mut Vec<u8>, piece: &[u8], times: usize) -> Result<(), NoMemory> {
-    for _i in 0..times {
-        out.extend_from_slice(piece)?;
-    }
-    Ok(())
-}
 
 /// How many events a script has that is so many times this line.
 fn count_events(alloc: Global, line: &[u8], times: usize) -> Result<usize, Fail> {

@@ -1,6 +1,6 @@
 //! Drafts that are read, and the first wrong lines of others.
 
-use crate::{DraftEnd, read_draft};
+use mb_officer::{DraftEnd, read_draft};
 use std::alloc::Global;
 use std::process::Abort;
 

@@ -2,8 +2,8 @@
 
 ghost use Rattle.std.specs.Prelude.{◌≡◌, ◌<◌, ◌≤◌};
 
-use crate::{Workload, workload};
 use hex::FromHex;
+use mb_generate::{Workload, workload};
 use mb_lms::Steps;
 use mb_model::NoMemory;
 use sha2::{Digest, Sha256};
