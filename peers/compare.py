@@ -21,7 +21,7 @@ from sources import Source
 
 HERE = pathlib.Path(__file__).resolve().parent
 
-CHAINS = "crates/mb_top/src/tests/chains.rt"
+CHAINS = "crates/mb_lives/src/tests/chains.rt"
 READERS = {
     "peers/rfc8554.txt": readers.standard,
     "crates/mb_lms/src/tests.rt": readers.lms_keys,
@@ -36,11 +36,11 @@ READERS = {
     "crates/mb_cuts/src/tests/roots.rt": readers.next_root,
     "crates/mb_texts/src/tests/workloads.rt": readers.workloads,
     "crates/mb_rules/src/tests/signed.rt": readers.judged_orders,
-    "crates/mb_top/src/tests/births.rt": top_readers.births,
+    "crates/mb_lives/src/tests/births.rt": top_readers.births,
     CHAINS: chain_readers.chains_tests,
-    "crates/mb_top/src/tests/devices.rt": top_readers.plays,
-    "crates/mb_top/src/tests/keys.rt": top_readers.plays,
-    "crates/mb_top/src/tests/sign.rt": top_readers.signed_orders,
+    "crates/mb_lives/src/tests/devices.rt": top_readers.plays,
+    "crates/mb_lives/src/tests/keys.rt": top_readers.plays,
+    "crates/mb_lives/src/tests/sign.rt": top_readers.signed_orders,
     "examples/first-order/expected.txt": readers.first_order,
     "examples/outbound/expected.txt": outbound.outbound,
     "examples/two-officers/expected.txt": readers.officers,

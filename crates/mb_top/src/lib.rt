@@ -26,6 +26,3 @@ mod words;
 
 pub use commands::top;
 pub use line::{NoWords, USAGE, VERSION, program};
-
-#[cfg(test)]
-mod tests;

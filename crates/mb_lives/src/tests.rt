@@ -12,10 +12,10 @@ mod sign;
 mod statuses;
 mod succession;
 
-use crate::commands::top;
 use mb_board::SimBoard;
 use mb_host::{Host, MemoryHost};
 use mb_model::{Bytes, Calls, File, Files, NoMemory};
+use mb_top::top;
 use sha2::{Digest, Sha256};
 use std::alloc::Global;
 use std::process::Abort;
