@@ -12,7 +12,7 @@ program=$(realpath "${1:-$here/../crates/miniboot/out/miniboot}")
 jar=${JAR:-/usr/share/java/bcprov.jar}
 
 if [ ! -x "$program" ]; then
-    echo "$program is not there: examples/first-order/run.sh builds the program" >&2
+    echo "$program is not there: examples/device-life/run.sh builds the program" >&2
     exit 1
 fi
 if ! command -v python3 >/dev/null; then

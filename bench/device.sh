@@ -11,7 +11,7 @@ here=$(cd "$(dirname "${BASH_SOURCE[0]}")" && pwd)
 program=$(realpath "${1:-$here/../crates/miniboot/out/miniboot}")
 
 if [ ! -x "$program" ]; then
-    echo "$program is not there: examples/first-order/run.sh builds the program" >&2
+    echo "$program is not there: examples/device-life/run.sh builds the program" >&2
     exit 1
 fi
 if ! command -v python3 >/dev/null; then

@@ -1,4 +1,4 @@
-"""What is computed anew of chains: the tests of the commands on them, and the example of a relying party.
+"""What is computed anew of chains: the tests of the commands on them.
 
 The steps of the tests are followed over files that are all made here: keys and orders by `officer.py`, devices by
 `life.py`, and what the commands on chains do by `chains.py`.
@@ -83,6 +83,9 @@ def fits(printed, wanted):
 class World(Host):
     """The files as commands leave them, with a device for each image that is not dead."""
 
+    # how a device serves a script, where its power may be cut
+    serving = None
+
     def __init__(self, files):
         super().__init__(files)
         self.devices, self.drafts, self.statement = {}, {}, None
@@ -119,19 +122,24 @@ class World(Host):
     def run(self, image, script, noise):
         """What a device prints that serves the script, or None where its power is cut, after which it is dead."""
         lines, draws = self.files[script].decode().splitlines(), self.files[noise]
-        if any(line.startswith("cut ") for line in lines):
+        if self.serving is None and any(line.startswith("cut ") for line in lines):
             del self.devices[image]
             self.files[image] = DEAD
             return None
-        served = Served(self, self.devices[image], draws)
-        return "".join(served.reply(line) + "\n" for line in lines)
+        served = (self.serving or Served)(self, self.devices[image], draws)
+        return "".join(reply + "\n" for reply in served.replies(self.files[script].decode()))
+
+    def order_at(self, line):
+        """The body, the signature and the countersignatures of an order's line."""
+        for made in self.orders.values():
+            if order_line(order(*made)) == line + "\n":
+                return made
+        raise ValueError("an order that nobody signed")
 
     def order_of(self, line):
         """The draft of an order's line, and the layers that countersigned it."""
-        for text, signature, beside in self.orders.values():
-            if order_line(order(text, signature, beside)) == line + "\n":
-                return self.drafts[text], {layer for layer, _ in beside}
-        raise ValueError("an order that nobody signed")
+        text, _, beside = self.order_at(line)
+        return self.drafts[text], {layer for layer, _ in beside}
 
     def writes(self, name, parts):
         """Makes a file of its parts, or a copy of a device."""
@@ -156,6 +164,9 @@ class Served:
 
     def __init__(self, world, device, draws):
         self.world, self.device, self.draws, self.level = world, device, draws, 0
+
+    def replies(self, script):
+        return [self.reply(line) for line in script.splitlines()]
 
     def reply(self, line):
         word, *words = line.split(" ")
@@ -194,8 +205,14 @@ class Served:
 
     def status(self, line):
         device = self.device
-        stands = " ".join("runnable" if device.layers[n]["reliable"] else "unreliable" for n in (1, 2, 3))
+        stands = " ".join(map(self.stand, (1, 2, 3)))
         return f"status {device.serial.hex()} {device.number} {len(device.log)} {stands}"
+
+    def stand(self, n):
+        layer = self.device.layers[n]
+        if layer["reliable"]:
+            return "runnable"
+        return "unreliable" if layer["owner"] else "unowned"
 
 
 # ---- the sources

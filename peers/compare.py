@@ -14,7 +14,7 @@ import pathlib
 import sys
 
 import chain_readers
-import outbound
+import examples
 import readers
 import top_readers
 from sources import Source
@@ -41,9 +41,8 @@ READERS = {
     "crates/mb_lives/src/tests/devices.rt": top_readers.plays,
     "crates/mb_lives/src/tests/keys.rt": top_readers.plays,
     "crates/mb_lives/src/tests/sign.rt": top_readers.signed_orders,
-    "examples/first-order/expected.txt": readers.first_order,
-    "examples/outbound/expected.txt": outbound.outbound,
-    "examples/two-officers/expected.txt": readers.officers,
+    "examples/device-life/expected.txt": examples.device_life,
+    "examples/outbound/expected.txt": examples.outbound,
 }
 
 

@@ -3,7 +3,6 @@
 import re
 
 import device
-import two_officers
 from lms import PrivateKey, sha256, u16
 from officer import Officer, body, countersigned_text, order, signed_text
 from sources import HEX, line_of, unhex, verifies
@@ -139,31 +138,6 @@ def replaced_regions(source):
 
 def next_root(source):
     source.compare("root", device.Device(signed=False).root(1, None).hex(), source.constant("NEXT_ROOT"))
-
-
-def first_order(source):
-    """The example's keys, serial and order, by the noise in its script. The stored script begins with that order."""
-    script = (source.root / "examples/first-order/run.sh").read_text()
-    noise = {name: bytes.fromhex(word) for word, name in re.findall(r"bytes ([0-9a-f]+) >(\w+)\.noise", script)}
-    maker, first, second = (Officer(noise[name]) for name in ("maker", "first", "second"))
-    owners = re.findall("owner ([0-9a-f]{64})", source.text)
-    source.compare("owners", [officer.owner().hex() for officer in (maker, first, second)], owners)
-    source.compare("serial", noise["birth"][32:].hex(), re.search("serial ([0-9a-f]+)", source.text)[1])
-    text = body(f"order establish 2\nowner {second.public().hex()}\ntrust countersigned\n")
-    signed = order(text, first.sign(signed_text(text)))
-    source.compare("order", sha256(signed).hex(), re.search("order  SHA-256 ([0-9a-f]+)", source.text)[1])
-    stored = (source.root / "crates/miniboot/data/script").read_text()
-    source.compare("stored order", signed.hex(), re.search("^command ([0-9a-f]*)$", stored, re.MULTILINE)[1])
-
-
-def officers(source):
-    """The example's expected lines are of two_officers.py: this says that both still say the same."""
-    wanted, found = source.text.splitlines(), list(two_officers.shown())
-    values = [(here, there) for here, there in zip(found, wanted) if re.search("[0-9a-f]{32}", there)]
-    for here, there in values:
-        source.compare("line", here, there)
-    if found != wanted:
-        source.compare("all lines", found, wanted)
 
 
 def standard(source):

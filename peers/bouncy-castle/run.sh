@@ -65,6 +65,11 @@ hex() {
     od -An -v -tx1 | tr -d ' \n'
 }
 
+# The bytes that are given in hexadecimal.
+bytes() {
+    printf '%b' "$(sed 's/../\\x&/g' <<<"$1")"
+}
+
 # The bytes of a file from an offset on, so many.
 part() {
     head -c "$(($2 + $3))" "$1" | tail -c "$3"
@@ -95,20 +100,11 @@ if command -v python3 >/dev/null; then
 else
     echo "python3 is not there: the signatures in the tests were not verified"
 fi
-# The first order of the stored life, by the officer whose key is made of this noise.
-sed -n 2p "$crate/data/script" >order
-for byte in d9 53 21 bd f2 84 c2 03 2c 7a 52 09 b8 47 ea e9 6c 30 80 c8 6b fc 25 85 31 2e 15 36 11 79 d1 ac; do
-    printf "\\x$byte"
-done >owner.noise
-miniboot keygen owner.noise owner.key owner
-compare 'the first order' "$(verified order 60 owner)" yes
 
-# Three keys.
-head -c 32 /dev/zero >first.noise
-head -c 32 /dev/zero | tr '\0' '\1' >second.noise
-for number in $(seq 0 31); do
-    printf "\\x$(printf '%02x' "$number")"
-done >third.noise
+# The keys of the three officers of examples/device-life, and a maker's.
+bytes d95321bdf284c2032c7a5209b847eae96c3080c86bfc2585312e15361179d1ac >first.noise
+bytes c0fcde819a0006907629b33ec8a491a8b0d7cbf7ef92d8dfeb3bb22913d91c30 >second.noise
+bytes 547202fca623e77ec47fe0d1edad602736c85db474f6c085282bd16c65856985 >third.noise
 head -c 32 /dev/zero | tr '\0' '\2' >maker.noise
 head -c 48 /dev/zero >device.noise
 printf 'layer one' >code
@@ -129,23 +125,29 @@ signs() {
     peer sign before.key "$(body "$name" "$span")" >same
     compare "$name, signed by both" "$(cmp same "$name" && echo same)" same
 }
-# Whether examples/two-officers expects this line of an order.
+# Whether examples/device-life expects this order, by its name there.
 expected() {
-    grep -c "line        SHA-256 $(sha256sum <"$1" | cut -d ' ' -f 1)" "$top/examples/two-officers/expected.txt" || true
+    bytes "$(cut -d ' ' -f 2 "$2")" >order.bytes
+    grep -c "^  $1  SHA-256 $(sha256sum <order.bytes | cut -d ' ' -f 1)\$" "$top/examples/device-life/expected.txt" || true
 }
 signs establish 60 <<DRAFT
 order establish 2
-owner $(hex <third.public)
+owner $(hex <second.public)
 trust countersigned
 DRAFT
-signs load 20 <<'DRAFT'
-order load 1
-target length 2
-version 2
+signs runs 15 <<'DRAFT'
+order emergency 2
+version 1
 trust countersigned
 code 616263
 DRAFT
-compare 'the orders of the example' "$(expected establish)$(expected load)" 11
+signs load 15 <<'DRAFT'
+order load 1
+version 2
+trust always
+code 6f6e65
+DRAFT
+compare "the example's orders by one" "$(expected order1 establish)$(expected order3 runs)" 11
 signs surrender 8 <<'DRAFT'
 order surrender 2
 target length 7
@@ -160,15 +162,19 @@ version 1
 trust always
 code -
 DRAFT
-compare "the first key's next index" "$(part first.key 52 4 | hex)" 00000005
+compare "the first key's next index" "$(part first.key 52 4 | hex)" 00000006
 
-# Countersignatures of layers 2 and 3. The first of them is the example's too.
-miniboot countersign third.key 2 load one
-miniboot countersign second.key 3 one two
-compare "the example's countersigned order" "$(expected one)" 1
-compare 'one countersignature' "$(verified one 20 first.public 2 third.public)" yes
-compare 'two countersignatures' "$(verified two 20 first.public 2 third.public 3 second.public)" yes
-compare 'two of other keys' "$(verified two 20 first.public 2 second.public 3 third.public)" no
+# Countersignatures of layers 2 and 3, by the indices of the example, where the second has signed two orders before, and
+# the third one.
+for officer in second second third; do
+    miniboot sign "$officer.key" draft other
+done
+miniboot countersign second.key 2 load one
+miniboot countersign third.key 3 one two
+compare "the example's countersigned order" "$(expected order6 two)" 1
+compare 'one countersignature' "$(verified one 15 first.public 2 second.public)" yes
+compare 'two countersignatures' "$(verified two 15 first.public 2 second.public 3 third.public)" yes
+compare 'two of other keys' "$(verified two 15 first.public 2 third.public 3 second.public)" no
 
 # An order that Bouncy Castle alone has signed, and the same with the last bit of its path turned. The key file keeps its
 # next index: nothing signs with it afterwards.
@@ -178,7 +184,7 @@ compare 'it is another signature' "$(cmp -s foreign establish && echo same)" ''
 compare "Bouncy Castle's order is served" "$(serve foreign)" 'done 1 2'
 # In the chain of the device the second entry tells of layer 2 from this offset on: that it has an owner, whom it trusts.
 miniboot chain image chain
-compare 'the owner of layer 2' "$(part chain 2632 58 | hex)" "0102$(hex <third.public)"
+compare 'the owner of layer 2' "$(part chain 2632 58 | hex)" "0102$(hex <second.public)"
 word=$(cat foreign)
 printf '%s%x00\n' "${word:0:-3}" "$((16#${word: -3:1} ^ 1))" >turned
 compare 'a turned bit, by Bouncy Castle' "$(verified turned 60 first.public)" no

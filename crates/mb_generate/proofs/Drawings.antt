@@ -198,7 +198,7 @@ all_drawn number rounds {g} {a} {b} {c} {d} {e} {f} {h} {i} {j} {k} draws start 
 
 -- ---- how long they are
 
-drawn_long : (n : ℕ) (words bytes : List ℕ) → DrawnBytes n words bytes → length bytes ≡ n
+pub drawn_long : (n : ℕ) (words bytes : List ℕ) → DrawnBytes n words bytes → length bytes ≡ n
 drawn_long n words bytes drawn =
     let all = bytes_long words in
     let taken = length-take n (flat_map (to_be_bytes w32) words) in
@@ -209,17 +209,21 @@ code_short words code drawn =
     let long = drawn_long (1024 + drawn.first % 31745) drawn.others code drawn.drawn in
     omega (arith, long)
 
-rounds_fit : (lists : List (List ℕ)) (rounds : List RoundDraws) → AllZip DrawnRound lists rounds → All RoundFits rounds
-rounds_fit [] [] each = All-nil RoundFits
-rounds_fit [] (round ∷ rounds) each = absurd each
-rounds_fit (words ∷ lists) [] each = absurd each
-rounds_fit (words ∷ lists) (round ∷ rounds) each =
-    All-cons RoundFits round rounds (record { code = code_short each.0.for_code round.code each.0.code; values = omega (arith, each.0.four) }) (rounds_fit lists rounds each.1)
+-- each of some values, where each was drawn
+pub each_drawn : {A : Type 0} (Drawn : List ℕ → A → Type 0) (Is : A → Type 0) → ((words : List ℕ) (x : A) → Drawn words x → Is x)
+    → (lists : List (List ℕ)) (xs : List A) → AllZip Drawn lists xs → All Is xs
+each_drawn Drawn Is one [] [] each = All-nil Is
+each_drawn Drawn Is one [] (x ∷ xs) each = absurd each
+each_drawn Drawn Is one (words ∷ lists) [] each = absurd each
+each_drawn Drawn Is one (words ∷ lists) (x ∷ xs) each = All-cons Is x xs (one words x each.0) (each_drawn Drawn Is one lists xs each.1)
+
+drawn_fits : (words : List ℕ) (round : RoundDraws) → DrawnRound words round → RoundFits round
+drawn_fits words round is = record { code = code_short is.for_code round.code is.code; values = omega (arith, is.four) }
 
 pub draws_fit : (number rounds : ℕ) (draws : Draws) → AreDraws number rounds draws → CodesFit draws
 draws_fit number rounds draws are = record {
   one = code_short are.drawn.for_code_one draws.code_one are.drawn.code_one;
   two = code_short are.drawn.for_code_two draws.code_two are.drawn.code_two;
   three = code_short are.drawn.for_code_three draws.code_three are.drawn.code_three;
-  rounds = rounds_fit are.drawn.for_rounds draws.rounds are.drawn.each_round;
+  rounds = each_drawn DrawnRound RoundFits drawn_fits are.drawn.for_rounds draws.rounds are.drawn.each_round;
 }

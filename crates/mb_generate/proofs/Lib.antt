@@ -1,3 +1,5 @@
 mod Drawings
 mod Planning
 mod Scripting
+mod Spellings
+mod Telling

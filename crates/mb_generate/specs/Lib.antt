@@ -1,3 +1,4 @@
 pub mod Drawing
 pub mod Orders
 pub mod Scripts
+pub mod Serving

@@ -7,6 +7,7 @@ ghost use Rattle.mb_model.specs.Factory.{IsFactoryImage};
 ghost use Rattle.mb_model.specs.Workload.{IsWorkload};
 ghost use Rattle.mb_generate.specs.Drawing.{draws_of};
 ghost use Rattle.mb_generate.specs.Orders.{AreOfficers};
+ghost use Rattle.mb_generate.specs.Serving.{CanBeServed};
 
 use crate::draws::{Drawn, draw_all};
 use crate::officers::Officers;
@@ -21,6 +22,8 @@ use std::sync::ledger::Ledger;
 /// The workload of a number with so many rounds, 1 to 24: the image of a new device, a script in which officers load
 /// each layer in turn, and the noise of the script's commands. In at most 350,434 steps and 106,419 for each round.
 ///
+/// The script can be read, its noise has 32 bytes for each of its commands, and neither is longer than an input may be.
+///
 /// Errors: `NoMemory`. Nothing is said of when memory is found.
 pub fn workload<L: Ledger>(
     alloc: Global,
@@ -31,6 +34,7 @@ pub fn workload<L: Ledger>(
     requires least { 1 ≤ rounds }
     requires most { rounds ≤ 24 }
     ensures made { IfOk result (IsWorkload number rounds) }
+    ensures served { IfOk result CanBeServed }
     ensures cost { steps.new ≤ steps.old + 350434 + 106419 * rounds }
 {
     let drawn = draw_all(alloc, number, rounds)?;

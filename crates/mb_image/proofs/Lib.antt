@@ -2,6 +2,7 @@ pub mod Admission
 pub mod Areas
 pub mod EntryLists
 pub mod Following
+pub mod Lengths
 pub mod LogSteps
 pub mod Meanings
 pub mod Reading

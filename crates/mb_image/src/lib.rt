@@ -1,4 +1,4 @@
-//! For which state an image stands, or its first fault.
+//! For which state an image stands, or its first fault; and how long the log is of a device whose image it is.
 //!
 //! This crate owns the meaning of a device's memory as it lies: which areas are in force, the entries that are not
 //! signed yet and their signatures, what becomes of the regions, and whether a device can have the state that comes of
@@ -11,6 +11,7 @@
 mod alive;
 mod codes;
 mod complete;
+mod count;
 mod entries;
 mod fates;
 mod image;
@@ -21,4 +22,5 @@ mod sound;
 mod stored;
 mod validity;
 
+pub use count::log_length;
 pub use image::{ImageEnd, stand_for};

@@ -94,7 +94,7 @@ fn public_in(alloc: Global, flash: &[u8], root: &Root) -> Result<Option<PublicPa
 
 /// An area of the flash, 0 or 1.
 #[tactic(auto, unfolding(mb_model::specs::Flash::flash_area))]
-fn flash_area(flash: &[u8], number: u8) -> &[u8]
+pub(crate) fn flash_area(flash: &[u8], number: u8) -> &[u8]
     requires sized { length flash.now ≡ 1048576 }
     requires area { number ≤ 1 }
     ensures { result.now ≡ flash_area flash.now number }

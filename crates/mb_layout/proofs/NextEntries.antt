@@ -1,10 +1,11 @@
 -- The entries of a public record whose every entry is signed, one after another.
-use Rattle.std.proofs.Common.{◌≡◌, ℕ, ◌-◌, List, [], ◌∷◌, ◌++◌, length, map, refl, ap, subst, ◌∙◌, append-nil, arith}
+use Rattle.std.proofs.Common.{◌≡◌, ℕ, ◌+◌, ◌-◌, List, [], ◌∷◌, ◌++◌, length, map, refl, ap, subst, ◌∙◌, append-nil, arith}
 use Rattle.mb_format.specs.Format.{Spells}
 use Rattle.mb_format.specs.Combinators.{mark, between, times}
 use Rattle.std.specs.Int.{w16}
 use Rattle.mb_bytes.specs.declared.cursor.Cursor.{Cursor}
 use Rattle.mb_bytes.specs.Reads.{ReadsOk, ReadsErr}
+use Rattle.mb_model.specs.declared.entry.Entry.{Entry}
 use Rattle.mb_model.specs.declared.entry.PublicEntry.{PublicEntry}
 use Rattle.mb_model.specs.declared.entry.SignedEntry.{SignedEntry}
 use Rattle.mb_model.specs.declared.state.Codes.{Codes}
@@ -14,6 +15,12 @@ use Rattle.mb_layout.specs.declared.stored_entries.StoredEntries.{StoredEntries}
 use Rattle.mb_layout.specs.Parts.{entries_bytes}
 use Rattle.mb_layout.specs.StoredEntries.{AreNext}
 use Rattle.mb_layout.proofs.Completing.{before_first, finds_next, never_refused, spelled_first, allowed_first}
+
+-- the number that is read is that of the entries
+pub number_found : {bytes : List ℕ} {start one two three : Cursor} {read : Codes} {count : ℕ} → start.bytes.now ≡ bytes → start.offset ≡ 0 → ReadsOk (mark (1 ∷ [])) start tt one → ReadsOk codes_format one read two → ReadsOk (between w16 1 128) two count three
+    → (codes : Codes) (signed : List SignedEntry) (unsigned : List Entry) → Spells public_format bytes (public_of_parts codes signed unsigned) → count ≡ length signed + length unsigned
+number_found {bytes} {start} {one} {two} {three} {read} {count} same first p q r codes signed unsigned s =
+    (before_first {last = length unsigned} same first p q r codes signed unsigned refl s).number
 
 -- after the number of the entries, these come next
 pub entries_found : {bytes : List ℕ} {start one two three : Cursor} {read : Codes} {left : ℕ} → start.bytes.now ≡ bytes → start.offset ≡ 0 → ReadsOk (mark (1 ∷ [])) start tt one → ReadsOk codes_format one read two → ReadsOk (between w16 1 128) two left three

@@ -1,8 +1,9 @@
 -- The entries of a public record where they stand. Which comes next?
-use Rattle.std.specs.Prelude.{◌≡◌, ℕ, List, [], length, map, drop, Result, Ok, Err}
+use Rattle.std.specs.Prelude.{◌≡◌, ℕ, ◌+◌, List, [], length, map, drop, Result, Ok, Err}
 use Rattle.std.specs.Option.{option_copied}
 use Rattle.mb_format.specs.Format.{Spells}
 use Rattle.mb_format.specs.Combinators.{times}
+use Rattle.mb_model.specs.declared.entry.Entry.{Entry}
 use Rattle.mb_model.specs.declared.entry.PublicEntry.{PublicEntry}
 use Rattle.mb_model.specs.declared.entry.SignedEntry.{SignedEntry}
 use Rattle.mb_model.specs.declared.state.Codes.{Codes}
@@ -29,3 +30,12 @@ FindsEntries bytes (Ok stored) =
     → AreNext stored log
 FindsEntries bytes (Err bad) =
     (codes : Codes) (log : List SignedEntry) → Spells public_format bytes (public_of_parts codes log []) → ⊥
+
+-- where the bytes spell a record, so many entries stand in it
+abbrev pub CountsEntries : List ℕ → Result ℕ BadRecord → Type 0
+CountsEntries bytes (Ok count) =
+    (codes : Codes) (signed : List SignedEntry) (unsigned : List Entry)
+    → Spells public_format bytes (public_of_parts codes signed unsigned) → count ≡ length signed + length unsigned
+CountsEntries bytes (Err bad) =
+    (codes : Codes) (signed : List SignedEntry) (unsigned : List Entry)
+    → Spells public_format bytes (public_of_parts codes signed unsigned) → ⊥

@@ -1,15 +1,16 @@
 //! The entries of a stored public record, of which none is copied but the one that is looked at.
 
-ghost use Rattle.std.specs.Prelude.{◌≡◌, ◌≤◌, [], ◌∷◌, List, length, Some, None};
+ghost use Rattle.std.specs.Prelude.{◌≡◌, ◌+◌, ◌≤◌, [], ◌∷◌, List, length, Some, None};
 ghost use Rattle.std.specs.Option.{option_copied};
 ghost use Rattle.mb_format.specs.Format.{Spells};
 ghost use Rattle.mb_format.specs.Combinators.{optional};
+ghost use Rattle.mb_model.specs.declared.entry.Entry.{Entry};
 ghost use Rattle.mb_model.specs.declared.entry.SignedEntry.{SignedEntry};
 ghost use Rattle.mb_model.specs.declared.state.Codes.{Codes};
 ghost use Rattle.mb_model.specs.EntryFormat.{signature_format};
 ghost use Rattle.mb_model.specs.Flash.{public_entry_format, public_format, public_of_parts};
 ghost use Rattle.mb_bytes.specs.Reads.{bad_at, ReadsAs};
-ghost use Rattle.mb_layout.specs.StoredEntries.{entry_in, AreNext, FindsEntries};
+ghost use Rattle.mb_layout.specs.StoredEntries.{entry_in, AreNext, FindsEntries, CountsEntries};
 
 use crate::entry::entry_at;
 use crate::public::{ENTRIES, stored_codes_at};
@@ -65,6 +66,31 @@ fn entries_in(bytes: &[u8]) -> Result<StoredEntries<'_>, BadRecord>
     stored_codes_at(&mut cursor)?;
     let left = u16_between(&mut cursor, 1, ENTRIES)?;
     Ok(StoredEntries { cursor, left })
+}
+
+/// How many entries the public record has that the bytes spell, signed or not. Nothing is said where they spell none.
+pub fn entry_count(bytes: &[u8]) -> u16
+    requires { length bytes.now ≤ 4194304 }
+    ensures { (codes : Codes) (signed : List SignedEntry) (unsigned : List Entry)
+        → Spells public_format bytes.now (public_of_parts codes signed unsigned)
+        → result ≡ length signed + length unsigned }
+{
+    match counted_entries(bytes) {
+        Ok(count) => count,
+        Err(_) => 0,
+    }
+}
+
+/// The number of entries of the public record that the bytes spell.
+fn counted_entries(bytes: &[u8]) -> Result<u16, BadRecord>
+    requires { length bytes.now ≤ 4194304 }
+    ensures { CountsEntries bytes.now result }
+{
+    let mut cursor = Cursor::new(bytes);
+    version_at(&mut cursor)?;
+    stored_codes_at(&mut cursor)?;
+    let count = u16_between(&mut cursor, 1, ENTRIES)?;
+    Ok(count)
 }
 
 impl<'a> StoredEntries<'a> {

@@ -23,7 +23,7 @@ use Rattle.mb_model.specs.RootFormat.{root_format}
 use Rattle.mb_model.specs.RegionFormat.{region_format, SpellsRegion}
 use Rattle.mb_model.specs.Pieces.{part}
 use Rattle.mb_model.specs.Memory.{IsBlank, slots, area_length, selector_of, life_byte, first_area, second_area, current, HoldsInArea, HoldsRecord}
-use Rattle.mb_model.specs.Flash.{public_format, flash_area, BeginsWithRecord, with_signature, without_signature, public_of_parts, HoldsPublic}
+use Rattle.mb_model.specs.Flash.{public_format, flash_area, BeginsArea, BeginsWithRecord, with_signature, without_signature, public_of_parts, HoldsPublic}
 use Rattle.mb_model.specs.Meaning.{HasRoot, RootIn, HoldsRegion, Contents, HoldsContents, meant, HasMeaning, is_dead, is_live, StandsFor}
 use Rattle.mb_model.proofs.RecordFormatLaws.{root_exact, region_exact, public_exact}
 
@@ -94,9 +94,13 @@ one_record format exact area a b are one other =
     let same = one_held area one.bytes other.bytes are one.holds other.holds in
     (IsClearWhole-from_exact exact).one_value other.bytes a b (held_bytes area other.bytes are other.holds) (subst (λ (bytes : List ℕ). Spells format bytes a) same one.spelled) other.spelled
 
+-- an area begins with one run of bytes
+pub one_start : (area a b : List ℕ) → IsBytes area → BeginsArea area a → BeginsArea area b → a ≡ b
+one_start area a b are one other = one_in w32 470000 wide32 (lit< tt) area a b one.rest other.rest are one.short other.short one.whole other.whole
+
 pub one_begun : {A : Type 0} (format : Format A) → IsExact format → (area : List ℕ) (a b : A) → IsBytes area → BeginsWithRecord format area a → BeginsWithRecord format area b → a ≡ b
 one_begun format exact area a b are one other =
-    let same : one.bytes ≡ other.bytes = one_in w32 470000 wide32 (lit< tt) area one.bytes other.bytes one.begins.rest other.begins.rest are one.begins.short other.begins.short one.begins.whole other.begins.whole in
+    let same : one.bytes ≡ other.bytes = one_start area one.bytes other.bytes are one.begins other.begins in
     let bytes_are : IsBytes other.bytes = IsBytes-middle area (to_be_bytes w32 (length other.bytes)) other.bytes other.begins.rest are other.begins.whole in
     (IsClearWhole-from_exact exact).one_value other.bytes a b bytes_are (subst (λ (bytes : List ℕ). Spells format bytes a) same one.spelled) other.spelled
 

@@ -15,6 +15,7 @@ pub mod RunCommand
 pub mod VerifyCommand
 pub mod ChainCommands
 pub mod AuditCommand
+pub mod GenerateCommand
 pub mod Top
 pub mod Layers
 pub mod Rules

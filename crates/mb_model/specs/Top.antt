@@ -11,6 +11,7 @@ use Rattle.mb_model.specs.FactoryCommand.{FactoryNames, factory}
 use Rattle.mb_model.specs.VerifyCommand.{VerifyNames, verify}
 use Rattle.mb_model.specs.AuditCommand.{AuditNames, audit}
 use Rattle.mb_model.specs.ChainCommands.{ChainNames, AttachNames, chain, attach}
+use Rattle.mb_model.specs.GenerateCommand.{GenerateNames, generate}
 
 -- a command and what its words name
 pub data Request : Type 0 where
@@ -23,6 +24,7 @@ pub data Request : Type 0 where
   audits : AuditNames → Request
   shows_chain : ChainNames → Request
   attaches : AttachNames → Request
+  generates : GenerateNames → Request
 
 -- the words of a request, without the program's name
 abbrev pub words_of : Request → List (List ℕ)
@@ -37,8 +39,11 @@ words_of (verifies names) = codes "verify" ∷ names.root ∷ names.chain ∷ de
 words_of (audits names) = codes "audit" ∷ names.image ∷ names.root ∷ names.chain ∷ decimal names.key ∷ []
 words_of (shows_chain names) = codes "chain" ∷ names.image ∷ names.out ∷ []
 words_of (attaches names) = codes "attach" ∷ names.chain ∷ names.statement ∷ names.out ∷ []
+words_of (generates names) =
+    codes "generate" ∷ decimal names.number ∷ decimal names.rounds ∷ names.image ∷ names.script ∷ names.noise ∷ []
 
--- no name is empty, the layer that countersigns is 2 or 3, and the number of a key is one of 32 bits
+-- no name is empty, the layer that countersigns is 2 or 3, the number of a key or of a workload is one of 32 bits, and
+-- a workload has 1 to 24 rounds
 abbrev pub IsAllowed : Request → Type 0
 IsAllowed (runs names) = (names.image ≢ []) × (names.script ≢ []) × (names.noise ≢ [])
 IsAllowed (makes_key names) = (names.noise ≢ []) × (names.key ≢ []) × (names.public ≢ [])
@@ -51,6 +56,9 @@ IsAllowed (verifies names) = (names.root ≢ []) × (names.chain ≢ []) × (nam
 IsAllowed (audits names) = (names.image ≢ []) × (names.root ≢ []) × (names.chain ≢ []) × (names.key ≤ number_limit)
 IsAllowed (shows_chain names) = (names.image ≢ []) × (names.out ≢ [])
 IsAllowed (attaches names) = (names.chain ≢ []) × (names.statement ≢ []) × (names.out ≢ [])
+IsAllowed (generates names) =
+    (names.image ≢ []) × (names.script ≢ []) × (names.noise ≢ [])
+    × (names.number ≤ number_limit) × (1 ≤ names.rounds) × (names.rounds ≤ 24)
 
 -- the words are those of an allowed request
 pub record IsRequest (words : List (List ℕ)) (request : Request) : Type 0 where
@@ -68,6 +76,7 @@ command_of (verifies names) = verify names
 command_of (audits names) = audit names
 command_of (shows_chain names) = chain names
 command_of (attaches names) = attach names
+command_of (generates names) = generate names
 
 -- How the program ends.
 pub data Ends (words : List (List ℕ)) (e : Ended) : Type 0 where

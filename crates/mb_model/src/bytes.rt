@@ -37,6 +37,13 @@ impl Bytes {
         Bytes { bytes: from }
     }
 
+    /// The same bytes; takes no memory.
+    pub fn into_vec(self) -> Vec<u8>
+        ensures { result.items ≡ self }
+    {
+        self.bytes
+    }
+
     /// The bytes themselves.
     pub fn as_slice(&self) -> &[u8]
         ensures { result.now ≡ self.now }

@@ -1,0 +1,70 @@
+-- How many entries the log has for which a memory stands.
+use Rattle.std.proofs.Common.{◌≡◌, ℕ, ◌+◌, ◌-◌, List, [], ◌∷◌, length, map, Option, None, Some, refl, sym, ap, subst, ◌∙◌, arith, length-append}
+use Rattle.std.proofs.lemmas.List.{length-map}
+use Rattle.mb_format.specs.Format.{IsBytes, Spells}
+use Rattle.mb_model.specs.declared.key.KeySeed.{KeySeed}
+use Rattle.mb_model.specs.declared.entry.Entry.{Entry}
+use Rattle.mb_model.specs.declared.entry.SignedEntry.{SignedEntry}
+use Rattle.mb_model.specs.declared.state.Codes.{Codes}
+use Rattle.mb_model.specs.declared.state.State.{State}
+use Rattle.mb_model.specs.declared.stored.Outgoing.{Outgoing}
+use Rattle.mb_model.specs.declared.stored.Root.{Root}
+use Rattle.mb_model.specs.OrderStep.{signed_by}
+use Rattle.mb_model.specs.StoredLog.{signed_for, outgoing_of, completed}
+use Rattle.mb_model.specs.Flash.{flash_area, public_format, public_of_parts, BeginsArea, HoldsPublic}
+use Rattle.mb_model.specs.Memory.{IsImage, IsBlank}
+use Rattle.mb_model.specs.Meaning.{Contents, meant, RootIn, HasMeaning, is_dead, is_live, StandsFor}
+use Rattle.mb_model.specs.GenerateCommand.{log_length}
+use Rattle.mb_lemmas.proofs.MeaningLemmas.{IsBytes-flash_area, one_start, one_root_in, not_blank}
+use Rattle.mb_lemmas.proofs.FaultLemmas.{image_parts}
+
+signed_length : (device : KeySeed) (uses : ℕ) (outgoing : Option Outgoing) (unsigned : List Entry) → length (signed_for device uses outgoing unsigned) ≡ length unsigned
+signed_length device uses None unsigned = length-map unsigned (signed_by device (uses - 1))
+signed_length device uses (Some outgoing) [] = refl
+signed_length device uses (Some outgoing) (first ∷ rest) = omega (arith, length-map rest (signed_by device 0))
+
+-- the log that contents mean has an entry for each that is stored
+meant_length : (contents : Contents) → length (meant contents).log ≡ length contents.signed + length contents.unsigned
+unfolding meant completed
+meant_length contents =
+    let later = signed_for contents.root.device contents.root.uses (outgoing_of contents.root.pending) contents.unsigned in
+    length-append contents.signed later
+    ∙ ap (λ n. length contents.signed + n) (signed_length contents.root.device contents.root.uses (outgoing_of contents.root.pending) contents.unsigned)
+
+-- what an image stands for, its two halves mean
+pub halves_mean : (image flash bbram flash' bbram' : List ℕ) (state : Option State) → IsImage image flash bbram → IsImage image flash' bbram' → StandsFor flash' bbram' state → HasMeaning flash bbram state
+halves_mean image flash bbram flash' bbram' state one other stands =
+    let parts = image_parts image flash' bbram' flash bbram other one in
+    subst (λ f. HasMeaning f bbram state) parts.0 (subst (λ b. HasMeaning flash' b state) parts.1 stands.meaning)
+
+pub blank_counts : (flash bbram : List ℕ) (state : Option State) → IsBlank bbram → HasMeaning flash bbram state → 0 ≡ log_length state
+blank_counts flash bbram state blank (is_dead zeros none) = sym (ap log_length none)
+blank_counts flash bbram state blank (is_live contents holds index is) = absurd (not_blank bbram blank holds.root.alive)
+
+pub rootless_counts : (flash bbram : List ℕ) (state : Option State) → ((root : Root) → RootIn bbram root → ⊥) → HasMeaning flash bbram state → 0 ≡ log_length state
+rootless_counts flash bbram state never (is_dead zeros none) = sym (ap log_length none)
+rootless_counts flash bbram state never (is_live contents holds index is) = absurd (never contents.root holds.root)
+
+pub live_counts : (flash bbram : List ℕ) (state : Option State) (root : Root) (count : ℕ) → IsBytes bbram → RootIn bbram root
+    → ((codes : Codes) (signed : List SignedEntry) (unsigned : List Entry) → HoldsPublic flash root codes signed unsigned → count ≡ length signed + length unsigned)
+    → HasMeaning flash bbram state → count ≡ log_length state
+live_counts flash bbram state root count are rooted counts (is_dead zeros none) = absurd (not_blank bbram zeros rooted.alive)
+live_counts flash bbram state root count are rooted counts (is_live contents holds index is) =
+    let same : contents.root ≡ root = one_root_in bbram contents.root root are holds.root rooted in
+    let held : HoldsPublic flash root contents.codes contents.signed contents.unsigned =
+    subst (λ (r : Root). HoldsPublic flash r contents.codes contents.signed contents.unsigned) same holds.public in
+    counts contents.codes contents.signed contents.unsigned held ∙ sym (meant_length contents) ∙ sym (ap log_length is)
+
+-- ---- the area that the root names
+
+pub none_begins_there : (flash : List ℕ) (root : Root) (codes : Codes) (signed : List SignedEntry) (unsigned : List Entry) (area : List ℕ) → area ≡ flash_area flash root.area
+    → ((bytes : List ℕ) → BeginsArea area bytes → ⊥) → HoldsPublic flash root codes signed unsigned → ⊥
+none_begins_there flash root codes signed unsigned area is never holds =
+    never holds.begins.bytes (subst (λ (a : List ℕ). BeginsArea a holds.begins.bytes) (sym is) holds.begins.begins)
+
+pub counted_there : (flash : List ℕ) (root : Root) (codes : Codes) (signed : List SignedEntry) (unsigned : List Entry) (area bytes : List ℕ) → IsBytes flash → area ≡ flash_area flash root.area
+    → BeginsArea area bytes → HoldsPublic flash root codes signed unsigned → Spells public_format bytes (public_of_parts codes signed unsigned)
+counted_there flash root codes signed unsigned area bytes are is begins holds =
+    let here : BeginsArea (flash_area flash root.area) bytes = subst (λ (a : List ℕ). BeginsArea a bytes) is begins in
+    let same = one_start (flash_area flash root.area) holds.begins.bytes bytes (IsBytes-flash_area flash root.area are) holds.begins.begins here in
+    subst (λ (b : List ℕ). Spells public_format b (public_of_parts codes signed unsigned)) same holds.begins.spelled

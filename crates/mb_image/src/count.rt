@@ -1,0 +1,48 @@
+//! How long the log is of the device for whose state an image stands.
+
+ghost use Rattle.std.specs.Prelude.{◌≡◌, ◌+◌, ◌≤◌, length, List, ℕ, Option};
+ghost use Rattle.mb_model.specs.declared.entry.Entry.{Entry};
+ghost use Rattle.mb_model.specs.declared.entry.SignedEntry.{SignedEntry};
+ghost use Rattle.mb_model.specs.declared.state.Codes.{Codes};
+ghost use Rattle.mb_model.specs.declared.state.State.{State};
+ghost use Rattle.mb_model.specs.Memory.{IsImage};
+ghost use Rattle.mb_model.specs.Flash.{HoldsPublic};
+ghost use Rattle.mb_model.specs.Meaning.{StandsFor};
+ghost use Rattle.mb_model.specs.GenerateCommand.{log_length};
+
+use crate::memory::{is_blank, memories, root_of};
+use crate::stored::flash_area;
+use mb_layout::{entry_count, record_at_start};
+use mb_model::Root;
+
+/// How many entries the log has of the device for whose state the image stands: at most 128, and none where the device
+/// is dead. The entries are counted where they stand, so that no memory is taken and nothing is hashed. Nothing is said
+/// where the image stands for no state.
+pub fn log_length(image: &[u8]) -> u16
+    ensures { (flash bbram : List ℕ) (state : Option State) → IsImage image.now flash bbram → StandsFor flash bbram state
+        → result ≡ log_length state }
+{
+    let Some((flash, bbram)) = memories(image) else {
+        return 0;
+    };
+    if is_blank(bbram) {
+        return 0;
+    }
+    let Some(root) = root_of(bbram) else {
+        return 0;
+    };
+    count_entries(flash, &root)
+}
+
+/// How many entries, signed or not, stand in the area of the flash that the root names.
+fn count_entries(flash: &[u8], root: &Root) -> u16
+    requires sized { length flash.now ≡ 1048576 }
+    requires area { root.now.area ≤ 1 }
+    ensures { (codes : Codes) (signed : List SignedEntry) (unsigned : List Entry)
+        → HoldsPublic flash.now root.now codes signed unsigned → result ≡ length signed + length unsigned }
+{
+    match record_at_start(flash_area(flash, root.area)) {
+        Some(bytes) => entry_count(bytes),
+        None => 0,
+    }
+}

@@ -1,0 +1,72 @@
+-- What the command `generate` does. Is the workload that is served the same for everyone, and does the summary count
+-- what was answered?
+use Rattle.std.specs.Prelude.{◌≡◌, ℕ, List, length, Any, Option, None, Some}
+use Rattle.sha2.specs.Sha256.{sha256}
+use Rattle.mb_model.specs.declared.event.Event.{Event}
+use Rattle.mb_model.specs.declared.event.Answered.{Answered}
+use Rattle.mb_model.specs.declared.reply.Reply.TheVariants as reply
+use Rattle.mb_model.specs.declared.role.Role.TheVariants as role
+use Rattle.mb_model.specs.declared.state.State.{State}
+use Rattle.mb_model.specs.declared.tools.Workload.{Workload}
+use Rattle.mb_model.specs.Machine.{World}
+use Rattle.mb_model.specs.Board.{Held, image_of}
+use Rattle.mb_model.specs.Acknowledged.{Shows}
+use Rattle.mb_model.specs.Meaning.{IsWellFormed}
+use Rattle.mb_model.specs.Lines.{Reads, text_of}
+use Rattle.mb_model.specs.Script.{IsScript, Drawn}
+use Rattle.mb_model.specs.Listing.{summary}
+use Rattle.mb_model.specs.Workload.{IsWorkload}
+use Rattle.mb_model.specs.Commands.{Command, find, either, serve, write, print, lack}
+use Rattle.mb_model.specs.RunCommand.{IsServed}
+
+-- the number of the workload, how many rounds it has, and the names of its files
+pub record GenerateNames : Type 0 where
+  pub number : ℕ
+  pub rounds : ℕ
+  pub image : List ℕ
+  pub script : List ℕ
+  pub noise : List ℕ
+
+-- A workload that can be served: its files, the state for which its image stands, and the events of its script with the
+-- draws that its noise gives them.
+pub record Prepared : Type 0 where
+  pub files : Workload
+  pub state : Option State
+  pub events : List Event
+
+-- the files are those of the workload of this number with so many rounds, and stand for this state and these events
+pub record IsPrepared (number rounds : ℕ) (made : Prepared) : Type 0 where
+  pub generated : IsWorkload number rounds made.files
+  pub image : IsWellFormed made.files.image made.state
+  pub undrawn : List Event
+  pub script : Reads IsScript made.files.script undrawn
+  pub noise : Drawn undrawn made.files.noise made.events
+
+-- how many entries a device's log has; a dead device has no log
+abbrev pub log_length : Option State → ℕ
+log_length None = 0
+log_length (Some state) = length state.log
+
+-- what the board holds shows a device whose log has so many entries
+pub record ShowsLog (final : Held) (entries : ℕ) : Type 0 where
+  pub last : World
+  pub shown : Shows final last
+  pub entries_is : entries ≡ log_length last.state
+
+-- The summary is printed, with the length of the log and the hash of the image as the board holds them then. Where
+-- memory was wanted while the events were served, there is none.
+abbrev pub summarise : List Answered → Held → Command
+summarise answered final =
+    either (Any (λ a. a.reply ≡ reply.NoMemory) answered) lack
+    (find (ShowsLog final) (λ entries. print (text_of (summary answered entries (sha256 (image_of final.memory))))))
+
+-- the three files are written, and then the events are served
+abbrev pub serve_workload : GenerateNames → Prepared → Command
+serve_workload names made =
+    write (record { role = role.Image; name = names.image; bytes = made.files.image })
+    (write (record { role = role.Script; name = names.script; bytes = made.files.script })
+    (write (record { role = role.Noise; name = names.noise; bytes = made.files.noise })
+    (serve (IsServed made.state made.events) summarise)))
+
+unfoldable pub generate : GenerateNames → Command
+generate names = find (IsPrepared names.number names.rounds) (serve_workload names)

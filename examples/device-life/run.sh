@@ -1,0 +1,230 @@
+#!/usr/bin/env bash
+# The life of a device, from the keys of its maker and its owners to an audit. Before each step stands a line that says
+# who asks and what; then come the commands and what the program prints. Among a device's events order1 stands for the
+# line of that order. Fails where what is shown is not what expected.txt says.
+#
+#     run.sh               proves and builds the program first
+#     run.sh PROGRAM       takes a program that is built
+#     run.sh --unproved    compiles the program without proving anything, and serves this life by its stored script alone
+#
+# What expected.txt has of keys, the device, the seven orders, the life and its chain was made by another program, and
+# peers/run.sh makes all of it anew by a third. The refusals and the power losses follow from docs/commands.md and
+# docs/formats.md: of the refusals 11, 12 and 13 the first that applies is given; an event in which power fails is
+# answered `stopped`, and the next boot does what was left to be done; and an order's records count from the write of the
+# root's selector on, so that the first write leaves the state before it.
+#
+# The noise is known here, so that the same keys can be made; people take bytes that nobody can guess, as
+# `head -c 32 /dev/urandom` gives them. Works from any current folder; beside the build in crates/*/out/ it writes in a
+# temporary folder alone, which it removes.
+set -euo pipefail
+export LC_ALL=C
+usage="usage: examples/device-life/run.sh [--unproved | PROGRAM]"
+
+here=$(cd "$(dirname "${BASH_SOURCE[0]}")" && pwd)
+crate=$(cd "$here/../../crates/miniboot" && pwd)
+
+if [ $# -gt 1 ]; then
+    echo "$usage" >&2
+    exit 2
+fi
+for tool in cut od paste sed sha256sum tail tr uniq; do
+    if ! command -v "$tool" >/dev/null; then
+        echo "$tool is needed, and is not on the PATH" >&2
+        exit 1
+    fi
+done
+
+work=$(mktemp -d)
+trap 'rm -rf "$work"' EXIT
+
+# Serves the stored script by a program that is compiled without a proof.
+serve_unproved() {
+    echo "Compiling the program without proving anything, which takes about half a minute. It is slow then .."
+    local words=(run data/image data/script data/noise)
+    (cd "$crate" && rt try --seconds 900 -- "${words[@]}") >"$work/printed" 2>"$work/try.log" || {
+        status=$?
+        cat "$work/printed" "$work/try.log" >&2
+        echo "the program ended with status $status" >&2
+        return 1
+    }
+    echo "The program printed, in the device's life:"
+    cut -c 1-100 "$work/printed" | sed 's/^/  /'
+    if ! diff "$crate/stdout" "$work/printed" >&2; then
+        echo "this is not what crates/miniboot/stdout says" >&2
+        return 1
+    fi
+}
+
+if [ "${1-}" = --unproved ]; then
+    echo "This build is NOT PROVED: it shows how the program is used, and nothing about what it guarantees."
+    serve_unproved
+    echo "As expected, by a build that is NOT PROVED. Run it without --unproved for one that is."
+    exit 0
+fi
+
+if [ $# -gt 0 ]; then
+    program=$(realpath "$1")
+else
+    # shellcheck source=../build.sh
+    . "$here/../build.sh"
+    build
+    program=$crate/out/miniboot
+fi
+# shellcheck source=../steps.sh
+. "$here/../steps.sh"
+
+# Writes the draft of an order, and shows its lines: draft NAME LINE..
+draft() {
+    local name=$1
+    shift
+    printf '%s\n' "$@" >"$name.draft"
+    echo "  $name.draft: $(paste -s -d ';' "$name.draft" | sed 's/;/; /g')"
+}
+
+# Has the owner in charge sign a draft, and others countersign the order: signed NAME OFFICER [LAYER OFFICER]..
+signed() {
+    local name=$1
+    ask sign "$2.key" "$name.draft" "$name"
+    shift 2
+    while [ $# -gt 0 ]; do
+        ask countersign "$2.key" "$1" "$name" "$name"
+        shift 2
+    done
+}
+
+# Cuts an order in each of its writes in turn, on a new device each time, and shows once what is found then: the state,
+# and the answer to the order that is given again.
+cut_each_write() {
+    local count
+    for ((count = 1; ; count++)); do
+        cp new other
+        printf 'boot\ncut %s fill ff\n%s\nboot\nstatus\n%s\noff\n' "$count" "$(cat "$1")" "$(cat "$1")" >script
+        miniboot run other script noise
+        [ "$(sed -n 3p printed)" = stopped ] || break
+        echo "    $(sed -n 5p printed), and $1 again: $(sed -n 6p printed)"
+    done | uniq
+}
+
+the_keys() {
+    echo "1. Who issues hardware asks who will be in charge of it: those with keys, as the maker and three officers make:"
+    bytes 35fe183c068bc13ac735a76ac05c37d8d055c34bf945b99c4cdada2e31cc8ca8 >maker.noise
+    bytes d95321bdf284c2032c7a5209b847eae96c3080c86bfc2585312e15361179d1ac >first.noise
+    bytes c0fcde819a0006907629b33ec8a491a8b0d7cbf7ef92d8dfeb3bb22913d91c30 >second.noise
+    bytes 547202fca623e77ec47fe0d1edad602736c85db474f6c085282bd16c65856985 >third.noise
+    ask keygen maker.noise maker.key maker.public
+    ask keygen first.noise first.key first.public
+    ask keygen second.noise second.key second.public
+    ask keygen third.noise third.key third.public
+}
+
+the_device() {
+    echo "2. Who issues hardware asks whose a new device is: layer 1 is the first officer's, and the maker signs the birth:"
+    bytes 12d71d7255b6325df7487678010fc9dbb905c6d5af1a7d986e75ecdfdc39dfbec10b471ceff881272aa5ed819fd9a0e0 >birth.noise
+    printf 'layer one' >layer1.code
+    ask factory birth.noise maker.key first.public layer1.code image
+    hash_of image image
+    cp image new
+}
+
+the_orders() {
+    echo "3. Who loads code asks what it takes: orders signed by the owner in charge, order6 by those above as well:"
+    draft order1 'order establish 2' "owner $(hex <second.public)" 'trust countersigned'
+    signed order1 first
+    order_hash order1
+    draft order2 'order establish 3' "owner $(hex <third.public)" 'trust countersigned'
+    signed order2 second
+    order_hash order2
+    draft order3 'order emergency 2' 'version 1' 'trust countersigned' 'code 616263'
+    signed order3 first
+    order_hash order3
+    draft order4 'order emergency 3' 'version 1' 'trust countersigned' 'code 646566'
+    signed order4 second
+    order_hash order4
+    draft order5 'order newkey 3 epoch'
+    signed order5 third
+    order_hash order5
+    draft order6 'order load 1' 'version 2' 'trust always' 'code 6f6e65'
+    signed order6 first 2 second 3 third
+    order_hash order6
+    draft order7 'order load 3' 'version 2' 'trust countersigned' 'code 676869'
+    signed order7 third
+    order_hash order7
+}
+
+the_refusals() {
+    echo "4. Who loads code asks what wrong orders do: nothing, be they the maker's, for another device, or given again:"
+    draft seized 'order establish 2' "owner $(hex <maker.public)" 'trust always'
+    signed seized maker
+    draft elsewhere 'order establish 2' 'target serial 00000000000000000000000000000000' \
+        "owner $(hex <third.public)" 'trust always'
+    signed elsewhere first
+    head -c 128 /dev/zero >noise
+    cp new other
+    serve other boot seized elsewhere status order1 order1 status off
+}
+
+the_power_losses() {
+    echo "5. Who loads code asks what a power loss leaves: an order that was cut in its first write has not happened:"
+    cp new other
+    serve other boot 'cut 1 fill ff' order1 status boot status order1 status off
+    echo
+    echo "6. Who loads code asks whether each write is as safe: cut in any, it leaves the state before the order or after it:"
+    cut_each_write order1
+}
+
+the_life() {
+    echo "7. Who loads code asks what it changes above: those owners countersigned order6, so that secrets and a key stay:"
+    {
+        bytes 5a987be47b7794ba2aaa984652c5d4ff3afc13c02a0f5a8bbac5a1588077979c690b773fb0d924a596ac06ce1f466354
+        bytes 422955444d76cd3675fb06e09f9f30f4da2dc294bfea6634fe54b0131112488438c36ec36db8b34410d46f5daa6e00cf
+        bytes 0a024813f2f239dfee11d1e30d6ea88579a7eaf5c59e01a09c9f4bc356c0025167d84c2e9f44b415aaed06982d746d93
+        bytes 985ecaf0095ac280c445bc05ad58a247da98bc3d71ca439ee3f9ab2eadc53b025429783c78bd26fea3b0ceeb08cd50ee
+        bytes b97ac61e5047188853c2c5d218bf691c9e6ac1ae4788b3a8358fd8be7ccf9f20
+    } >noise
+    serve image boot order1 order2 order3 order4 order5 go 'put 2 pin 31323334' go 'put 3 token 00ff' \
+        'sign 3 1 68656c6c6f' off boot order6 order7 'get 2 pin' 'get 3 token' status off
+    keep_statement hello
+}
+
+the_chain() {
+    echo "8. Who must believe the device, and trusts maker.public alone, asks which code could ever sign with its key 1:"
+    ask chain image chain
+    hash_of chain chain
+    ask verify maker.public chain 1
+}
+
+the_statement() {
+    echo "9. Who must believe the device asks which code said 'hello': the chain is cut where key 1 signed it:"
+    ask attach chain hello attached
+    hash_of attached attached
+    ask verify maker.public attached 1
+}
+
+the_audit() {
+    echo "10. Who issues hardware asks whether a chain tells what there was: the device's own log lists the same:"
+    ask audit image maker.public chain 1
+    ask audit image maker.public attached 1
+}
+
+cd "$work"
+echo "Making keys, a device and orders, which takes a moment .." >&2
+{
+    the_keys
+    echo
+    the_device
+    echo
+    the_orders
+    echo
+    the_refusals
+    echo
+    the_power_losses
+    echo
+    the_life
+    echo
+    the_chain
+    echo
+    the_statement
+    echo
+    the_audit
+} >told
+compare_told "$here"

@@ -1,0 +1,255 @@
+#!/usr/bin/env python3
+"""What examples/device-life and examples/outbound show: their scripts are followed line by line, over files that are all
+made here.
+
+    examples.py device-life >examples/device-life/expected.txt
+    examples.py outbound >examples/outbound/expected.txt
+
+Each line of a script's steps has one of a few forms.
+"""
+
+import copy
+import pathlib
+import re
+import shlex
+import sys
+
+from chain_readers import Served, World
+from lms import sha256, verify
+from officer import signed_text
+
+TOP = pathlib.Path(__file__).resolve().parents[1]
+ESCAPE = re.compile(r"\\(?:x([0-9a-f]{2})|([0-7]{1,3})|(n))")
+
+
+def unescaped(word):
+    """The bytes of a word of printf."""
+    text = ESCAPE.sub(lambda found: "\n" if found[3] else chr(int(found[1] or found[2], 16 if found[1] else 8)), word)
+    return text.encode("latin-1")
+
+
+def joined(lines):
+    """Lines of a block as one."""
+    return re.sub(r"\n *", "; ", lines)
+
+
+def turns(name, words, statement):
+    """The statement of a loop, once for each of the words."""
+    return "\n".join(statement.replace(f'"${name}"', word) for word in words.split())
+
+
+def statements(script):
+    """The statements of the functions that make the steps, each in one line; a loop is written out."""
+    script = re.sub(r" \\\n *", " ", script)
+    functions = re.findall(r"^(?:before_the_morning|the_\w+)\(\) \{\n(.*?)^\}", script, re.DOTALL | re.MULTILINE)
+    steps = "    echo\n".join(functions)
+    steps = re.compile(r"\{\n(.*?)\n\s*\} >", re.DOTALL).sub(lambda found: f"{{ {joined(found[1])}; }} >", steps)
+    loop = re.compile(r"for (\w+) in ([^;]*); do\n\s*(.*?)\n\s*done", re.DOTALL)
+    steps = loop.sub(lambda found: turns(*found.groups()), steps)
+    return [line.strip() for line in steps.splitlines() if line.strip()]
+
+
+class Judged(Served):
+    """A device that judges the order it is given, and whose power fails in the first write of the order after a `cut`."""
+
+    armed = False
+
+    def reply(self, line):
+        if self.level == 0 and line != "boot":
+            return "refused 1 off"
+        return super().reply(line)
+
+    def off(self, line):
+        self.level = 0
+        return "off"
+
+    def cut(self, line, count, *_):
+        if count != "1":
+            raise ValueError(line)
+        self.armed = True
+        return "armed"
+
+    def command(self, line, order):
+        text, signature, _ = self.world.order_at(line)
+        draft = self.world.drafts[text]
+        refusal = self.refusal(draft, text, signature)
+        if not refusal and not self.armed:
+            return super().command(line, order)
+        self.draws = self.draws[32:]
+        if not refusal:
+            self.level, self.armed = 0, False
+        return refusal or "stopped"
+
+    def refusal(self, draft, text, signature):
+        """Why the order is refused, of what the examples give a device."""
+        first, *lines = (line.split(" ") for line in draft.splitlines())
+        kind, layer = first[1], int(first[2])
+        if any(line[:2] == ["target", "serial"] and line[2] != self.device.serial.hex() for line in lines):
+            return "refused 11 target"
+        if kind == "establish" and self.device.layers[layer]["owner"]:
+            return "refused 12 state"
+        in_charge = self.device.layers[layer - (kind in ("establish", "emergency"))]["owner"]
+        return None if verify(in_charge, signed_text(text), signature) else "refused 13 signature"
+
+
+class Steps(World):
+    """The files of an example, and what it shows."""
+
+    serving = Judged
+
+    def __init__(self):
+        super().__init__({})
+        self.printed, self.shown = "", []
+
+    def follow(self, statement):
+        for pattern, does in FORMS:
+            found = re.fullmatch(pattern, statement)
+            if found:
+                return does(self, *found.groups())
+        raise ValueError(f"a statement of another form: {statement}")
+
+    def show(self, indent, text):
+        self.shown += [indent + line for line in text.splitlines()]
+
+    def words(self, text):
+        """The words of a statement, with the files that stand in them in hexadecimal."""
+        return shlex.split(re.sub(r"\$\(hex <([\w.]+)\)", lambda found: self.files[found[1]].hex(), text))
+
+    def miniboot(self, words):
+        status, self.printed = self.answer(words.split(" "))
+        return status
+
+    # ---- the forms
+
+    def make_key(self, name, noise):
+        self.files["noise"] = bytes.fromhex(noise)
+        self.miniboot(f"keygen noise {name}.key {name}.public")
+
+    def order(self, text):
+        name, officer, draft, *beside = self.words(text)
+        self.files["draft"] = unescaped(draft)
+        self.miniboot(f"sign {officer}.key draft {name}")
+        for layer, other in zip(beside[::2], beside[1::2]):
+            self.miniboot(f"countersign {other}.key {layer} {name} {name}")
+
+    def draft(self, text):
+        name, *lines = self.words(text)
+        self.files[f"{name}.draft"] = "".join(f"{line}\n" for line in lines).encode()
+        self.show("  ", f"{name}.draft: {'; '.join(lines)}")
+
+    def signed(self, text):
+        name, officer, *beside = text.split(" ")
+        self.ask(f"sign {officer}.key {name}.draft {name}")
+        for layer, other in zip(beside[::2], beside[1::2]):
+            self.ask(f"countersign {other}.key {layer} {name} {name}")
+
+    def script_of(self, events):
+        return "".join(self.files[each].decode() if each in self.orders else f"{each}\n" for each in events)
+
+    def serve(self, text):
+        image, *events = self.words(text)
+        self.files["script"] = self.script_of(events).encode()
+        self.show("  ", f"$ miniboot run {image} script noise")
+        self.miniboot(f"run {image} script noise")
+        rows = zip(events, self.printed.splitlines(), strict=True)
+        self.show("    ", "".join(f"{event:21}  {reply}\n" for event, reply in rows))
+
+    def cut_each_write(self, order):
+        """What is found where the order has not happened, and where it has."""
+        for before in ([], [order]):
+            device = copy.deepcopy(self.devices["new"])
+            events = ["boot", *before, "status", order]
+            replies = Judged(self, device, self.files["noise"]).replies(self.script_of(events))
+            self.show("    ", f"{replies[-2]}, and {order} again: {replies[-1]}")
+
+    def keep_statement(self, name):
+        self.files[name] = re.findall(r"^signed \d+ \d+ (.*\n)", self.printed, re.MULTILINE)[-1].encode()
+        self.hash_of(name, name)
+
+    def hash_of(self, name, file):
+        self.show("  ", f"{name}  SHA-256 {sha256(self.content(file)).hex()}")
+
+    def order_hash(self, name):
+        self.show("  ", f"{name}  SHA-256 {sha256(bytes.fromhex(self.files[name].decode()[8:-1])).hex()}")
+
+    def ask(self, words):
+        self.show("  ", f"$ miniboot {words}")
+        status = self.miniboot(words)
+        self.show("    ", self.printed + (f"status {status}\n" if status else ""))
+
+    def copy(self, name, other):
+        self.devices[other] = copy.deepcopy(self.devices[name])
+
+    def write(self, pieces, name):
+        self.files[name] = b"".join(self.piece(piece) for piece in pieces.strip("; ").split("; "))
+
+    def piece(self, piece):
+        command, *words = piece.split(" ", 1)
+        if command == "printf":
+            return unescaped(words[0].strip("'"))
+        if command == "bytes":
+            return bytes.fromhex(words[0])
+        if command == "sevens":
+            return b"\7" * int(words[0])
+        name, first, end = words[0].split()
+        return self.content(name)[int(first) : int(end)]
+
+    def zeros(self, count, name):
+        self.files[name] = bytes(int(count))
+
+
+FORMS = [
+    (r"echo(?: \"(.*)\")?", lambda steps, text: steps.shown.append(text or "")),
+    (r"make_key (\w+) ([0-9a-f]+)", Steps.make_key),
+    (r"order (.*)", Steps.order),
+    (r"draft (.*)", Steps.draft),
+    (r"signed (.*)", Steps.signed),
+    (r"order_hash (\w+)", Steps.order_hash),
+    (r"serve (.*)", Steps.serve),
+    (r"cut_each_write (\w+)", Steps.cut_each_write),
+    (r"keep_statement (\w+)", Steps.keep_statement),
+    (r"hash_of (\w+) (\w+)", Steps.hash_of),
+    (r"ask (.*)", Steps.ask),
+    (r"miniboot (.*)", Steps.miniboot),
+    (r"cp (\w+) (\w+)", Steps.copy),
+    (r"head -c (\d+) /dev/zero >(\w+)", Steps.zeros),
+    (r"\{ (.*) \} >(\w+)", Steps.write),
+    (r"((?:bytes|printf|sevens|part) .*) >([\w.]+)", Steps.write),
+]
+
+
+def followed(root, example):
+    steps = Steps()
+    for statement in statements((root / "examples" / example / "run.sh").read_text()):
+        steps.follow(statement)
+    return steps
+
+
+def compare_shown(source, steps):
+    """Each line is compared; those that are no sentence count."""
+    found, wanted = steps.shown, source.text.splitlines()
+    for here, there in zip(found, wanted):
+        if there.startswith("  "):
+            source.compare("line", here, there)
+    if found != wanted:
+        source.compare("all lines", found, wanted)
+
+
+def outbound(source):
+    compare_shown(source, followed(source.root, "outbound"))
+
+
+def device_life(source):
+    """The stored run is the same life: its device is the new one, and its script and noise are those served last."""
+    steps = followed(source.root, "device-life")
+    compare_shown(source, steps)
+    stored = source.root / "crates/miniboot"
+    files = {"data/image": steps.devices["new"].image(), "data/script": steps.files["script"], "data/noise": steps.files["noise"]}
+    for name, made in files.items():
+        source.compare(f"stored {name}", sha256(made).hex(), sha256((stored / name).read_bytes()).hex())
+    replies = Judged(steps, copy.deepcopy(steps.devices["new"]), files["data/noise"]).replies(files["data/script"].decode())
+    source.compare("stored stdout", replies, (stored / "stdout").read_text().splitlines())
+
+
+if __name__ == "__main__":
+    print("\n".join(followed(TOP, sys.argv[1]).shown))
