@@ -17,7 +17,7 @@ from sources import HEX
 from top_readers import Host, private_key
 
 TOKEN = re.compile(r'"(?:[^"\\]|\\.)*"|[A-Za-z_][\w:]*|\d[\d_]*|[()\[\]]')
-BIRTHS = "crates/mb_top/src/tests/births.rt"
+BIRTHS = "crates/mb_lives/src/tests/births.rt"
 DEAD = b"\xff" * chains.FLASH + bytes(chains.BBRAM)
 
 

@@ -21,26 +21,26 @@ from sources import Source
 
 HERE = pathlib.Path(__file__).resolve().parent
 
-CHAINS = "crates/mb_top/src/tests/chains.rt"
+CHAINS = "crates/mb_lives/src/tests/chains.rt"
 READERS = {
     "peers/rfc8554.txt": readers.standard,
     "crates/mb_lms/src/tests.rt": readers.lms_keys,
     "crates/mb_lms/src/tests/widths.rt": readers.lms_signatures,
     "crates/mb_lms/src/tests/heights.rt": readers.lms_signatures,
-    "crates/mb_signer/src/tests.rt": readers.signer,
-    "crates/mb_command/src/tests.rt": readers.commands_orders,
-    "crates/mb_officer/src/tests.rt": readers.key_files,
-    "crates/mb_officer/src/tests/orders.rt": readers.officers_orders,
+    "crates/mb_vectors/src/tests/signing.rt": readers.signer,
+    "crates/mb_vectors/src/tests/orders.rt": readers.commands_orders,
+    "crates/mb_texts/src/tests/keys.rt": readers.key_files,
+    "crates/mb_texts/src/tests/orders.rt": readers.officers_orders,
     "crates/mb_cuts/src/tests/images.rt": readers.pending_images,
     "crates/mb_cuts/src/tests/regions.rt": readers.replaced_regions,
     "crates/mb_cuts/src/tests/roots.rt": readers.next_root,
-    "crates/mb_generate/src/tests.rt": readers.workloads,
-    "crates/mb_orders/src/tests/signed.rt": readers.judged_orders,
-    "crates/mb_top/src/tests/births.rt": top_readers.births,
+    "crates/mb_texts/src/tests/workloads.rt": readers.workloads,
+    "crates/mb_rules/src/tests/signed.rt": readers.judged_orders,
+    "crates/mb_lives/src/tests/births.rt": top_readers.births,
     CHAINS: chain_readers.chains_tests,
-    "crates/mb_top/src/tests/devices.rt": top_readers.plays,
-    "crates/mb_top/src/tests/keys.rt": top_readers.plays,
-    "crates/mb_top/src/tests/sign.rt": top_readers.signed_orders,
+    "crates/mb_lives/src/tests/devices.rt": top_readers.plays,
+    "crates/mb_lives/src/tests/keys.rt": top_readers.plays,
+    "crates/mb_lives/src/tests/sign.rt": top_readers.signed_orders,
     "examples/device-life/expected.txt": examples.device_life,
     "examples/outbound/expected.txt": examples.outbound,
 }

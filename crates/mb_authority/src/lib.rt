@@ -17,6 +17,3 @@ pub use kinds::{change_by, renews};
 pub use layers::{is_in, is_owned, is_runnable, layer_of};
 pub use rights::{authority, condition};
 pub use targets::target_fails;
-
-#[cfg(test)]
-mod tests;

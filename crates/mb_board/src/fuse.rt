@@ -112,27 +112,3 @@ impl Fuse {
         Ok(())
     }
 }
-
-#[cfg(test)]
-mod tests {
-    use super::*;
-
-    #[test]
-    fn last_count_of_stops_stands(rt: HostRuntime) {
-        let tear = Tear {
-            keep: 0,
-            fill: [9; 16],
-            fill_length: 1,
-        };
-        let mut fuse = Fuse {
-            cut: Some(Cut { count: 1, tear }),
-            stops: u64::MAX,
-            writes: 0,
-        };
-        for _ in 0..3 {
-            assert!(rt; fuse.pass().is_ok());
-        }
-        assert!(rt; fuse.is_armed());
-        assert_eq!(rt; fuse.writes, 3);
-    }
-}

@@ -382,6 +382,3 @@ fn append(answered: &mut Vec<Answered>, answer: Answered)
         unreachable!();
     }
 }
-
-#[cfg(test)]
-mod tests;

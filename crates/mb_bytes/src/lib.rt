@@ -13,8 +13,6 @@ pub mod example;
 mod fields;
 mod keys;
 mod puts;
-#[cfg(test)]
-mod tests;
 
 pub use cursor::{Cursor, Short};
 pub use fields::{

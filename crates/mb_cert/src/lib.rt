@@ -14,8 +14,6 @@ mod chain;
 mod end;
 mod statement;
 mod statement_line;
-#[cfg(test)]
-mod tests;
 
 pub use attached::attach;
 pub use certificate::{certifies, leaf_number};

@@ -13,8 +13,6 @@ mod kind;
 mod order;
 mod signed;
 mod targets;
-#[cfg(test)]
-mod tests;
 
 pub use body::body_length;
 pub use end::OrderEnd;

@@ -14,6 +14,3 @@ mod script;
 
 pub use make::workload;
 pub use mb_model::Workload;
-
-#[cfg(test)]
-mod tests;

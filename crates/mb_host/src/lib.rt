@@ -13,6 +13,3 @@ mod whole;
 pub use host::{Host, HostEnd, HostFailed};
 pub use memory::MemoryHost;
 pub use real::RealHost;
-
-#[cfg(test)]
-mod tests;

@@ -24,6 +24,3 @@ mod validity;
 
 pub use count::log_length;
 pub use image::{ImageEnd, stand_for};
-
-#[cfg(test)]
-mod tests;

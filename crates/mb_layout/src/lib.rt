@@ -20,8 +20,6 @@ mod root;
 mod row;
 mod stored;
 mod stored_entries;
-#[cfg(test)]
-mod tests;
 mod usage;
 
 pub use area::{fill_area, public_at_start, record_at_start, record_in, region_in, root_in};

@@ -21,6 +21,3 @@ pub use keys::born;
 pub use life::{BornKey, Life, ends, lives};
 pub use rules::follows;
 pub use serial::serial_of;
-
-#[cfg(test)]
-mod tests;

@@ -22,8 +22,6 @@ mod reply;
 mod role;
 mod state;
 mod stored;
-#[cfg(test)]
-mod tests;
 mod tools;
 
 pub use bytes::Bytes;

@@ -28,6 +28,3 @@ pub use mb_model::{BadRecord, Keyfile};
 pub use order_line::{OrderLineEnd, read_order_line, write_order_line};
 pub use public_key::read_public_key;
 pub use signing::{SignEnd, countersign, sign_order};
-
-#[cfg(test)]
-mod tests;

@@ -16,6 +16,3 @@ mod signatures;
 pub use end::JudgeEnd;
 pub use judging::judge;
 pub use plan::Plan;
-
-#[cfg(test)]
-mod tests;

@@ -9,8 +9,6 @@ mod draws;
 mod events;
 mod replies;
 mod script;
-#[cfg(test)]
-mod tests;
 mod words;
 
 pub use draws::{ShortNoise, place_draws};

@@ -16,6 +16,3 @@ mod uses;
 pub use signing::{public, public_kept, sign, sign_kept};
 pub use tree::KeptTree;
 pub use uses::{OneUse, Uses, take_index};
-
-#[cfg(test)]
-mod tests;

@@ -28,6 +28,3 @@ mod words;
 
 pub use commands::top;
 pub use line::{NoWords, USAGE, VERSION, program};
-
-#[cfg(test)]
-mod tests;

@@ -16,6 +16,3 @@ pub use chain::verify;
 pub use listing::write_listing;
 pub use mb_model::Report;
 pub use refusal::ChainRefusal;
-
-#[cfg(test)]
-mod tests;

@@ -10,8 +10,6 @@ mod hexadecimal;
 mod lines;
 mod numbers;
 mod said;
-#[cfg(test)]
-mod tests;
 
 pub use hexadecimal::{read_array, read_hex};
 pub use lines::{after_word, split_at_byte, split_line};

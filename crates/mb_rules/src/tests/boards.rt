@@ -1,0 +1,193 @@
+//! Power losses, tampering and an answer on the board that simulates a device.
+
+ghost use Rattle.std.specs.Prelude.{◌≡◌, ◌∷◌, ◌≤◌, [], length, true, false, All, IfOk, None};
+ghost use Rattle.mb_model.specs.Memory.{IsBlank};
+ghost use Rattle.mb_model.specs.Script.{IsScriptEvent};
+ghost use Rattle.mb_model.specs.Board.{IsLoaded, image_of, loaded};
+ghost use Rattle.mb_board.specs.Calls.{power_of, level_of};
+ghost use Rattle.mb_board.specs.Cuts.{is_armed};
+
+use mb_board::{Board, SimBoard, Stopped};
+use mb_model::{Event, Events, FLASH_LENGTH, IMAGE_LENGTH, NoMemory, Reply, Tear};
+use mb_ratchet::Register;
+use std::alloc::Global;
+use std::test::Fail;
+
+// So many of the same byte.
+fn filled(alloc: Global, byte: u8, count: usize) -> Result<Vec<u8>, NoMemory>
+    ensures { IfOk result (λ bytes. (length bytes.items ≡ count) × All (λ item. item ≡ byte) bytes.items) }
+{
+    Ok(vec![in alloc; byte; count]?)
+}
+
+// A board with this image, on which this event waits.
+fn loaded_board(alloc: Global, image: &[u8], event: Event) -> Result<SimBoard, NoMemory>
+    requires image { length image.now ≡ 1077248 }
+    requires event { IsScriptEvent event }
+    ensures { IfOk result (λ board. (board.power ≡ false) × IsLoaded board.memory
+        × (image_of board.memory ≡ image.now) × (board.ledger ≡ loaded board.memory (event ∷ []))
+        × (is_armed board.fuse.cut ≡ false)) }
+{
+    let mut events = Events::new(alloc);
+    events.push(event)?;
+    let mut board = SimBoard::new(alloc);
+    board.load(alloc, image, events)?;
+    Ok(board)
+}
+
+// A board with zeros alone, on which power will fail in the third write call. So many bytes of that call are kept, and
+// the others are 0xAA and 0xBB in turn.
+fn armed_board(alloc: Global, keep: u32) -> Result<SimBoard, NoMemory>
+    requires { keep ≤ 1048576 }
+    ensures { IfOk result (λ board. (board.power ≡ false) × IsLoaded board.memory) }
+{
+    let fill = [0xAA, 0xBB, 0, 0, 0, 0, 0, 0, 0, 0, 0, 0, 0, 0, 0, 0];
+    let tear = Tear {
+        keep,
+        fill,
+        fill_length: 2,
+    };
+    let image = filled(alloc, 0, IMAGE_LENGTH)?;
+    let mut board = loaded_board(alloc, &image, Event::Cut { count: 3, tear })?;
+    let _event = board.take();
+    Ok(board)
+}
+
+// A kind of write call.
+#[derive(Clone, Copy)]
+enum Kind {
+    Erase,
+    Program,
+    Write,
+}
+
+// A write call of this kind.
+fn call(board: &mut SimBoard, kind: Kind) -> Result<(), Stopped>
+    requires on { board.old.power ≡ true }
+    requires level { board.old.level ≡ 1 }
+    requires loaded { IsLoaded board.old.memory }
+    ensures power { board.new.power ≡ power_of result }
+    ensures level { board.new.level ≡ level_of result 1 }
+    ensures loaded { IsLoaded board.new.memory }
+{
+    match kind {
+        Kind::Erase => board.flash_erase(1),
+        Kind::Program => board.program(4096, &[1, 2, 3, 4, 5]),
+        Kind::Write => board.bbram_write(4096, &[1, 2, 3, 4, 5]),
+    }
+}
+
+// The bytes at the end of the range of a call of this kind, and those after it.
+fn read(board: &mut SimBoard, kind: Kind) -> [u8; 6]
+    requires off { board.old.power ≡ false }
+    requires loaded { IsLoaded board.old.memory }
+{
+    board.power_on();
+    board.raise();
+    let mut bytes = [0; 6];
+    match kind {
+        Kind::Erase => board.flash_read(8188, &mut bytes),
+        Kind::Program => board.flash_read(4096, &mut bytes),
+        Kind::Write => board.bbram_read(4096, &mut bytes),
+    }
+    bytes
+}
+
+// What the third of these calls leaves, if it is stopped and no other is.
+fn third(
+    alloc: Global,
+    keep: u32,
+    first: Kind,
+    second: Kind,
+    third: Kind,
+) -> Result<Option<[u8; 6]>, NoMemory>
+    requires { keep ≤ 1048576 }
+{
+    let mut board = armed_board(alloc, keep)?;
+    board.power_on();
+    board.raise();
+    if call(&mut board, first).is_err() || call(&mut board, second).is_err() {
+        return Ok(None);
+    }
+    match call(&mut board, third) {
+        Ok(()) => Ok(None),
+        Err(Stopped) => Ok(Some(read(&mut board, third))),
+    }
+}
+
+#[test]
+fn third_call_is_stopped(rt: HostRuntime) -> Result<(), Fail> {
+    let alloc = rt.alloc();
+    let left = third(alloc, 2, Kind::Erase, Kind::Program, Kind::Write)?;
+    assert_eq!(rt; left, Some([1, 2, 0xAA, 0xBB, 0xAA, 0]));
+    let left = third(alloc, 4, Kind::Write, Kind::Erase, Kind::Program)?;
+    assert_eq!(rt; left, Some([1, 2, 3, 4, 0xAA, 0xFF]));
+    let left = third(alloc, 4095, Kind::Program, Kind::Write, Kind::Erase)?;
+    assert_eq!(rt; left, Some([0xFF, 0xFF, 0xFF, 0xAA, 0, 0]));
+    Ok(())
+}
+
+#[test]
+fn whole_range_is_kept(rt: HostRuntime) -> Result<(), Fail> {
+    let left = third(rt.alloc(), 5, Kind::Erase, Kind::Erase, Kind::Program)?;
+    assert_eq!(rt; left, Some([1, 2, 3, 4, 5, 0xFF]));
+    Ok(())
+}
+
+// Copies the image, if the board hands out that it was opened.
+fn copy_tampered(board: &mut SimBoard, out: &mut [u8]) -> bool
+    requires out { board.old.ledger.out ≡ None }
+    requires loaded { IsLoaded board.old.memory }
+    requires room { length out.old ≡ 1077248 }
+{
+    match board.take() {
+        Some(Event::Tamper) => {
+            board.copy_image(out);
+            true
+        }
+        _ => false,
+    }
+}
+
+#[test]
+fn tampering_clears_the_bbram(rt: HostRuntime) -> Result<(), Fail> {
+    let alloc = rt.alloc();
+    let mut image = filled(alloc, 7, IMAGE_LENGTH)?;
+    let mut board = loaded_board(alloc, &image, Event::Tamper)?;
+    assert!(rt; copy_tampered(&mut board, &mut image));
+    let ends = [
+        image[FLASH_LENGTH - 1],
+        image[FLASH_LENGTH],
+        image[IMAGE_LENGTH - 1],
+    ];
+    assert_eq!(rt; ends, [7, 0, 0]);
+    Ok(())
+}
+
+// Answers that power is off, if that is handed out, on a board whose device is dead.
+fn answer_off(board: &mut SimBoard) -> bool
+    requires off { board.old.power ≡ false }
+    requires loaded { IsLoaded board.old.memory }
+    requires unarmed { is_armed board.old.fuse.cut ≡ false }
+    requires dead { IsBlank (image_of board.old.memory) }
+    requires waits { board.old.ledger ≡ loaded board.old.memory (Event.Off ∷ []) }
+{
+    match board.take() {
+        Some(event) => {
+            board.answer(event, Reply::Off);
+            true
+        }
+        None => false,
+    }
+}
+
+#[test]
+fn takes_an_answer(rt: HostRuntime) -> Result<(), Fail> {
+    let alloc = rt.alloc();
+    let image = filled(alloc, 0, IMAGE_LENGTH)?;
+    let mut board = loaded_board(alloc, &image, Event::Off)?;
+    assert!(rt; answer_off(&mut board));
+    assert_eq!(rt; board.answered().len(), 1);
+    assert_eq!(rt; board.events_left(), 0);
+    Ok(())
+}

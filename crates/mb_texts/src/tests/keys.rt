@@ -1,0 +1,54 @@
+//! Keys made, written and read, by values of another program.
+
+use hex::FromHex;
+use mb_officer::{BadRecord, make_key, read_keyfile, write_keyfile};
+use std::process::Abort;
+use std::test::Fail;
+
+/// The key that is made from the noise has this file, and is read from it again.
+fn makes(rt: &impl Abort, noise: &str, file: &str) -> Result<(), Fail> {
+    let noise = <[u8; 32] as FromHex>::from_hex(noise)?;
+    let file = <[u8; 56] as FromHex>::from_hex(file)?;
+    let key = make_key(&noise);
+    assert_eq!(rt; key.next, 0);
+    assert_eq!(rt; write_keyfile(&key), file);
+    assert!(rt; read_keyfile(&file) == Ok(key));
+    Ok(())
+}
+
+#[test]
+fn a_key_of_zeros(rt: HostRuntime) -> Result<(), Fail> {
+    makes(
+        &rt,
+        "0000000000000000000000000000000000000000000000000000000000000000",
+        "4d424b31415f9f8fc3e618dd8524180f3db6a7c9eb495b20b522240648df79d22ec304c592f6d73c19b49bf70f19f34f7288\
+        8b1a00000000",
+    )
+}
+
+/// How many bytes are read of the file of a key with this next index, and the place that is wrong.
+const BROKEN: &[(usize, u8, u32)] = &[
+    (0, 0, 0),
+    (3, 0, 0),
+    (19, 0, 4),
+    (51, 0, 20),
+    (55, 0, 52),
+    (57, 32, 56),
+    (56, 33, 52),
+];
+
+/// So many bytes of the file of a key with this next index, and a byte more, are wrong at this place.
+fn is_wrong(rt: &impl Abort, length: usize, next: u8, at: u32) {
+    let mut file = [0; 57];
+    file[..56].copy_from_slice(&write_keyfile(&make_key(&[0; 32])));
+    file[55] = next;
+    assert!(rt; length <= 57);
+    assert_eq!(rt; read_keyfile(&file[..length]).err(), Some(BadRecord { at }));
+}
+
+#[test]
+fn broken_files_are_refused(rt: HostRuntime) {
+    for (length, next, at) in BROKEN {
+        is_wrong(&rt, *length, *next, *at);
+    }
+}

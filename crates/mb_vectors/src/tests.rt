@@ -1,0 +1,16 @@
+//! What is spelled in bytes, both ways, and what is signed.
+
+mod chains;
+mod edits;
+mod fields;
+mod limits;
+mod model;
+mod orders;
+mod public;
+mod records;
+mod signing;
+mod spelled;
+mod statement_lines;
+mod statements;
+mod values;
+mod vectors;
