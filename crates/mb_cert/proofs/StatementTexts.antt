@@ -9,7 +9,7 @@ use Rattle.mb_format.specs.Combinators.{number_bytes}
 use Rattle.mb_format.proofs.Whole.{IsClearWhole-from_exact}
 use Rattle.mb_model.specs.declared.entry.Statement.{Statement}
 use Rattle.mb_model.specs.Texts.{IsHex}
-use Rattle.mb_model.specs.Lines.{HasLines, Reads, TextFailsAtLine}
+use Rattle.mb_model.specs.Lines.{HasLines, TextFailsAtLine}
 use Rattle.mb_model.specs.ChainFormat.{statement_format}
 use Rattle.mb_model.specs.OrderLines.{IsStatementLine}
 use Rattle.mb_model.proofs.EntryFormatLaws.{statement_exact}
@@ -61,15 +61,6 @@ some_line : IsStatementLine (encode_lower (sample_bytes some_signature) ∷ []) 
 some_line = sample_line some_signature (length-replicate {A = ℕ} 2348 0) (zeros_are 2348)
 
 -- ---- texts
-
--- the first line is that of a statement, and nothing follows it
-pub read_alone : (text line rest : List ℕ) (statement : Statement) → SplitsLine text line rest → 0 < length text → rest ≡ []
-    → IsStatementLine (line ∷ []) statement → Reads IsStatementLine text statement
-read_alone text line rest statement splits some none is = record {
-  lines = line ∷ [];
-  has = with_line text line rest [] splits some (subst (λ (x : List ℕ). HasLines x []) (sym none) HasLines-nil);
-  stands = is;
-}
 
 -- there is no line
 pub no_line : (text : List ℕ) → text ≡ [] → TextFailsAtLine IsStatementLine text 1

@@ -17,7 +17,7 @@ use Rattle.mb_model.specs.declared.stored.Root.{Root}
 use Rattle.mb_model.specs.EntryFormat.{entry_format}
 use Rattle.mb_model.specs.RootFormat.{outgoing_format, pending_format, root_format}
 use Rattle.mb_model.specs.StoredLog.{unsigned_by, outgoing_of}
-use Rattle.mb_model.specs.Flash.{public_entry_format, public_format, flash_area, BeginsWithRecord, with_signature, without_signature, public_of_parts, HoldsPublic}
+use Rattle.mb_model.specs.Flash.{public_entry_format, public_format, flash_area, BeginsWithRecord, with_signature, without_signature, public_of_parts}
 use Rattle.mb_model.specs.Meaning.{RootIn, HoldsRegion, Contents, HoldsContents}
 use Rattle.mb_model.specs.Memory.{IsBlank, life_byte, spare, current, HoldsRecord}
 use Rattle.mb_model.specs.Faults.{SomePublic, SomeRegion}
@@ -56,19 +56,6 @@ none_split flash root area found public entries Q None are is finds there entrie
     one_begun public_format public_exact (flash_area flash root.area) public _ (IsBytes-flash_area flash root.area are) begins some.3.begins
     in
     fails some.1 some.2 (record { whole = entries_are ∙ ap (λ (p : Public). p.entries) same; counted = some.3.counted })
-
--- what is split as the root says is held
-pub holds_split : (flash : List ℕ) (root : Root) (area : List ℕ) (found : Option Public) (public : Public) (entries : List PublicEntry) (signed : List SignedEntry) (unsigned : List Entry)
-    → area ≡ flash_area flash root.area
-    → Finds (λ (p : Public). p) (BeginsWithRecord public_format area) found → found ≡ Some public → entries ≡ public.entries
-    → IsSplit entries root.pending signed unsigned
-    → HoldsPublic flash root public.codes signed unsigned
-holds_split flash root area found public entries signed unsigned is finds there entries_are split =
-    let with_entries : List PublicEntry → Public = λ es. record { codes = public.codes; entries = es } in
-    record {
-      begins = subst (BeginsWithRecord public_format (flash_area flash root.area)) (ap with_entries (sym entries_are ∙ split.whole)) (begins_with flash root area found public is finds there);
-      counted = split.counted;
-    }
 
 -- ---- regions
 

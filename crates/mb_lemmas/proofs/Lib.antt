@@ -1,6 +1,5 @@
 pub mod LogLemmas
 pub mod RuleLemmas
-pub mod LivesLemmas
 pub mod AliveLemmas
 pub mod PresentLemmas
 pub mod ReaderLemmas

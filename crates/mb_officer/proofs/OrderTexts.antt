@@ -10,7 +10,7 @@ use Rattle.mb_format.proofs.Fields.{wide8}
 use Rattle.mb_format.proofs.Whole.{IsClearWhole-from_exact}
 use Rattle.mb_model.specs.declared.order.Order.{Order}
 use Rattle.mb_model.specs.Texts.{IsHex}
-use Rattle.mb_model.specs.Lines.{HasLines, hex_word, Reads, TextFailsAtLine}
+use Rattle.mb_model.specs.Lines.{HasLines, hex_word, TextFailsAtLine}
 use Rattle.mb_model.specs.Rules.{kind_of}
 use Rattle.mb_model.specs.OrderFormat.{order_byte, target_format, act_by, body_of, body_format, order_body, sized_signature_format, countersignatures_format, order_format}
 use Rattle.mb_model.specs.OrderLines.{IsOrderLine}
@@ -25,15 +25,6 @@ use Rattle.mb_words.specs.Words.{Finds, SplitsLine}
 use Rattle.mb_words.proofs.NextLines.{with_line}
 
 -- ---- texts
-
--- the first line is that of an order, and nothing follows it
-pub read_alone : (text line rest : List ℕ) (order : Order) → SplitsLine text line rest → 0 < length text → rest ≡ []
-    → IsOrderLine (line ∷ []) order → Reads IsOrderLine text order
-read_alone text line rest order splits some none is = record {
-  lines = line ∷ [];
-  has = with_line text line rest [] splits some (subst (λ (x : List ℕ). HasLines x []) (sym none) HasLines-nil);
-  stands = is;
-}
 
 -- there is no line
 pub no_line : (text : List ℕ) → text ≡ [] → TextFailsAtLine IsOrderLine text 1

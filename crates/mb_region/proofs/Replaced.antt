@@ -72,13 +72,6 @@ region_held : (slot : ℕ) (memory : Memory) (contents : Contents) → IsRegionS
 region_held slot memory contents (inl same) holds = subst (λ (n : ℕ). HoldsRegion (current memory.bbram n) (region_in_slot n contents)) (sym same) holds.two
 region_held slot memory contents (inr same) holds = subst (λ (n : ℕ). HoldsRegion (current memory.bbram n) (region_in_slot n contents)) (sym same) holds.three
 
-pub pending_held : (slot : ℕ) (fate : Fate) (memory : Memory) → IsRegionSlot slot → IsPending slot fate memory → CanBeFated fate (current memory.bbram slot)
-pending_held slot fate memory which is = record {
-  region = region_in_slot slot is.contents;
-  holds = region_held slot memory is.contents which is.holds;
-  stored = is.stored;
-}
-
 kept_in : (b : Bool) (contents : Contents) → ◌≡◌ {A = Contents} (if b then record contents { two = fated Keep (if b then contents.two else contents.three) } else record contents { three = fated Keep (if b then contents.two else contents.three) }) contents
 kept_in true contents = ap (λ (r : Region). let c : Contents = record contents { two = r } in c) (kept_as_before contents.two)
 kept_in false contents = ap (λ (r : Region). let c : Contents = record contents { three = r } in c) (kept_as_before contents.three)

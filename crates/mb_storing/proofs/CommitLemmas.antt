@@ -333,18 +333,9 @@ unfolding committed
 commit_stands flash bbram state order draw area sized valid allowed passes holds =
     stands_for_meant flash bbram (committed state order draw area) (obeyed state order draw) sized holds (commit_index state order draw area) (commit_means state order draw area valid allowed passes)
 
--- what is committed, piece by piece
-pub committed_root_is : (state : State) (order : Order) (draw : List ℕ) (area : ℕ) → (committed state order draw area).root ≡ root_for state order draw area
-unfolding committed
-committed_root_is state order draw area = refl
-
 pub committed_area_is : (state : State) (order : Order) (draw : List ℕ) (area : ℕ) → (root_for state order draw area).area ≡ area
 unfolding root_for
 committed_area_is state order draw area = refl
-
-pub committed_pending_is : (state : State) (order : Order) (draw : List ℕ) (area : ℕ) → (root_for state order draw area).pending ≡ Some (pending_for state order draw)
-unfolding root_for
-committed_pending_is state order draw area = refl
 
 -- ---- the work
 
