@@ -20,6 +20,7 @@ pub mod DraftLemmas
 pub mod DrawLemmas
 pub mod OrderLineLemmas
 pub mod MeaningLemmas
+pub mod PublicLemmas
 pub mod Splits
 pub mod FaultLemmas
 pub mod FactoryLemmas
