@@ -3,6 +3,7 @@ pub mod RuleLemmas
 pub mod AliveLemmas
 pub mod PresentLemmas
 pub mod ReaderLemmas
+pub mod SameLayers
 pub mod RegionLemmas
 pub mod ValidRegions
 pub mod FateLemmas
