@@ -1,25 +1,22 @@
 -- How the steps of settling join.
-use Rattle.std.proofs.Common.{◌≡◌, ◌≢◌, ℕ, ◌-◌, ◌≤◌, inl, inr, List, [], length, Option, None, Some, refl, sym, ap, subst, ◌∙◌, arith}
+use Rattle.std.proofs.Common.{◌≡◌, ◌≢◌, ℕ, ◌-◌, ◌≤◌, inl, inr, List, [], length, refl, sym, ap, subst, ◌∙◌, arith}
 use Rattle.mb_format.specs.Format.{Spells}
 use Rattle.mb_model.specs.declared.state.State.{State}
 use Rattle.mb_model.specs.declared.stored.Root.{Root}
 use Rattle.mb_model.specs.declared.stored.Fate.{Fate}
-use Rattle.mb_model.specs.declared.stored.Outgoing.{Outgoing}
-use Rattle.mb_model.specs.declared.stored.Pending.{Pending}
-use Rattle.std.specs.Option.{IfSome}
 use Rattle.std.specs.Global.{Vec}
 use Rattle.std.specs.Vec.{vec_capacity}
-use Rattle.mb_format.specs.Combinators.{optional}
 use Rattle.mb_model.proofs.FormatBounds.{public_short}
 use Rattle.mb_model.specs.declared.entry.SignedEntry.{SignedEntry}
 use Rattle.mb_model.specs.Log.{entries_of, layers_of}
-use Rattle.mb_model.specs.RootFormat.{outgoing_format, pending_format, root_format}
+use Rattle.mb_model.specs.RootFormat.{root_format}
 use Rattle.mb_model.specs.Board.{Memory, IsLoaded}
 use Rattle.mb_model.specs.Memory.{IsBlank, HoldsRecord}
-use Rattle.mb_model.specs.StoredLog.{unsigned_by, outgoing_of, completed, AreCounted}
+use Rattle.mb_model.specs.StoredLog.{completed, AreCounted}
 use Rattle.mb_model.specs.Flash.{public_format, public_of_parts, flash_area, BeginsArea}
 use Rattle.mb_model.specs.Meaning.{RootIn, Contents, meant, fated, fate_of_two, fate_of_three}
 use Rattle.mb_model.specs.Valid.{IsValidState}
+use Rattle.mb_lemmas.proofs.PublicLemmas.{IsBounded, bounded_by}
 use Rattle.mb_storing.specs.Commits.{two_done, both_done, at_rest, has_both}
 use Rattle.mb_storing.specs.Holding.{Holds, Means, KeepsContents, KeepsMeaning}
 use Rattle.mb_storing.specs.InForce.{AgreeBesides}
@@ -226,31 +223,6 @@ finish_keeps first applied written last sized before fates kept signs (inl same)
 finish_keeps first applied written last sized before fates kept signs (inr finish) = settling_keeps first last sized (settled first applied written last fates kept signs finish)
 
 -- ---- what a root that is stored has
-
-pub record IsBounded (root : Root) : Type 0 where
-  pub area : root.area ≤ 1
-  pub uses : root.uses ≤ 32
-  pub outgoing : IfSome (outgoing_of root.pending) (λ outgoing. outgoing.uses ≤ 32)
-  pub unsigned : unsigned_by root.pending ≤ 2
-
-handed_over : (outgoing : Option Outgoing) → (optional outgoing_format).Allowed outgoing → IfSome outgoing (λ o. o.uses ≤ 32)
-unfolding outgoing_format
-handed_over None is = tt
-handed_over (Some outgoing) is = is.1.1.1
-
-pending_outgoing : (pending : Option Pending) → (optional pending_format).Allowed pending → IfSome (outgoing_of pending) (λ o. o.uses ≤ 32)
-unfolding pending_format
-pending_outgoing None is = tt
-pending_outgoing (Some pending) is = handed_over pending.outgoing is.1.1.0
-
-pending_unsigned : (pending : Option Pending) → (optional pending_format).Allowed pending → unsigned_by pending ≤ 2
-unfolding pending_format
-pending_unsigned None is = omega arith
-pending_unsigned (Some pending) is = is.1.0.1
-
-bounded_by : (root : Root) → root_format.Allowed root → IsBounded root
-unfolding root_format
-bounded_by root is = record { area = is.1.0.1; uses = is.1.1.1.1.0.1; outgoing = pending_outgoing root.pending is.1.1.1.1.1; unsigned = pending_unsigned root.pending is.1.1.1.1.1 }
 
 pub bounded : (bbram : List ℕ) (root : Root) → IsOnlyRoot bbram root → IsBounded root
 bounded bbram root only = bounded_by root only.holds.holds.spelled.allowed

@@ -1,12 +1,11 @@
 -- Writers one after the other.
 use Rattle.std.proofs.Common.{◌≡◌, ℕ, suc, ◌+◌, ◌-◌, ◌<◌, ◌≤◌, List, [], ◌∷◌, ◌++◌, length, get_or, take, drop, Result, Ok, Err, refl, sym, ap, ◌∙◌, append_assoc, append-nil, add-one, drop-cons, length-append, arith}
-use Rattle.std.proofs.lemmas.List.{take-take, take_at, take_all, take-append-le}
+use Rattle.std.proofs.lemmas.List.{take-take, take_at, take-append-le}
 use Rattle.std.specs.Global.{Vec}
 use Rattle.std.specs.Vec.{vec_len, vec_capacity}
-use Rattle.std.specs.Result.{IsOk}
 use Rattle.mb_format.specs.Format.{Format}
 use Rattle.mb_format.specs.Combinators.{items}
-use Rattle.mb_bytes.specs.Puts.{Appends, StopsShort, IsUnwritten, Puts}
+use Rattle.mb_bytes.specs.Puts.{Appends, StopsShort, Puts}
 
 -- a Vec has as many items as its length says
 pub length_items : (v : Vec ℕ) → length v.items ≡ vec_len v
@@ -36,15 +35,6 @@ pub puts_both : {E : Type 0} {a : List ℕ} (b : List ℕ) {old middle : Vec ℕ
 puts_both b new (Ok u) p q = puts_then p q
 puts_both b new (Err e) p q = puts_stop_later p q
 
--- what was appended is taken back
-pub unwritten : {bytes : List ℕ} {old middle new : Vec ℕ} → StopsShort bytes old middle → new.items ≡ take (vec_len old) middle.items → IsUnwritten bytes old new
-unwritten p cut = record { items = cut ∙ p.begins; no_room = p.no_room }
-
--- a chain of puts is Ok where the capacity holds all that it appends
-pub puts_fits : {E : Type 0} (bytes : List ℕ) (old new : Vec ℕ) (result : Result (Unit {0}) E) → Puts bytes old result new → vec_len old + length bytes ≤ vec_capacity old → IsOk result
-puts_fits bytes old new (Ok u) p room = refl
-puts_fits bytes old new (Err e) p room = absurd (omega (arith, p.no_room, room))
-
 -- ---- a loop over the items of a list
 
 -- the item at an offset, and those after it
@@ -61,11 +51,6 @@ pub record IsWriting {A S : Type 0} (item : S → Format A) (next : S → A → 
   pub begins : take (vec_len old) now.items ≡ old.items
   pub longer : vec_len old ≤ vec_len now
   pub capacity : vec_capacity old ≤ vec_capacity now
-
-pub writing_begins : {A S : Type 0} (item : S → Format A) (next : S → A → S) (list : List A) (first : S) (old : Vec ℕ) → IsWriting item next list 0 first first old old
-writing_begins item next list first old =
-    let k : length list - 0 ≡ length list = omega arith in
-    record { items = rw k refl; begins = take_all (vec_len old) old.items (omega (arith, length_items old)); longer = omega arith; capacity = omega arith }
 
 writing_step : {A S : Type 0} (item : S → Format A) (next : S → A → S) (list : List A) (i : ℕ) (state : S) (a : A) → i < length list → drop i list ≡ a ∷ drop (i + 1) list
     → (items item next (length list - i) state).spelling (drop i list) ≡ (item state).spelling a ++ (items item next (length list - (i + 1)) (next state a)).spelling (drop (i + 1) list)

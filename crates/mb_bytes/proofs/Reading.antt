@@ -13,10 +13,6 @@ led_ok {K} {B} {f} {key} {g} {k} {b} {old} {middle} {new} p q = record {
   reads = rw (p.reads, ← p.bytes, q.reads) refl;
 }
 
--- the leading field failed
-pub led_err : {K B : Type 0} {f : Format K} (key : B → K) (g : K → Format B) {at : ℕ} {old new : Cursor} → ReadsErr f old at new → ReadsErr (led f key g) old at new
-led_err key g p = record { bytes = p.bytes; reads = rw p.reads refl }
-
 -- the value after it failed
 pub led_err_later : {K B : Type 0} {f : Format K} {key : B → K} {g : K → Format B} {k : K} {at : ℕ} {old middle new : Cursor} → ReadsOk f old k middle → ReadsErr (g k) middle at new → ReadsErr (led f key g) old at new
 led_err_later {K} {B} {f} {key} {g} {k} {at} {old} {middle} {new} p q = record {

@@ -1,26 +1,23 @@
 -- The line of a statement, and the text that has no other.
 use Rattle.std.proofs.Common.{◌≡◌, ℕ, zero, suc, ◌<◌, inr, List, [], ◌∷◌, length, refl, sym, ap, subst, arith, lit≤}
 use Rattle.std.specs.Prelude.{replicate, codes, Result, Ok, Err}
-use Rattle.std.proofs.lemmas.List.{nil_from_length, length-replicate}
+use Rattle.std.proofs.lemmas.List.{length-replicate}
 use Rattle.hex.specs.Hex.{encode_lower}
 use Rattle.hex.proofs.HexLemmas.{decode_of-encode_lower, length-encode_with}
-use Rattle.mb_format.specs.Format.{IsBytes, Spells, FailsWhole, IsClearWhole}
+use Rattle.mb_format.specs.Format.{IsBytes, Spells}
 use Rattle.mb_format.specs.Combinators.{number_bytes}
-use Rattle.mb_format.proofs.Whole.{IsClearWhole-from_exact}
 use Rattle.mb_model.specs.declared.entry.Statement.{Statement}
 use Rattle.mb_model.specs.Texts.{IsHex}
-use Rattle.mb_model.specs.Lines.{HasLines, Reads, TextFailsAtLine}
 use Rattle.mb_model.specs.ChainFormat.{statement_format}
 use Rattle.mb_model.specs.OrderLines.{IsStatementLine}
-use Rattle.mb_model.proofs.EntryFormatLaws.{statement_exact}
 use Rattle.mb_model.proofs.FormatBounds.{statement_short}
-use Rattle.mb_lemmas.proofs.LineLemmas.{cons_same, HasLines-none, HasLines-nil, HasLines-always, bad_after}
+use Rattle.mb_lemmas.proofs.LineLemmas.{cons_same}
 use Rattle.mb_lemmas.proofs.WordLemmas.{IsHex-same}
-use Rattle.mb_lemmas.proofs.OrderLineLemmas.{empty, statement_one, statement_second}
+use Rattle.mb_lemmas.proofs.OrderLineLemmas.{statement_one}
 use Rattle.mb_words.specs.declared.said.NotSaid.{NotSaid}
 use Rattle.mb_words.specs.declared.said.NotSaid.TheVariants as why
-use Rattle.mb_words.specs.Words.{Finds, SplitsLine}
-use Rattle.mb_words.proofs.NextLines.{with_line}
+use Rattle.mb_words.specs.Words.{Finds}
+use Rattle.mb_words.proofs.OneLine.{IsOneLine}
 
 -- ---- some statement, so that there is a line of one
 
@@ -60,59 +57,13 @@ some_signature = replicate 2348 0
 some_line : IsStatementLine (encode_lower (sample_bytes some_signature) ∷ []) (sample some_signature)
 some_line = sample_line some_signature (length-replicate {A = ℕ} 2348 0) (zeros_are 2348)
 
--- ---- texts
-
--- the first line is that of a statement, and nothing follows it
-pub read_alone : (text line rest : List ℕ) (statement : Statement) → SplitsLine text line rest → 0 < length text → rest ≡ []
-    → IsStatementLine (line ∷ []) statement → Reads IsStatementLine text statement
-read_alone text line rest statement splits some none is = record {
-  lines = line ∷ [];
-  has = with_line text line rest [] splits some (subst (λ (x : List ℕ). HasLines x []) (sym none) HasLines-nil);
-  stands = is;
+pub statement_alone : IsOneLine IsStatementLine
+statement_alone = record {
+  one = statement_one;
+  good = encode_lower (sample_bytes some_signature) ∷ [];
+  value = sample some_signature;
+  stands = some_line;
 }
-
--- there is no line
-pub no_line : (text : List ℕ) → text ≡ [] → TextFailsAtLine IsStatementLine text 1
-no_line text none = record {
-  lines = [];
-  has = subst (λ (x : List ℕ). HasLines x []) (sym none) HasLines-nil;
-  fails = empty IsStatementLine statement_one (encode_lower (sample_bytes some_signature) ∷ []) (sample some_signature) some_line;
-}
-
--- nothing stands after the line of a statement
-alone : (line : List ℕ) (more : List (List ℕ)) (statement : Statement) → IsStatementLine (line ∷ more) statement → IsStatementLine (line ∷ []) statement
-alone line more statement is =
-    let none = nil_from_length more (omega (arith, statement_one (line ∷ more) statement is)) in
-    subst (λ (x : List (List ℕ)). IsStatementLine (line ∷ x) statement) none is
-
--- the first line is that of no statement
-pub first_wrong : (text line rest : List ℕ) → SplitsLine text line rest → 0 < length text
-    → ((statement : Statement) → IsStatementLine (line ∷ []) statement → ⊥) → TextFailsAtLine IsStatementLine text 1
-first_wrong text line rest splits some none =
-    let remaining = HasLines-always rest in
-    record {
-      lines = line ∷ remaining.0;
-      has = with_line text line rest remaining.0 splits some remaining.1;
-      fails = bad_after IsStatementLine [] line remaining.0
-          (record { more = encode_lower (sample_bytes some_signature) ∷ []; value = sample some_signature; stands = some_line })
-          (λ begins. none begins.value (alone line begins.more begins.value begins.stands));
-    }
-
-second_in : (text line rest : List ℕ) (statement : Statement) (lines : List (List ℕ)) → SplitsLine text line rest → 0 < length text → 0 < length rest
-    → IsStatementLine (line ∷ []) statement → HasLines rest lines → TextFailsAtLine IsStatementLine text 2
-second_in text line rest statement [] splits some more is has = absurd (omega (arith, more, ap length (HasLines-none rest has)))
-second_in text line rest statement (other ∷ later) splits some more is has = record {
-  lines = line ∷ other ∷ later;
-  has = with_line text line rest (other ∷ later) splits some has;
-  fails = statement_second line other later statement is;
-}
-
--- another line follows that of a statement
-pub second_wrong : (text line rest : List ℕ) (statement : Statement) → SplitsLine text line rest → 0 < length text → 0 < length rest
-    → IsStatementLine (line ∷ []) statement → TextFailsAtLine IsStatementLine text 2
-second_wrong text line rest statement splits some more is =
-    let remaining = HasLines-always rest in
-    second_in text line rest statement remaining.0 splits some more is remaining.1
 
 -- ---- lines
 
@@ -130,16 +81,6 @@ line_finds line bytes hex (Err why.Form) none =
     none statement (subst (λ (x : List ℕ). Spells statement_format x statement) (sym same) is.spelled)
 line_finds line bytes hex (Err why.NoMemory) none = tt
 
--- bytes that fail somewhere spell no statement
-pub no_statement : (bytes : List ℕ) (offset : ℕ) → IsBytes bytes → FailsWhole statement_format bytes offset → (statement : Statement) → Spells statement_format bytes statement → ⊥
-no_statement bytes offset are fails statement spelled =
-    let whole : IsClearWhole statement_format = IsClearWhole-from_exact statement_exact in
-    whole.never_both bytes statement offset are spelled fails
-
--- nor do bytes that are too many
+-- bytes that are too many spell no statement
 pub too_long : (bytes : List ℕ) → 2481 < length bytes → (statement : Statement) → Spells statement_format bytes statement → ⊥
 too_long bytes long statement spelled = omega (arith, long, ap length spelled.whole, statement_short.short statement spelled.allowed)
-
--- what is not in the grammar is none
-pub none_found : {A : Type 0} (Is : A → Type 0) (e : NotSaid) → e ≡ why.Form → Finds {A = A} Is (Err e) → (a : A) → Is a → ⊥
-none_found {A} Is e form found = subst (λ (x : NotSaid). Finds {A = A} Is (Err x)) form found

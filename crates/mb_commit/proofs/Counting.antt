@@ -1,13 +1,12 @@
 -- The figures of entries, counted one after another.
-use Rattle.std.proofs.Common.{◌≡◌, ℕ, ◌+◌, ◌-◌, ◌^◌, ◌<◌, ◌≤◌, List, [], ◌∷◌, ◌++◌, length, map, take, get_or, Option, None, Some, refl, sym, ap, ◌∙◌, append-nil, append_assoc, length-append, arith}
-use Rattle.std.proofs.lemmas.List.{length-map, take_more, take_all, length-take-le, map-append}
+use Rattle.std.proofs.Common.{◌≡◌, ℕ, ◌+◌, ◌-◌, ◌^◌, ◌<◌, ◌≤◌, List, [], ◌∷◌, ◌++◌, length, map, take, Option, None, Some, refl, sym, ap, ◌∙◌, append-nil, length-append, arith}
+use Rattle.std.proofs.lemmas.List.{length-map}
 use Rattle.std.proofs.Math.Seq.{append_snoc}
 use Rattle.mb_format.specs.Format.{Spells}
 use Rattle.mb_model.specs.declared.entry.Entry.{Entry}
-use Rattle.mb_model.specs.declared.entry.PublicEntry.{PublicEntry}
 use Rattle.mb_model.specs.declared.entry.SignedEntry.{SignedEntry}
 use Rattle.mb_model.specs.declared.state.Codes.{Codes}
-use Rattle.mb_model.specs.Flash.{public_format, public_of_parts, with_signature, without_signature}
+use Rattle.mb_model.specs.Flash.{public_format, public_of_parts, with_signature}
 use Rattle.mb_model.specs.Log.{entries_of}
 use Rattle.mb_lemmas.proofs.ValidStates.{entries_of-push}
 use Rattle.mb_layout.specs.declared.stored_entries.StoredEntries.{StoredEntries}
@@ -107,31 +106,3 @@ counts_all bytes stored figures count i done counts = λ codes log s. (
 abbrev pub CountsAfter : Figures → Figures → List Entry → ℕ → Type 0
 CountsAfter old figures entries i =
     (log : List Entry) → length log + length entries ≤ 1000 → old ≡ figures_of log → figures ≡ figures_of (log ++ take i entries)
-
-pub none_after : (figures : Figures) (entries : List Entry) → CountsAfter figures figures entries 0
-none_after figures entries = λ log few is. is ∙ ap figures_of (sym (append-nil log))
-
-pub more_after : (old figures after : Figures) (entries : List Entry) (i : ℕ) (entry d : Entry) → i < length entries → entry ≡ get_or entries i d → CountsAfter old figures entries i → Adds figures entry after → CountsAfter old after entries (i + 1)
-more_after old figures after entries i entry d lt item counts adds = λ log few is. (
-    let size : length (take i entries) ≡ i = length-take-le i entries (omega (arith, lt)) in
-    let small : length (log ++ take i entries) < 2 ^ 32 - 1 = omega (arith, few, lt, size, length-append log (take i entries)) in
-    let whole : (log ++ take i entries) ++ entry ∷ [] ≡ log ++ take (i + 1) entries =
-    append_assoc log (take i entries) (entry ∷ []) ∙ ap (λ (xs : List Entry). log ++ xs) (ap (λ (e : Entry). take i entries ++ e ∷ []) item ∙ sym (take_more entries i d lt)) in
-    adds (log ++ take i entries) small (counts log few is) ∙ ap figures_of whole)
-
-pub all_after : (old figures : Figures) (entries : List Entry) (i : ℕ) → length entries ≤ i → CountsAfter old figures entries i
-    → (log : List Entry) → length log + length entries ≤ 1000 → old ≡ figures_of log → figures ≡ figures_of (log ++ entries)
-all_after old figures entries i done counts = λ log few is. counts log few is ∙ ap (λ (xs : List Entry). figures_of (log ++ xs)) (take_all i entries done)
-
--- ---- the entries of a record
-
-pub unsigned_more : (stored all after : List PublicEntry) (entries : List Entry) (i : ℕ) (entry d : Entry) → i < length entries → entry ≡ get_or entries i d → all ≡ stored ++ map without_signature (take i entries)
-    → after ≡ all ++ without_signature entry ∷ [] → after ≡ stored ++ map without_signature (take (i + 1) entries)
-unsigned_more stored all after entries i entry d lt item is push =
-    let front : List PublicEntry = map without_signature (take i entries) in
-    let own : map without_signature (take (i + 1) entries) ≡ front ++ without_signature entry ∷ [] =
-    ap (map without_signature) (take_more entries i d lt ∙ ap (λ (e : Entry). take i entries ++ e ∷ []) (sym item)) ∙ map-append without_signature (take i entries) (entry ∷ []) in
-    push ∙ ap (λ (xs : List PublicEntry). xs ++ without_signature entry ∷ []) is ∙ append_assoc stored front (without_signature entry ∷ []) ∙ ap (λ (xs : List PublicEntry). stored ++ xs) (sym own)
-
-pub unsigned_all : (stored all : List PublicEntry) (entries : List Entry) (i : ℕ) → length entries ≤ i → all ≡ stored ++ map without_signature (take i entries) → all ≡ stored ++ map without_signature entries
-unsigned_all stored all entries i done is = is ∙ ap (λ (xs : List Entry). stored ++ map without_signature xs) (take_all i entries done)

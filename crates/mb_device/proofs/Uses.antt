@@ -1,7 +1,7 @@
 -- A layer's use of its region, as a step of the machine.
-use Rattle.std.proofs.Common.{◌≡◌, ◌≢◌, ℕ, ◌≤◌, Bool, true, false, Option, None, Some, refl, sym, ap, subst, ◌∙◌, inl, inr, arith, List, length}
-use Rattle.std.specs.Prelude.{IfOk, find, filter, ◌&&◌, nat_le, ◌==◌, Result, Ok, Err, IsTrue, ◌⊎◌, not, ◌||◌, nat_lt, if◌then◌else◌}
-use Rattle.std.proofs.lemmas.Bool.{le-ltb, eqb-true}
+use Rattle.std.proofs.Common.{◌≡◌, ℕ, ◌≤◌, Bool, true, false, Option, None, Some, refl, sym, ap, subst, ◌∙◌, inl, inr, arith, List, length}
+use Rattle.std.specs.Prelude.{IfOk, find, filter, ◌&&◌, nat_le, Result, Ok, Err, IsTrue, ◌⊎◌, not, ◌||◌, nat_lt, if◌then◌else◌}
+use Rattle.std.proofs.lemmas.Bool.{le-ltb}
 use Rattle.mb_ratchet.specs.declared.state.Off.{Off}
 use Rattle.mb_model.specs.declared.event.Event.{Event}
 use Rattle.mb_model.specs.declared.event.Event.TheVariants as event
@@ -14,8 +14,7 @@ use Rattle.mb_model.specs.ChainFormat.{statement_format}
 use Rattle.std.specs.List.{list_any}
 use Rattle.mb_model.specs.declared.state.State.{State}
 use Rattle.mb_model.specs.Board.{Memory, Meter, Held}
-use Rattle.mb_model.specs.Layers.{is_runnable, is_upper}
-use Rattle.mb_model.specs.Script.{IsScriptEvent}
+use Rattle.mb_model.specs.Layers.{is_runnable}
 use Rattle.mb_model.specs.LayerEvents.{Outcome, put_event, get_event, drop_event, sign_event, sign_with, value_reply, has_name, has_number, with_secret, with_use, statement_of}
 use Rattle.mb_model.specs.Log.{entries_of, number_of}
 use Rattle.mb_model.specs.Machine.{ratchet, World, Told, awake_in, region_event, Machine, answered, may_want_memory}
@@ -152,31 +151,6 @@ pub record IsUse (r L : ℕ) (before : Device) (running : Running) (e : Event) (
   pub here : r ≤ L
   pub some : 1 ≤ r
   pub runs : is_runnable running.known.figures.layers L ≡ true
-
-either_so : (b c : Bool) → (b || c) ≡ true → (b ≡ true) ⊎ (c ≡ true)
-either_so true c e = inl refl
-either_so false c e = inr e
-
-upper_three : (L M : ℕ) → L ≡ M → IsTrue (is_upper M) → L ≢ 2 → L ≡ 3
-upper_three L M same upper not_two =
-    elim (either_so (M == 2) (M == 3) upper) [
-      | inl two ↦ absurd (not_two (same ∙ eqb-true M 2 two))
-      | inr three ↦ same ∙ eqb-true M 3 three
-    ]
-
--- a region that is not region 2 is region 3
-pub upper_named : (L : ℕ) (e : Event) → IsLayerEvent e → IsScriptEvent e → L ≡ region_named e → L ≢ 2 → L ≡ 3
-upper_named L (event.Put M name value) is script named not_two = upper_three L M named (script.0) not_two
-upper_named L (event.Get M name) is script named not_two = upper_three L M named (script.0) not_two
-upper_named L (event.Drop M name) is script named not_two = upper_three L M named (script.0) not_two
-upper_named L (event.Sign M key message) is script named not_two = upper_three L M named (script.0) not_two
-upper_named L event.Boot is script named not_two = absurd is
-upper_named L event.Off is script named not_two = absurd is
-upper_named L event.Tamper is script named not_two = absurd is
-upper_named L event.Status is script named not_two = absurd is
-upper_named L event.Go is script named not_two = absurd is
-upper_named L (event.Cut count tear) is script named not_two = absurd is
-upper_named L (event.Command text draw) is script named not_two = absurd is
 
 module _ (r L : ℕ) (before : Device) (running : Running) (e : Event) (old : Memory) (power : Bool) (level : ℕ) (meter : Meter) (world : World)
     (use_is : IsUse r L before running e old power level meter world) where

@@ -8,7 +8,7 @@ use Rattle.mb_model.specs.declared.reply.Reply.TheVariants as reply
 use Rattle.mb_model.specs.declared.state.State.{State}
 use Rattle.mb_model.specs.Board.{phase_at}
 use Rattle.mb_model.specs.Layers.{is_runnable}
-use Rattle.mb_model.specs.Machine.{Phase, off, dead, ratchet, World, Told, awake, awake_in, boot_event, go_event, status_event, region_event, CommandStep, Machine}
+use Rattle.mb_model.specs.Machine.{Phase, off, dead, ratchet, World, Told, awake, awake_in, boot_event, go_event, region_event, CommandStep, Machine}
 use Rattle.mb_model.specs.Refusals.{Refusal, powered_off, wrong_phase, zeroised, wrong_layer, refused}
 use Rattle.mb_device.specs.Regions.{IsLayerEvent, region_named, layer_outcome}
 
@@ -24,11 +24,6 @@ pub ratchet_at : (power : Bool) (level r : ℕ) → power ≡ true → level ≡
 ratchet_at power level zero on at some = absurd (omega (arith, some))
 ratchet_at power level (suc n) on at some = subst (λ (p : Bool). phase_at p level ≡ ratchet (suc n)) (sym on) (subst (λ (l : ℕ). phase_at true l ≡ ratchet (suc n)) (sym at) refl)
 
-pub at_off : (power : Bool) (level : ℕ) → off ≡ phase_at power level → power ≡ false
-at_off false level e = refl
-at_off true zero e = absurd (cc)
-at_off true (suc n) e = absurd (cc)
-
 -- ---- whether the device is awake
 
 pub awake_off : (world : World) → world.phase ≡ off → awake_in world ≡ Err powered_off
@@ -43,9 +38,6 @@ awake_at world r state is live =
     (subst (λ (o : Option State). awake (ratchet r) o ≡ Ok (r, state)) (sym live) refl)
 
 -- ---- refusals of a device that is not awake
-
-pub status_refused : (world : World) (refusal : Refusal) → awake_in world ≡ Err refusal → Machine world event.Status (refused refusal) world
-status_refused world refusal e = subst (λ (on : Result (ℕ × State) Refusal). ◌≡◌ {A = Told} (refused refusal, world) (status_event world on)) (sym e) refl
 
 pub go_refused : (world : World) (refusal : Refusal) → awake_in world ≡ Err refusal → Machine world event.Go (refused refusal) world
 go_refused world refusal e = subst (λ (on : Result (ℕ × State) Refusal). ◌≡◌ {A = Told} (refused refusal, world) (go_event world on)) (sym e) refl

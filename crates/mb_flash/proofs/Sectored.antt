@@ -2,7 +2,6 @@
 use Rattle.std.proofs.Common.{◌≡◌, ℕ, ◌+◌, ◌*◌, ◌/◌, ◌<◌, ◌≤◌, ◌⊎◌, inl, inr, List, [], ◌∷◌, ◌++◌, length, take, drop, refl, ap, sym, ◌∙◌, arith, length-append}
 use Rattle.std.proofs.Math.Seq.{take-add}
 use Rattle.std.proofs.lemmas.List.{take-take, take-replicate, drop-drop, append-nil}
-use Rattle.mb_model.specs.Memory.{AreSized}
 use Rattle.mb_model.specs.Pieces.{part}
 use Rattle.mb_model.specs.Board.{put, erased}
 use Rattle.mb_model.proofs.Places.{length-erased, part-put}
@@ -22,15 +21,6 @@ widened at m n before after less same = record {
   sized = same.sized;
   bytes = λ offset outside. same.bytes offset (narrower at m n offset less outside);
 }
-
-pub same_then : (at n : ℕ) (before between after : List ℕ) → IsSameOutside at n before between → IsSameOutside at n between after → IsSameOutside at n before after
-same_then at n before between after first later = record {
-  sized = later.sized ∙ first.sized;
-  bytes = λ offset outside. later.bytes offset outside ∙ first.bytes offset outside;
-}
-
-pub still_sized : (at n : ℕ) (flash bbram after other : List ℕ) → AreSized flash bbram → IsSameOutside at n flash after → other ≡ bbram → AreSized after other
-still_sized at n flash bbram after other sized same kept = record { flash = same.sized ∙ sized.flash; bbram = ap length kept ∙ sized.bbram }
 
 -- ---- one sector
 

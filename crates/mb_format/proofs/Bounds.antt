@@ -1,15 +1,14 @@
 -- How far formats read, and how long spellings are.
 use Rattle.std.proofs.Common.{◌≡◌, ℕ, zero, suc, ◌+◌, ◌-◌, ◌*◌, ◌<◌, ◌≤◌, inl, inr, Bool, true, false, cond, ltb, List, length, take, drop, Option, Some, None, Result, Ok, Err, refl, sym, ap, ◌∙◌, arith}
-use Rattle.std.specs.Int.{Width, w8, byte_len, from_be_bytes}
+use Rattle.std.specs.Int.{Width, byte_len, from_be_bytes}
 use Rattle.std.specs.Option.{is_some}
 use Rattle.std.proofs.lemmas.Bool.{cases_lt, lt-ltb, le-ltb}
 use Rattle.std.proofs.lemmas.List.{take-take, length-append, length-take, drop-take}
 use Rattle.mb_format.specs.Format.{IsOffset, SpelledAt, Format, IsShort}
-use Rattle.mb_format.specs.Combinators.{raw, number_bytes, number, decoded, coded, limit, in_range, between, row_of, table, listed, test_of, raw_that, mark_of, mark, nothing, both, pair, spelling_of, AllowedOf, as_value, as_record, led, then_value, either, flag_rows, flag_byte, flag, present, optional, cons, uncons, items, times, sized, sized_that, counted}
+use Rattle.mb_format.specs.Combinators.{raw, number_bytes, number, decoded, coded, limit, in_range, between, row_of, table, listed, raw_that, mark, nothing, both, pair, spelling_of, AllowedOf, as_value, as_record, led, then_value, either, flag_rows, flag_byte, flag, present, optional, cons, uncons, items, times, sized, sized_that, counted}
 use Rattle.mb_format.specs.Reading.{IsExact, IsLocal, offset_of, raw_at, number_at, stood_for, decode_read, with_first, then_read, into_read}
 use Rattle.mb_format.proofs.Exact.{after_offset}
 use Rattle.mb_format.proofs.Fields.{IsWide, wide8, between_exact}
-use Rattle.mb_format.proofs.Compositions.{flag_exact}
 
 -- ---- how long spellings are
 
@@ -172,15 +171,6 @@ between_local w least most = decoded_local {f = number w} (λ n. (least ≤ n) �
 pub table_local : {A : Type 0} (w : Width) (rows : List (ℕ × A)) (code : A → ℕ) → IsLocal (table w rows code) (byte_len w)
 table_local {A} w rows code = decoded_local {f = number w} (λ (a : A). Unit {0}) (row_of rows) code (number_local w)
 
-pub listed_local : {A : Type 0} (w : Width) (rows : List (ℕ × A)) (code : A → ℕ) → IsLocal (listed w rows code) (byte_len w)
-listed_local {A} w rows code = decoded_local {f = number w} (λ (a : A). row_of rows (code a) ≡ Some a) (row_of rows) code (number_local w)
-
-pub raw_that_local : (test : List ℕ → Bool) (n : ℕ) → IsLocal (raw_that test n) n
-raw_that_local test n = decoded_local {f = raw n} _ (test_of test) (λ bytes. bytes) raw_local
-
-pub mark_local : (word : List ℕ) → IsLocal (mark word) (length word)
-mark_local word = decoded_local {f = raw (length word)} (λ (u : Unit {0}). Unit {0}) (mark_of word) (λ u. word) raw_local
-
 pub nothing_local : {A : Type 0} {a : A} → IsLocal (nothing a) 0
 nothing_local = record { same = λ bytes at m p h. refl; near = λ bytes at p. omega arith }
 
@@ -234,22 +224,6 @@ as_record_local {f} into parts is = as_value_local {f = f} into (λ b. Some (par
 pub led_local : {K B : Type 0} {f : Format K} {g : K → Format B} {m n : ℕ} (key : B → K) → IsExact f → IsLocal f m → ((k : K) → f.Allowed k → IsLocal (g k) n) → IsLocal (led f key g) (m + n)
 led_local {f} {g} key exact first second = as_record_local {f = both f g} (λ p. p.1) (λ b. (key b, b)) (both_local exact first second)
 
-pub then_value_local : {B : Type 0} {f : Format (Unit {0})} {g : Format B} {m n : ℕ} → IsExact f → IsLocal f m → IsLocal g n → IsLocal (then_value f g) (m + n)
-then_value_local {B} {f} {g} exact first second = as_record_local {f = pair f g} (λ p. p.1) (λ b. (tt, b)) (pair_local exact first second)
-
-pub either_local : {A : Type 0} {f g : Format A} {n : ℕ} (b : Bool) → IsLocal f n → IsLocal g n → IsLocal (either b f g) n
-either_local true one other = one
-either_local false one other = other
-
-pub flag_local : IsLocal flag 1
-flag_local = table_local w8 flag_rows flag_byte
-
-pub present_local : {A : Type 0} {f : Format A} {n : ℕ} → IsLocal f n → IsLocal (present f) n
-present_local {A} {f} is = as_value_local {f = f} Some (λ o. o) is
-
-pub optional_local : {A : Type 0} {f : Format A} {n : ℕ} → IsLocal f n → IsLocal (optional f) (1 + n)
-optional_local is = led_local is_some flag_exact flag_local (λ there h. either_local there (present_local is) (local_more nothing_local (omega arith)))
-
 pub items_local : {A S : Type 0} {item : S → Format A} {k : ℕ} (next : S → A → S) (n : ℕ) (state : S) → ((s : S) → IsExact (item s)) → ((s : S) → IsLocal (item s) k) → IsLocal (items item next n state) (n * k)
 unfolding items
 items_local next zero state exact each = local_more nothing_local (omega arith)
@@ -261,9 +235,6 @@ times_local {A} {item} n exact each = items_local {item = λ (u : Unit {0}). ite
 
 pub sized_local : {w : Width} (least most : ℕ) → IsWide w → most < limit w → IsLocal (sized (between w least most)) (byte_len w + most)
 sized_local {w} least most wide lt = led_local length (between_exact wide lt) (between_local w least most) (λ n h. local_more raw_local h.1)
-
-pub sized_that_local : {w : Width} (test : List ℕ → Bool) (least most : ℕ) → IsWide w → most < limit w → IsLocal (sized_that test (between w least most)) (byte_len w + most)
-sized_that_local {w} test least most wide lt = led_local length (between_exact wide lt) (between_local w least most) (λ n h. local_more (raw_that_local test n) h.1)
 
 pub counted_local : {A : Type 0} {item : Format A} {w : Width} {k : ℕ} (least most : ℕ) → IsWide w → most < limit w → IsExact item → IsLocal item k → IsLocal (counted (between w least most) item) (byte_len w + most * k)
 counted_local {A} {item} {w} {k} least most wide lt exact each =

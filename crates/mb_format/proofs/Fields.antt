@@ -8,7 +8,7 @@ use Rattle.std.proofs.lemmas.List.{take_at, take-append-drop, length-take, lengt
 use Rattle.std.proofs.lemmas.Nat.{be_bytes_2, be_bytes_4, be_bytes_8, from_be_bytes-to_be_bytes_2, from_be_bytes-to_be_bytes_4, from_be_bytes-to_be_bytes_8}
 use Rattle.mb_format.specs.Format.{IsBytes, IsOffset, SpelledAt, Format}
 use Rattle.mb_format.proofs.Exact.{IsBytes-drop, IsBytes-spelled, ok_parts}
-use Rattle.mb_format.specs.Combinators.{field, raw, limit, number_bytes, number, decoded, coded, in_range, between, row_of, table, listed, raw_that, same_bytes, mark, nothing}
+use Rattle.mb_format.specs.Combinators.{field, raw, limit, number_bytes, number, decoded, in_range, between, row_of, table, listed, raw_that, same_bytes, mark, nothing}
 use Rattle.mb_format.specs.Reading.{IsExact, raw_at, number_at, stood_for, decode_read}
 
 -- a single field is read exactly, and fails at its beginning
@@ -212,12 +212,6 @@ decoded_field {f} {Allowed} {decode} {code} field is =
     let under : SpelledAt f.spelling f.Allowed bytes at (code a) after = record { allowed = again.0; here = s.here; ends = s.ends; within = s.within } in
     rw (field.exact.finds bytes at (code a) after p under, again.1) refl))
     (λ bytes at offset e. decoded_begins decode at offset (f.reads bytes at) (field.begins bytes at) e)
-
-pub decoded_exact : {N A : Type 0} {f : Format N} {Allowed : A → Type 0} {decode : N → Option A} {code : A → N} → IsField f → IsDecoded f Allowed decode code → IsExact (decoded f code Allowed decode)
-decoded_exact field is = (decoded_field field is).exact
-
-pub coded_exact : {A : Type 0} {w : Width} {Allowed : A → Type 0} {decode : ℕ → Option A} {code : A → ℕ} → IsWide w → IsDecoded (number w) Allowed decode code → IsExact (coded w code Allowed decode)
-coded_exact wide is = decoded_exact (number_field wide) is
 
 -- ---- numbers in a range
 

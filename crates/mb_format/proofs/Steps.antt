@@ -1,20 +1,11 @@
 -- What a reader of bytes works out step by step: a number or raw bytes at an offset, and one item of a list after the other.
-use Rattle.std.proofs.Common.{◌≡◌, ℕ, suc, ◌+◌, ◌-◌, ◌<◌, ◌≤◌, List, [], ◌∷◌, ◌++◌, length, get_or, take, drop, Result, Ok, Err, refl, sym, ap, ◌∙◌, append_assoc, append-nil, add-one, drop-cons, arith}
-use Rattle.std.specs.Int.{Width, byte_len, from_be_bytes}
+use Rattle.std.proofs.Common.{◌≡◌, ℕ, suc, ◌+◌, ◌-◌, ◌<◌, ◌≤◌, List, [], ◌∷◌, ◌++◌, length, take, drop, Result, Ok, Err, refl, sym, ap, ◌∙◌, append_assoc, append-nil, arith}
 use Rattle.std.proofs.lemmas.Bool.{lt-ltb, le-ltb}
 use Rattle.mb_format.specs.Format.{Format}
 use Rattle.mb_format.specs.Combinators.{cons, items}
-use Rattle.mb_format.specs.Reading.{raw_at, number_at, into_read, with_first}
+use Rattle.mb_format.specs.Reading.{raw_at, into_read, with_first}
 
 -- ---- fields
-
-pub number_at-short : (w : Width) (bytes : List ℕ) (at : ℕ) → length bytes < at + byte_len w → number_at w bytes at ≡ Err at
-unfolding number_at
-number_at-short w bytes at h = rw (lt-ltb _ _ h) refl
-
-pub number_at-long : (w : Width) (bytes : List ℕ) (at : ℕ) → at + byte_len w ≤ length bytes → number_at w bytes at ≡ Ok (from_be_bytes w (take (byte_len w) (drop at bytes)), at + byte_len w)
-unfolding number_at
-number_at-long w bytes at h = rw (le-ltb _ _ h) refl
 
 pub raw_at-short : (n : ℕ) (bytes : List ℕ) (at : ℕ) → length bytes < at + n → raw_at n bytes at ≡ Err at
 unfolding raw_at
@@ -23,24 +14,6 @@ raw_at-short n bytes at h = rw (lt-ltb _ _ h) refl
 pub raw_at-long : (n : ℕ) (bytes : List ℕ) (at : ℕ) → at + n ≤ length bytes → raw_at n bytes at ≡ Ok (take n (drop at bytes), at + n)
 unfolding raw_at
 raw_at-long n bytes at h = rw (le-ltb _ _ h) refl
-
--- the first of some bytes at an offset, and the others
-pub first_of : (n : ℕ) (bytes : List ℕ) (at : ℕ) → at < length bytes → take (suc n) (drop at bytes) ≡ get_or bytes at 0 ∷ take n (drop (at + 1) bytes)
-first_of n bytes at h = rw (add-one, drop-cons bytes at 0 h) refl
-
-pub one_byte : (bytes : List ℕ) (at : ℕ) → at + 1 ≤ length bytes → take 1 (drop at bytes) ≡ get_or bytes at 0 ∷ []
-one_byte bytes at h = first_of 0 bytes at (omega arith)
-
-pub two_bytes : (bytes : List ℕ) (at : ℕ) → at + 2 ≤ length bytes → take 2 (drop at bytes) ≡ get_or bytes at 0 ∷ get_or bytes (at + 1) 0 ∷ []
-two_bytes bytes at h = first_of 1 bytes at (omega arith) ∙ ap (λ (xs : List ℕ). get_or bytes at 0 ∷ xs) (one_byte bytes (at + 1) (omega arith))
-
-pub four_bytes : (bytes : List ℕ) (at : ℕ) → at + 4 ≤ length bytes → take 4 (drop at bytes) ≡ get_or bytes at 0 ∷ get_or bytes (at + 1) 0 ∷ get_or bytes (at + 2) 0 ∷ get_or bytes (at + 3) 0 ∷ []
-four_bytes bytes at h =
-    let e : at + 1 + 1 ≡ at + 2 = omega arith in
-    let d : at + 2 + 1 ≡ at + 3 = omega arith in
-    first_of 3 bytes at (omega arith) ∙ ap (λ (xs : List ℕ). get_or bytes at 0 ∷ xs)
-    (first_of 2 bytes (at + 1) (omega arith) ∙ ap (λ (xs : List ℕ). get_or bytes (at + 1) 0 ∷ xs) (rw e
-    (first_of 1 bytes (at + 2) (omega arith) ∙ ap (λ (xs : List ℕ). get_or bytes (at + 2) 0 ∷ xs) (rw d (one_byte bytes (at + 3) (omega arith))))))
 
 -- ---- a loop over the items of a list
 

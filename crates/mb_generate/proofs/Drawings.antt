@@ -16,9 +16,6 @@ use Rattle.mb_generate.specs.Drawing.{Gives, IsDrawn, DrawnEach, DrawnValues, Dr
 
 -- ---- words
 
-pub gives_none : (g : ChaCha) → Gives g [] g
-gives_none g = refl
-
 -- words, and more words after them
 pub gives_more : (old : ChaCha) (words more : List ℕ) (middle new : ChaCha) → Gives old words middle → Gives middle more new → Gives old (words ++ more) new
 gives_more old [] more middle new first second = subst (λ (g : ChaCha). Gives g more new) first second
@@ -99,9 +96,6 @@ sized_result size old word middle (Ok bytes) new is drawn = sized_drawn size old
 sized_result size old word middle (Err e) new is drawn = tt
 
 -- ---- lists of values
-
-pub none_drawn : {A : Type 0} (Draws : List ℕ → A → Type 0) (old : ChaCha) → IsDrawn (DrawnEach Draws 0) old [] old
-none_drawn Draws old = record { words = []; given = refl; drawn = record { for_each = []; in_order = refl; count_is = refl; each = tt } }
 
 concat-push : (lists : List (List ℕ)) (list : List ℕ) → concat (lists ++ list ∷ []) ≡ concat lists ++ list
 concat-push [] list = append-nil list

@@ -1,23 +1,17 @@
 -- What a memory holds, found piece by piece.
-use Rattle.std.proofs.Common.{◌≡◌, ◌≤◌, ℕ, List, [], ◌∷◌, ◌++◌, length, map, Option, None, Some, sym, ap, subst, ◌∙◌, arith, length-append}
-use Rattle.std.specs.Prelude.{All, IfSome, MatchOption}
-use Rattle.std.specs.List.{AllByRecursion}
+use Rattle.std.proofs.Common.{◌≡◌, ◌≤◌, ℕ, List, map, Option, None, Some, sym, ap, subst, ◌∙◌, arith, length-append}
+use Rattle.std.specs.Prelude.{MatchOption}
 use Rattle.std.proofs.lemmas.List.{length-map}
-use Rattle.std.proofs.lemmas.List.Elements.{All-nil, All-cons}
+use Rattle.std.proofs.lemmas.List.Elements.{All-weaker}
 use Rattle.mb_format.specs.Format.{IsBytes}
-use Rattle.mb_format.specs.Combinators.{optional}
-use Rattle.mb_format.proofs.Compositions.{items_all}
 use Rattle.mb_model.specs.declared.entry.Entry.{Entry}
 use Rattle.mb_model.specs.declared.entry.PublicEntry.{PublicEntry}
 use Rattle.mb_model.specs.declared.entry.SignedEntry.{SignedEntry}
-use Rattle.mb_model.specs.declared.stored.Outgoing.{Outgoing}
-use Rattle.mb_model.specs.declared.stored.Pending.{Pending}
 use Rattle.mb_model.specs.declared.stored.Public.{Public}
 use Rattle.mb_model.specs.declared.stored.Root.{Root}
-use Rattle.mb_model.specs.EntryFormat.{entry_format}
-use Rattle.mb_model.specs.RootFormat.{outgoing_format, pending_format, root_format}
-use Rattle.mb_model.specs.StoredLog.{unsigned_by, outgoing_of}
-use Rattle.mb_model.specs.Flash.{public_entry_format, public_format, flash_area, BeginsWithRecord, with_signature, without_signature, public_of_parts, HoldsPublic}
+use Rattle.mb_model.specs.EntryFormat.{entry_format, signed_entry_format}
+use Rattle.mb_model.specs.RootFormat.{root_format}
+use Rattle.mb_model.specs.Flash.{public_format, flash_area, BeginsWithRecord, with_signature, without_signature, public_of_parts}
 use Rattle.mb_model.specs.Meaning.{RootIn, HoldsRegion, Contents, HoldsContents}
 use Rattle.mb_model.specs.Memory.{IsBlank, life_byte, spare, current, HoldsRecord}
 use Rattle.mb_model.specs.Faults.{SomePublic, SomeRegion}
@@ -25,6 +19,7 @@ use Rattle.mb_layout.specs.Found.{Finds}
 use Rattle.mb_model.specs.declared.region.Region.{Region}
 use Rattle.mb_model.proofs.RecordFormatLaws.{public_exact}
 use Rattle.mb_lemmas.proofs.MeaningLemmas.{one_begun, IsBytes-flash_area}
+use Rattle.mb_lemmas.proofs.PublicLemmas.{bounded_by, public_few, public_entries, signed_front, unsigned_rest}
 use Rattle.mb_image.specs.Entries.{IsSplit}
 use Rattle.mb_image.specs.Stored.{CanBeCompleted}
 
@@ -57,19 +52,6 @@ none_split flash root area found public entries Q None are is finds there entrie
     in
     fails some.1 some.2 (record { whole = entries_are ∙ ap (λ (p : Public). p.entries) same; counted = some.3.counted })
 
--- what is split as the root says is held
-pub holds_split : (flash : List ℕ) (root : Root) (area : List ℕ) (found : Option Public) (public : Public) (entries : List PublicEntry) (signed : List SignedEntry) (unsigned : List Entry)
-    → area ≡ flash_area flash root.area
-    → Finds (λ (p : Public). p) (BeginsWithRecord public_format area) found → found ≡ Some public → entries ≡ public.entries
-    → IsSplit entries root.pending signed unsigned
-    → HoldsPublic flash root public.codes signed unsigned
-holds_split flash root area found public entries signed unsigned is finds there entries_are split =
-    let with_entries : List PublicEntry → Public = λ es. record { codes = public.codes; entries = es } in
-    record {
-      begins = subst (BeginsWithRecord public_format (flash_area flash root.area)) (ap with_entries (sym entries_are ∙ split.whole)) (begins_with flash root area found public is finds there);
-      counted = split.counted;
-    }
-
 -- ---- regions
 
 -- an area in which no region is found holds none
@@ -84,73 +66,28 @@ some_holds area held found region is finds some =
 
 -- ---- what is allowed
 
-root_area : (root : Root) → root_format.Allowed root → root.area ≤ 1
-unfolding root_format
-root_area root is = is.1.0.1
-
-root_uses : (root : Root) → root_format.Allowed root → root.uses ≤ 32
-unfolding root_format
-root_uses root is = is.1.1.1.1.0.1
-
-root_pending : (root : Root) → root_format.Allowed root → (optional pending_format).Allowed root.pending
-unfolding root_format
-root_pending root is = is.1.1.1.1.1
-
-pending_unsigned : (pending : Option Pending) → (optional pending_format).Allowed pending → unsigned_by pending ≤ 2
-unfolding pending_format
-pending_unsigned None is = omega arith
-pending_unsigned (Some pending) is = is.1.0.1
-
-handed_over : (outgoing : Option Outgoing) → (optional outgoing_format).Allowed outgoing → IfSome outgoing (λ o. o.uses ≤ 32)
-unfolding outgoing_format
-handed_over None is = tt
-handed_over (Some outgoing) is = is.1.1.1
-
-pending_outgoing : (pending : Option Pending) → (optional pending_format).Allowed pending → IfSome (outgoing_of pending) (λ o. o.uses ≤ 32)
-unfolding pending_format
-pending_outgoing None is = tt
-pending_outgoing (Some pending) is = handed_over pending.outgoing is.1.1.0
-
-public_few : (public : Public) → public_format.Allowed public → length public.entries ≤ 128
-unfolding public_format
-public_few public is = is.1.1.0.1
-
-public_entries : (public : Public) → public_format.Allowed public → AllByRecursion public_entry_format.Allowed public.entries
-unfolding public_format
-public_entries public is = (items_all public_entry_format (length public.entries) public.entries is.1.1.1).1
-
-entry_of : (stored : PublicEntry) → public_entry_format.Allowed stored → entry_format.Allowed stored.entry
-unfolding public_entry_format
-entry_of stored is = is.0
-
-signed_front : (signed : List SignedEntry) (rest : List PublicEntry) → AllByRecursion public_entry_format.Allowed (map with_signature signed ++ rest)
-    → All (λ (s : SignedEntry). entry_format.Allowed s.entry) signed
-signed_front [] rest are = All-nil (λ (s : SignedEntry). entry_format.Allowed s.entry)
-signed_front (one ∷ more) rest are = All-cons (λ (s : SignedEntry). entry_format.Allowed s.entry) one more (entry_of (with_signature one) are.0) (signed_front more rest are.1)
-
-unsigned_rest : (signed : List SignedEntry) (unsigned : List Entry) → AllByRecursion public_entry_format.Allowed (map with_signature signed ++ map without_signature unsigned) → All entry_format.Allowed unsigned
-unsigned_rest [] [] are = All-nil entry_format.Allowed
-unsigned_rest [] (entry ∷ more) are = All-cons entry_format.Allowed entry more (entry_of (without_signature entry) are.0) (unsigned_rest [] more are.1)
-unsigned_rest (one ∷ rest) unsigned are = unsigned_rest rest unsigned are.1
+entry_of : (signed : SignedEntry) → signed_entry_format.Allowed signed → entry_format.Allowed signed.entry
+unfolding signed_entry_format
+entry_of signed is = is.0
 
 -- which area of the flash a root names
 pub held_area : (root : Root) → root_format.Allowed root → root.area ≤ 1
-held_area root is = root_area root is
+held_area root is = (bounded_by root is).area
 
 -- the contents of a memory can be completed
 pub held_can_be_completed : (flash bbram : List ℕ) (contents : Contents) → HoldsContents flash bbram contents → CanBeCompleted contents
 held_can_be_completed flash bbram c holds =
     let root : root_format.Allowed c.root = holds.root.holds.spelled.allowed in
-    let pending : (optional pending_format).Allowed c.root.pending = root_pending c.root root in
+    let bounded = bounded_by c.root root in
     let public : public_format.Allowed (public_of_parts c.codes c.signed c.unsigned) = holds.public.begins.spelled.allowed in
     let few = public_few (public_of_parts c.codes c.signed c.unsigned) public in
     let entries = public_entries (public_of_parts c.codes c.signed c.unsigned) public in
     record {
-      uses = root_uses c.root root;
-      outgoing = pending_outgoing c.root.pending pending;
+      uses = bounded.uses;
+      outgoing = bounded.outgoing;
       few = omega (arith, few, length-append (map with_signature c.signed) (map without_signature c.unsigned), length-map c.signed with_signature, length-map c.unsigned without_signature);
-      unsigned = omega (arith, holds.public.counted.counted, pending_unsigned c.root.pending pending);
-      signed_spelled = signed_front c.signed (map without_signature c.unsigned) entries;
+      unsigned = omega (arith, holds.public.counted.counted, bounded.unsigned);
+      signed_spelled = All-weaker signed_entry_format.Allowed (λ (s : SignedEntry). entry_format.Allowed s.entry) entry_of c.signed (signed_front c.signed (map without_signature c.unsigned) entries);
       unsigned_spelled = unsigned_rest c.signed c.unsigned entries;
     }
 

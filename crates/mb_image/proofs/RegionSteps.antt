@@ -1,9 +1,9 @@
 -- Loops over the secrets and the keys of a region.
-use Rattle.std.proofs.Common.{◌≡◌, ◌≢◌, ◌<◌, ◌≤◌, ◌+◌, ℕ, List, [], ◌∷◌, ◌++◌, length, take, map, get_or, Bool, false, true≢false, sym, ap, subst, ◌∙◌, arith}
+use Rattle.std.proofs.Common.{◌≡◌, ◌≢◌, ◌<◌, ◌≤◌, ◌+◌, ℕ, List, length, take, map, get_or, Bool, false, true≢false, sym, ap, subst, ◌∙◌, arith}
 use Rattle.std.proofs.lemmas.List.{length-take, length-take-le, get_or_default, get_or-map}
 use Rattle.std.specs.Prelude.{◌↔◌, All, AllPairs, Any, IsTrue}
 use Rattle.std.specs.Ordering.{ord_max, nat_cmp}
-use Rattle.std.proofs.lemmas.List.{take_more, take_all, get_or-take, map-append}
+use Rattle.std.proofs.lemmas.List.{take_more, take_all, get_or-take}
 use Rattle.std.proofs.lemmas.List.Elements.{All-nil, All-push, All-weaker}
 use Rattle.std.proofs.lemmas.List.Quantifiers.{all_pairs_push}
 use Rattle.mb_model.specs.declared.entry.SignedEntry.{SignedEntry}
@@ -96,17 +96,6 @@ last_whole log i L last end was =
     (subst (LossesUpto L last) (take_all i log end) was.0, λ c upto. was.1 c (subst (LossesUpto L c) (sym (take_all i log end)) upto))
 
 -- ---- keys
-
--- one more key
-pub keys_more : (keys : List RegionKey) (alive : List MadeKey) (at : ℕ) (d : RegionKey) (e : MadeKey) → at < length keys → at < length alive
-    → as_made (get_or keys at d) ≡ as_listed (get_or alive at e) → map as_made (take at keys) ≡ listed (take at alive) → map as_made (take (at + 1) keys) ≡ listed (take (at + 1) alive)
-keys_more keys alive at d e within within' own same =
-    ap (map as_made) (take_more keys at d within)
-    ∙ map-append as_made (take at keys) (get_or keys at d ∷ [])
-    ∙ ap (λ front. front ++ as_made (get_or keys at d) ∷ []) same
-    ∙ ap (λ key. listed (take at alive) ++ key ∷ []) own
-    ∙ sym (map-append as_listed (take at alive) (get_or alive at e ∷ []))
-    ∙ sym (ap listed (take_more alive at e within'))
 
 -- keys that are equal at each place
 pub key_at : (keys : List RegionKey) (alive : List MadeKey) (at : ℕ) (d : RegionKey) (e : MadeKey) → at < length keys → at < length alive

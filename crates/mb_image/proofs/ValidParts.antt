@@ -72,12 +72,6 @@ valid_where log layers number L region alive result upper ruled number_is may fe
   (λ valid. same.1 (valid.keys ∙ sym alive_is)),
 )
 
--- a region whose secrets it can't have is not valid
-pub not_kept : (log : List Entry) (layers : Layers) (number L : ℕ) (region : Region) → number ≡ number_of log → (AreKept log number L region.secrets → ⊥)
-    → IsValidRegion log layers L region → ⊥
-not_kept log layers number L region number_is fails valid =
-    fails (valid.names, subst (λ n. All (λ (secret : Secret). secret.born ≤ n) region.secrets) (sym number_is) valid.past, valid.kept.secrets)
-
 -- ---- a state
 
 -- serial, device key and uses

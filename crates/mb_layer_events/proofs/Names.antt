@@ -94,9 +94,6 @@ found_there p xs at found is has = find_at p xs ∙ ap (slice_get xs) (sym (at_f
 found_nowhere : {X : Type 0} (p : X → Bool) (xs : List X) → None ≡ position p xs → find p xs ≡ None
 found_nowhere p xs is = find_at p xs ∙ slice_get_past xs (position_or_len p xs) (nowhere p xs is)
 
-pub place_within : {X : Type 0} (p : X → Bool) (xs : List X) (at : ℕ) (d : X) → Some at ≡ position p xs → at < length xs
-place_within p xs at d is = (position-Some p xs at d (sym is)).0
-
 -- ---- names
 
 -- where names differ, one secret at most has a name

@@ -50,9 +50,6 @@ drop_record name old new kept is = subst HasRegionRecord (sym is.is) (region_rec
 
 -- ---- what the stored region comes to
 
-pub put_into : (old known new : Region) (secret : Secret) → old ≡ known → IsPut old secret new → IsPut known secret new
-put_into old known new secret same is = subst (λ (r : Region). IsPut r secret new) same is
-
 pub full_for : (end : NotPut) (old known new : Region) (read secret : Secret) → old ≡ known → read ≡ secret → PutOf old read (Err end) new → PutsInto known secret (Err end)
 full_for Full old known new read secret same copied is = subst (λ (s : Secret). is_full_for s.name known ≡ true) copied (subst (λ (r : Region). is_full_for read.name r ≡ true) same is)
 full_for NoMemory old known new read secret same copied is = tt
@@ -67,12 +64,6 @@ put_as old new read secret copied is = subst (λ (s : Secret). IsPut old s new) 
 
 pub dropped_as : (old new : Region) (read name : List ℕ) → read ≡ name → IsDropped old read new → IsDropped old name new
 dropped_as old new read name same is = subst (λ (n : List ℕ). IsDropped old n new) same is
-
-pub dropped_from : (old known new : Region) (name : List ℕ) → old ≡ known → IsDropped old name new → IsDropped known name new
-dropped_from old known new name same is = subst (λ (r : Region). IsDropped r name new) same is
-
-pub absent_from : (old known : Region) (name : List ℕ) → old ≡ known → list_any (has_name name) old.secrets ≡ false → list_any (has_name name) known.secrets ≡ false
-absent_from old known name same is = subst (λ (r : Region). list_any (has_name name) r.secrets ≡ false) same is
 
 -- ---- a put
 

@@ -1,5 +1,5 @@
 -- Bytes after their number at the beginning of an area: which they are, and that no others are.
-use Rattle.std.proofs.Common.{◌≡◌, ℕ, zero, suc, false, ◌==◌, ◌+◌, ◌-◌, ◌<◌, ◌≤◌, List, ◌++◌, length, take, drop, replicate, inl, inr, refl, sym, ap, ◌∙◌, append_assoc, take-append-drop, length-append, arith}
+use Rattle.std.proofs.Common.{◌≡◌, ℕ, zero, suc, false, ◌==◌, ◌+◌, ◌-◌, ◌<◌, ◌≤◌, List, ◌++◌, length, take, drop, replicate, inl, inr, refl, sym, ap, ◌∙◌, append_assoc, take-append-drop, arith}
 use Rattle.std.proofs.lemmas.List.{length-take-le, drop-drop, drop-replicate}
 use Rattle.std.proofs.lemmas.List.Elements.{All-replicate}
 use Rattle.std.proofs.Math.Seq.{take-append_seam, drop-append_seam}
@@ -61,29 +61,6 @@ holds {area} {front} {rest} {bytes} {blank} {n} are f r len e short le b a blank
     let p = area_is wide16 area front rest bytes blank n are f r len e le b a in
     record { rest = blank; short = omega (arith, p.0); whole = p.1; blank = blank_is }
 
--- where an area holds bytes, this is so of what was read of it
-pub record IsHeld (rest : List ℕ) (n : ℕ) (bytes : List ℕ) : Type 0 where
-  pub number : n ≡ length bytes
-  pub short : n ≤ 4094
-  pub within : n ≤ length rest
-  pub blank : IsBlank (drop n rest)
-
-pub held : {area front rest : List ℕ} {n : ℕ} (bytes : List ℕ) → front ≡ take 2 area → rest ≡ drop 2 area → n ≡ from_be_bytes w16 front → HoldsInArea area bytes → IsHeld rest n bytes
-held {area} {front} {rest} {n} bytes f r e h =
-    let small : length bytes < 65536 = omega (arith, h.short) in
-    let number : n ≡ length bytes = e ∙ ap (from_be_bytes w16) f ∙ number_is wide16 area bytes h.rest small h.whole in
-    let behind : rest ≡ bytes ++ h.rest = r ∙ after_number wide16 area bytes h.rest h.whole in
-    let last : drop n rest ≡ h.rest = ap (λ (k : ℕ). drop k rest) number ∙ ap (drop (length bytes)) behind ∙ drop-append_seam bytes h.rest in
-    record {
-      number = number;
-      short = omega (arith, number, h.short);
-      within = omega (arith, number, ap length behind, length-append bytes h.rest);
-      blank = rw last h.blank;
-    }
-
-pub held_long : {area : List ℕ} (bytes : List ℕ) → HoldsInArea area bytes → 2 ≤ length area
-held_long {area} bytes h = omega (arith, ap length h.whole, length-append (to_be_bytes w16 (length bytes) ++ bytes) h.rest, length-append (to_be_bytes w16 (length bytes)) bytes, wide16.len (length bytes))
-
 pub one_held : {area : List ℕ} (a b : List ℕ) → HoldsInArea area a → HoldsInArea area b → a ≡ b
 one_held {area} a b h k =
     let small_a : length a < 65536 = omega (arith, h.short) in
@@ -97,25 +74,6 @@ pub begins : {area front rest bytes : List ℕ} {n : ℕ} → IsBytes area → f
 begins {area} {front} {rest} {bytes} {n} are f r len e short le b =
     let p = area_is wide32 area front rest bytes (drop n rest) n are f r len e le b refl in
     record { rest = drop n rest; short = omega (arith, p.0); whole = p.1 }
-
-pub record IsBegun (rest : List ℕ) (n : ℕ) (bytes : List ℕ) : Type 0 where
-  pub number : n ≡ length bytes
-  pub short : n ≤ 470000
-  pub within : n ≤ length rest
-
-pub begun : {area front rest : List ℕ} {n : ℕ} (bytes : List ℕ) → front ≡ take 4 area → rest ≡ drop 4 area → n ≡ from_be_bytes w32 front → BeginsArea area bytes → IsBegun rest n bytes
-begun {area} {front} {rest} {n} bytes f r e h =
-    let small : length bytes < 4294967296 = omega (arith, h.short) in
-    let number : n ≡ length bytes = e ∙ ap (from_be_bytes w32) f ∙ number_is wide32 area bytes h.rest small h.whole in
-    let behind : rest ≡ bytes ++ h.rest = r ∙ after_number wide32 area bytes h.rest h.whole in
-    record {
-      number = number;
-      short = omega (arith, number, h.short);
-      within = omega (arith, number, ap length behind, length-append bytes h.rest);
-    }
-
-pub begun_long : {area : List ℕ} (bytes : List ℕ) → BeginsArea area bytes → 4 ≤ length area
-begun_long {area} bytes h = omega (arith, ap length h.whole, length-append (to_be_bytes w32 (length bytes) ++ bytes) h.rest, length-append (to_be_bytes w32 (length bytes)) bytes, wide32.len (length bytes))
 
 pub one_begun : {area : List ℕ} (a b : List ℕ) → BeginsArea area a → BeginsArea area b → a ≡ b
 one_begun {area} a b h k =

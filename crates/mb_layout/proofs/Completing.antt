@@ -344,11 +344,6 @@ two_signed {E} {cursor} {middle} {after} {one} {two} old cut_bytes mid new first
       omega (arith, t.capacity, p.capacity, cut.capacity),
     )
 
--- where there is nothing to sign
-pub none_signed : {bytes : List ℕ} (codes : Codes) (signed : List SignedEntry) (unsigned : List Entry) → length unsigned ≡ 0 → Spells public_format bytes (public_of_parts codes signed unsigned) → Spells public_format bytes (public_of_parts codes (signed ++ signed_each unsigned []) [])
-none_signed codes signed [] len s = rw (append-nil signed) s
-none_signed codes signed (entry ∷ others) len s = absurd (omega arith)
-
 -- the entries to be signed are read
 
 pub first_read : {cursor after : Cursor} {at : ℕ} (bytes : List ℕ) (codes : Codes) (signed : List SignedEntry) (unsigned : List Entry) → 0 < length unsigned → Spells public_format bytes (public_of_parts codes signed unsigned) → StandsBefore bytes cursor unsigned

@@ -75,15 +75,6 @@ none_left n e = eqb-true n 0 (sym e)
 
 -- ---- the record of a region
 
--- a region that can be stored, with fewer keys than its record would need, is empty
-pub too_few : {region : Region} {least n : ℕ} → least ≡ least_keys region.secrets → n ≡ length region.keys → n < least → region ≡ empty_region
-too_few {region} {least} {n} l k lt = of_parts region.secrets region.keys (omega (arith, l, k, lt))
-  where
-    of_parts : (secrets : List Secret) (keys : List RegionKey) → length keys < least_keys secrets → ◌≡◌ {A = Region} (record { secrets = secrets; keys = keys }) empty_region
-    of_parts [] [] lt = refl
-    of_parts [] (key ∷ keys) lt = absurd (omega arith)
-    of_parts (secret ∷ secrets) keys lt = absurd (omega arith)
-
 pub empty_is_few : {region : Region} {least n : ℕ} → region ≡ empty_region → least ≡ least_keys region.secrets → n ≡ length region.keys → n < least
 empty_is_few {region} {least} {n} e l k =
     let one : least ≡ 1 = l ∙ ap (λ (r : Region). least_keys r.secrets) e in

@@ -1,5 +1,5 @@
 -- Keys of a row, one after another.
-use Rattle.std.proofs.Common.{◌≡◌, ℕ, suc, ◌+◌, ◌<◌, ◌≤◌, Bool, true, false, cond, Some, None, List, [], ◌∷◌, length, filter, ◌++◌, find, take, drop, refl, sym, ap, ◌∙◌, length-append, lit≤, arith}
+use Rattle.std.proofs.Common.{◌≡◌, ℕ, suc, ◌+◌, ◌<◌, ◌≤◌, Bool, true, false, cond, Some, None, List, [], ◌∷◌, length, filter, ◌++◌, find, take, drop, refl, sym, ap, ◌∙◌, lit≤, arith}
 use Rattle.std.specs.List.{list_any}
 use Rattle.mb_model.specs.declared.stored.Fate.TheVariants.{AddKey}
 use Rattle.mb_model.specs.Meaning.{fated_keys}
@@ -44,12 +44,6 @@ pub added_there : (key : RegionKey) {keys slice : List RegionKey} → slice ≡ 
 added_there key {keys} {slice} s e =
     let there : list_any (has_number key.number) keys ≡ true = ap (list_any (has_number key.number)) (sym s) ∙ sym e in
     rw there refl
-
-pub added_full : (key : RegionKey) {keys slice : List RegionKey} → slice ≡ keys → false ≡ list_any (has_number key.number) slice → 8 ≤ length keys → length (fated_keys (AddKey key) keys) ≤ 8 → ⊥
-added_full key {keys} {slice} s e full few =
-    let new : list_any (has_number key.number) keys ≡ false = ap (list_any (has_number key.number)) (sym s) ∙ sym e in
-    let nine : length (keys ++ key ∷ []) ≤ 8 = rw new at few in
-    omega (arith, nine, length-append keys (key ∷ []), full)
 
 pub added_new : (key : RegionKey) {keys slice row : List RegionKey} → slice ≡ keys → false ≡ list_any (has_number key.number) slice → row ≡ keys ++ key ∷ [] → row ≡ fated_keys (AddKey key) keys
 added_new key {keys} {slice} {row} s e put =

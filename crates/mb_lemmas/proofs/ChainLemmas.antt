@@ -217,14 +217,14 @@ one_report root bytes n a b are x y =
 
 -- ---- no gap between the two
 
-AreGood-push : (root : PublicKey) (log : List SignedEntry) (signed : SignedEntry) → AreGood root log → IsGood root (entries_of log) signed → AreGood root (log ++ signed ∷ [])
+pub AreGood-push : (root : PublicKey) (log : List SignedEntry) (signed : SignedEntry) → AreGood root log → IsGood root (entries_of log) signed → AreGood root (log ++ signed ∷ [])
 AreGood-push root log signed good next =
     λ before s rest split. elim (split_push log before rest signed s split) [
       | inl end ↦ subst (λ (b : List SignedEntry). IsGood root (entries_of b) s) end.1 (subst (λ (x : SignedEntry). IsGood root (entries_of log) x) end.2 next)
       | inr found ↦ good before s found.0 found.2
     ]
 
-AreGood-nil : (root : PublicKey) → AreGood root []
+pub AreGood-nil : (root : PublicKey) → AreGood root []
 AreGood-nil root = λ before signed rest split. absurd (omega (arith, ap length split, length-append before (signed ∷ rest)))
 
 -- where no entry is the first that is not good, all are

@@ -1,9 +1,9 @@
 pub mod LogLemmas
 pub mod RuleLemmas
-pub mod LivesLemmas
 pub mod AliveLemmas
 pub mod PresentLemmas
 pub mod ReaderLemmas
+pub mod SameLayers
 pub mod RegionLemmas
 pub mod ValidRegions
 pub mod FateLemmas
@@ -21,6 +21,7 @@ pub mod DraftLemmas
 pub mod DrawLemmas
 pub mod OrderLineLemmas
 pub mod MeaningLemmas
+pub mod PublicLemmas
 pub mod Splits
 pub mod FaultLemmas
 pub mod FactoryLemmas

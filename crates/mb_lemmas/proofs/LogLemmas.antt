@@ -156,9 +156,6 @@ RuledLog-push log entry ruled next =
       | inr found ↦ ruled before e found.0 found.2
     ]
 
-pub RuledLog-last : (log : List Entry) (entry : Entry) → RuledLog (log ++ entry ∷ []) → Ruled log entry
-RuledLog-last log entry ruled = ruled log entry [] refl
-
 pub RuledLog-nil : RuledLog []
 RuledLog-nil = λ before entry rest split. absurd (omega (arith, ap length split, length-append before (entry ∷ rest)))
 

@@ -48,11 +48,11 @@ IsStatementLine-same lines a b ha hb =
 -- ---- texts of one line
 
 -- lines that stand for something are one
-abbrev HasOneLine : {A : Type 0} → (List (List ℕ) → A → Type 0) → Type 0
+abbrev pub HasOneLine : {A : Type 0} → (List (List ℕ) → A → Type 0) → Type 0
 HasOneLine {A} Grammar = (lines : List (List ℕ)) (value : A) → Grammar lines value → length lines ≡ 1
 
 -- a line after the first is wrong
-second : {A : Type 0} (Grammar : List (List ℕ) → A → Type 0) → HasOneLine Grammar → (line other : List ℕ) (later : List (List ℕ)) (value : A)
+pub second : {A : Type 0} (Grammar : List (List ℕ) → A → Type 0) → HasOneLine Grammar → (line other : List ℕ) (later : List (List ℕ)) (value : A)
     → Grammar (line ∷ []) value → FailsAtLine Grammar (line ∷ other ∷ later) 2
 second {A} Grammar one line other later value stands =
     bad_after Grammar (line ∷ []) other later (IsBeginning-all Grammar (line ∷ []) value stands)
@@ -83,7 +83,7 @@ alone {A} Grammar one line more value stands =
     subst (λ (x : List (List ℕ)). Grammar (line ∷ x) value) none stands
 
 -- where the first line is not one of the grammar, it is wrong
-first : {A : Type 0} (Grammar : List (List ℕ) → A → Type 0) → HasOneLine Grammar → (line : List ℕ) (later good : List (List ℕ)) (value : A)
+pub first : {A : Type 0} (Grammar : List (List ℕ) → A → Type 0) → HasOneLine Grammar → (line : List ℕ) (later good : List (List ℕ)) (value : A)
     → Grammar good value → ((other : A) → Grammar (line ∷ []) other → ⊥) → FailsAtLine Grammar (line ∷ later) 1
 first {A} Grammar one line later good value stands none =
     bad_after Grammar [] line later (record { more = good; value = value; stands = stands })

@@ -18,14 +18,6 @@ use Rattle.mb_model.specs.Machine.{Phase, off, dead, ratchet, World, Told, boot_
 use Rattle.mb_lemmas.specs.RefusalLaws.{Leaves, BringsBytes, IsPhase}
 use Rattle.mb_lemmas.proofs.OrderLemmas.{one_order_step, some_order_step, refused_order_leaves}
 
--- ---- what is told, and the world afterwards
-
-reply_of : (answer : Reply) (next : World) (told : Told) → ◌≡◌ {A = Told} (answer, next) told → answer ≡ told.0
-reply_of answer next told e = ap (λ (t : Told). t.0) e
-
-next_of : (answer : Reply) (next : World) (told : Told) → ◌≡◌ {A = Told} (answer, next) told → next ≡ told.1
-next_of answer next told e = ap (λ (t : Told). t.1) e
-
 -- ---- refusals
 
 left_alone : (world : World) (given : Event) (next : World) → next ≡ world → Leaves world given next
@@ -84,10 +76,6 @@ Spares state outcome = (n : ℕ) → outcome.0 ≡ reply.Refused n → outcome.1
 either_spares : (state : State) (b : Bool) (x y : Outcome) → Spares state x → Spares state y → Spares state (if b then x else y)
 either_spares state true x y first second = first
 either_spares state false x y first second = second
-
--- a reply that is no refusal
-spared : (state : State) (outcome : Outcome) → ((n : ℕ) → outcome.0 ≡ reply.Refused n → ⊥) → Spares state outcome
-spared state outcome none n e = absurd (none n e)
 
 put_spares : (L : ℕ) (name value : List ℕ) (state : State) → Spares state (put_event L name value state)
 unfolding put_event

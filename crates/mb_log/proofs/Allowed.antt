@@ -1,7 +1,6 @@
 -- What is allowed by the figures of entries is what the rules allow after them.
-use Rattle.std.proofs.Common.{◌≡◌, ◌≢◌, ℕ, ◌<◌, List, [], ◌∷◌, length, refl, sym, ap, subst, arith, rules}
+use Rattle.std.proofs.Common.{◌≡◌, ◌≢◌, ℕ, ◌<◌, List, [], ◌∷◌, length, refl, sym, ap, subst, arith}
 use Rattle.std.proofs.lemmas.List.{nil_from_length}
-use Rattle.mb_model.specs.declared.layer.Layer.{Layer}
 use Rattle.mb_model.specs.declared.entry.Entry.{Entry}
 use Rattle.mb_model.specs.declared.entry.Entry.TheVariants.{Birth, Change, NewKey, Succession}
 use Rattle.mb_model.specs.Log.{StandsAt, Ordered, Ruled}
@@ -90,11 +89,3 @@ some_before before figures are some = some_stand before (subst (λ (f : Figures)
 pub none_before : (before : List Entry) (figures : Figures) → figures ≡ figures_of before → before ≢ [] → 0 < figures.length
 unfolding figures_of
 none_before before figures are some = subst (λ (f : Figures). 0 < f.length) (sym are) (not_none before some)
-
--- ---- layers, part by part
-
-abbrev pub HasSameParts : Layer → Layer → Type 0
-HasSameParts a b = (a.owner ≡ b.owner) × (a.code ≡ b.code) × (a.reliable ≡ b.reliable) × (a.trust ≡ b.trust)
-
-pub same_layer : (a b : Layer) → HasSameParts a b → a ≡ b
-same_layer a b parts = search rules

@@ -138,26 +138,7 @@ fn changes(
 fn leaves(old: &Layers, kind: ChangeKind, layer: u8, cosigned: Pair, new: &Layers) -> bool
     ensures { IsTrue result ↔ (new.now ≡ after old.now kind layer cosigned (layer_of new.now layer)) }
 {
-    is_same(
-        new,
-        &after(old, kind, layer, cosigned, &layer_of(new, layer)),
-    )
-}
-
-/// Whether all layers are the same.
-fn is_same(a: &Layers, b: &Layers) -> bool
-    ensures { IsTrue result ↔ (a.now ≡ b.now) }
-{
-    is_same_layer(&a.one, &b.one)
-        && is_same_layer(&a.two, &b.two)
-        && is_same_layer(&a.three, &b.three)
-}
-
-/// Whether the layers are the same.
-fn is_same_layer(a: &Layer, b: &Layer) -> bool
-    ensures { IsTrue result ↔ (a.now ≡ b.now) }
-{
-    a.owner == b.owner && a.code == b.code && a.reliable == b.reliable && a.trust == b.trust
+    *new == after(old, kind, layer, cosigned, &layer_of(new, layer))
 }
 
 /// Whether each owner that countersigned the change may do so.

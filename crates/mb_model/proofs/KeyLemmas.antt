@@ -1,5 +1,5 @@
 -- Lemmas on a public key as bytes: how many there are, and that they determine the key.
-use Rattle.std.proofs.Common.{◌≡◌, ℕ, ◌<◌, ◌^◌, List, ◌∷◌, ◌++◌, length, take, drop, refl, sym, ap, ◌∙◌, arith, lit<, length-append, append_assoc}
+use Rattle.std.proofs.Common.{◌≡◌, ℕ, ◌<◌, ◌^◌, List, ◌++◌, length, take, drop, refl, sym, ap, ◌∙◌, arith, lit<, length-append, append_assoc}
 use Rattle.std.proofs.lemmas.List.{take_at, drop_at}
 use Rattle.std.proofs.lemmas.Nat.{from_be_bytes-to_be_bytes_4}
 use Rattle.std.specs.Int.{w32, to_be_bytes, from_be_bytes}
@@ -9,10 +9,6 @@ use Rattle.mb_model.specs.declared.key.Tree.TheVariants.{H5, H10, H15, H20, H25}
 use Rattle.mb_model.specs.declared.key.Chains.{Chains}
 use Rattle.mb_model.specs.declared.key.Chains.TheVariants.{W1, W2, W4, W8}
 use Rattle.mb_model.specs.Key.{tree_type, chains_type, key_bytes, IsSized}
-
--- a list's first number and its rest are equal where the lists are
-pub cons_same : (x y : ℕ) (xs ys : List ℕ) → x ∷ xs ≡ y ∷ ys → (x ≡ y) × (xs ≡ ys)
-cons_same x y xs ys e = (cc, cc)
 
 -- two texts that are equal as wholes are equal part by part, where their first parts have one length
 pub same_parts : (a b xs ys : List ℕ) → length a ≡ length b → a ++ xs ≡ b ++ ys → (a ≡ b) × (xs ≡ ys)

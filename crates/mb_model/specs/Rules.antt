@@ -138,9 +138,6 @@ Admits layers kind k cosigned m = IsTrue (admits layers kind k cosigned m)
 abbrev pub is_kept : Layers → ChangeKind → ℕ → Pair → ℕ → Bool
 is_kept layers kind k cosigned m = nat_lt m k || admits layers kind k cosigned m
 
-abbrev pub Kept : Layers → ChangeKind → ℕ → Pair → ℕ → Type 0
-Kept layers kind k cosigned m = IsTrue (is_kept layers kind k cosigned m)
-
 -- the regions that are kept over a change of layer k
 abbrev pub kept_regions : Layers → ChangeKind → ℕ → Pair → Pair
 kept_regions layers kind k cosigned =

@@ -15,7 +15,7 @@ use Rattle.mb_model.specs.declared.order.Target.{Target}
 use Rattle.mb_model.specs.declared.order.Order.{Order}
 use Rattle.mb_model.specs.Key.{key_bytes}
 use Rattle.mb_model.specs.Lines.{HasLines, spaced, IsBeginning, bad_line, ends_early, Reads, TextFailsAtLine}
-use Rattle.mb_model.specs.Drafts.{SaysTarget, trust_line, order_words, SayAct, IsDraft}
+use Rattle.mb_model.specs.Drafts.{SaysTarget, trust_line, SayAct, IsDraft}
 use Rattle.hex.specs.Hex.{decode_pairs}
 use Rattle.mb_model.specs.Texts.{IsHex}
 use Rattle.mb_lemmas.proofs.LineLemmas.{cons_none, HasLines-nil, HasLines-always}
@@ -109,18 +109,6 @@ new_key_finished key layer targets room = record {
   unsigned = refl;
   alone = refl;
 }
-
-pub nothing_unfinished : (order : Order) → IsDraft [] order → ⊥
-nothing_unfinished order is = cons_none (spaced (order_words order.act order.layer)) (is.target_lines ++ is.act_lines) is.spelled
-
-pub owner_unfinished : (layer : ℕ) (owner : PublicKey) (targets : List Target) (order : Order) → SaysOwner layer owner targets [] order → ⊥
-owner_unfinished layer owner targets order says = cons_none (trust_line says.trust) [] says.spelled
-
-pub version_unfinished : (l : Loading) (layer version : ℕ) (targets : List Target) (order : Order) → SaysLoad l layer version targets [] order → ⊥
-version_unfinished l layer version targets order says = cons_none (trust_line says.trust) says.remaining says.spelled
-
-pub trust_unfinished : (l : Loading) (layer version : ℕ) (trust : Trust) (targets : List Target) (order : Order) → SaysCode l layer version trust targets [] order → ⊥
-trust_unfinished l layer version trust targets order says = cons_none says.line [] says.spelled
 
 pub heading_at : (s : Said) (k j : Kind) (layer : ℕ) → s ≡ said.Heading k layer → k ≡ j → s ≡ said.Heading j layer
 heading_at s k j layer e f = e ∙ ap (λ (x : Kind). said.Heading x layer) f
@@ -229,16 +217,6 @@ pub record HasRead (text rest : List ℕ) (number : ℕ) (s : Said) (targets : L
   pub sound : IsSound s targets
   pub on : (more : List (List ℕ)) (order : Order) → SaysRest s targets more order → IsDraft (before ++ more) order
   pub only : (more : List (List ℕ)) (order : Order) → IsDraft (before ++ more) order → SaysRest s targets more order
-
-pub HasRead-start : (text : List ℕ) (targets : List Target) → targets ≡ [] → HasRead text text 1 said.Nothing targets
-HasRead-start text targets none = record {
-  before = [];
-  counted = refl;
-  lines = λ remaining has. has;
-  sound = none;
-  on = λ more order says. says;
-  only = λ more order says. says;
-}
 
 longer : (before : List (List ℕ)) (line : List ℕ) (more : List (List ℕ)) → (before ++ line ∷ []) ++ more ≡ before ++ line ∷ more
 longer before line more = append_assoc before (line ∷ []) more

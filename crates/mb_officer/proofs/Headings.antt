@@ -94,25 +94,6 @@ key_kind words word layer k n numbered e none is =
     let same = layered_same words word (kind_word parts.key) layer n numbered (upper_numbered n parts.upper) e parts.whole in
     none parts.key same.1
 
--- a first line has one of five second words
-pub heading_none : (line words : List ℕ) (k : Kind) (n : ℕ) → line ≡ codes "order " ++ words → ((x : List ℕ) → words ≡ codes "establish " ++ x → ⊥)
-    → ((x : List ℕ) → words ≡ codes "surrender " ++ x → ⊥) → ((x : List ℕ) → words ≡ codes "load " ++ x → ⊥)
-    → ((x : List ℕ) → words ≡ codes "emergency " ++ x → ⊥) → ((x : List ℕ) → words ≡ codes "newkey " ++ x → ⊥) → IsHeading line k n → ⊥
-heading_none line words kind.Establish n e a b c d f is = a (decimal n) (append_cancel_left (codes "order ") words (codes "establish " ++ decimal n) (sym e ∙ is.1))
-heading_none line words kind.Surrender n e a b c d f is = b (decimal n) (append_cancel_left (codes "order ") words (codes "surrender " ++ decimal n) (sym e ∙ is.1))
-heading_none line words (kind.Load loading.Ordinary) n e a b c d f is = c (decimal n) (append_cancel_left (codes "order ") words (codes "load " ++ decimal n) (sym e ∙ is.1))
-heading_none line words (kind.Load loading.Emergency) n e a b c d f is = d (decimal n) (append_cancel_left (codes "order ") words (codes "emergency " ++ decimal n) (sym e ∙ is.1))
-heading_none line words (kind.NewKey key) n e a b c d f is =
-    f (decimal n ++ 32 ∷ kind_word key) (append_cancel_left (codes "order ") words (codes "newkey " ++ decimal n ++ 32 ∷ kind_word key) (sym e ∙ is.1))
-
--- each begins with the same word
-pub heading_word : (line : List ℕ) (k : Kind) (n : ℕ) → IsHeading line k n → (words : List ℕ) × (line ≡ codes "order " ++ words)
-heading_word line kind.Establish n is = (codes "establish " ++ decimal n, is.1)
-heading_word line kind.Surrender n is = (codes "surrender " ++ decimal n, is.1)
-heading_word line (kind.Load loading.Ordinary) n is = (codes "load " ++ decimal n, is.1)
-heading_word line (kind.Load loading.Emergency) n is = (codes "emergency " ++ decimal n, is.1)
-heading_word line (kind.NewKey key) n is = (codes "newkey " ++ decimal n ++ 32 ∷ kind_word key, is.1)
-
 -- ---- a first line is one heading
 
 new_key_same : (line : List ℕ) (key : KeyKind) (k : Kind) (m n : ℕ) → IsHeading line (kind.NewKey key) m → IsNewKey (decimal m ++ 32 ∷ kind_word key) k n

@@ -7,7 +7,6 @@ use Rattle.std.specs.Fmt.{decimal}
 use Rattle.std.proofs.lemmas.List.{append-nil, append_cancel_left}
 use Rattle.mb_model.specs.declared.key.PublicKey.{PublicKey}
 use Rattle.mb_model.specs.declared.key.Trust.{Trust}
-use Rattle.mb_model.specs.declared.key.Trust.TheVariants.{Always, Never, Countersigned}
 use Rattle.mb_model.specs.declared.order.Act.{Act}
 use Rattle.mb_model.specs.declared.order.Act.TheVariants as act
 use Rattle.mb_model.specs.declared.order.Target.{Target}
@@ -34,7 +33,7 @@ use Rattle.mb_officer.specs.declared.draft.Said.TheVariants as said
 use Rattle.mb_officer.proofs.Wording.{letters_at}
 use Rattle.mb_officer.proofs.Headings.{from_targets, first_is, to_targets, heading_same}
 use Rattle.mb_words.specs.Words.{FindsSome}
-use Rattle.mb_officer.specs.Drafting.{load_act, ordered_by, order_kind, IsHeading, drafted, IsSound, SaysTargets, SaysCode, SaysLoad, SaysOwner, SaysRest, Follows, TellsNext, AddsTarget, IsFirst}
+use Rattle.mb_officer.specs.Drafting.{load_act, ordered_by, order_kind, IsHeading, drafted, IsSound, SaysTargets, SaysLoad, SaysOwner, SaysRest, Follows, TellsNext, AddsTarget, IsFirst}
 
 -- ---- targets
 
@@ -352,52 +351,6 @@ Follows-version k layer l n targets line version none sound is_kind same fits sp
 
 -- ---- trust and code
 
-pub trust_same : (a b : Trust) → trust_line a ≡ trust_line b → a ≡ b
-trust_same Always Always e = refl
-trust_same Never Never e = refl
-trust_same Countersigned Countersigned e = refl
-trust_same a b e = absurd (omega (arith, ap length e))
-
-pub Follows-owner-trust : (layer : ℕ) (owner : PublicKey) (targets : List Target) (line : List ℕ) (trust : Trust) → IsSound (said.Owner layer owner) targets
-    → line ≡ trust_line trust → Follows (said.Owner layer owner) targets line (said.All layer (act.Establish owner trust)) targets
-Follows-owner-trust layer owner targets line trust sound is = record {
-  sound = sound.1;
-  on = λ more order says. record {
-    trust = trust;
-    spelled = let head = is in let rest = says.0 in cc;
-    made = says.1;
-  };
-  only = λ more order says.
-      let parts = cons_same line (trust_line says.trust) more [] says.spelled in
-      let same = trust_same says.trust trust (sym parts.0 ∙ is) in
-      (parts.1, says.made ∙ ap (λ (x : Trust). drafted layer targets (act.Establish owner x)) same);
-}
-
-pub owner_trust_none : (layer : ℕ) (owner : PublicKey) (targets : List Target) (line : List ℕ) → ((trust : Trust) → line ≡ trust_line trust → ⊥)
-    → (more : List (List ℕ)) (order : Order) → SaysOwner layer owner targets (line ∷ more) order → ⊥
-owner_trust_none layer owner targets line none more order says = none says.trust (cons_same line (trust_line says.trust) more [] says.spelled).0
-
-pub Follows-load-trust : (l : Loading) (layer version : ℕ) (targets : List Target) (line : List ℕ) (trust : Trust) → IsSound (said.Version l layer version) targets
-    → line ≡ trust_line trust → Follows (said.Version l layer version) targets line (said.Trust l layer version trust) targets
-Follows-load-trust l layer version targets line trust sound is = record {
-  sound = sound;
-  on = λ more order says. record {
-    trust = trust;
-    remaining = more;
-    spelled = ap (λ (x : List ℕ). x ∷ more) is;
-    coded = says;
-  };
-  only = λ more order says.
-      let parts = cons_same line (trust_line says.trust) more says.remaining says.spelled in
-      let same = trust_same says.trust trust (sym parts.0 ∙ is) in
-      subst (λ (x : List (List ℕ)). SaysCode l layer version trust targets x order) (sym parts.1)
-      (subst (λ (x : Trust). SaysCode l layer version x targets says.remaining order) same says.coded);
-}
-
-pub load_trust_none : (l : Loading) (layer version : ℕ) (targets : List Target) (line : List ℕ) → ((trust : Trust) → line ≡ trust_line trust → ⊥)
-    → (more : List (List ℕ)) (order : Order) → SaysLoad l layer version targets (line ∷ more) order → ⊥
-load_trust_none l layer version targets line none more order says = none says.trust (cons_same line (trust_line says.trust) more says.remaining says.spelled).0
-
 pub Follows-code : (l : Loading) (layer version : ℕ) (trust : Trust) (targets : List Target) (line code : List ℕ) (a : Act)
     → IsSound (said.Trust l layer version trust) targets → length code ≤ 32768 → EndsInHex line (codes "code" ∷ []) code → a ≡ load_act l version trust code
     → Follows (said.Trust l layer version trust) targets line (said.All layer a) targets
@@ -412,13 +365,6 @@ Follows-code l layer version trust targets line code a sound fits coded is =
           let same = IsHex-same says.coded.0 coded.0 says.code code word says.coded.1 coded.1 in
           (parts.1, says.made ∙ ap (λ (x : List ℕ). drafted layer targets (load_act l version trust x)) same);
     })
-
-pub code_none : (l : Loading) (layer version : ℕ) (trust : Trust) (targets : List Target) (line : List ℕ)
-    → ((code : List ℕ) → (length code ≤ 32768) × EndsInHex line (codes "code" ∷ []) code → ⊥)
-    → (more : List (List ℕ)) (order : Order) → SaysCode l layer version trust targets (line ∷ more) order → ⊥
-code_none l layer version trust targets line none more order says =
-    let first = (cons_same line says.line more [] says.spelled).0 in
-    none says.code (says.fits, (says.coded.0, says.coded.1, first ∙ says.coded.2))
 
 pub all_none : (layer : ℕ) (a : Act) (targets : List Target) (line : List ℕ) (more : List (List ℕ)) (order : Order)
     → SaysRest (said.All layer a) targets (line ∷ more) order → ⊥

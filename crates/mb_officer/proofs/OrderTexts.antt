@@ -1,74 +1,30 @@
 -- The line of an order, and the text that has no other.
-use Rattle.std.proofs.Common.{◌≡◌, ℕ, ◌<◌, List, [], ◌∷◌, ◌++◌, length, length-append, refl, sym, ap, subst, ◌∙◌, arith}
+use Rattle.std.proofs.Common.{◌≡◌, ℕ, ◌<◌, List, [], ◌∷◌, ◌++◌, length, length-append, refl, sym, subst, ◌∙◌, arith}
 use Rattle.std.specs.Prelude.{codes, Result, Ok, Err}
 use Rattle.std.proofs.lemmas.List.{append_cancel_left}
 use Rattle.std.specs.Int.{w8}
 use Rattle.hex.specs.Hex.{encode_lower}
-use Rattle.mb_format.specs.Format.{IsBytes, Spells, FailsWhole, IsClearWhole}
+use Rattle.mb_format.specs.Format.{Spells}
 use Rattle.mb_format.specs.Combinators.{number_bytes, between, counted}
 use Rattle.mb_format.proofs.Fields.{wide8}
-use Rattle.mb_format.proofs.Whole.{IsClearWhole-from_exact}
 use Rattle.mb_model.specs.declared.order.Order.{Order}
 use Rattle.mb_model.specs.Texts.{IsHex}
-use Rattle.mb_model.specs.Lines.{HasLines, hex_word, Reads, TextFailsAtLine}
+use Rattle.mb_model.specs.Lines.{hex_word}
 use Rattle.mb_model.specs.Rules.{kind_of}
 use Rattle.mb_model.specs.OrderFormat.{order_byte, target_format, act_by, body_of, body_format, order_body, sized_signature_format, countersignatures_format, order_format}
 use Rattle.mb_model.specs.OrderLines.{IsOrderLine}
-use Rattle.mb_model.proofs.OrderFormatLaws.{order_exact}
-use Rattle.mb_lemmas.proofs.LineLemmas.{cons_same, HasLines-none, HasLines-nil, HasLines-always}
+use Rattle.mb_lemmas.proofs.LineLemmas.{cons_same}
 use Rattle.mb_lemmas.proofs.WordLemmas.{IsHex-same}
 use Rattle.mb_lemmas.specs.SampleOrder.{surrender, surrender_line}
-use Rattle.mb_lemmas.proofs.OrderLineLemmas.{empty, order_one, order_first, order_second, surrender_is}
+use Rattle.mb_lemmas.proofs.OrderLineLemmas.{order_one, surrender_is}
 use Rattle.mb_words.specs.declared.said.NotSaid.{NotSaid}
 use Rattle.mb_words.specs.declared.said.NotSaid.TheVariants as why
-use Rattle.mb_words.specs.Words.{Finds, SplitsLine}
-use Rattle.mb_words.proofs.NextLines.{with_line}
+use Rattle.mb_words.specs.Words.{Finds}
+use Rattle.mb_words.proofs.OneLine.{IsOneLine}
 
--- ---- texts
-
--- the first line is that of an order, and nothing follows it
-pub read_alone : (text line rest : List ℕ) (order : Order) → SplitsLine text line rest → 0 < length text → rest ≡ []
-    → IsOrderLine (line ∷ []) order → Reads IsOrderLine text order
-read_alone text line rest order splits some none is = record {
-  lines = line ∷ [];
-  has = with_line text line rest [] splits some (subst (λ (x : List ℕ). HasLines x []) (sym none) HasLines-nil);
-  stands = is;
-}
-
--- there is no line
-pub no_line : (text : List ℕ) → text ≡ [] → TextFailsAtLine IsOrderLine text 1
-no_line text none = record {
-  lines = [];
-  has = subst (λ (x : List ℕ). HasLines x []) (sym none) HasLines-nil;
-  fails = empty IsOrderLine order_one (surrender_line ∷ []) surrender surrender_is;
-}
-
--- the first line is that of no order
-pub first_wrong : (text line rest : List ℕ) → SplitsLine text line rest → 0 < length text
-    → ((order : Order) → IsOrderLine (line ∷ []) order → ⊥) → TextFailsAtLine IsOrderLine text 1
-first_wrong text line rest splits some none =
-    let remaining = HasLines-always rest in
-    record {
-      lines = line ∷ remaining.0;
-      has = with_line text line rest remaining.0 splits some remaining.1;
-      fails = order_first line remaining.0 none;
-    }
-
-second_in : (text line rest : List ℕ) (order : Order) (lines : List (List ℕ)) → SplitsLine text line rest → 0 < length text → 0 < length rest
-    → IsOrderLine (line ∷ []) order → HasLines rest lines → TextFailsAtLine IsOrderLine text 2
-second_in text line rest order [] splits some more is has = absurd (omega (arith, more, ap length (HasLines-none rest has)))
-second_in text line rest order (other ∷ later) splits some more is has = record {
-  lines = line ∷ other ∷ later;
-  has = with_line text line rest (other ∷ later) splits some has;
-  fails = order_second line other later order is;
-}
-
--- another line follows that of an order
-pub second_wrong : (text line rest : List ℕ) (order : Order) → SplitsLine text line rest → 0 < length text → 0 < length rest
-    → IsOrderLine (line ∷ []) order → TextFailsAtLine IsOrderLine text 2
-second_wrong text line rest order splits some more is =
-    let remaining = HasLines-always rest in
-    second_in text line rest order remaining.0 splits some more is remaining.1
+-- some order stands in a line, and each in one
+pub order_alone : IsOneLine IsOrderLine
+order_alone = record { one = order_one; good = surrender_line ∷ []; value = surrender; stands = surrender_is }
 
 -- ---- lines
 
@@ -89,16 +45,6 @@ line_finds line word bytes begins hex (Err why.Form) none =
     let same = IsHex-same word word bytes is.bytes refl hex (line_hex line word order is begins) in
     none order (subst (λ (x : List ℕ). Spells order_format x order) (sym same) is.spelled)
 line_finds line word bytes begins hex (Err why.NoMemory) unsaid = tt
-
--- bytes that fail somewhere spell no order
-pub no_order : (bytes : List ℕ) (place : ℕ) → IsBytes bytes → FailsWhole order_format bytes place → (order : Order) → Spells order_format bytes order → ⊥
-no_order bytes place are fails order spelled =
-    let whole : IsClearWhole order_format = IsClearWhole-from_exact order_exact in
-    whole.never_both bytes order place are spelled fails
-
--- what is not in the grammar is none
-pub none_found : {A : Type 0} (Is : A → Type 0) (e : NotSaid) → e ≡ why.Form → Finds {A = A} Is (Err e) → (a : A) → Is a → ⊥
-none_found {A} Is e form found = subst (λ (x : NotSaid). Finds {A = A} Is (Err x)) form found
 
 -- ---- what is written
 

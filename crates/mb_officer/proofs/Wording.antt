@@ -12,7 +12,6 @@ use Rattle.mb_model.specs.declared.order.OrderKind.TheVariants.{Surrender}
 use Rattle.mb_model.specs.Layers.{is_layer_number}
 use Rattle.mb_model.specs.Rules.{MayBeFor}
 use Rattle.mb_model.specs.Texts.{IsHex}
-use Rattle.mb_model.specs.Lines.{IsNumber, number_limit}
 use Rattle.mb_model.specs.Drafts.{kind_word, SaysTarget}
 use Rattle.mb_lemmas.proofs.WordLemmas.{number_front}
 
@@ -71,23 +70,6 @@ hex_word front line word bytes e other is f = subst (λ (x : List ℕ). IsHex x 
 
 -- ---- targets
 
--- no target says other words
-pub demand_none : (words : List ℕ) (t : Target) → ((x : List ℕ) → words ≡ codes "serial " ++ x → ⊥) → ((x : List ℕ) → words ≡ codes "length " ++ x → ⊥)
-    → ((x : List ℕ) → words ≡ codes "owner " ++ x → ⊥) → ((x : List ℕ) → words ≡ codes "code " ++ x → ⊥) → SaysTarget (codes "target " ++ words) t → ⊥
-demand_none words (target.Serial serial) a b c d says = a says.1.0 (append_cancel_left (codes "target ") words (codes "serial " ++ says.1.0) says.1.2)
-demand_none words (target.Length n) a b c d says = b (decimal n) (append_cancel_left (codes "target ") words (codes "length " ++ decimal n) says.1)
-demand_none words (target.Owner layer hash) a b c d says =
-    c (decimal layer ++ 32 ∷ says.2.0) (append_cancel_left (codes "target ") words (codes "owner " ++ decimal layer ++ 32 ∷ says.2.0) says.2.2)
-demand_none words (target.Code layer hash) a b c d says =
-    d (decimal layer ++ 32 ∷ says.2.0) (append_cancel_left (codes "target ") words (codes "code " ++ decimal layer ++ 32 ∷ says.2.0) says.2.2)
-
--- a target's line begins with its word
-pub target_word : (line : List ℕ) (t : Target) → SaysTarget line t → (words : List ℕ) × (line ≡ codes "target " ++ words)
-target_word line (target.Serial serial) says = (codes "serial " ++ says.1.0, says.1.2)
-target_word line (target.Length n) says = (codes "length " ++ decimal n, says.1)
-target_word line (target.Owner layer hash) says = (codes "owner " ++ decimal layer ++ 32 ∷ says.2.0, says.2.2)
-target_word line (target.Code layer hash) says = (codes "code " ++ decimal layer ++ 32 ∷ says.2.0, says.2.2)
-
 -- two letters of a line, from a place on
 abbrev pub letters_at : ℕ → List ℕ → ℕ
 letters_at n line = 256 * get_or line n 0 + get_or line (n + 1) 0
@@ -137,15 +119,6 @@ code_parts words (target.Code layer hash) says = record {
   whole = append_cancel_left (codes "target code ") words (decimal layer ++ 32 ∷ says.2.0) says.2.2;
 }
 code_parts words t says = absurd (omega (arith, says_letters (codes "target code " ++ words) t says))
-
-pub serial_parts : (word : List ℕ) (t : Target) → SaysTarget (codes "target serial " ++ word) t → (serial : List ℕ) × (length serial ≡ 16) × IsHex word serial
-serial_parts word (target.Serial serial) says =
-    (serial, says.0, hex_word (codes "target serial ") (codes "target serial " ++ word) word serial refl says.1.0 says.1.1 says.1.2)
-serial_parts word t says = absurd (omega (arith, says_letters (codes "target serial " ++ word) t says))
-
-pub length_parts : (word : List ℕ) (t : Target) → SaysTarget (codes "target length " ++ word) t → (n : ℕ) × IsNumber number_limit word n
-length_parts word (target.Length n) says = (n, (append_cancel_left (codes "target length ") word (decimal n) says.1, says.0))
-length_parts word t says = absurd (omega (arith, says_letters (codes "target length " ++ word) t says))
 
 pub numbered_fits : (n : ℕ) → IsTrue (is_layer_number n) → n < 2 ^ 64
 numbered_fits n numbered = grind (arith, numbered)

@@ -15,8 +15,7 @@ use Rattle.mb_lemmas.proofs.MeaningLemmas.{one_region}
 use Rattle.mb_lemmas.proofs.FateLemmas.{kept_as_before}
 use Rattle.mb_layout.specs.Edits.{CanBeStored, IsFated}
 use Rattle.mb_layout.specs.Found.{Finds}
-use Rattle.mb_layout.proofs.Areas.{bytes_are}
-use Rattle.mb_format.proofs.Fields.{wide16}
+use Rattle.mb_layout.proofs.Areas.{one_held}
 use Rattle.mb_model.specs.declared.stored.Root.{Root}
 use Rattle.mb_storing.specs.Holding.{Holds, Means, region_in_slot, with_region_in, fate_in_slot, KeepsContents}
 use Rattle.mb_storing.specs.Storable.{HasRegionRecord}
@@ -26,13 +25,9 @@ use Rattle.mb_region.specs.Fates.{CanBeFated, IsPending, fated_in, AppliesFate, 
 
 -- ---- what an area holds
 
-pub one_held : (area a b : List ℕ) → HoldsInArea area a → HoldsInArea area b → a ≡ b
-one_held area a b one other =
-    bytes_are wide16 area a one.rest (omega (arith, one.short)) one.whole ∙ sym (bytes_are wide16 area b other.rest (omega (arith, other.short)) other.whole)
-
 -- the bytes that an area holds stand for the region that it holds
 pub held_stands : (area bytes : List ℕ) (region : Region) → HoldsInArea area bytes → HoldsRegion area region → SpellsRegion bytes region
-held_stands area bytes region found has = subst (λ (xs : List ℕ). SpellsRegion xs region) (one_held area has.bytes bytes has.holds found) has.spelled
+held_stands area bytes region found has = subst (λ (xs : List ℕ). SpellsRegion xs region) (one_held has.bytes bytes has.holds found) has.spelled
 
 pub still_stands : {area : List ℕ} (read bytes : List ℕ) (region : Region) → read ≡ area → HoldsInArea read bytes → HoldsRegion area region → SpellsRegion bytes region
 still_stands {area} read bytes region same found has = held_stands read bytes region found (subst (λ (xs : List ℕ). HoldsRegion xs region) (sym same) has)
@@ -71,13 +66,6 @@ fated_stands fate area read bytes new region are same can found edited has =
 region_held : (slot : ℕ) (memory : Memory) (contents : Contents) → IsRegionSlot slot → Holds memory contents → HoldsRegion (current memory.bbram slot) (region_in_slot slot contents)
 region_held slot memory contents (inl same) holds = subst (λ (n : ℕ). HoldsRegion (current memory.bbram n) (region_in_slot n contents)) (sym same) holds.two
 region_held slot memory contents (inr same) holds = subst (λ (n : ℕ). HoldsRegion (current memory.bbram n) (region_in_slot n contents)) (sym same) holds.three
-
-pub pending_held : (slot : ℕ) (fate : Fate) (memory : Memory) → IsRegionSlot slot → IsPending slot fate memory → CanBeFated fate (current memory.bbram slot)
-pending_held slot fate memory which is = record {
-  region = region_in_slot slot is.contents;
-  holds = region_held slot memory is.contents which is.holds;
-  stored = is.stored;
-}
 
 kept_in : (b : Bool) (contents : Contents) → ◌≡◌ {A = Contents} (if b then record contents { two = fated Keep (if b then contents.two else contents.three) } else record contents { three = fated Keep (if b then contents.two else contents.three) }) contents
 kept_in true contents = ap (λ (r : Region). let c : Contents = record contents { two = r } in c) (kept_as_before contents.two)

@@ -102,9 +102,6 @@ taken p (x ∷ xs) = subst (Taken p (x ∷ xs)) (sym (take_while-cons p x xs)) (
 
 -- ---- entries
 
-entry_in : SignedEntry → Entry
-entry_in signed = signed.entry
-
 -- the entry may stand before the first change after the configuration n
 abbrev stays_in : ℕ → SignedEntry → Bool
 stays_in n signed = not (is_change_above n signed.entry)

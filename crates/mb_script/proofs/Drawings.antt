@@ -1,9 +1,8 @@
 -- How far the draws of a script have been placed.
 use Rattle.std.proofs.Common.{◌≡◌, ℕ, ◌+◌, ◌-◌, ◌*◌, ◌<◌, ◌≤◌, zero, suc, true, List, [], ◌∷◌, ◌++◌, length, length-append, take, drop, refl, sym, ap, ◌∙◌, arith, append_assoc}
 use Rattle.std.specs.Prelude.{IsTrue, Some, slice_get, slice_set, cond}
-use Rattle.std.proofs.lemmas.List.{append-nil, length-take-le, length-drop, take-append-drop, take_all, take_at, drop_all, drop-drop, set-append_right}
+use Rattle.std.proofs.lemmas.List.{length-take-le, length-drop, take-append-drop, take_at, drop-drop, set-append_right}
 use Rattle.std.proofs.lemmas.List.Sums.{sum_by-append}
-use Rattle.mb_model.specs.Pieces.{part}
 use Rattle.mb_model.specs.declared.event.Event.{Event}
 use Rattle.mb_model.specs.declared.event.Event.TheVariants as event
 use Rattle.mb_model.specs.Script.{with_before, is_command, commands_in, drawn_event, drawn_events}
@@ -17,11 +16,6 @@ pub record IsDrawing (noise : List ℕ) (old now : List Event) (left : List ℕ)
 pub draws_begin : (noise : List ℕ) (old : List Event) → IsDrawing noise old old noise 0
 unfolding drawn_events commands_in with_before
 draws_begin noise old = record { drawn = refl; rest = refl }
-
-pub draws_end : (noise : List ℕ) (old now : List Event) (left : List ℕ) (at : ℕ) → IsDrawing noise old now left at → length old ≤ at → now ≡ drawn_events noise old
-draws_end noise old now left at is past =
-    is.drawn ∙ ap (λ (x : List Event). drawn_events noise (take at old) ++ x) (drop_all at old past)
-    ∙ append-nil (drawn_events noise (take at old)) ∙ ap (drawn_events noise) (take_all at old past)
 
 front_length : (noise : List ℕ) (old : List Event) (at : ℕ) → at ≤ length old → length (drawn_events noise (take at old)) ≡ at
 front_length noise old at within = drawn-length noise (take at old) ∙ length-take-le at old within

@@ -20,15 +20,6 @@ pub record IsReadTo (text rest : List ℕ) (events : List Event) (number : ℕ) 
   pub count : number ≡ length before
   pub less : number + length rest ≤ length text
 
-pub nothing_read : (text : List ℕ) → IsReadTo text text [] 0
-nothing_read text = record {
-  before = [];
-  stands = record { said = tt; most = omega arith };
-  forward = λ more has. has;
-  count = refl;
-  less = omega arith;
-}
-
 pub all_read : (text rest : List ℕ) (events : List Event) (number : ℕ) → IsReadTo text rest events number → rest ≡ [] → Reads IsScript text events
 all_read text rest events number is none = record {
   lines = is.before ++ [];

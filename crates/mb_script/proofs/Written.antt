@@ -4,7 +4,7 @@ use Rattle.std.specs.Prelude.{Result, Ok, Err, slice_index}
 use Rattle.std.specs.Global.{Vec}
 use Rattle.std.specs.Fmt.{decimal}
 use Rattle.std.proofs.lemmas.Fmt.{decimal_digit, decimal_step}
-use Rattle.std.proofs.lemmas.List.{take_all, take_more, take-append-drop}
+use Rattle.std.proofs.lemmas.List.{take_more, take-append-drop}
 use Rattle.hex.specs.Hex.{encode_with, encode_lower, lower_digits}
 use Rattle.mb_model.specs.Lines.{hex_word}
 use Rattle.mb_bytes.specs.Puts.{Appends, StopsShort, Puts}
@@ -69,7 +69,3 @@ hex_stops bytes i byte old middle new less is some front stops =
     let whole = sym (encode-append (take (i + 1) bytes) (drop (i + 1) bytes)) ∙ ap encode_lower (take-append-drop (i + 1) bytes) ∙ sym (hex_some bytes some) in
     let here = subst (λ (x : List ℕ). StopsShort x old new) (sym one) (puts_stop_later front stops) in
     subst (λ (x : List ℕ). StopsShort x old new) whole (puts_stop (encode_lower (drop (i + 1) bytes)) here)
-
-pub hex_ends : (bytes : List ℕ) (i : ℕ) (old new : Vec ℕ) → length bytes ≤ i → 0 < length bytes → Appends (encode_lower (take i bytes)) old new → Appends (hex_word bytes) old new
-hex_ends bytes i old new past some written =
-    subst (λ (x : List ℕ). Appends x old new) (ap encode_lower (take_all i bytes past) ∙ sym (hex_some bytes some)) written

@@ -51,16 +51,6 @@ lies_in : (slot : ℕ) (is_first : Bool) → 1 ≤ slot → slot ≤ 3 → LiesI
 lies_in slot true least most = let at = stands_at slot least most in record { from = omega arith; to = omega arith }
 lies_in slot false least most = let at = stands_at slot least most in record { from = omega arith; to = omega arith }
 
-apart_by : (slot m at other_at : ℕ) → LiesIn slot at → LiesIn m other_at → (m ≡ slot) ⊎ ((m < slot) ⊎ (slot < m)) → m ≢ slot → (other_at + 4096 ≤ at) ⊎ (at + 4096 ≤ other_at)
-apart_by slot m at other_at lies other_lies (inl same) apart = absurd (apart same)
-apart_by slot m at other_at lies other_lies (inr (inl below)) apart = inl (omega arith)
-apart_by slot m at other_at lies other_lies (inr (inr above)) apart = inr (omega arith)
-
-slots_apart : (slot m : ℕ) (is_first this : Bool) → 1 ≤ slot → slot ≤ 3 → 1 ≤ m → m ≤ 3 → m ≢ slot
-    → (offset_of m this + 4096 ≤ offset_of slot is_first) ⊎ (offset_of slot is_first + 4096 ≤ offset_of m this)
-slots_apart slot m is_first this least most m_least m_most apart =
-    apart_by slot m (offset_of slot is_first) (offset_of m this) (lies_in slot is_first least most) (lies_in m this m_least m_most) (cases_order m slot) apart
-
 -- ---- the areas as parts
 
 picked : (is_first : Bool) (slot : ℕ) (bbram : List ℕ) → (if is_first then part (slots slot).first area_length bbram else part (slots slot).second area_length bbram) ≡ part (offset_of slot is_first) area_length bbram

@@ -12,16 +12,15 @@ use Rattle.mb_model.specs.declared.order.Order.{Order}
 use Rattle.mb_model.specs.declared.entry.Entry.{Entry}
 use Rattle.mb_model.specs.declared.entry.SignedEntry.{SignedEntry}
 use Rattle.mb_model.specs.declared.region.Region.{Region}
-use Rattle.mb_model.specs.declared.reply.Reply.{Reply}
 use Rattle.mb_model.specs.declared.reply.Reply.TheVariants as reply
 use Rattle.mb_model.specs.declared.state.Codes.{Codes}
 use Rattle.mb_model.specs.declared.state.State.{State}
 use Rattle.mb_model.specs.declared.stored.Root.{Root}
 use Rattle.mb_model.specs.Layers.{is_upper, is_runnable}
 use Rattle.mb_model.specs.Rules.{kind_of, change_of, renews, Condition}
-use Rattle.mb_model.specs.Log.{entries_of, number_of, layers_of, used}
+use Rattle.mb_model.specs.Log.{entries_of, layers_of, used}
 use Rattle.mb_model.specs.OrderFormat.{order_format}
-use Rattle.mb_model.specs.OrderStep.{change_by, needs_succession, Passes, signed_by, log_with, succeeded, device_after, uses_after, key_made, changed, keyed, ready_for, own_entry, carried_out, obeyed, is_obeyed}
+use Rattle.mb_model.specs.OrderStep.{change_by, needs_succession, Passes, signed_by, log_with, succeeded, device_after, uses_after, key_made, changed, keyed, ready_for, own_entry, carried_out, obeyed}
 use Rattle.mb_model.specs.Memory.{AreSized}
 use Rattle.mb_model.specs.StoredLog.{AreCounted, HasIndex, signed_for, completed}
 use Rattle.mb_model.specs.Meaning.{Contents, HoldsContents, fated, fate_of_two, fate_of_three, meant, HasMeaning, is_dead, is_live, StandsFor}
@@ -32,7 +31,7 @@ use Rattle.mb_lemmas.proofs.FatedStates.{changed_is_fated, keyed_is_fated}
 use Rattle.mb_lemmas.proofs.OwnEntries.{appends_own}
 use Rattle.mb_lemmas.proofs.ValidStates.{valid_is_ruled}
 use Rattle.mb_lemmas.proofs.ValidOrders.{succeeded_valid}
-use Rattle.mb_lemmas.proofs.ValidSteps.{order_step_valid, obeyed_valid}
+use Rattle.mb_lemmas.proofs.ValidSteps.{obeyed_valid}
 use Rattle.mb_model.specs.Work.{own_fate, fate_for, gives_way, outgoing_key, outgoing_with, succession_entry, new_entries, pending_for}
 use Rattle.mb_storing.specs.Commits.{root_for, committed, two_done, three_done, both_done, IsUnderWay, not_begun, only_two, only_three, has_both}
 
@@ -333,18 +332,9 @@ unfolding committed
 commit_stands flash bbram state order draw area sized valid allowed passes holds =
     stands_for_meant flash bbram (committed state order draw area) (obeyed state order draw) sized holds (commit_index state order draw area) (commit_means state order draw area valid allowed passes)
 
--- what is committed, piece by piece
-pub committed_root_is : (state : State) (order : Order) (draw : List ℕ) (area : ℕ) → (committed state order draw area).root ≡ root_for state order draw area
-unfolding committed
-committed_root_is state order draw area = refl
-
 pub committed_area_is : (state : State) (order : Order) (draw : List ℕ) (area : ℕ) → (root_for state order draw area).area ≡ area
 unfolding root_for
 committed_area_is state order draw area = refl
-
-pub committed_pending_is : (state : State) (order : Order) (draw : List ℕ) (area : ℕ) → (root_for state order draw area).pending ≡ Some (pending_for state order draw)
-unfolding root_for
-committed_pending_is state order draw area = refl
 
 -- ---- the work
 

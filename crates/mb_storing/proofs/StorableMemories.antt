@@ -12,7 +12,6 @@ use Rattle.mb_model.specs.declared.key.PublicKey.{PublicKey}
 use Rattle.mb_model.specs.declared.layer.Layers.{Layers}
 use Rattle.mb_model.specs.declared.entry.Entry.{Entry}
 use Rattle.mb_model.specs.declared.entry.Entry.TheVariants.{Birth, Change, NewKey, Succession}
-use Rattle.mb_model.specs.declared.entry.PublicEntry.{PublicEntry}
 use Rattle.mb_model.specs.declared.entry.SignedEntry.{SignedEntry}
 use Rattle.mb_model.specs.declared.region.Region.{Region}
 use Rattle.mb_model.specs.declared.region.RegionKey.{RegionKey}
@@ -33,13 +32,14 @@ use Rattle.mb_model.specs.LayerFormat.{layers_format}
 use Rattle.mb_model.specs.EntryFormat.{birth_format, change_format, entry_format, signed_entry_format}
 use Rattle.mb_model.specs.RootFormat.{region_key_format, fate_format, pending_format, root_format}
 use Rattle.mb_model.specs.RegionFormat.{secret_format, secrets_format, keys_format, region_format, SpellsRegion}
-use Rattle.mb_model.specs.Flash.{codes_format, public_entry_format, public_format, with_signature, without_signature, public_of_parts}
+use Rattle.mb_model.specs.Flash.{codes_format, public_format, with_signature, without_signature, public_of_parts}
 use Rattle.mb_model.specs.OrderStep.{signed_by}
 use Rattle.mb_model.specs.StoredLog.{signed_for, outgoing_of, completed}
 use Rattle.mb_model.specs.Meaning.{Contents, HoldsContents, fated, fate_of_two, fate_of_three, meant, StandsFor}
 use Rattle.mb_model.specs.Valid.{IsValidState}
 use Rattle.mb_model.specs.Factory.{layers_at_birth, serial_from, birth_entry, state_at_birth}
 use Rattle.mb_model.proofs.Places.{length-part}
+use Rattle.mb_lemmas.proofs.PublicLemmas.{root_pending, public_few, public_entries, signed_front, unsigned_rest}
 use Rattle.mb_storing.specs.Storable.{IsStorableRegion, IsStorableState}
 use Rattle.mb_storing.proofs.CommitLemmas.{live_contents}
 use Rattle.mb_storing.proofs.StorableFormats.{keep_allowed, signed_entry, small_number, born_seed_allowed, born_public_allowed, unowned_allowed, layers_allowed, first_layer_allowed, first_codes_allowed, birth_allowed, signed_allowed}
@@ -54,10 +54,6 @@ root_serial root is = is.1.1.0
 root_device : (root : Root) → root_format.Allowed root → key_seed_format.Allowed root.device
 unfolding root_format
 root_device root is = is.1.1.1.0
-
-root_pending : (root : Root) → root_format.Allowed root → (optional pending_format).Allowed root.pending
-unfolding root_format
-root_pending root is = is.1.1.1.1.1
 
 fate_two : (pending : Option Pending) → (optional pending_format).Allowed pending → fate_format.Allowed (fate_of_two pending)
 unfolding pending_format
@@ -115,31 +111,6 @@ fated_storable (AddKey key) region allowed is few = record {
 public_codes : (public : Public) → public_format.Allowed public → codes_format.Allowed public.codes
 unfolding public_format
 public_codes public is = is.1.0
-
-public_few : (public : Public) → public_format.Allowed public → length public.entries ≤ 128
-unfolding public_format
-public_few public is = is.1.1.0.1
-
-public_entries : (public : Public) → public_format.Allowed public → AllByRecursion public_entry_format.Allowed public.entries
-unfolding public_format
-public_entries public is = (items_all public_entry_format (length public.entries) public.entries is.1.1.1).1
-
-signed_from_public : (signed : SignedEntry) → public_entry_format.Allowed (with_signature signed) → signed_entry_format.Allowed signed
-unfolding public_entry_format signed_entry_format
-signed_from_public signed is = (is.0, is.1.1)
-
-entry_from_public : (entry : Entry) → public_entry_format.Allowed (without_signature entry) → entry_format.Allowed entry
-unfolding public_entry_format
-entry_from_public entry is = is.0
-
-signed_front : (signed : List SignedEntry) (rest : List PublicEntry) → AllByRecursion public_entry_format.Allowed (map with_signature signed ++ rest) → All signed_entry_format.Allowed signed
-signed_front [] rest are = All-nil signed_entry_format.Allowed
-signed_front (one ∷ more) rest are = All-cons signed_entry_format.Allowed one more (signed_from_public one are.0) (signed_front more rest are.1)
-
-unsigned_rest : (signed : List SignedEntry) (unsigned : List Entry) → AllByRecursion public_entry_format.Allowed (map with_signature signed ++ map without_signature unsigned) → All entry_format.Allowed unsigned
-unsigned_rest [] [] are = All-nil entry_format.Allowed
-unsigned_rest [] (entry ∷ more) are = All-cons entry_format.Allowed entry more (entry_from_public entry are.0) (unsigned_rest [] more are.1)
-unsigned_rest (one ∷ rest) unsigned are = unsigned_rest rest unsigned are.1
 
 -- ---- the log
 

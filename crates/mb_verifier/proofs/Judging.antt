@@ -1,16 +1,15 @@
 -- Whether each entry of a log is good, one entry after another.
-use Rattle.std.proofs.Common.{◌≡◌, ◌≢◌, ◌<◌, ◌≤◌, ◌+◌, ◌-◌, ◌^◌, ℕ, List, [], ◌∷◌, ◌++◌, inl, inr, length, take, drop, get_or, Option, None, Some, Bool, false, true≢false, refl, sym, ap, subst, ◌∙◌, arith, append_assoc, length-append}
-use Rattle.std.specs.Prelude.{◌↔◌, IsTrue, IfOk, IfSome, Result}
+use Rattle.std.proofs.Common.{◌≡◌, ◌≢◌, ◌<◌, ◌≤◌, ◌+◌, ◌-◌, ◌^◌, ℕ, List, [], ◌∷◌, ◌++◌, length, take, drop, get_or, Option, None, Some, Bool, false, true≢false, refl, sym, ap, subst, ◌∙◌, arith, append_assoc}
+use Rattle.std.specs.Prelude.{◌↔◌, IsTrue, IfSome}
 use Rattle.std.proofs.lemmas.List.{take_more, take-append-drop, length-map, length-take-le}
 use Rattle.mb_model.specs.declared.key.PublicKey.{PublicKey}
 use Rattle.mb_model.specs.declared.entry.Entry.{Entry}
 use Rattle.mb_model.specs.declared.entry.SignedEntry.{SignedEntry}
 use Rattle.mb_model.specs.Log.{entries_of, Ordered, RuledLog}
 use Rattle.mb_model.specs.Merkle.{leaf_number}
-use Rattle.mb_model.specs.SignedTexts.{entry_text, IsSignedBy}
-use Rattle.mb_model.specs.Acceptance.{ChainRefusal, in_charge, IsCertified, IsInPlace, IsGood, AreGood}
-use Rattle.mb_lemmas.proofs.LogLemmas.{entries_more, split_push}
-use Rattle.mb_lemmas.proofs.ChainLemmas.{good_is_ruled}
+use Rattle.mb_model.specs.Acceptance.{ChainRefusal, in_charge, IsInPlace, IsGood, AreGood}
+use Rattle.mb_lemmas.proofs.LogLemmas.{entries_more}
+use Rattle.mb_lemmas.proofs.ChainLemmas.{AreGood-push, good_is_ruled}
 use Rattle.mb_log.specs.declared.figures.Figures.{Figures}
 use Rattle.mb_log.specs.declared.life.Life.{Life}
 use Rattle.mb_log.specs.Figures.{figures_of}
@@ -34,16 +33,6 @@ unfolding figures_of
 later_in_charge maker figures [] is some = absurd (some (ap (λ (f : Figures). f.length) is))
 later_in_charge maker figures (first ∷ rest) is some = ap (λ (f : Figures). f.device) is
 
--- an entry that this key signed is certified where it is the key in charge
-pub certified_by : (maker : PublicKey) (before : List Entry) (signed : SignedEntry) {E : Type 0} (key : Option PublicKey) (result : Result Bool E) → key ≡ in_charge maker before
-    → IfOk result (λ yes. IsTrue yes ↔ IsSignedBy key (entry_text signed.entry) signed.signature) → IfOk result (λ yes. IsTrue yes ↔ IsCertified maker before signed)
-certified_by maker before signed key result is tells =
-    subst (λ (k : Option PublicKey). IfOk result (λ yes. IsTrue yes ↔ IsSignedBy k (entry_text signed.entry) signed.signature)) is tells
-
--- without one no entry is
-pub none_certified : (text signature : List ℕ) → IsTrue false ↔ IsSignedBy None text signature
-none_certified text signature = ((λ on. absurd (true≢false (sym on))), (λ signed. absurd signed))
-
 -- ---- one entry
 
 pub counted : (figures : Figures) (before : List Entry) → figures ≡ figures_of before → figures.length ≡ length before
@@ -61,16 +50,6 @@ pub out_of_place : (before : List Entry) (signed : SignedEntry) (index : ℕ) �
 out_of_place before signed index is some wrong place = wrong (subst (λ (i : ℕ). Ordered before signed.entry i) (sym is) (place some))
 
 -- ---- a list of entries
-
-AreGood-push : (maker : PublicKey) (log : List SignedEntry) (signed : SignedEntry) → AreGood maker log → IsGood maker (entries_of log) signed → AreGood maker (log ++ signed ∷ [])
-AreGood-push maker log signed good next =
-    λ before s rest split. elim (split_push log before rest signed s split) [
-      | inl end ↦ subst (λ (b : List SignedEntry). IsGood maker (entries_of b) s) end.1 (subst (λ (x : SignedEntry). IsGood maker (entries_of log) x) end.2 next)
-      | inr found ↦ good before s found.0 found.2
-    ]
-
-pub AreGood-none : (maker : PublicKey) → AreGood maker []
-AreGood-none maker = λ before signed rest split. absurd (omega (arith, ap length split, length-append before (signed ∷ rest)))
 
 pub AreGood-more : (maker : PublicKey) (log : List SignedEntry) (i : ℕ) (d : SignedEntry) → i < length log → AreGood maker (take i log) → IsGood maker (entries_of (take i log)) (get_or log i d)
     → AreGood maker (take (i + 1) log)

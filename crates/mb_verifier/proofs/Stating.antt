@@ -1,15 +1,11 @@
 -- Whether a statement is current.
-use Rattle.std.proofs.Common.{◌≡◌, ℕ, List, ◌∷◌, ◌++◌, None, Some, Bool, false, true≢false, sym, ap, ◌∙◌, append_assoc}
-use Rattle.std.specs.Prelude.{◌↔◌, IsTrue}
+use Rattle.std.proofs.Common.{◌≡◌, ℕ, List, ◌∷◌, ◌++◌, Some, ap, ◌∙◌, append_assoc}
 use Rattle.std.specs.Int.{w32, to_be_bytes}
 use Rattle.std.specs.Option.{option_map}
-use Rattle.mb_model.specs.declared.key.PublicKey.{PublicKey}
 use Rattle.mb_model.specs.declared.entry.Entry.{Entry}
-use Rattle.mb_model.specs.declared.entry.Statement.{Statement}
-use Rattle.mb_model.specs.Merkle.{Verifies}
-use Rattle.mb_model.specs.Log.{serial_of, number_of}
+use Rattle.mb_model.specs.Log.{number_of}
 use Rattle.mb_model.specs.SignedTexts.{statement_text}
-use Rattle.mb_model.specs.Acceptance.{key_of, is_alive, IsStated}
+use Rattle.mb_model.specs.Acceptance.{key_of, is_alive}
 use Rattle.mb_log.specs.declared.figures.Figures.{Figures}
 use Rattle.mb_log.specs.declared.life.BornKey.{BornKey}
 use Rattle.mb_log.specs.declared.life.Life.{Life}
@@ -24,17 +20,6 @@ pub pieces_are : (serial front middle back message : List ℕ) (key number : ℕ
 unfolding statement_text
 pieces_are serial front middle back message key number key_is number_is message_is = rw (key_is, number_is, message_is) (simp append_assoc)
 
--- in the device with this serial
-pub stated_there : (log : List Entry) (n : ℕ) (key : PublicKey) (statement : Statement) (serial : List ℕ) (told : Bool) → serial_of log ≡ Some serial
-    → (IsTrue told ↔ Verifies key (statement_text serial n statement.number statement.message) statement.signature)
-    → (IsTrue told ↔ IsStated log n key statement)
-stated_there log n key statement serial told is tells = rw is tells
-
--- no device has the log
-pub stated_nowhere : (log : List Entry) (n : ℕ) (key : PublicKey) (statement : Statement) → serial_of log ≡ None
-    → (IsTrue false ↔ IsStated log n key statement)
-stated_nowhere log n key statement is = rw is ((λ on. absurd (true≢false (sym on))), (λ stated. absurd stated))
-
 -- ---- what the entries say
 
 pub number_is : (figures : Figures) (log : List Entry) → figures ≡ figures_of log → figures.number ≡ number_of log
@@ -44,10 +29,6 @@ number_is figures log is = ap (λ (f : Figures). f.number) is
 -- the entry of the key that was born
 pub born_is : (log : List Entry) (n : ℕ) (life : Life) (born : BornKey) → IsLifeOf log n life → life.born ≡ Some born → key_of log n ≡ Some (as_entry born)
 born_is log n life born is some = is.born ∙ ap (option_map as_entry) some
-
--- no entry makes the key that was not
-pub unborn_is : (log : List Entry) (n : ℕ) (life : Life) → IsLifeOf log n life → life.born ≡ None → key_of log n ≡ None
-unborn_is log n life is none = is.born ∙ ap (option_map as_entry) none
 
 pub alive_is : (log : List Entry) (n : ℕ) (life : Life) (born : BornKey) → IsLifeOf log n life → life.born ≡ Some born → life.alive ≡ is_alive log n born.layer
 alive_is log n life born is some = is.alive (as_entry born) (born_is log n life born is some)

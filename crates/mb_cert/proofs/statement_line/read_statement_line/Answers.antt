@@ -2,20 +2,22 @@ use Rattle.std.proofs.Common.{◌∷◌, [], sym, ◌∙◌, arith}
 use Rattle.std.proofs.lemmas.Bool.{eqb-true, eqb-false}
 use Rattle.std.proofs.lemmas.List.{nil_from_length}
 use Rattle.mb_model.specs.OrderLines.{IsStatementLine}
-use Rattle.mb_cert.proofs.StatementTexts.{no_line, first_wrong, second_wrong, none_found}
+use Rattle.mb_lemmas.proofs.OrderLineLemmas.{statement_one}
+use Rattle.mb_words.proofs.OneLine.{no_line, first_wrong, second_wrong, none_found}
+use Rattle.mb_cert.proofs.StatementTexts.{statement_alone}
 use Rattle.mb_cert.proofs.statement_line.read_statement_line.Goals as goal
 
 pub returns-then-is_empty-clause-read : goal.returns-then-is_empty-clause-read
-returns-then-is_empty-clause-read c = no_line c.args.text.now (nil_from_length c.args.text.now (eqb-true _ _ (sym c.is_empty.ensures ∙ c.if-is_empty.true)))
+returns-then-is_empty-clause-read c = no_line statement_alone c.args.text.now (nil_from_length c.args.text.now (eqb-true _ _ (sym c.is_empty.ensures ∙ c.if-is_empty.true)))
 
 pub returns-else-is_empty-2-clause-read : goal.returns-else-is_empty-2-clause-read
 returns-else-is_empty-2-clause-read c =
-    second_wrong c.args.text.now c.split_line.result.0.now c.split_line.result.1.now c.in-Ok.statement c.split_line.ensures
+    second_wrong {Grammar = IsStatementLine} statement_one c.args.text.now c.split_line.result.0.now c.split_line.result.1.now c.in-Ok.statement c.split_line.ensures
     (omega (arith, eqb-false _ _ (sym c.is_empty.ensures ∙ c.if-is_empty.false)))
     (omega (arith, eqb-false _ _ (sym c.is_empty-in-Ok.ensures ∙ c.if-is_empty-2.false))) c.in-Ok.ensures
 
 pub returns-in-Err-Form-clause-read : goal.returns-in-Err-Form-clause-read
 returns-in-Err-Form-clause-read c =
-    first_wrong c.args.text.now c.split_line.result.0.now c.split_line.result.1.now c.split_line.ensures
+    first_wrong statement_alone c.args.text.now c.split_line.result.0.now c.split_line.result.1.now c.split_line.ensures
     (omega (arith, eqb-false _ _ (sym c.is_empty.ensures ∙ c.if-is_empty.false)))
     (none_found (IsStatementLine (c.split_line.result.0.now ∷ [])) c.in-Err-Form.field-0 c.in-Err-Form.field-0-is c.in-Err-Form.ensures)

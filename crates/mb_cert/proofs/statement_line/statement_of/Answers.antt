@@ -1,10 +1,12 @@
 use Rattle.std.proofs.Common.{arith, subst}
 use Rattle.mb_format.specs.Format.{IsBytes}
 use Rattle.mb_model.specs.ChainFormat.{statement_format}
+use Rattle.mb_model.proofs.EntryFormatLaws.{statement_exact}
 use Rattle.mb_bytes.specs.Reads.{FailsWholeAt}
 use Rattle.mb_cert.specs.declared.end.ChainEnd.{ChainEnd}
 use Rattle.mb_cert.specs.Ends.{chain_at}
-use Rattle.mb_cert.proofs.StatementTexts.{no_statement, too_long}
+use Rattle.mb_layout.proofs.Areas.{spells_none}
+use Rattle.mb_cert.proofs.StatementTexts.{too_long}
 use Rattle.mb_cert.proofs.statement_line.statement_of.Goals as goal
 
 pub returns-then-bytes-gt-STATEMENT_LIMIT : goal.returns-then-bytes-gt-STATEMENT_LIMIT
@@ -13,5 +15,5 @@ returns-then-bytes-gt-STATEMENT_LIMIT c = too_long c.args.bytes.now c.if-bytes-g
 pub returns-in-Err-BadChain : goal.returns-in-Err-BadChain
 returns-in-Err-BadChain c =
     let are : IsBytes c.args.bytes.now = λ i. omega (arith, c.type_inv.bytes i) in
-    no_statement c.args.bytes.now c.in-Err-BadChain.field-0-0 are
+    spells_none {bytes = c.args.bytes.now} {at = c.in-Err-BadChain.field-0-0} statement_exact are
     (subst (λ (e : ChainEnd). FailsWholeAt statement_format c.args.bytes.now (chain_at e)) c.in-Err-BadChain.field-0-is c.in-Err-BadChain.ensures)

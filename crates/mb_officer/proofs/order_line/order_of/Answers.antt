@@ -1,14 +1,15 @@
 use Rattle.std.proofs.Common.{arith, subst}
 use Rattle.mb_format.specs.Format.{IsBytes}
 use Rattle.mb_model.specs.OrderFormat.{order_format}
+use Rattle.mb_model.proofs.OrderFormatLaws.{order_exact}
 use Rattle.mb_bytes.specs.Reads.{FailsWholeAt}
 use Rattle.mb_command.specs.declared.end.OrderEnd.{OrderEnd}
 use Rattle.mb_command.specs.Ends.{text_at}
-use Rattle.mb_officer.proofs.OrderTexts.{no_order}
+use Rattle.mb_layout.proofs.Areas.{spells_none}
 use Rattle.mb_officer.proofs.order_line.order_of.Goals as goal
 
 pub returns-in-Err-BadText : goal.returns-in-Err-BadText
 returns-in-Err-BadText c =
     let are : IsBytes c.args.bytes.now = λ i. omega (arith, c.type_inv.bytes i) in
-    no_order c.args.bytes.now c.in-Err-BadText.field-0-0 are
+    spells_none {bytes = c.args.bytes.now} {at = c.in-Err-BadText.field-0-0} order_exact are
     (subst (λ (e : OrderEnd). FailsWholeAt order_format c.args.bytes.now (text_at e)) c.in-Err-BadText.field-0-is c.in-Err-BadText.ensures.reads)

@@ -3,11 +3,12 @@ use Rattle.std.proofs.lemmas.Result.{err_from_is_err_and}
 use Rattle.mb_model.specs.Log.{entries_of}
 use Rattle.mb_verifier.specs.Checked.{HasBadEntry}
 use Rattle.mb_verifier.specs.Ends.{refusal_of}
-use Rattle.mb_verifier.proofs.Judging.{AreGood-none, AreGood-more, bad_entry, figures_next, life_next, if_some_weaker}
+use Rattle.mb_lemmas.proofs.ChainLemmas.{AreGood-nil}
+use Rattle.mb_verifier.proofs.Judging.{AreGood-more, bad_entry, figures_next, life_next, if_some_weaker}
 use Rattle.mb_verifier.proofs.entries.judge.Goals as goal
 
 pub loop-signed-init : goal.loop-signed-init
-loop-signed-init c = record { good = AreGood-none c.args.maker.now; figures = c.none-figures.ensures; life = c.begin-life.ensures }
+loop-signed-init c = record { good = AreGood-nil c.args.maker.now; figures = c.none-figures.ensures; life = c.begin-life.ensures }
 
 pub returns-in_err-check-clause-refused : goal.returns-in_err-check-clause-refused
 returns-in_err-check-clause-refused c =

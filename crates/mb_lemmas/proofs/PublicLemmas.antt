@@ -1,0 +1,78 @@
+-- What is true of a root and of a public record that can be spelled: their numbers are small, and their entries can be
+-- spelled too.
+use Rattle.std.proofs.Common.{◌≤◌, List, [], ◌∷◌, ◌++◌, length, map, Option, None, Some, arith}
+use Rattle.std.specs.Prelude.{All, IfSome}
+use Rattle.std.specs.List.{AllByRecursion}
+use Rattle.std.proofs.lemmas.List.Elements.{All-nil, All-cons}
+use Rattle.mb_format.specs.Combinators.{optional}
+use Rattle.mb_format.proofs.Compositions.{items_all}
+use Rattle.mb_model.specs.declared.entry.Entry.{Entry}
+use Rattle.mb_model.specs.declared.entry.PublicEntry.{PublicEntry}
+use Rattle.mb_model.specs.declared.entry.SignedEntry.{SignedEntry}
+use Rattle.mb_model.specs.declared.stored.Outgoing.{Outgoing}
+use Rattle.mb_model.specs.declared.stored.Pending.{Pending}
+use Rattle.mb_model.specs.declared.stored.Public.{Public}
+use Rattle.mb_model.specs.declared.stored.Root.{Root}
+use Rattle.mb_model.specs.EntryFormat.{entry_format, signed_entry_format}
+use Rattle.mb_model.specs.RootFormat.{outgoing_format, pending_format, root_format}
+use Rattle.mb_model.specs.StoredLog.{unsigned_by, outgoing_of}
+use Rattle.mb_model.specs.Flash.{public_entry_format, public_format, with_signature, without_signature}
+
+-- ---- the root
+
+pub root_pending : (root : Root) → root_format.Allowed root → (optional pending_format).Allowed root.pending
+unfolding root_format
+root_pending root is = is.1.1.1.1.1
+
+-- the numbers in a root are small
+pub record IsBounded (root : Root) : Type 0 where
+  pub area : root.area ≤ 1
+  pub uses : root.uses ≤ 32
+  pub outgoing : IfSome (outgoing_of root.pending) (λ outgoing. outgoing.uses ≤ 32)
+  pub unsigned : unsigned_by root.pending ≤ 2
+
+handed_over : (outgoing : Option Outgoing) → (optional outgoing_format).Allowed outgoing → IfSome outgoing (λ o. o.uses ≤ 32)
+unfolding outgoing_format
+handed_over None is = tt
+handed_over (Some outgoing) is = is.1.1.1
+
+pending_outgoing : (pending : Option Pending) → (optional pending_format).Allowed pending → IfSome (outgoing_of pending) (λ o. o.uses ≤ 32)
+unfolding pending_format
+pending_outgoing None is = tt
+pending_outgoing (Some pending) is = handed_over pending.outgoing is.1.1.0
+
+pending_unsigned : (pending : Option Pending) → (optional pending_format).Allowed pending → unsigned_by pending ≤ 2
+unfolding pending_format
+pending_unsigned None is = omega arith
+pending_unsigned (Some pending) is = is.1.0.1
+
+pub bounded_by : (root : Root) → root_format.Allowed root → IsBounded root
+unfolding root_format
+bounded_by root is = record { area = is.1.0.1; uses = is.1.1.1.1.0.1; outgoing = pending_outgoing root.pending is.1.1.1.1.1; unsigned = pending_unsigned root.pending is.1.1.1.1.1 }
+
+-- ---- the public record
+
+pub public_few : (public : Public) → public_format.Allowed public → length public.entries ≤ 128
+unfolding public_format
+public_few public is = is.1.1.0.1
+
+pub public_entries : (public : Public) → public_format.Allowed public → AllByRecursion public_entry_format.Allowed public.entries
+unfolding public_format
+public_entries public is = (items_all public_entry_format (length public.entries) public.entries is.1.1.1).1
+
+signed_from_public : (signed : SignedEntry) → public_entry_format.Allowed (with_signature signed) → signed_entry_format.Allowed signed
+unfolding public_entry_format signed_entry_format
+signed_from_public signed is = (is.0, is.1.1)
+
+entry_from_public : (entry : Entry) → public_entry_format.Allowed (without_signature entry) → entry_format.Allowed entry
+unfolding public_entry_format
+entry_from_public entry is = is.0
+
+pub signed_front : (signed : List SignedEntry) (rest : List PublicEntry) → AllByRecursion public_entry_format.Allowed (map with_signature signed ++ rest) → All signed_entry_format.Allowed signed
+signed_front [] rest are = All-nil signed_entry_format.Allowed
+signed_front (one ∷ more) rest are = All-cons signed_entry_format.Allowed one more (signed_from_public one are.0) (signed_front more rest are.1)
+
+pub unsigned_rest : (signed : List SignedEntry) (unsigned : List Entry) → AllByRecursion public_entry_format.Allowed (map with_signature signed ++ map without_signature unsigned) → All entry_format.Allowed unsigned
+unsigned_rest [] [] are = All-nil entry_format.Allowed
+unsigned_rest [] (entry ∷ more) are = All-cons entry_format.Allowed entry more (entry_from_public entry are.0) (unsigned_rest [] more are.1)
+unsigned_rest (one ∷ rest) unsigned are = unsigned_rest rest unsigned are.1
