@@ -1,5 +1,5 @@
 #!/usr/bin/env python3
-"""Computes the outside values of the repository's tests, stored run and examples anew, and compares them.
+"""Computes the outside values of the repository's tests and examples anew, and compares them.
 
     compare.py [ROOT]              prints a line for each source and each value that differs, then `N agree, M differ`
     compare.py --signatures [ROOT] prints the signatures of other programs as lines KEY TEXT SIGNATURE (`-`: no text)
@@ -34,13 +34,13 @@ READERS = {
     "crates/mb_cuts/src/tests/images.rt": readers.pending_images,
     "crates/mb_cuts/src/tests/regions.rt": readers.replaced_regions,
     "crates/mb_cuts/src/tests/roots.rt": readers.next_root,
-    "crates/mb_texts/src/tests/workloads.rt": readers.workloads,
     "crates/mb_rules/src/tests/signed.rt": readers.judged_orders,
     "crates/mb_lives/src/tests/births.rt": top_readers.births,
     CHAINS: chain_readers.chains_tests,
     "crates/mb_lives/src/tests/devices.rt": top_readers.plays,
     "crates/mb_lives/src/tests/keys.rt": top_readers.plays,
     "crates/mb_lives/src/tests/sign.rt": top_readers.signed_orders,
+    "crates/mb_lives/src/tests/workloads.rt": readers.workloads,
     "examples/device-life/expected.txt": examples.device_life,
     "examples/outbound/expected.txt": examples.outbound,
 }

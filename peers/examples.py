@@ -240,15 +240,7 @@ def outbound(source):
 
 
 def device_life(source):
-    """The stored run is the same life: its device is the new one, and its script and noise are those served last."""
-    steps = followed(source.root, "device-life")
-    compare_shown(source, steps)
-    stored = source.root / "crates/miniboot"
-    files = {"data/image": steps.devices["new"].image(), "data/script": steps.files["script"], "data/noise": steps.files["noise"]}
-    for name, made in files.items():
-        source.compare(f"stored {name}", sha256(made).hex(), sha256((stored / name).read_bytes()).hex())
-    replies = Judged(steps, copy.deepcopy(steps.devices["new"]), files["data/noise"]).replies(files["data/script"].decode())
-    source.compare("stored stdout", replies, (stored / "stdout").read_text().splitlines())
+    compare_shown(source, followed(source.root, "device-life"))
 
 
 if __name__ == "__main__":

@@ -64,12 +64,13 @@ def officers_orders(source):
 
 
 def workloads(source):
-    """The hashes of the image, the script and the noise of a workload."""
-    ((number, rounds),) = source.rows(r"workload\(alloc, (\d+), (\d+),")
-    made = workload(int(number), int(rounds))
-    hashes = source.rows(rf"made\.(\w+)\.as_slice\(\),\s*{HEX}")
-    for (name, wanted), found in zip(hashes, made, strict=True):
-        source.compare(f"hash of the {name}", sha256(found).hex(), wanted)
+    """The hashes of the image, the script and the noise of each workload that is made with status 0."""
+    ((new,),) = source.rows(rf"const NEW: &str = {HEX}")
+    rows = source.rows(rf'"generate (\d+) (\d+) image script noise",\s*0,.*?"script",\s*{HEX}.*?"noise",\s*{HEX}')
+    for number, rounds, script, noise in rows:
+        made = workload(int(number), int(rounds))
+        for name, wanted, found in zip(("image", "script", "noise"), (new, script, noise), made, strict=True):
+            source.compare(f"hash of the {name}", sha256(found).hex(), wanted)
 
 
 def commands_orders(source):

@@ -11,6 +11,7 @@ mod runs;
 mod sign;
 mod statuses;
 mod succession;
+mod workloads;
 
 use mb_board::SimBoard;
 use mb_host::{Host, MemoryHost};
@@ -53,8 +54,8 @@ struct Play {
 
 /// What is done in a play, or seen of its host.
 enum Step {
-    /// The words end with this status and print these lines, of which one that ends in `*` stands for all that begin so. A
-    /// space separates words; one may be empty.
+    /// The words end with this status and print these lines, of which one that ends in `*` stands for all that begin so, and
+    /// one that is `**` for all that follow. A space separates words; one may be empty.
     Ends(&'static str, u8, &'static str),
     /// The file of this name has these bytes, in hexadecimal.
     Holds(&'static str, &'static str),
@@ -76,6 +77,8 @@ enum Step {
     IsCut(&'static Cut),
     /// The file of this name becomes the line of the statement that was printed last.
     KeepsStatement(&'static str),
+    /// Summaries were printed, and each tells the hash of the file of this name.
+    IsSummarised(&'static str),
 }
 
 /// A script on an image, in which power is lost at each write in turn of what comes after these lines.
@@ -136,6 +139,7 @@ fn take(rt: &(impl Abort + AllocGlobal), host: &mut MemoryHost, step: &Step) -> 
         Step::EndsInZeros(name, count) => ends_in_zeros(rt, host, name, *count),
         Step::IsCut(cut) => is_cut(rt, host, cut),
         Step::KeepsStatement(name) => keep_statement(rt.alloc(), host, name),
+        Step::IsSummarised(name) => is_summarised(rt, host, name),
     }
 }
 
@@ -252,6 +256,23 @@ fn file_matches(rt: &impl Abort, host: &MemoryHost, name: &str, other: &str) -> 
     Ok(())
 }
 
+/// Summaries were printed, and each tells the hash of the file of this name.
+fn is_summarised(
+    rt: &(impl Abort + AllocGlobal),
+    host: &MemoryHost,
+    name: &str,
+) -> Result<(), Fail> {
+    let mut told = 0;
+    for line in host.printed().split(|byte| *byte == b'\n') {
+        if let Some(hash) = line.strip_prefix(b"image ") {
+            hash_is(rt, file_of(host, name)?, str::from_utf8(hash)?)?;
+            told += 1;
+        }
+    }
+    assert!(rt; told > 0, "{name}");
+    Ok(())
+}
+
 /// The file of this name ends in so many zeros.
 fn ends_in_zeros(rt: &impl Abort, host: &MemoryHost, name: &str, count: usize) -> Result<(), Fail> {
     let bytes = file_of(host, name)?;
@@ -339,10 +360,14 @@ fn prints(rt: &impl Abort, host: &MemoryHost, seen: usize, lines: &str) {
     );
 }
 
-/// These bytes are these lines. A line that ends in `*` stands for all that begin with what is before it.
+/// These bytes are these lines. A line that ends in `*` stands for all that begin with what is before it, and a line `**`
+/// for all that follow.
 fn fit(printed: &[u8], lines: &str) -> bool {
     let mut found = printed.split(|byte| *byte == b'\n');
     for line in lines.split('\n') {
+        if line == "**" {
+            return true;
+        }
         if !found.next().is_some_and(|it| fits(it, line.as_bytes())) {
             return false;
         }

@@ -10,4 +10,3 @@ mod orders;
 mod pieces;
 mod scripts;
 mod words;
-mod workloads;

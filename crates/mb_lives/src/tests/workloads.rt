@@ -1,0 +1,114 @@
+//! Generated workloads. The hashes of their files are those of an independent program: `peers/workload.py 1 3` and
+//! `peers/workload.py 1 24` print them. The counts follow from the rounds.
+
+use super::{Play, Step, perform};
+use std::test::Fail;
+
+/// The hash of the image of each workload of the number 1, before it is served.
+const NEW: &str = "13cf7e976d85c64f8936dc952e335a9b8404969428707ff98ce42e5d5362374e";
+
+/// A workload of three rounds, and that its image then comes to what its summary told.
+const SMALL: Play = Play {
+    failing: &[],
+    steps: &[
+        Step::Ends(
+            "generate 1 3 image script noise",
+            0,
+            "events 37\ndone 8\nsigned 3\nrefused 0\nlength 9\nimage *\n",
+        ),
+        Step::WasCalled(0, 3, 1),
+        Step::HasHash("image", NEW),
+        Step::HasHash(
+            "script",
+            "5997f23c3b835a87bd2da1cdcf7f7759eb553c4d2cce0919d9c572bf17169bcd",
+        ),
+        Step::HasHash(
+            "noise",
+            "805f8e4f97cd4304b227464778e56d60188a622fdf636cca0f21a4bd5370e0fa",
+        ),
+    ],
+};
+
+/// A workload of the most rounds, made twice. The image of each comes to what both summaries told.
+const LARGE: Play = Play {
+    failing: &[],
+    steps: &[
+        Step::Ends("generate 1 24 image script noise", 0, LARGE_SUMMARY),
+        Step::HasHash("image", NEW),
+        Step::HasHash(
+            "script",
+            "41aa27985ab159c1fd23923a11f4da349bede7afe1a577ee470dea5532144336",
+        ),
+        Step::HasHash(
+            "noise",
+            "0ce57cec27f0bd4cdac5c7b0b741b837dc85ac746698f4817061cd17cf6fc743",
+        ),
+        Step::Ends("generate 1 24 again script noise", 0, LARGE_SUMMARY),
+        Step::Matches("again", "image"),
+        Step::Ends("run image script noise", 0, "booted\ndone 1 2\n**"),
+        Step::IsSummarised("image"),
+    ],
+};
+
+const LARGE_SUMMARY: &str = "events 247\ndone 29\nsigned 24\nrefused 0\nlength 30\nimage *\n";
+
+/// Words that are no command: too many rounds or none, numbers with leading zeros or of too many bits, and an empty name.
+const NO_WORDS: Play = Play {
+    failing: &[],
+    steps: &[
+        Step::Ends("generate 1 25 image script noise", 2, "words\n"),
+        Step::Ends("generate 1 0 image script noise", 2, "words\n"),
+        Step::Ends("generate 1 03 image script noise", 2, "words\n"),
+        Step::Ends("generate 01 3 image script noise", 2, "words\n"),
+        Step::Ends("generate 4294967296 3 image script noise", 2, "words\n"),
+        Step::Ends("generate 1 3 image script ", 2, "words\n"),
+        Step::Ends("generate 1 3 image script", 2, "words\n"),
+        Step::WasCalled(0, 0, 7),
+    ],
+};
+
+/// The first write fails, and nothing else is written.
+const NO_IMAGE: Play = Play {
+    failing: &[0],
+    steps: &[
+        Step::Ends("generate 2 1 image script noise", 5, "write failed image\n"),
+        Step::WasCalled(0, 1, 1),
+        Step::IsMissing("script"),
+        Step::IsMissing("noise"),
+    ],
+};
+
+/// The second write fails, after the first.
+const NO_SCRIPT: Play = Play {
+    failing: &[1],
+    steps: &[
+        Step::Ends(
+            "generate 1 1 image script noise",
+            5,
+            "write failed script\n",
+        ),
+        Step::WasCalled(0, 2, 1),
+        Step::HasHash("image", NEW),
+        Step::IsMissing("noise"),
+    ],
+};
+
+/// The third write fails, after the others, and nothing is served.
+const NO_NOISE: Play = Play {
+    failing: &[2],
+    steps: &[
+        Step::Ends("generate 1 1 image script noise", 5, "write failed noise\n"),
+        Step::WasCalled(0, 3, 1),
+        Step::HasHash("image", NEW),
+    ],
+};
+
+#[test]
+fn workloads_are_served(rt: HostRuntime) -> Result<(), Fail> {
+    perform(&rt, &[], &[SMALL, LARGE])
+}
+
+#[test]
+fn workloads_are_refused_or_not_written(rt: HostRuntime) -> Result<(), Fail> {
+    perform(&rt, &[], &[NO_WORDS, NO_IMAGE, NO_SCRIPT, NO_NOISE])
+}
