@@ -24,6 +24,7 @@ pub fn leaf_number(signature: &[u8; 2348]) -> u32
 
 /// Whether the key signed the entry, of which the signature is then one (RFC 8554, section 5.4.2); or `NoMemory` where
 /// the allocation of the entry's text fails.
+/// Nothing is said of when memory is found: a test judges an entry where there is enough.
 #[tactic(auto, unfolding(mb_model::specs::SignedTexts::entry_text))]
 pub fn certifies(alloc: Global, key: &PublicKey, signed: &SignedEntry) -> Result<bool, NoMemory>
     requires { entry_format.Allowed signed.now.entry }
