@@ -262,14 +262,14 @@ fn is_summarised(
     host: &MemoryHost,
     name: &str,
 ) -> Result<(), Fail> {
-    let mut told = 0;
+    let mut is_told = false;
     for line in host.printed().split(|byte| *byte == b'\n') {
         if let Some(hash) = line.strip_prefix(b"image ") {
             hash_is(rt, file_of(host, name)?, str::from_utf8(hash)?)?;
-            told += 1;
+            is_told = true;
         }
     }
-    assert!(rt; told > 0, "{name}");
+    assert!(rt; is_told, "{name}");
     Ok(())
 }
 

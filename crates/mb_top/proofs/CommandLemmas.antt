@@ -75,12 +75,6 @@ finds Is rest past answered final before now value (Err why) is carried = λ aft
 
 -- ---- refusals and failed allocations
 
-pub refuse_as : (line : List ℕ) (why : End) (past : Past) (answered : List Answered) (final : Held) (before : Outside)
-    → end_line why ≡ line → end_status why ≡ 7 → answered ≡ past.answered → CarriesOutRest (refuse line) past answered final before (Err why) before
-unfolding CarriesOutRest CommandEnds
-refuse_as line why past answered final before is seven same = λ after says.
-    inl (record { says = subst (λ l. SaysLine l before after) is says; answered = same; status_is = seven })
-
 pub refuse_here : (why : End) (past : Past) (answered : List Answered) (final : Held) (before : Outside)
     → end_status why ≡ 7 → answered ≡ past.answered → CarriesOutRest (refuse (end_line why)) past answered final before (Err why) before
 unfolding CarriesOutRest CommandEnds

@@ -11,5 +11,4 @@ pub mod LineLemmas
 pub mod FactoryLemmas
 pub mod SummaryLemmas
 pub mod GenerateLemmas
-pub mod SameLists
 pub mod ChainLemmas

@@ -10,18 +10,10 @@ use Rattle.mb_top.specs.declared.end.End.TheVariants as end
 use Rattle.mb_top.specs.Ending.{ended_at, end_line, end_status}
 use Rattle.mb_top.specs.Program.{ProgramEnds, helped, versioned, commanded}
 
-pub text_printed : (text : List ℕ) (before now : Outside) (final : Held) → Prints text before now → PrintEnds text at_first (ended_at before [] final now 0)
-text_printed text before now final prints = printed prints refl refl
-
 pub text_not_printed : (text : List ℕ) (before mid now : Outside) (final : Held) (status : ℕ) → FailsToPrint text before mid
     → SaysLine (end_line end.NotPrinted) mid now → status ≡ end_status end.NotPrinted → PrintEnds text at_first (ended_at before [] final now status)
 text_not_printed text before mid now final status fails says is =
     not_printed mid fails (record { says = says; answered = refl; status_is = is })
-
--- an end without words
-pub stops_so : (why : End) (answered : List Answered) (final : Held) (before now : Outside) (status : ℕ) → answered ≡ [] → SaysLine (end_line why) before now → status ≡ end_status why
-    → Stops (end_line why) (end_status why) at_first (ended_at before answered final now status)
-stops_so why answered final before now status none says is = record { says = says; answered = none; status_is = is }
 
 -- ---- by the words
 

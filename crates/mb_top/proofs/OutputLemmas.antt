@@ -14,15 +14,6 @@ use Rattle.mb_top.proofs.CommandLemmas.{write_goes, write_stops}
 
 -- ---- one after another
 
-pub none_written : (outputs : List Output) (before : Outside) → length outputs ≡ 0 → WritesAll (map output_of outputs) before before
-none_written [] before is = refl
-none_written (output ∷ outputs) before is = absurd (omega (arith, is))
-
-pub more_written : (outputs rest : List Output) (output : Output) (before mid after : Outside) → outputs ≡ output ∷ rest
-    → Writes output.name.now output.bytes.now before mid → WritesAll (map output_of rest) mid after → WritesAll (map output_of outputs) before after
-more_written outputs rest output before mid after is written others =
-    subst (λ (l : List Output). WritesAll (map output_of l) before after) (sym is) (mid, written, others)
-
 -- the first of them is not written
 pub one_stops : (outputs rest : List Output) (output : Output) (before now : Outside) (why : End) → outputs ≡ output ∷ rest
     → why ≡ end.NotWritten output.role → FailsToWrite output.name.now before now → StopsWriting (map output_of outputs) before why now

@@ -29,10 +29,6 @@ pub alone_carried_out : (words : List (List ℕ)) (request : Request) (answered 
 alone_carried_out words request answered final before now result is none carried =
     subst (λ a. CarriesOutWords words a final before result now) (sym none) (request_carried_out words request [] final before now result is (carried final))
 
-pub none_carried_out : (words : List (List ℕ)) (answered : List Answered) (final : Held) (before : Outside)
-    → ((request : Request) → IsRequest words request → ⊥) → answered ≡ [] → CarriesOutWords words answered final before (Err end.Words) before
-none_carried_out words answered final before none same = λ after says. no_command none (record { says = says; answered = same; status_is = refl })
-
 -- ---- one request
 
 upper_fits : (layer : ℕ) → IsTrue (is_upper layer) → layer ≤ number_limit

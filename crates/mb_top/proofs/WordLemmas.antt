@@ -68,22 +68,6 @@ module _ {N : Type 0} (bytes : N → List ℕ) (words names : List N) (command :
 number_given : (n : ℕ) → n ≤ number_limit → decimal n ≢ []
 number_given n fits none = omega (arith, decimal_nonempty n (omega (arith, fits)), ap length none)
 
-pub verify_asked : (words : List (List ℕ)) (root chain word : List ℕ) (key : ℕ) → IsCalled words (codes "verify") (root ∷ chain ∷ word ∷ []) → IsNumber number_limit word key
-    → IsRequest words (verifies (record { root = root; chain = chain; key = key }))
-verify_asked words root chain word key is number = record {
-  spelled = is.spelled ∙ ap (λ (w : List ℕ). codes "verify" ∷ root ∷ chain ∷ w ∷ []) number.0;
-  allowed =
-      let later = All-tail IsNoName root (chain ∷ word ∷ []) is.given in
-      (All-head IsNoName root (chain ∷ word ∷ []) is.given, All-head IsNoName chain (word ∷ []) later, number.1);
-}
-
-pub verify_unnumbered : (words : List (List ℕ)) (root chain word : List ℕ) → IsCalled words (codes "verify") (root ∷ chain ∷ word ∷ []) → ((n : ℕ) → IsNumber number_limit word n → ⊥)
-    → (names : VerifyNames) → IsRequest words (verifies names) → ⊥
-verify_unnumbered words root chain word called none names is =
-    let both : codes "verify" ∷ root ∷ chain ∷ word ∷ [] ≡ codes "verify" ∷ names.root ∷ names.chain ∷ decimal names.key ∷ [] = sym called.spelled ∙ is.spelled in
-    let same : word ≡ decimal names.key = cc in
-    none names.key (same, is.allowed.2)
-
 pub no_verify : (words : List (List ℕ)) → ((root chain word : List ℕ) → IsCalled words (codes "verify") (root ∷ chain ∷ word ∷ []) → ⊥) → (names : VerifyNames) → IsRequest words (verifies names) → ⊥
 no_verify words never names is = never names.root names.chain (decimal names.key) (record {
   spelled = is.spelled;
@@ -91,23 +75,6 @@ no_verify words never names is = never names.root names.chain (decimal names.key
       let last = All-cons IsNoName (decimal names.key) [] (number_given names.key is.allowed.2) (All-nil IsNoName) in
       All-cons IsNoName names.root (names.chain ∷ decimal names.key ∷ []) is.allowed.0 (All-cons IsNoName names.chain (decimal names.key ∷ []) is.allowed.1 last);
 })
-
-pub audit_asked : (words : List (List ℕ)) (image root chain word : List ℕ) (key : ℕ) → IsCalled words (codes "audit") (image ∷ root ∷ chain ∷ word ∷ []) → IsNumber number_limit word key
-    → IsRequest words (audits (record { image = image; root = root; chain = chain; key = key }))
-audit_asked words image root chain word key is number = record {
-  spelled = is.spelled ∙ ap (λ (w : List ℕ). codes "audit" ∷ image ∷ root ∷ chain ∷ w ∷ []) number.0;
-  allowed =
-      let later = All-tail IsNoName image (root ∷ chain ∷ word ∷ []) is.given in
-      let last = All-tail IsNoName root (chain ∷ word ∷ []) later in
-      (All-head IsNoName image (root ∷ chain ∷ word ∷ []) is.given, All-head IsNoName root (chain ∷ word ∷ []) later, All-head IsNoName chain (word ∷ []) last, number.1);
-}
-
-pub audit_unnumbered : (words : List (List ℕ)) (image root chain word : List ℕ) → IsCalled words (codes "audit") (image ∷ root ∷ chain ∷ word ∷ []) → ((n : ℕ) → IsNumber number_limit word n → ⊥)
-    → (names : AuditNames) → IsRequest words (audits names) → ⊥
-audit_unnumbered words image root chain word called none names is =
-    let both : codes "audit" ∷ image ∷ root ∷ chain ∷ word ∷ [] ≡ codes "audit" ∷ names.image ∷ names.root ∷ names.chain ∷ decimal names.key ∷ [] = sym called.spelled ∙ is.spelled in
-    let same : word ≡ decimal names.key = cc in
-    none names.key (same, is.allowed.3)
 
 pub no_audit : (words : List (List ℕ)) → ((image root chain word : List ℕ) → IsCalled words (codes "audit") (image ∷ root ∷ chain ∷ word ∷ []) → ⊥) → (names : AuditNames) → IsRequest words (audits names) → ⊥
 no_audit words never names is = never names.image names.root names.chain (decimal names.key) (record {
@@ -137,45 +104,6 @@ pub zero_rounds : (word : List ℕ) (n : ℕ) → IsNumber 24 word n → n ≡ 0
 zero_rounds word n number zero rounds is =
     let same : n ≡ rounds = sym (number_again n (omega (arith, zero))) ∙ ap number_of_word (sym number.0 ∙ is.spelled) ∙ number_again rounds (omega (arith, is.most)) in
     omega (arith, same, zero, is.least)
-
--- the words of `generate`, with the words of its two numbers
-abbrev generate_words : List ℕ → List ℕ → GenerateNames → List (List ℕ)
-generate_words number rounds names = number ∷ rounds ∷ names.image ∷ names.script ∷ names.noise ∷ []
-
-pub generate_asked : (words : List (List ℕ)) (number rounds : List ℕ) (names : GenerateNames) → IsCalled words (codes "generate") (number ∷ rounds ∷ names.image ∷ names.script ∷ names.noise ∷ [])
-    → IsNumber number_limit number names.number → IsRoundsWord rounds names.rounds → IsRequest words (generates names)
-generate_asked words number rounds names called is_number is_rounds = record {
-  spelled = called.spelled ∙ ap (λ (w : List ℕ). codes "generate" ∷ generate_words w rounds names) is_number.0
-      ∙ ap (λ (w : List ℕ). codes "generate" ∷ generate_words (decimal names.number) w names) is_rounds.spelled;
-  allowed =
-      let one = All-tail IsNoName number (rounds ∷ names.image ∷ names.script ∷ names.noise ∷ []) called.given in
-      let two = All-tail IsNoName rounds (names.image ∷ names.script ∷ names.noise ∷ []) one in
-      let three = All-tail IsNoName names.image (names.script ∷ names.noise ∷ []) two in
-      let four = All-tail IsNoName names.script (names.noise ∷ []) three in (
-        All-head IsNoName names.image (names.script ∷ names.noise ∷ []) two,
-        All-head IsNoName names.script (names.noise ∷ []) three,
-        All-head IsNoName names.noise [] four,
-        is_number.1,
-        is_rounds.least,
-        is_rounds.most,
-      );
-}
-
-pub generate_unnumbered : (words : List (List ℕ)) (number rounds image script noise : List ℕ) → IsCalled words (codes "generate") (number ∷ rounds ∷ image ∷ script ∷ noise ∷ [])
-    → ((n : ℕ) → IsNumber number_limit number n → ⊥) → (names : GenerateNames) → IsRequest words (generates names) → ⊥
-generate_unnumbered words number rounds image script noise called none names is =
-    let both : codes "generate" ∷ number ∷ rounds ∷ image ∷ script ∷ noise ∷ [] ≡ codes "generate" ∷ generate_words (decimal names.number) (decimal names.rounds) names =
-    sym called.spelled ∙ is.spelled in
-    let same : number ≡ decimal names.number = cc in
-    none names.number (same, is.allowed.3)
-
-pub generate_unrounded : (words : List (List ℕ)) (number rounds image script noise : List ℕ) → IsCalled words (codes "generate") (number ∷ rounds ∷ image ∷ script ∷ noise ∷ [])
-    → ((n : ℕ) → IsRoundsWord rounds n → ⊥) → (names : GenerateNames) → IsRequest words (generates names) → ⊥
-generate_unrounded words number rounds image script noise called none names is =
-    let both : codes "generate" ∷ number ∷ rounds ∷ image ∷ script ∷ noise ∷ [] ≡ codes "generate" ∷ generate_words (decimal names.number) (decimal names.rounds) names =
-    sym called.spelled ∙ is.spelled in
-    let same : rounds ≡ decimal names.rounds = cc in
-    none names.rounds (record { spelled = same; least = is.allowed.4; most = is.allowed.5 })
 
 pub no_generate : (words : List (List ℕ)) → ((number rounds image script noise : List ℕ) → IsCalled words (codes "generate") (number ∷ rounds ∷ image ∷ script ∷ noise ∷ []) → ⊥)
     → (names : GenerateNames) → IsRequest words (generates names) → ⊥
