@@ -1,7 +1,8 @@
 #!/usr/bin/env bash
 # What the documents say of the tree. Each link in README.md, docs/ and peers/ leads to a file that is there, and to a heading
 # where it names one; each path in backquotes that begins in a folder of the repository is there; each row of
-# docs/proved.md names public calls of its section's crate, and clauses that these calls have; and the table of crates in
+# docs/proved.md names public calls of its section's crate, and clauses that these calls have; each clause of each public
+# call has a row there, but for those that its table of common clauses has; and the table of crates in
 # docs/architecture.md has a row for each crate and for nothing else. Prints a line for each that is wrong, and nothing
 # where none is.
 set -u
@@ -18,6 +19,7 @@ HEADER = re.compile(r"^(?:pub )?(?:unsafe )?(impl|trait)\b(.*)")
 CALL = re.compile(r"^\s*(pub )?(?:const )?fn ([a-z_0-9]+)")
 CLAUSE = re.compile(r"^\s*ensures (?:([a-z_0-9]+) )?\{")
 UNNAMED = "its one clause"
+COMMON = "common clause"
 
 wrong = []
 
@@ -80,10 +82,22 @@ def contract_from(lines, at):
     return lines[at:]
 
 
+def exported_by(root):
+    """The names that the root file of a crate offers: its own, those of its public modules, and those that it uses."""
+    if not root.exists():
+        return set()
+    text = root.read_text()
+    names = set(re.findall(r"\w+", " ".join(re.findall(r"^pub use ([^;]*);", text, re.M))))
+    modules = [root.parent / f"{name}.rt" for name in re.findall(r"^pub mod (\w+);", text, re.M)]
+    for declared in [text, *(path.read_text() for path in modules)]:
+        names.update(re.findall(r"^pub (?:fn|struct|enum|trait) (\w+)", declared, re.M))
+    return names
+
+
 def calls_of(crate):
     """The public calls of a crate, by name and by type and name, with their clauses."""
     calls = {}
-    exported = set(re.findall(r"\w+", (crate / "src/lib.rt").read_text())) if (crate / "src/lib.rt").exists() else set()
+    exported = exported_by(crate / "src/lib.rt")
     for path in sorted((crate / "src").rglob("*.rt")):
         if "tests" in path.parts or path.name == "tests.rt":
             continue
@@ -110,6 +124,7 @@ def cells_of(line):
 
 def check_proved(path):
     calls, crate, is_table_of_calls = None, None, False
+    told, common, is_table_of_clauses = {}, set(), False
     for number, line in enumerate(path.read_text().splitlines(), 1):
         if line.startswith("## "):
             named = re.findall(r"`(\w+)`", line)
@@ -120,9 +135,13 @@ def check_proved(path):
             elif crate:
                 calls = calls_of(pathlib.Path("crates", crate))
         elif not line.startswith("|"):
-            is_table_of_calls = False
+            is_table_of_calls = is_table_of_clauses = False
         elif cells_of(line)[0] == "call":
             is_table_of_calls = True
+        elif cells_of(line)[0] == COMMON:
+            is_table_of_clauses = True
+        elif is_table_of_clauses:
+            common.update(re.findall(r"`(\w+)`", cells_of(line)[0]))
         elif is_table_of_calls and "---" not in line:
             cells = cells_of(line)
             if calls is None:
@@ -135,11 +154,16 @@ def check_proved(path):
                     report(path, number, f"{crate} has no public call {name}")
                     continue
                 wanted = clauses or ([UNNAMED] if UNNAMED in cells[1] else [])
+                told.setdefault((crate, name), set()).update(wanted)
                 for clause in wanted:
                     if clause not in calls[name]:
                         report(path, number, f"{name} of {crate} has no clause {clause}")
                 if not wanted:
                     report(path, number, f"no clause of {name} is named")
+    for crate in sorted(p for p in pathlib.Path("crates").iterdir() if (p / "src").is_dir()):
+        for name, clauses in sorted(calls_of(crate).items()):
+            for clause in sorted(clauses - told.get((crate.name, name), set()) - common):
+                report(path, 0, f"{name} of {crate.name} has no row for {clause}")
 
 
 # ---- the table of crates
