@@ -1,6 +1,7 @@
 #!/usr/bin/env bash
-# What the documents say of the tree. Each link in README.md, docs/ and peers/ leads to a file that is there, and to a heading
-# where it names one; each path in backquotes that begins in a folder of the repository is there; each row of
+# What the documents say of the tree. Each link in README.md, docs/ and peers/ leads to a file that is there, and to a
+# heading where it names one; each path in backquotes that begins in a folder of the repository is there, and so is each
+# file of code that is named by its end; no line but that of a table has over 120 columns; each row of
 # docs/proved.md names public calls of its section's crate, and clauses that these calls have; each clause of each public
 # call has a row there, but for those that its table of common clauses has; and the table of crates in
 # docs/architecture.md has a row for each crate and for nothing else. Prints a line for each that is wrong, and nothing
@@ -15,11 +16,15 @@ import sys
 
 LINK = re.compile(r"(?<!!)\[[^\]]*\]\(([^)\s]+)\)")
 PATH = re.compile(r"`((?:crates|docs|checks|examples|bench|peers|\.ci)/[A-Za-z0-9_./-]+)`")
+CODE = re.compile(r"`([a-z_/]+\.rt)`")
+WIDEST = 120
 HEADER = re.compile(r"^(?:pub )?(?:unsafe )?(impl|trait)\b(.*)")
 CALL = re.compile(r"^\s*(pub )?(?:const )?fn ([a-z_0-9]+)")
 CLAUSE = re.compile(r"^\s*ensures (?:([a-z_0-9]+) )?\{")
 UNNAMED = "its one clause"
 COMMON = "common clause"
+
+CODES = [path.as_posix() for path in pathlib.Path("crates").glob("*/src/**/*.rt")]
 
 wrong = []
 
@@ -54,6 +59,11 @@ def check_links(path):
         for name in PATH.findall(line):
             if "/out/" not in name and "NAME" not in name and not pathlib.Path(name).exists():
                 report(path, number, f"no file {name}")
+        for name in CODE.findall(line):
+            if not name.startswith("crates/") and not any(code.endswith("/" + name) for code in CODES):
+                report(path, number, f"no file {name} in a crate")
+        if len(line) > WIDEST and not line.startswith("|"):
+            report(path, number, f"{len(line)} columns")
 
 
 # ---- public calls and their clauses

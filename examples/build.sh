@@ -4,7 +4,7 @@
 # Proves and builds the program, and runs it once for its version.
 build() {
     echo "Proving and building the program, and every crate below it where that is not done yet." >&2
-    echo "That may take half an hour from nothing, and takes a few seconds where nothing has changed .." >&2
+    echo "That may take an hour from nothing, and takes a few seconds where nothing has changed .." >&2
     if ! (cd "$crate" && rt run -- --version) >"$work/build.log" 2>&1; then
         cat "$work/build.log" >&2
         echo "the program was not built" >&2

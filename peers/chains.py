@@ -3,8 +3,8 @@
 
     chains.py chain IMAGE OUT              as `miniboot` does, with the words and statuses of docs/commands.md
     chains.py attach CHAIN STATEMENT OUT
-    chains.py verify ROOT CHAIN KEY
-    chains.py audit IMAGE ROOT CHAIN KEY
+    chains.py verify ROOT CHAIN KEYNUMBER
+    chains.py audit IMAGE ROOT CHAIN KEYNUMBER
     chains.py signatures ROOT CHAIN        prints the signature of each entry as a line KEY TEXT SIGNATURE
 
 The image of a device has to be one of whose log no entry is left to be signed. Nothing here is taken from the program:

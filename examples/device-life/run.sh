@@ -39,7 +39,7 @@ trap 'rm -rf "$work"' EXIT
 
 # Makes and serves a workload by a program that is compiled without a proof, which can be given no files.
 serve_unproved() {
-    echo "Compiling the program without proving anything, which takes about half a minute. It is slow then .."
+    echo "Compiling the program without proving anything, in about half a minute. Such a build runs slowly .."
     local words=()
     mapfile -t words <"$crate/args"
     (cd "$crate" && rt try --seconds 900 -- "${words[@]}") >"$work/printed" 2>"$work/try.log" || {
@@ -107,7 +107,7 @@ cut_each_write() {
 }
 
 the_keys() {
-    echo "1. Who issues hardware asks who will be in charge of it: those with keys, as the maker and three officers make:"
+    echo "1. Maker: who will be in charge? Whoever has the keys, which the maker and three officers make:"
     bytes 35fe183c068bc13ac735a76ac05c37d8d055c34bf945b99c4cdada2e31cc8ca8 >maker.noise
     bytes d95321bdf284c2032c7a5209b847eae96c3080c86bfc2585312e15361179d1ac >first.noise
     bytes c0fcde819a0006907629b33ec8a491a8b0d7cbf7ef92d8dfeb3bb22913d91c30 >second.noise
@@ -119,7 +119,7 @@ the_keys() {
 }
 
 the_device() {
-    echo "2. Who issues hardware asks whose a new device is: layer 1 is the first officer's, and the maker signs the birth:"
+    echo "2. Maker: whose is a new device? Layer 1 is the first officer's, and the maker's key signs the birth:"
     bytes 12d71d7255b6325df7487678010fc9dbb905c6d5af1a7d986e75ecdfdc39dfbec10b471ceff881272aa5ed819fd9a0e0 >birth.noise
     printf 'layer one' >layer1.code
     ask factory birth.noise maker.key first.public layer1.code image
@@ -128,7 +128,7 @@ the_device() {
 }
 
 the_orders() {
-    echo "3. Who loads code asks what it takes: orders signed by the owner in charge, order6 by those above as well:"
+    echo "3. Officer: what does a change take? An order signed by the owner in charge; the owners above countersign order6:"
     draft order1 'order establish 2' "owner $(hex <second.public)" 'trust countersigned'
     signed order1 first
     order_hash order1
@@ -153,7 +153,7 @@ the_orders() {
 }
 
 the_refusals() {
-    echo "4. Who loads code asks what wrong orders do: nothing, be they the maker's, for another device, or given again:"
+    echo "4. Officer: what do wrong orders change? Nothing: not the maker's, one for another device, or an establish again:"
     draft seized 'order establish 2' "owner $(hex <maker.public)" 'trust always'
     signed seized maker
     draft elsewhere 'order establish 2' 'target serial 00000000000000000000000000000000' \
@@ -165,16 +165,16 @@ the_refusals() {
 }
 
 the_power_losses() {
-    echo "5. Who loads code asks what a power loss leaves: an order that was cut in its first write has not happened:"
+    echo "5. Officer: what does a power loss leave? An order that was cut in its first write has not happened:"
     cp new other
     serve other boot 'cut 1 fill ff' order1 status boot status order1 status off
     echo
-    echo "6. Who loads code asks whether each write is as safe: cut in any, it leaves the state before the order or after it:"
+    echo "6. Officer: is each write as safe? Cut in any of them, an order leaves the state before it or the one after it:"
     cut_each_write order1
 }
 
 the_life() {
-    echo "7. Who loads code asks what it changes above: those owners countersigned order6, so that secrets and a key stay:"
+    echo "7. Officer: what do the layers above lose? Nothing: their owners countersigned order6, so secrets and key stay:"
     {
         bytes 5a987be47b7794ba2aaa984652c5d4ff3afc13c02a0f5a8bbac5a1588077979c690b773fb0d924a596ac06ce1f466354
         bytes 422955444d76cd3675fb06e09f9f30f4da2dc294bfea6634fe54b0131112488438c36ec36db8b34410d46f5daa6e00cf
@@ -188,21 +188,21 @@ the_life() {
 }
 
 the_chain() {
-    echo "8. Who must believe the device, and trusts maker.public alone, asks which code could ever sign with its key 1:"
+    echo "8. Relying party: which code could ever sign with key 1? The chain tells whoever trusts maker.public alone:"
     ask chain image chain
     hash_of chain chain
     ask verify maker.public chain 1
 }
 
 the_statement() {
-    echo "9. Who must believe the device asks which code said 'hello': the chain is cut where key 1 signed it:"
+    echo "9. Relying party: which code said 'hello'? That at the end of the chain, once it is cut where key 1 signed:"
     ask attach chain hello attached
     hash_of attached attached
     ask verify maker.public attached 1
 }
 
 the_audit() {
-    echo "10. Who issues hardware asks whether a chain tells what there was: the device's own log lists the same:"
+    echo "10. Maker: does a chain tell what happened? It lists what the device's own log lists:"
     ask audit image maker.public chain 1
     ask audit image maker.public attached 1
 }

@@ -19,37 +19,39 @@ use std::alloc::Global;
 pub const USAGE: &[u8] = b"miniboot serves a simulated secure coprocessor.
 
 usage:
-  miniboot run IMAGE SCRIPT NOISE    serves the script on the image, writes the new image over it,
-                                     and prints a line for each reply
-  miniboot verify ROOT CHAIN KEY     judges the chain under the maker's public key, and prints in which
-                                     configurations the key with this number lived
-  miniboot audit IMAGE ROOT CHAIN KEY
+  miniboot run IMAGE SCRIPT NOISE    gives the device of IMAGE the events of SCRIPT, writes the new image
+                                     over IMAGE, and prints a line for each reply
+  miniboot verify ROOT CHAIN KEYNUMBER
+                                     judges the chain under the maker's public key, and lists the
+                                     configurations in which the key with this number lived
+  miniboot audit IMAGE ROOT CHAIN KEYNUMBER
                                      judges the chain, and compares what it lists for the key with the
-                                     log of the image's device
+                                     log of the device of IMAGE
   miniboot chain IMAGE OUT           writes the chain of the device's log, and prints how many entries
                                      it has
   miniboot attach CHAIN STATEMENT OUT
-                                     attaches a statement to the chain, and prints how many entries
-                                     stand with it
+                                     puts a statement on the chain, and prints how many entries are left
+                                     beside it
   miniboot factory NOISE KEY OWNER CODE IMAGE
-                                     makes a device of the noise with this owner and code, writes the
-                                     maker's key with its index used and the device's image, and
-                                     prints the device's serial
+                                     makes a device of this owner and code from the noise, signs its
+                                     birth by the maker's key, writes that key with one more index used
+                                     and the device's image, and prints the device's serial
   miniboot keygen NOISE KEY PUBLIC   makes an officer's key from the noise, writes its file and its
                                      public key, and prints the public key's hash
-  miniboot sign KEY DRAFT OUT        signs the order of the draft, writes the key with its index used
-                                     and the order as a line, and prints the index
+  miniboot sign KEY DRAFT OUT        signs the order of the draft, writes the key with one more index
+                                     used and the order as a line, and prints the index
   miniboot countersign KEY LAYER ORDER OUT
-                                     adds the countersignature of a layer's owner to an order line
+                                     adds the countersignature of the owner of layer 2 or 3 to an order
+                                     line, writes the key with one more index used and the order as a
+                                     line, and prints the index
   miniboot generate NUMBER ROUNDS IMAGE SCRIPT NOISE
                                      makes the workload of a number with 1 to 24 rounds, writes its
                                      files, serves it, and prints a summary
   miniboot --help                    prints this text
   miniboot --version                 prints the version
 
-status: 0 done, 2 the words are no command, 3 an input is not in its form,
-        4 an input could not be read, 5 an output could not be written, 6 no memory,
-        7 the command is refused
+status: 0 done, 2 the words are no command, 3 an input is not in its form, 4 an input could not be read,
+        5 an output could not be written, 6 an allocation failed, 7 the command is refused
 ";
 
 /// What `--version` prints.
