@@ -46,7 +46,7 @@ impl Bank {
         }
     }
 
-    /// A memory of these bytes, which are kept.
+    /// A memory of these bytes, which are kept. `NoMemory` where an allocation fails, of which no clause says when.
     pub fn from_slice(alloc: Global, bytes: &[u8]) -> Result<Bank, NoMemory>
         requires { length bytes.now % 4096 ≡ 0 }
         ensures { IfOk result (λ bank. bank ≡ kept bytes.now) }
@@ -229,6 +229,4 @@ fn copy_sector(standing: &mut Vec<u8>, bytes: &[u8], sector: usize)
 /// Each byte of a memory is less than 256.
 pub fn are_bytes(bytes: &[u8])
     ensures { IsBytes bytes.now }
-{
-    let _count = bytes.len();
-}
+{}

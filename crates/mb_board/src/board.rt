@@ -91,7 +91,7 @@ pub trait Board: Register {
         ensures stopped { OnErr result ((meter self.old).armed ≡ true) };
 
     /// Loads an image, the flash followed by the battery-backed memory, and the events that will be handed out. Room
-    /// for all answers is taken. If an allocation fails, the board is as before.
+    /// for all answers is taken. If an allocation fails, of which no clause says when, the board is as before.
     fn load(&mut self, alloc: Global, image: &[u8], events: Events) -> Result<(), NoMemory>
         requires image { length image.now ≡ 1077248 }
         requires count { length events ≤ 65536 }

@@ -81,7 +81,8 @@ fn values_at(alloc: Global, cursor: &mut Cursor) -> Result<Items<u16>, NotRead>
     Ok(values)
 }
 
-/// The example that is spelled at the cursor's offset. After an error the cursor stands where it stood.
+/// The example that is spelled at the cursor's offset. After an error the cursor stands where it stood. `NoMemory` where
+/// an allocation fails, of which no clause says when.
 pub fn read_example(alloc: Global, cursor: &mut Cursor) -> Result<Example, NotRead>
     ensures { ReadsExactly points example cursor.old result cursor.new }
 {
@@ -91,7 +92,8 @@ pub fn read_example(alloc: Global, cursor: &mut Cursor) -> Result<Example, NotRe
     Ok(value)
 }
 
-/// The example that is spelled by the whole of the bytes.
+/// The example that is spelled by the whole of the bytes. `NoMemory` where an allocation fails, of which no clause says
+/// when.
 pub fn read_whole_example(alloc: Global, bytes: &[u8]) -> Result<Example, NotRead>
     requires { length bytes.now ≤ 4194304 }
     ensures { ReadsWhole points example bytes.now result }
