@@ -9,8 +9,12 @@ use Rattle.mb_laws.proofs.inputs.inputs_are_clear.Goals as goal
 pub returns : goal.returns
 returns c = record {
   key_noise = λ name bytes value place are is faulty. omega (arith, is.0, faulty.0);
+  birth_noise = λ name bytes value place are is faulty. omega (arith, is.0, faulty.0);
   key = λ name bytes value place are is faulty.
       (IsClearWhole-from_exact keyfile_exact).never_both bytes value faulty.0 are is faulty.2;
+  owner = λ name bytes value place are is faulty.
+      (IsClearWhole-from_exact public_key_exact).never_both bytes value faulty.0 are is faulty.2;
+  code = λ name bytes value place are is faulty. omega (arith, is.0, faulty.0);
   draft = λ name bytes value place are is faulty. texts.drafts.never_both bytes value faulty.0 is faulty.2;
   order = λ name bytes value place are is faulty. texts.order_lines.never_both bytes value faulty.0 is faulty.2;
   image = λ name bytes value place are is faulty. faults.well_formed_has_no_fault bytes value faulty.0 are is faulty.2;
