@@ -231,7 +231,7 @@ fn give_up<B: Board>(up: Up<R1>, b: &mut B) -> Off
 /// There are at most 239 write calls, and 70,946 steps.
 ///
 /// Errors: `Zeroised` exactly where the device is dead; `Stopped` where power failed; `NoMemory` where an allocation
-/// failed, before anything was written.
+/// failed, of which no clause says when, before anything was written.
 #[tactic(auto, using(crate::proofs::Booted::live_from, crate::proofs::Booted::dead_from, crate::proofs::Booted::alive_from, crate::proofs::Booted::state_kept_from, crate::proofs::Booted::cleans_from, crate::proofs::Booted::quiet_from, crate::proofs::Booted::state_same, crate::proofs::Booted::same_quiet, crate::proofs::Booted::loaded_as))]
 pub fn boot<B: Board, L: Ledger>(
     alloc: Global,

@@ -24,8 +24,8 @@ const WORD: [u8; 4] = *b"MBC1";
 const ENTRIES: u16 = 128;
 
 /// The chain that the whole of the bytes spells, of which there are at most 4,194,304. Else `BadChain` with the offset
-/// of the first field that lacks bytes or is not allowed, or of the first byte after the last field, or `NoMemory` where
-/// an allocation fails.
+/// of the first field that lacks bytes or is not allowed, or of the first byte after the last field, or `NoMemory`
+/// where an allocation fails, of which no clause says when.
 pub fn read_chain(alloc: Global, bytes: &[u8]) -> Result<Chain, ChainEnd>
     requires { length bytes.now ≤ 4194304 }
     ensures { ReadsWhole chain_at chain_format bytes.now result }

@@ -27,8 +27,8 @@ pub(crate) fn statement_at(alloc: Global, cursor: &mut Cursor) -> Result<Stateme
 }
 
 /// The statement that the whole of the bytes spells, of which there are at most 4,194,304. Else `BadChain` with the
-/// offset of the first field that lacks bytes or is not allowed, or of the first byte after the last field, or `NoMemory`
-/// where an allocation fails.
+/// offset of the first field that lacks bytes or is not allowed, or of the first byte after the last field, or
+/// `NoMemory` where an allocation fails, of which no clause says when.
 pub fn read_statement(alloc: Global, bytes: &[u8]) -> Result<Statement, ChainEnd>
     requires { length bytes.now ≤ 4194304 }
     ensures { ReadsWhole chain_at statement_format bytes.now result }

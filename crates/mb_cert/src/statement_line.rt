@@ -30,8 +30,8 @@ pub enum StatementLineEnd {
 
 /// The statement of the text, whose one line is its bytes in hexadecimal. The line may lack its LF.
 ///
-/// Errors: `BadLine` with 1 where there is no line or the first is not that of a statement, and with 2 where another line
-/// follows that of a statement, be it empty; and `NoMemory`.
+/// Errors: `BadLine` with 1 where there is no line or the first is not that of a statement, and with 2 where another
+/// line follows that of a statement, be it empty; and `NoMemory`, of which no clause says when it comes.
 pub fn read_statement_line(alloc: Global, text: &[u8]) -> Result<Statement, StatementLineEnd>
     ensures read { ReadsStatementLine text.now result }
     ensures spelled { IfOk result (λ statement. statement_format.Allowed statement) }

@@ -60,7 +60,7 @@ fn new_key_at(cursor: &mut Cursor) -> Result<Act, OrderEnd>
     Ok(Act::NewKey { kind })
 }
 
-/// What an order of the kind does.
+/// What an order of the kind does. `NoMemory` where an allocation fails, of which no clause says when.
 pub fn act_at(alloc: Global, cursor: &mut Cursor, kind: OrderKind) -> Result<Act, OrderEnd>
     ensures { Reads text_at (act_by kind) cursor.old result cursor.new }
 {

@@ -43,7 +43,7 @@ fn after_kind_at(
     })
 }
 
-/// The signed part of an order.
+/// The signed part of an order. `NoMemory` where an allocation fails, of which no clause says when.
 #[tactic(auto, unfolding(mb_model::specs::OrderFormat::body_format))]
 pub fn body_at(alloc: Global, cursor: &mut Cursor) -> Result<SignedPart, OrderEnd>
     ensures reads { ReadsAs body_in text_at body_format cursor.old result cursor.new }

@@ -16,7 +16,7 @@ use mb_bytes::{Cursor, bytes_after_u16, put_after_u16, put_u8, u8_between};
 use mb_model::{Bytes, Countersignature, Countersignatures, Items, NoMemory, SIGNATURE_LIMIT};
 use std::alloc::Global;
 
-/// A signature after two bytes for its length.
+/// A signature after two bytes for its length. `NoMemory` where an allocation fails, of which no clause says when.
 #[tactic(auto, unfolding(mb_model::specs::OrderFormat::sized_signature_format))]
 pub fn signature_at(alloc: Global, cursor: &mut Cursor) -> Result<Bytes, OrderEnd>
     ensures { Reads text_at sized_signature_format cursor.old result cursor.new }
@@ -43,7 +43,7 @@ fn countersignature_at(
 }
 
 /// The countersignatures after the signed part and its signature: a byte for their number, and as many, their layers
-/// ascending.
+/// ascending. `NoMemory` where an allocation fails, of which no clause says when.
 #[tactic(auto, unfolding(mb_model::specs::OrderFormat::countersignatures_format))]
 pub fn countersignatures_at(
     alloc: Global,

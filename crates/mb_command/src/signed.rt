@@ -15,7 +15,8 @@ pub const ORDER_HEAD: u8 = 1;
 /// the signed part.
 pub const COUNTERSIGNATURE_HEAD: u8 = 2;
 
-/// The body of the order, the part that its owners sign. The order has a spelling.
+/// The body of the order, the part that its owners sign. The order has a spelling. `NoMemory` where an allocation
+/// fails, of which no clause says when.
 pub fn signed_part(alloc: Global, order: &Order) -> Result<Bytes, NoMemory>
     requires { order_format.Allowed order.now }
     ensures { IfOk result (λ part. part ≡ order_body order.now) }

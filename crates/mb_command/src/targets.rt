@@ -56,7 +56,8 @@ fn target_at(cursor: &mut Cursor) -> Result<Target, BadRecord>
     }
 }
 
-/// The targets of an order, after a byte for their number.
+/// The targets of an order, after a byte for their number. `NoMemory` where an allocation fails, of which no clause
+/// says when.
 pub fn targets_at(alloc: Global, cursor: &mut Cursor) -> Result<Targets, OrderEnd>
     ensures { Reads text_at (counted (between w8 0 8) target_format) cursor.old result cursor.new }
 {

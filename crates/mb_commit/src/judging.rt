@@ -124,8 +124,8 @@ fn view_now<B: Board>(
     })
 }
 
-/// The order that the bytes spell, with all that it comes to, where it passes every check. Else the answer to it. Nothing
-/// is written.
+/// The order that the bytes spell, with all that it comes to, where it passes every check. Else the answer to it.
+/// Nothing is written. `NoMemory` where an allocation fails, of which no clause says when.
 #[tactic(auto, using(crate::proofs::Remembered::remembered_root, crate::proofs::Remembered::only_root, crate::proofs::Judgement::none_step))]
 pub fn judge_text<B: Board, L: Ledger>(
     alloc: Global,

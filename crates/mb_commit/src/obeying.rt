@@ -23,10 +23,11 @@ use mb_ratchet::{Off, R1, Up};
 use std::alloc::Global;
 use std::sync::ledger::Ledger;
 
-/// Answers an order, which these bytes spell or do not spell: refuses it, or obeys it, with a draw of which the keys are
-/// made that it makes. A device that has answered is ready, and remembers its state. Where power fails, the memory
+/// Answers an order, which these bytes spell or do not spell: refuses it, or obeys it, with a draw of which the keys
+/// are made that it makes. A device that has answered is ready, and remembers its state. Where power fails, the memory
 /// stands for the state before the order or for the state after it. Nothing is written of an order that is refused, and
 /// nothing where an allocation fails, which is answered so. There are at most 471 write calls, and 139,744 steps.
+/// `NoMemory` where an allocation fails, of which no clause says when.
 #[tactic(auto, using(crate::proofs::Answered::has_passed))]
 pub fn obey<B: Board, L: Ledger>(
     alloc: Global,

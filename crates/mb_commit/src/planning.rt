@@ -171,8 +171,8 @@ fn knows_more(known: &Known, entries: &[Entry]) -> Known
     }
 }
 
-/// The commit of the order, with its public record in `public` of the room. All memory is taken that the order needs, and
-/// nothing is written.
+/// The commit of the order, with its public record in `public` of the room. All memory is taken that the order needs,
+/// and nothing is written. `NoMemory` where an allocation fails, of which no clause says when.
 pub fn plan_commit<B: Board>(
     alloc: Global,
     b: &B,

@@ -48,7 +48,7 @@ impl From<NoMemory> for ImageEnd {
 /// 621,330 steps: those of the public keys of the device and of sixteen keys of regions, each made once, and of the
 /// signatures that are still to be made.
 ///
-/// Errors: those of `ImageEnd`.
+/// Errors: those of `ImageEnd`. `NoMemory` where an allocation fails, of which no clause says when.
 pub fn stand_for<L: Ledger>(
     alloc: Global,
     image: &[u8],

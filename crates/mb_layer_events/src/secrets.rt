@@ -65,7 +65,7 @@ fn region_with<S: Reaches<L>, L: Named, B: Board>(
 
 /// Answers a put: the secret is kept, or refused where the region has 16 secrets of other names. The layer may run, and
 /// the number is the configuration number. Where power fails the secret is kept or not, as a whole. There are at most
-/// three write calls.
+/// three write calls. `NoMemory` where an allocation fails, of which no clause says when.
 pub fn put_secret<S: Reaches<L>, L: Named, B: Board>(
     alloc: Global,
     s: S,
@@ -105,7 +105,8 @@ pub fn put_secret<S: Reaches<L>, L: Named, B: Board>(
     Ok((s, Reply::Kept))
 }
 
-/// Answers a get: the value of the secret with the name, or that there is none. Nothing is written.
+/// Answers a get: the value of the secret with the name, or that there is none. Nothing is written. `NoMemory` where an
+/// allocation fails, of which no clause says when.
 pub fn get_secret<S: Reaches<L>, L: Named, B: Board>(
     alloc: Global,
     s: &S,
@@ -157,7 +158,8 @@ fn region_without<S: Reaches<L>, L: Named, B: Board>(
 }
 
 /// Answers a drop: the secret with the name is forgotten, or there is none and nothing is written. The layer may run.
-/// Where power fails the secret is forgotten or not, as a whole. There are at most three write calls.
+/// Where power fails the secret is forgotten or not, as a whole. There are at most three write calls. `NoMemory` where
+/// an allocation fails, of which no clause says when.
 pub fn drop_secret<S: Reaches<L>, L: Named, B: Board>(
     alloc: Global,
     s: S,

@@ -95,9 +95,10 @@ fn state<Lg: Ledger>(
 }
 
 /// Answers a request to sign: the statement of the message by the key with this number at its next index, or a refusal
-/// where the region has no such key or none of its indices is left. The layer may run, and serial and number are those of
-/// the device. One more use of the key is stored before it signs, so no index signs twice; where power fails, the use is
-/// stored or not. There are at most three write calls, and 35,473 steps.
+/// where the region has no such key or none of its indices is left. The layer may run, and serial and number are those
+/// of the device. One more use of the key is stored before it signs, so no index signs twice; where power fails, the
+/// use is stored or not. There are at most three write calls, and 35,473 steps. `NoMemory` where an allocation fails,
+/// of which no clause says when.
 pub fn sign_message<S: Reaches<L>, L: Named, B: Board, Lg: Ledger>(
     alloc: Global,
     s: S,

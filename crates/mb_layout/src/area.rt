@@ -80,7 +80,7 @@ pub fn root_in(area: &[u8]) -> Option<Root>
 }
 
 /// The region for which the bytes stand that an area of the battery-backed memory holds: the empty one where they are
-/// none. `None` exactly where it holds none; `NoMemory` where an allocation fails.
+/// none. `None` exactly where it holds none; `NoMemory` where an allocation fails, of which no clause says when.
 pub fn region_in(alloc: Global, area: &[u8]) -> Result<Option<Region>, NoMemory>
     ensures { IfOk result (λ found. Finds (λ region. region) (HoldsRegion area.now) found) }
 {
@@ -101,7 +101,7 @@ pub fn region_in(alloc: Global, area: &[u8]) -> Result<Option<Region>, NoMemory>
 }
 
 /// The public record with which an area of the flash begins; `None` exactly where it begins with none; `NoMemory` where
-/// an allocation fails.
+/// an allocation fails, of which no clause says when.
 pub fn public_at_start(alloc: Global, flash_area: &[u8]) -> Result<Option<Public>, NoMemory>
     ensures { IfOk result (λ found. Finds (λ stored. stored) (BeginsWithRecord public_format flash_area.now) found) }
 {

@@ -260,17 +260,17 @@ impl Record for Public {
 }
 
 /// The public record that is spelled at the cursor's offset; the cursor then stands after it. Else `Bad` with the place
-/// of the first field that lacks bytes or is not allowed, or `NoMemory` where an allocation fails, and the cursor is
-/// unchanged.
+/// of the first field that lacks bytes or is not allowed, or `NoMemory` where an allocation fails, of which no clause
+/// says when, and the cursor is unchanged.
 pub fn read_public(alloc: Global, c: &mut Cursor<'_>) -> Result<Public, LayoutEnd>
     ensures { ReadsExactly layout_at public_format c.old result c.new }
 {
     read_record(alloc, c)
 }
 
-/// The public record that the whole of the bytes spells; else `Bad` with the place of the first field that lacks bytes or
-/// is not allowed, or of the first byte after the last field, or `NoMemory` where an allocation fails. There are at most
-/// 4,194,304 bytes.
+/// The public record that the whole of the bytes spells; else `Bad` with the place of the first field that lacks bytes
+/// or is not allowed, or of the first byte after the last field, or `NoMemory` where an allocation fails, of which no
+/// clause says when. There are at most 4,194,304 bytes.
 pub fn public_of_bytes(alloc: Global, bytes: &[u8]) -> Result<Public, LayoutEnd>
     requires { length bytes.now ≤ 4194304 }
     ensures { ReadsWhole layout_at public_format bytes.now result }

@@ -192,17 +192,17 @@ impl Record for Region {
 }
 
 /// The region record that is spelled at the cursor's offset; the cursor then stands after it. Else `Bad` with the place
-/// of the first field that lacks bytes or is not allowed, or `NoMemory` where an allocation fails, and the cursor is
-/// unchanged.
+/// of the first field that lacks bytes or is not allowed, or `NoMemory` where an allocation fails, of which no clause
+/// says when, and the cursor is unchanged.
 pub fn read_region(alloc: Global, c: &mut Cursor<'_>) -> Result<Region, LayoutEnd>
     ensures { ReadsExactly layout_at region_format c.old result c.new }
 {
     read_record(alloc, c)
 }
 
-/// The region record that the whole of the bytes spells; else `Bad` with the place of the first field that lacks bytes or
-/// is not allowed, or of the first byte after the last field, or `NoMemory` where an allocation fails. There are at most
-/// 4,194,304 bytes.
+/// The region record that the whole of the bytes spells; else `Bad` with the place of the first field that lacks bytes
+/// or is not allowed, or of the first byte after the last field, or `NoMemory` where an allocation fails, of which no
+/// clause says when. There are at most 4,194,304 bytes.
 pub fn region_of_bytes(alloc: Global, bytes: &[u8]) -> Result<Region, LayoutEnd>
     requires { length bytes.now ≤ 4194304 }
     ensures { ReadsWhole layout_at region_format bytes.now result }

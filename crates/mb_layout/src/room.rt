@@ -24,7 +24,7 @@ pub struct Room {
 }
 
 impl Room {
-    /// Empty buffers with their room. `NoMemory` where an allocation fails.
+    /// Empty buffers with their room. `NoMemory` where an allocation fails, of which no clause says when.
     pub fn new(alloc: Global) -> Result<Room, NoMemory>
         ensures room { IfOk result (λ room. HasRoom room) }
         ensures empty { IfOk result (λ room. room.public.items ≡ []) }

@@ -37,7 +37,7 @@ pub fn needed(uses: u32, names_next: bool) -> u32
 
 /// What the fact adds to a device, whose keys are made of the draw, in at most 68,798 steps: those of two public keys.
 ///
-/// Errors: `NoMemory`, before any step.
+/// Errors: `NoMemory`, of which no clause says when it comes, but before any step.
 pub fn bodies<L: Ledger>(
     alloc: Global,
     view: &View,

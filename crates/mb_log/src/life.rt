@@ -50,7 +50,7 @@ impl Life {
 
     /// By one more entry, which comes after those with these figures and may stand there.
     ///
-    /// Errors: `NoMemory`. What was known before then stands.
+    /// Errors: `NoMemory`, of which no clause says when it comes. What was known before then stands.
     pub fn add(&mut self, figures: &Figures, entry: &Entry) -> Result<(), NoMemory>
         ensures ok { (before : List Entry) (n : ℕ) → figures.now ≡ figures_of before → RuledLog (before ++ entry.now ∷ []) → IsLifeOf before n self.old → OnOk result (IsLifeOf (before ++ entry.now ∷ []) n self.new) }
         ensures err { OnErr result (self.new ≡ self.old) }
@@ -113,7 +113,7 @@ impl Life {
 /// log whose every entry obeys the rules, as one has of which `follows` said `Yes` at each: the list is then empty
 /// exactly where no entry makes such a key.
 ///
-/// Errors: `NoMemory`.
+/// Errors: `NoMemory`, of which no clause says when it comes.
 pub fn lives(alloc: Global, log: &[SignedEntry], key: u32) -> Result<Lives, NoMemory>
     requires { length log.now ≤ 128 }
     ensures { RuledLog (entries_of log.now) → IfOk result (λ list. list ≡ lives_of (entries_of log.now) key) }

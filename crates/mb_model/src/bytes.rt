@@ -21,7 +21,7 @@ impl Model for Bytes {
 }
 
 impl Bytes {
-    /// A copy of the bytes.
+    /// A copy of the bytes. `NoMemory` where an allocation fails, of which no clause says when.
     pub fn copy(alloc: Global, from: &[u8]) -> Result<Bytes, NoMemory>
         ensures { IfOk result (λ bytes. bytes ≡ from.now) }
     {

@@ -75,7 +75,7 @@ pub struct Answered {
 }
 
 impl Event {
-    /// A copy of the event.
+    /// A copy of the event. `NoMemory` where an allocation fails, of which no clause says when.
     pub fn copy(&self, alloc: Global) -> Result<Event, NoMemory>
         ensures { IfOk result (λ event. event ≡ self.now) }
     {

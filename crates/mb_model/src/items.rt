@@ -67,7 +67,8 @@ impl<T> Items<T> {
         self.items.as_slice()
     }
 
-    /// Adds an item at the end, or leaves the list as it was.
+    /// Adds an item at the end, or leaves the list as it was. `NoMemory` where an allocation fails, of which no clause
+    /// says when.
     pub fn push(&mut self, item: T) -> Result<(), NoMemory>
     where
         T: Drop,

@@ -54,10 +54,10 @@ pub(crate) struct Device {
     pub(crate) key: KeySeed,
 }
 
-/// The image of a new device, made of the noise, whose layer 1 has this owner and this code, of at most 32,768 bytes. The
-/// maker's key signs the device's birth at its next index, which is at most 32, in at most 69,872 steps.
+/// The image of a new device, made of the noise, whose layer 1 has this owner and this code, of at most 32,768 bytes.
+/// The maker's key signs the device's birth at its next index, which is at most 32, in at most 69,872 steps.
 ///
-/// Errors: `Spent` exactly where the next index is 32, and `NoMemory`.
+/// Errors: `Spent` exactly where the next index is 32, and `NoMemory`, of which no clause says when it comes.
 pub fn factory<L: Ledger>(
     alloc: Global,
     k: &mut Keyfile,

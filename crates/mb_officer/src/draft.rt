@@ -88,8 +88,8 @@ pub(crate) enum Said {
 /// The order that a draft says, with a signature of no bytes and without countersignatures. The text has at most
 /// 4,194,304 bytes.
 ///
-/// Errors: `BadLine` with the first line that is not in the grammar, or with the line after the last where the text ends
-/// too early, and `NoMemory`.
+/// Errors: `BadLine` with the first line that is not in the grammar, or with the line after the last where the text
+/// ends too early, and `NoMemory`, of which no clause says when it comes.
 pub fn read_draft(alloc: Global, text: &[u8]) -> Result<Order, DraftEnd>
     requires { length text.now ≤ 4194304 }
     ensures read { ReadsDraft text.now result }

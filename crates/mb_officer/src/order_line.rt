@@ -28,7 +28,7 @@ pub enum OrderLineEnd {
 /// The order of the text, whose one line is `command HEX`. The line may lack its LF.
 ///
 /// Errors: `BadLine` with 1 where there is no line or the first is not that of an order, and with 2 where another line
-/// follows that of an order, be it empty; and `NoMemory`.
+/// follows that of an order, be it empty; and `NoMemory`, of which no clause says when it comes.
 pub fn read_order_line(alloc: Global, text: &[u8]) -> Result<Order, OrderLineEnd>
     ensures read { ReadsOrderLine text.now result }
     ensures spelled { IfOk result (λ order. order_format.Allowed order) }

@@ -39,7 +39,7 @@ impl From<NoMemory> for SignEnd {
 /// Signs the order by the key, in place of the signature that it has, and answers the index of the signature, in at
 /// most 35,473 steps. The order has a spelling, and the key's next index is at most 32.
 ///
-/// Errors: `Spent` exactly where the next index is 32, and `NoMemory`.
+/// Errors: `Spent` exactly where the next index is 32, and `NoMemory`, of which no clause says when it comes.
 pub fn sign_order<L: Ledger>(
     alloc: Global,
     k: &mut Keyfile,
@@ -68,7 +68,8 @@ pub fn sign_order<L: Ledger>(
 /// index of the signature, in at most 35,473 steps. The order has a spelling, and the key's next index is at most 32.
 ///
 /// Errors: `NotCountersignable` exactly where the order is no load, the layer is not above the order's, or that layer's
-/// countersignature is there; else `Spent` exactly where the next index is 32; and `NoMemory`.
+/// countersignature is there; else `Spent` exactly where the next index is 32; and `NoMemory`, of which no clause says
+/// when it comes.
 pub fn countersign<L: Ledger>(
     alloc: Global,
     k: &mut Keyfile,

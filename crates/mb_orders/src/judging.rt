@@ -17,7 +17,8 @@ use std::sync::ledger::Ledger;
 /// What the order comes to in a device with these figures, with a draw of which its keys are made, in at most 68,798
 /// steps: those of two public keys. The order has a spelling.
 ///
-/// Errors: the first check that the order fails; and `NoMemory`. No step is taken then.
+/// Errors: the first check that the order fails; and `NoMemory`, of which no clause says when it comes. No step is
+/// taken then.
 pub fn judge<L: Ledger>(
     alloc: Global,
     view: &View,

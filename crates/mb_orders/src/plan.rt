@@ -122,7 +122,8 @@ fn fate_of(layers: &Layers, fact: &Fact, key: Option<RegionKey>, region: u8) -> 
     }
 }
 
-/// What the order comes to, which passes every check, with a draw of which its keys are made.
+/// What the order comes to, which passes every check, with a draw of which its keys are made. `NoMemory` where an
+/// allocation fails, of which no clause says when.
 pub fn make_plan<L: Ledger>(
     alloc: Global,
     view: &View,

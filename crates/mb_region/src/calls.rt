@@ -26,7 +26,7 @@ use mb_ratchet::{Off, Reaches};
 use mb_slot::wipe_other;
 use std::alloc::Global;
 
-/// The stored region. `NoMemory` where an allocation fails.
+/// The stored region. `NoMemory` where an allocation fails, of which no clause says when.
 pub fn read_stored<S: Reaches<L>, L: Named, B: Board>(
     alloc: Global,
     _s: &S,

@@ -31,10 +31,11 @@ impl From<NoMemory> for ScriptEnd {
     }
 }
 
-/// The events of a script, in order; the draw of each command is all zeros. A line ends with LF, which the last may lack;
-/// empty lines and lines that begin with `#` are skipped. Condition: the text has at most 4,194,304 bytes.
+/// The events of a script, in order; the draw of each command is all zeros. A line ends with LF, which the last may
+/// lack; empty lines and lines that begin with `#` are skipped. Condition: the text has at most 4,194,304 bytes.
 ///
-/// Errors: `BadLine` with the first line that is not in the grammar or that says the 65,537th event, and `NoMemory`.
+/// Errors: `BadLine` with the first line that is not in the grammar or that says the 65,537th event, and `NoMemory`, of
+/// which no clause says when it comes.
 pub fn read_script(alloc: Global, text: &[u8]) -> Result<Events, ScriptEnd>
     requires { length text.now ≤ 4194304 }
     ensures { ReadsScript text.now result }

@@ -51,7 +51,7 @@ pub enum End {
     NotWritten(Role),
     /// The text could not be printed.
     NotPrinted,
-    /// An allocation failed.
+    /// An allocation failed, of which no clause says when.
     NoMemory,
     /// The command is refused.
     Refused(Refusal),

@@ -4,6 +4,9 @@
 //! inputs, the writing of outputs, and the lines of statuses. It stands on every crate below: `run` serves a script by the
 //! device of `mb_device`, `generate` serves a workload of `mb_generate`, `verify` and `audit` judge chains by `mb_verifier`,
 //! `chain` and `attach` write them by `mb_cert`, and the commands of officers and makers are those of `mb_officer`.
+//!
+//! Each call that takes memory may answer that an allocation failed, and no clause says when: one that always did so would
+//! meet its contract. The tests of `mb_lives` show that commands are done.
 #![tactic(auto)]
 
 mod attach;
