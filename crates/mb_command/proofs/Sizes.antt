@@ -1,12 +1,11 @@
 -- An order that has a spelling keeps the bounds on sizes.
-use Rattle.std.proofs.Common.{ℕ, zero, suc, ◌^◌, ◌<◌, refl, lit≤, List, [], ◌∷◌, length, get_or, ap, arith}
+use Rattle.std.proofs.Common.{ℕ, zero, suc, ◌<◌, List, [], ◌∷◌, length, get_or, ap, arith}
 use Rattle.mb_format.specs.Combinators.{items}
-use Rattle.mb_model.specs.declared.order.Target.TheVariants.{Length}
 use Rattle.mb_model.specs.declared.order.Act.{Act}
 use Rattle.mb_model.specs.declared.order.Act.TheVariants.{Establish, Surrender, Load, Emergency, NewKey}
 use Rattle.mb_model.specs.declared.order.Countersignature.{Countersignature}
 use Rattle.mb_model.specs.declared.order.Order.{Order}
-use Rattle.mb_model.specs.OrderFormat.{target_format, payload_format, act_by, body_of, body_format, sized_signature_format, Climb, countersignature_format, climbed, countersignatures_format, order_format}
+use Rattle.mb_model.specs.OrderFormat.{payload_format, act_by, body_of, body_format, sized_signature_format, Climb, countersignature_format, climbed, countersignatures_format, order_format}
 use Rattle.mb_model.specs.Rules.{kind_of}
 use Rattle.mb_model.proofs.FormatBounds.{most_two}
 use Rattle.mb_command.specs.Writing.{HasShortCode, HasShortSignature, IsSized}
@@ -37,8 +36,3 @@ sized_of order h =
       count = omega (arith, two, h.1.1.0.1);
       signatures = λ k d lt. short_signature (length order.countersignatures) (record { below = order.layer; left = length order.countersignatures }) order.countersignatures h.1.1.1 k d lt;
     }
-
--- a surrender of layer 2 with a target of a length, not signed yet, has a spelling
-pub allowed_surrender : (n : ℕ) → n < 2 ^ 32 → order_format.Allowed (record { layer = 2; targets = Length n ∷ []; act = Surrender; signature = []; countersignatures = [] })
-unfolding order_format body_format target_format sized_signature_format countersignatures_format items
-allowed_surrender n lt = ((tt, ((lit≤ tt, lit≤ tt), (((lit≤ tt, lit≤ tt), ((tt, lt), refl)), refl))), (((lit≤ tt, lit≤ tt), refl), ((lit≤ tt, lit≤ tt), refl)))
