@@ -7,4 +7,4 @@
 
 mod slot;
 
-pub use slot::{commit, is_other_blank, read_current, read_other, wipe_other};
+pub use slot::{commit, is_other_blank, read_current, wipe_other};

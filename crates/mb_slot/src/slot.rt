@@ -100,7 +100,7 @@ pub fn read_current<B: Board>(b: &B, slot: u16, out: &mut [u8])
 }
 
 /// The area of 4,096 bytes that is not in force in the slot.
-pub fn read_other<B: Board>(b: &B, slot: u16, out: &mut [u8])
+fn read_other<B: Board>(b: &B, slot: u16, out: &mut [u8])
     requires can_use { CanUse (B.power b.now) (B.level b.now) (B.memory b.now) slot }
     requires room { length out.old ≡ 4096 }
     ensures { out.new ≡ other (B.memory b.now).bbram slot }
