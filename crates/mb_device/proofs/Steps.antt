@@ -6,7 +6,7 @@ use Rattle.mb_model.specs.declared.event.Event.{Event}
 use Rattle.mb_model.specs.declared.reply.Reply.{Reply}
 use Rattle.mb_model.specs.declared.reply.Reply.TheVariants as reply
 use Rattle.mb_model.specs.declared.state.State.{State}
-use Rattle.mb_model.specs.Board.{Memory, Meter, Held, phase_at}
+use Rattle.mb_model.specs.Board.{Memory, Meter, Held}
 use Rattle.mb_model.specs.Clean.{Clean}
 use Rattle.mb_model.specs.Machine.{Phase, off, ratchet, World, Machine, may_want_memory, may_be_cut, answered, lacks_memory, loses_power}
 use Rattle.mb_model.specs.Meaning.{StandsFor}
@@ -17,7 +17,7 @@ use Rattle.mb_storing.specs.Holding.{IsReady}
 use Rattle.mb_device.specs.declared.device.Device.{Device}
 use Rattle.mb_device.specs.declared.device.Device.TheVariants as device
 use Rattle.mb_device.specs.Sound.{IsSound, Fits, Steps}
-use Rattle.mb_device.proofs.Worlds.{ratchet_at}
+use Rattle.mb_device.proofs.Worlds.{ratchet_at, off_at}
 
 -- ---- worlds by their parts
 
@@ -44,16 +44,13 @@ live_sound after r memory power level meter state ready on at some fits = record
   fits = fits;
 }
 
-held_off : (power : Bool) (level : ℕ) → power ≡ false → phase_at power level ≡ off
-held_off power level gone = subst (λ (p : Bool). phase_at p level ≡ off) (sym gone) refl
-
 -- a device whose power is off
 pub off_sound : (state : Off) (memory : Memory) (power : Bool) (level : ℕ) (meter : Meter) (world : World) → StandsFor memory.flash memory.bbram world.state → Valid world.state → power ≡ false
     → world.phase ≡ off → world.armed ≡ meter.armed → IsSound (device.Off state) (held_by memory power level meter) world
 off_sound state memory power level meter world stands valid gone is_off armed = record {
-  shown = record { stands = stands; phase = is_off ∙ sym (held_off power level gone); armed = armed };
+  shown = record { stands = stands; phase = is_off ∙ sym (off_at power level gone); armed = armed };
   valid = valid;
-  clean = λ on. absurd (on (held_off power level gone));
+  clean = λ on. absurd (on (off_at power level gone));
   fits = is_off;
 }
 

@@ -16,6 +16,7 @@ use Rattle.mb_device.specs.declared.device.Device.TheVariants as device
 use Rattle.mb_device.specs.declared.device.Running.{Running}
 use Rattle.mb_device.specs.Sound.{IsSound, IsRunning, Fits, taken, Steps}
 use Rattle.mb_device.specs.Stepping.{IsOff}
+use Rattle.mb_device.proofs.Worlds.{off_at}
 
 -- ---- what a board holds that has handed out an event
 
@@ -136,13 +137,10 @@ taken_by e old new power power_new level level_new meter meter_new memory is_pow
     ∙ taken_is e old power level meter between refl
 
 -- what a board holds whose power has gone
-off_phase : (power : Bool) (level : ℕ) → power ≡ false → phase_at power level ≡ off
-off_phase power level gone = subst (λ (p : Bool). phase_at p level ≡ off) (sym gone) refl
-
 pub off_same : (old new : Memory) (power power_new : Bool) (level level_new : ℕ) (meter meter_new : Meter) (h : Held) → held_by old power level meter ≡ h → h.phase ≡ off → new ≡ old → power_new ≡ false
     → meter_new ≡ meter → held_by new power_new level_new meter_new ≡ h
 off_same old new power power_new level level_new meter meter_new h same is_off memory gone counts =
     ap (λ (m : Memory). let x : Held = record { memory = m; phase = phase_at power_new level_new; armed = meter_new.armed } in x) memory
-    ∙ ap (λ (p : Phase). let x : Held = record { memory = old; phase = p; armed = meter_new.armed } in x) (off_phase power_new level_new gone ∙ sym (ap (λ (x : Held). x.phase) same ∙ is_off))
+    ∙ ap (λ (p : Phase). let x : Held = record { memory = old; phase = p; armed = meter_new.armed } in x) (off_at power_new level_new gone ∙ sym (ap (λ (x : Held). x.phase) same ∙ is_off))
     ∙ ap (λ (m : Meter). let x : Held = record { memory = old; phase = phase_at power level; armed = m.armed } in x) counts
     ∙ same

@@ -24,6 +24,9 @@ pub ratchet_at : (power : Bool) (level r : ℕ) → power ≡ true → level ≡
 ratchet_at power level zero on at some = absurd (omega (arith, some))
 ratchet_at power level (suc n) on at some = subst (λ (p : Bool). phase_at p level ≡ ratchet (suc n)) (sym on) (subst (λ (l : ℕ). phase_at true l ≡ ratchet (suc n)) (sym at) refl)
 
+pub off_at : (power : Bool) (level : ℕ) → power ≡ false → phase_at power level ≡ off
+off_at power level gone = subst (λ (p : Bool). phase_at p level ≡ off) (sym gone) refl
+
 -- ---- whether the device is awake
 
 pub awake_off : (world : World) → world.phase ≡ off → awake_in world ≡ Err powered_off

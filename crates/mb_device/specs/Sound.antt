@@ -75,3 +75,7 @@ pub record Steps (world : World) (event : Event) (answer : Reply) (device : Devi
   pub next : World
   pub step : Step world event answer next
   pub sound : IsSound device now next
+
+-- so it does from each world that the board can have held
+abbrev pub StepsFrom : Device → Held → Event → (Device × Reply) → Held → Type 0
+StepsFrom before old event told now = (world : World) → IsSound before old world → Steps world event told.1 told.0 now

@@ -3,9 +3,8 @@
 ghost use Rattle.std.specs.Prelude.{◌≡◌, Ok};
 ghost use Rattle.mb_model.specs.declared.event.Event.TheVariants as event;
 ghost use Rattle.mb_model.specs.Layers.{is_runnable};
-ghost use Rattle.mb_model.specs.Machine.{World};
 ghost use Rattle.mb_board.specs.Calls.{held_by};
-ghost use Rattle.mb_device.specs.Sound.{IsSound, HasSound, Steps};
+ghost use Rattle.mb_device.specs.Sound.{HasSound, StepsFrom};
 ghost use Rattle.mb_device.specs.Stepping.{stop_told};
 
 use crate::device::{Device, Running};
@@ -27,8 +26,8 @@ impl Device {
     /// Answers `go`: the next layer runs, where it may. There is no way back but a boot.
     pub(crate) fn go<B: Board>(self, b: &mut B) -> (Device, Reply)
         requires sound { HasSound self (held_by (B.memory b.old) (B.power b.old) (B.level b.old) (B.meter b.old)) }
-        ensures steps { (world : World) → IsSound self (held_by (B.memory b.old) (B.power b.old) (B.level b.old) (B.meter b.old)) world
-            → Steps world event.Go result.1 result.0 (held_by (B.memory b.new) (B.power b.new) (B.level b.new) (B.meter b.new)) }
+        ensures steps { StepsFrom self (held_by (B.memory b.old) (B.power b.old) (B.level b.old) (B.meter b.old)) event.Go result
+            (held_by (B.memory b.new) (B.power b.new) (B.level b.new) (B.meter b.new)) }
         ensures goes_on { stop_told result.1 ≡ Ok tt }
         ensures memory { B.memory b.new ≡ B.memory b.old }
         ensures ledger { B.ledger b.new ≡ B.ledger b.old }

@@ -3,9 +3,8 @@
 ghost use Rattle.std.specs.Prelude.{◌≡◌, ◌+◌, ◌≤◌};
 ghost use Rattle.mb_format.specs.Format.{IsBytes};
 ghost use Rattle.mb_model.specs.declared.event.Event.TheVariants as event;
-ghost use Rattle.mb_model.specs.Machine.{World};
 ghost use Rattle.mb_board.specs.Calls.{held_by, IsMetered};
-ghost use Rattle.mb_device.specs.Sound.{IsSound, HasSound, Steps};
+ghost use Rattle.mb_device.specs.Sound.{HasSound, StepsFrom};
 ghost use Rattle.mb_device.specs.Stepping.{stop_told, IfNothingTold};
 
 use crate::device::{Device, Running};
@@ -31,8 +30,8 @@ fn take_order<B: Board, L: Ledger>(
     requires flash_bytes { IsBytes (B.memory b.old).flash }
     requires bbram_bytes { IsBytes (B.memory b.old).bbram }
     requires sound { HasSound (Device.One up running) (held_by (B.memory b.old) (B.power b.old) (B.level b.old) (B.meter b.old)) }
-    ensures steps { (world : World) → IsSound (Device.One up running) (held_by (B.memory b.old) (B.power b.old) (B.level b.old) (B.meter b.old)) world
-        → Steps world (event.Command text.now draw.now) result.1 result.0 (held_by (B.memory b.new) (B.power b.new) (B.level b.new) (B.meter b.new)) }
+    ensures steps { StepsFrom (Device.One up running) (held_by (B.memory b.old) (B.power b.old) (B.level b.old) (B.meter b.old)) (event.Command text.now draw.now) result
+        (held_by (B.memory b.new) (B.power b.new) (B.level b.new) (B.meter b.new)) }
     ensures untold { IfNothingTold result.1 (B.memory b.old) (B.memory b.new) (B.meter b.old) (B.meter b.new) }
     ensures ledger { B.ledger b.new ≡ B.ledger b.old }
     ensures meter { IsMetered 471 (stop_told result.1) (B.meter b.old) (B.meter b.new) }
@@ -59,8 +58,8 @@ impl Device {
         requires flash_bytes { IsBytes (B.memory b.old).flash }
         requires bbram_bytes { IsBytes (B.memory b.old).bbram }
         requires sound { HasSound self (held_by (B.memory b.old) (B.power b.old) (B.level b.old) (B.meter b.old)) }
-        ensures steps { (world : World) → IsSound self (held_by (B.memory b.old) (B.power b.old) (B.level b.old) (B.meter b.old)) world
-            → Steps world (event.Command text.now draw.now) result.1 result.0 (held_by (B.memory b.new) (B.power b.new) (B.level b.new) (B.meter b.new)) }
+        ensures steps { StepsFrom self (held_by (B.memory b.old) (B.power b.old) (B.level b.old) (B.meter b.old)) (event.Command text.now draw.now) result
+            (held_by (B.memory b.new) (B.power b.new) (B.level b.new) (B.meter b.new)) }
         ensures untold { IfNothingTold result.1 (B.memory b.old) (B.memory b.new) (B.meter b.old) (B.meter b.new) }
         ensures ledger { B.ledger b.new ≡ B.ledger b.old }
         ensures meter { IsMetered 471 (stop_told result.1) (B.meter b.old) (B.meter b.new) }

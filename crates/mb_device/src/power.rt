@@ -4,10 +4,9 @@ ghost use Rattle.std.specs.Prelude.{◌≡◌, ◌+◌, ◌≤◌, false};
 ghost use Rattle.mb_model.specs.declared.event.Event.TheVariants as event;
 ghost use Rattle.mb_model.specs.declared.state.State.{State};
 ghost use Rattle.mb_model.specs.Clean.{Clean};
-ghost use Rattle.mb_model.specs.Machine.{World};
 ghost use Rattle.mb_board.specs.Calls.{held_by, IsMetered};
 ghost use Rattle.mb_boot.specs.Booting.{IsQuiet};
-ghost use Rattle.mb_device.specs.Sound.{IsSound, HasSound, Steps};
+ghost use Rattle.mb_device.specs.Sound.{HasSound, StepsFrom};
 ghost use Rattle.mb_device.specs.Stepping.{stop_told, IfNothingTold, IsOff};
 
 use crate::device::{Device, Running};
@@ -29,8 +28,8 @@ fn come_up<B: Board, L: Ledger>(
     steps: &mut HashCount<L>,
 ) -> (Device, Reply)
     requires sound { HasSound (Device.Off off) (held_by (B.memory b.old) (B.power b.old) (B.level b.old) (B.meter b.old)) }
-    ensures steps { (world : World) → IsSound (Device.Off off) (held_by (B.memory b.old) (B.power b.old) (B.level b.old) (B.meter b.old)) world
-        → Steps world event.Boot result.1 result.0 (held_by (B.memory b.new) (B.power b.new) (B.level b.new) (B.meter b.new)) }
+    ensures steps { StepsFrom (Device.Off off) (held_by (B.memory b.old) (B.power b.old) (B.level b.old) (B.meter b.old)) event.Boot result
+        (held_by (B.memory b.new) (B.power b.new) (B.level b.new) (B.meter b.new)) }
     ensures quiet { IsQuiet (B.memory b.old) (B.memory b.new) (B.meter b.old) (B.meter b.new) }
     ensures untold { IfNothingTold result.1 (B.memory b.old) (B.memory b.new) (B.meter b.old) (B.meter b.new) }
     ensures ledger { B.ledger b.new ≡ B.ledger b.old }
@@ -58,8 +57,8 @@ impl Device {
         steps: &mut HashCount<L>,
     ) -> (Device, Reply)
         requires sound { HasSound self (held_by (B.memory b.old) (B.power b.old) (B.level b.old) (B.meter b.old)) }
-        ensures steps { (world : World) → IsSound self (held_by (B.memory b.old) (B.power b.old) (B.level b.old) (B.meter b.old)) world
-            → Steps world event.Boot result.1 result.0 (held_by (B.memory b.new) (B.power b.new) (B.level b.new) (B.meter b.new)) }
+        ensures steps { StepsFrom self (held_by (B.memory b.old) (B.power b.old) (B.level b.old) (B.meter b.old)) event.Boot result
+            (held_by (B.memory b.new) (B.power b.new) (B.level b.new) (B.meter b.new)) }
         ensures quiet { IsQuiet (B.memory b.old) (B.memory b.new) (B.meter b.old) (B.meter b.new) }
         ensures untold { IfNothingTold result.1 (B.memory b.old) (B.memory b.new) (B.meter b.old) (B.meter b.new) }
         ensures ledger { B.ledger b.new ≡ B.ledger b.old }

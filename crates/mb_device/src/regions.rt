@@ -13,7 +13,7 @@ ghost use Rattle.mb_storing.specs.Holding.{IsReady};
 ghost use Rattle.mb_storing.specs.Answering.{ComesTo, TellsOfWrites};
 ghost use Rattle.mb_commit.specs.Remembering.{Knows, IsRemembered};
 ghost use Rattle.mb_device.specs.declared.device.Device.{Device as Whole};
-ghost use Rattle.mb_device.specs.Sound.{IsSound, HasSound, IsRunning, Fits, Steps};
+ghost use Rattle.mb_device.specs.Sound.{IsSound, HasSound, IsRunning, Fits, StepsFrom};
 ghost use Rattle.mb_device.specs.Stepping.{stop_told, IfNothingTold};
 ghost use Rattle.mb_device.specs.Regions.{IsLayerEvent, region_named, layer_outcome, IsUsed};
 
@@ -124,8 +124,8 @@ fn use_at_one<B: Board, C: Ledger>(
     requires region { region ≡ region_named event.now }
     requires script { IsScriptEvent event.now }
     requires sound { HasSound (Device.One up running) (held_by (B.memory b.old) (B.power b.old) (B.level b.old) (B.meter b.old)) }
-    ensures steps { (world : World) → IsSound (Device.One up running) (held_by (B.memory b.old) (B.power b.old) (B.level b.old) (B.meter b.old)) world
-        → Steps world event.now result.1 result.0 (held_by (B.memory b.new) (B.power b.new) (B.level b.new) (B.meter b.new)) }
+    ensures steps { StepsFrom (Device.One up running) (held_by (B.memory b.old) (B.power b.old) (B.level b.old) (B.meter b.old)) event.now result
+        (held_by (B.memory b.new) (B.power b.new) (B.level b.new) (B.meter b.new)) }
     ensures untold { IfNothingTold result.1 (B.memory b.old) (B.memory b.new) (B.meter b.old) (B.meter b.new) }
     ensures ledger { B.ledger b.new ≡ B.ledger b.old }
     ensures meter { IsMetered 3 (stop_told result.1) (B.meter b.old) (B.meter b.new) }
@@ -164,8 +164,8 @@ fn use_at_two<B: Board, C: Ledger>(
     requires region { region ≡ region_named event.now }
     requires script { IsScriptEvent event.now }
     requires sound { HasSound (Device.Two up running) (held_by (B.memory b.old) (B.power b.old) (B.level b.old) (B.meter b.old)) }
-    ensures steps { (world : World) → IsSound (Device.Two up running) (held_by (B.memory b.old) (B.power b.old) (B.level b.old) (B.meter b.old)) world
-        → Steps world event.now result.1 result.0 (held_by (B.memory b.new) (B.power b.new) (B.level b.new) (B.meter b.new)) }
+    ensures steps { StepsFrom (Device.Two up running) (held_by (B.memory b.old) (B.power b.old) (B.level b.old) (B.meter b.old)) event.now result
+        (held_by (B.memory b.new) (B.power b.new) (B.level b.new) (B.meter b.new)) }
     ensures untold { IfNothingTold result.1 (B.memory b.old) (B.memory b.new) (B.meter b.old) (B.meter b.new) }
     ensures ledger { B.ledger b.new ≡ B.ledger b.old }
     ensures meter { IsMetered 3 (stop_told result.1) (B.meter b.old) (B.meter b.new) }
@@ -204,8 +204,8 @@ fn use_at_three<B: Board, C: Ledger>(
     requires region { region ≡ region_named event.now }
     requires script { IsScriptEvent event.now }
     requires sound { HasSound (Device.Three up running) (held_by (B.memory b.old) (B.power b.old) (B.level b.old) (B.meter b.old)) }
-    ensures steps { (world : World) → IsSound (Device.Three up running) (held_by (B.memory b.old) (B.power b.old) (B.level b.old) (B.meter b.old)) world
-        → Steps world event.now result.1 result.0 (held_by (B.memory b.new) (B.power b.new) (B.level b.new) (B.meter b.new)) }
+    ensures steps { StepsFrom (Device.Three up running) (held_by (B.memory b.old) (B.power b.old) (B.level b.old) (B.meter b.old)) event.now result
+        (held_by (B.memory b.new) (B.power b.new) (B.level b.new) (B.meter b.new)) }
     ensures untold { IfNothingTold result.1 (B.memory b.old) (B.memory b.new) (B.meter b.old) (B.meter b.new) }
     ensures ledger { B.ledger b.new ≡ B.ledger b.old }
     ensures meter { IsMetered 3 (stop_told result.1) (B.meter b.old) (B.meter b.new) }
@@ -240,8 +240,8 @@ impl Device {
         requires region { region ≡ region_named event.now }
         requires script { IsScriptEvent event.now }
         requires sound { HasSound self (held_by (B.memory b.old) (B.power b.old) (B.level b.old) (B.meter b.old)) }
-        ensures steps { (world : World) → IsSound self (held_by (B.memory b.old) (B.power b.old) (B.level b.old) (B.meter b.old)) world
-            → Steps world event.now result.1 result.0 (held_by (B.memory b.new) (B.power b.new) (B.level b.new) (B.meter b.new)) }
+        ensures steps { StepsFrom self (held_by (B.memory b.old) (B.power b.old) (B.level b.old) (B.meter b.old)) event.now result
+            (held_by (B.memory b.new) (B.power b.new) (B.level b.new) (B.meter b.new)) }
         ensures untold { IfNothingTold result.1 (B.memory b.old) (B.memory b.new) (B.meter b.old) (B.meter b.new) }
         ensures ledger { B.ledger b.new ≡ B.ledger b.old }
         ensures meter { IsMetered 3 (stop_told result.1) (B.meter b.old) (B.meter b.new) }
