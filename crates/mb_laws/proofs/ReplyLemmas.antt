@@ -38,16 +38,17 @@ written_spaceless bytes are = IsHex-spaceless (hex_word bytes) bytes (hex_word-r
 written_same : (a b : List ℕ) → IsBytes a → IsBytes b → hex_word a ≡ hex_word b → a ≡ b
 written_same a b aa ab e = IsHex-same (hex_word a) (hex_word b) a b e (hex_word-read a aa) (hex_word-read b ab)
 
--- the words for how layers stand, each with what stands after it
-abbrev stands_letters : List ℕ → ℕ
-stands_letters word = 65536 * get_or word 0 0 + 256 * get_or word 1 0 + get_or word 2 0
+-- the first three letters of a word or a line
+abbrev letters : List ℕ → ℕ
+letters line = 65536 * get_or line 0 0 + 256 * get_or line 1 0 + get_or line 2 0
 
+-- the words for how layers stand, each with what stands after it
 standing_front : (a b : Standing) (xs ys : List ℕ) → standing_word a ++ xs ≡ standing_word b ++ ys → (a ≡ b) × (xs ≡ ys)
 standing_front stands.Unowned stands.Unowned xs ys e = (refl, append_cancel_left (codes "unowned") xs ys e)
 standing_front stands.Unreliable stands.Unreliable xs ys e = (refl, append_cancel_left (codes "unreliable") xs ys e)
 standing_front stands.Reliable stands.Reliable xs ys e = (refl, append_cancel_left (codes "reliable") xs ys e)
 standing_front stands.Runnable stands.Runnable xs ys e = (refl, append_cancel_left (codes "runnable") xs ys e)
-standing_front a b xs ys e = absurd (omega (arith, ap stands_letters e))
+standing_front a b xs ys e = absurd (omega (arith, ap letters e))
 
 spaces_off : (xs ys : List ℕ) → 32 ∷ xs ≡ 32 ∷ ys → xs ≡ ys
 spaces_off xs ys e = cc
@@ -57,12 +58,9 @@ last_standing stands.Unowned stands.Unowned e = refl
 last_standing stands.Unreliable stands.Unreliable e = refl
 last_standing stands.Reliable stands.Reliable e = refl
 last_standing stands.Runnable stands.Runnable e = refl
-last_standing a b e = absurd (omega (arith, ap stands_letters e))
+last_standing a b e = absurd (omega (arith, ap letters e))
 
 -- ---- lines
-
-abbrev letters : List ℕ → ℕ
-letters line = 65536 * get_or line 0 0 + 256 * get_or line 1 0 + get_or line 2 0
 
 two_replies : (a b : Reply) → (letters (reply_line a) ≡ letters (reply_line b) → ⊥) → reply_line a ≡ reply_line b → a ≡ b
 two_replies a b apart e = absurd (apart (ap letters e))
