@@ -2,6 +2,7 @@
 use Rattle.std.proofs.Common.{◌≡◌, ℕ, ◌≤◌, Bool, true, false, Option, None, Some, refl, sym, ap, subst, ◌∙◌, inl, inr, arith, List, length}
 use Rattle.std.specs.Prelude.{IfOk, find, filter, ◌&&◌, nat_le, Result, Ok, Err, IsTrue, ◌⊎◌, not, ◌||◌, nat_lt, if◌then◌else◌}
 use Rattle.std.proofs.lemmas.Bool.{le-ltb}
+use mathlib.Core.Bool.{or-true}
 use Rattle.mb_ratchet.specs.declared.state.Off.{Off}
 use Rattle.mb_model.specs.declared.event.Event.{Event}
 use Rattle.mb_model.specs.declared.event.Event.TheVariants as event
@@ -67,12 +68,8 @@ region_barred r L state armed e is named barred_so =
     (subst (λ (m : ℕ). ◌≡◌ {A = Told} (refused wrong_layer, live_world r state armed) (region_event (live_world r state armed) m (layer_outcome m e) (Ok (r, state)))) named
     (rw barred_so refl))
 
-or_true : (past : Bool) → (past || true) ≡ true
-or_true true = refl
-or_true false = refl
-
 pub cannot_run : (b : Bool) (past : Bool) → b ≡ false → (past || not b) ≡ true
-cannot_run b past e = rw e (or_true past)
+cannot_run b past e = rw e (or-true past)
 
 -- a use that a running device refuses
 pub use_refused : (after : Device) (r L : ℕ) (running : Running) (held : Held) (world : World) (e : Event) (answer : Reply) → IsLayerEvent e → L ≡ region_named e → answer ≡ refused wrong_layer

@@ -1,5 +1,6 @@
 -- The life of the examples obeys the rules of the log, entry by entry.
-use Rattle.std.proofs.Common.{◌≡◌, ◌≢◌, ◌<◌, ℕ, List, [], ◌∷◌, length, take, None, Some, true, false, replicate, refl, ap, arith, lit<}
+use Rattle.std.proofs.Common.{◌≡◌, ◌≢◌, ◌<◌, ℕ, List, [], ◌∷◌, length, take, None, Some, replicate, refl, ap, arith, lit<}
+use Rattle.std.proofs.lemmas.Bool.{false≢true}
 use Rattle.mb_model.specs.declared.order.KeyKind.TheVariants as kinds
 use Rattle.mb_model.specs.declared.order.ChangeKind.TheVariants.{Establish, Load, Emergency}
 use Rattle.mb_model.specs.declared.entry.Entry.{Entry}
@@ -11,9 +12,6 @@ use Rattle.mb_lemmas.proofs.LogLemmas.{RuledLog-nil, RuledLog-push}
 
 filled : (entry : Entry) (rest : List Entry) → entry ∷ rest ≢ []
 filled entry rest = λ same. omega (arith, ap length same)
-
-no : false ≡ true → ⊥
-no e = grind (arith, e)
 
 not_last : (n : ℕ) → n < 31 → n ≡ 31 → ⊥
 not_last n less e = omega (arith, less, e)
@@ -30,8 +28,8 @@ establish_two = (
     allowed = refl;
     placed = (refl, refl, refl);
     changed = refl;
-    cosigned_two = λ h. absurd (no h);
-    cosigned_three = λ h. absurd (no h);
+    cosigned_two = λ h. absurd (false≢true h);
+    cosigned_three = λ h. absurd (false≢true h);
     regions = refl;
     renewed = refl;
     last_index = λ h. absurd (not_last 0 (lit< tt) h);
@@ -47,8 +45,8 @@ establish_three = (
     allowed = refl;
     placed = (refl, refl, refl);
     changed = refl;
-    cosigned_two = λ h. absurd (no h);
-    cosigned_three = λ h. absurd (no h);
+    cosigned_two = λ h. absurd (false≢true h);
+    cosigned_three = λ h. absurd (false≢true h);
     regions = refl;
     renewed = refl;
     last_index = λ h. absurd (not_last 1 (lit< tt) h);
@@ -64,8 +62,8 @@ emergency_two = (
     allowed = refl;
     placed = (refl, refl, refl);
     changed = refl;
-    cosigned_two = λ h. absurd (no h);
-    cosigned_three = λ h. absurd (no h);
+    cosigned_two = λ h. absurd (false≢true h);
+    cosigned_three = λ h. absurd (false≢true h);
     regions = refl;
     renewed = refl;
     last_index = λ h. absurd (not_last 2 (lit< tt) h);
@@ -81,8 +79,8 @@ emergency_three = (
     allowed = refl;
     placed = (refl, refl, refl);
     changed = refl;
-    cosigned_two = λ h. absurd (no h);
-    cosigned_three = λ h. absurd (no h);
+    cosigned_two = λ h. absurd (false≢true h);
+    cosigned_three = λ h. absurd (false≢true h);
     regions = refl;
     renewed = refl;
     last_index = λ h. absurd (not_last 3 (lit< tt) h);
@@ -119,8 +117,8 @@ load_three = (
     allowed = refl;
     placed = (refl, refl, refl);
     changed = refl;
-    cosigned_two = λ h. absurd (no h);
-    cosigned_three = λ h. absurd (no h);
+    cosigned_two = λ h. absurd (false≢true h);
+    cosigned_three = λ h. absurd (false≢true h);
     regions = refl;
     renewed = refl;
     last_index = λ h. absurd (not_last 0 (lit< tt) h);

@@ -1,6 +1,7 @@
 -- The examples of orders, computed.
 use Rattle.std.proofs.Common.{◌≡◌, ℕ, List, [], ◌∷◌, ◌++◌, length, get_or, replicate, true, Err, refl, sym, ap, ◌∙◌, arith, lit≤, lit<}
 use Rattle.std.specs.Prelude.{codes}
+use Rattle.std.proofs.lemmas.Bool.{false≢true}
 use Rattle.std.proofs.lemmas.List.Elements.{All-nil, All-cons}
 use Rattle.mb_format.specs.Format.{Spells}
 use Rattle.mb_format.specs.Combinators.{number_bytes, items}
@@ -27,7 +28,6 @@ use Rattle.mb_examples.specs.RuleExamples.{officer, seven}
 use Rattle.mb_examples.specs.Device.{alive}
 use Rattle.mb_examples.specs.OrderExamples.{plain, surrender_two, establish_two, elsewhere, load_of, key_for_three, empty_by, RefusesOrder, RefusedOrders, with_eight_keys, LaterRefusals, Obeys, ObeyedOrders, LeavingExamples, key_nearly_used, nearly_full, grown, SuccessionExamples}
 use Rattle.mb_examples.proofs.RecordProofs.{byte_test, are_bytes, spells, fails}
-use Rattle.mb_examples.proofs.StepProofs.{no}
 
 -- ---- refusals
 
@@ -81,7 +81,7 @@ refusals signature = record {
   state_before_signature =
       refuses (alive signature) _ establish_two wrong_state
       (spells order_exact (order_format.spelling establish_two) establish_two refl refl)
-      (All-nil (TargetHoldsIn (alive signature)), λ h. no h);
+      (All-nil (TargetHoldsIn (alive signature)), false≢true);
   not_signed = λ h. nobodys 1 _ h;
   signature_wrong =
       refuses (alive signature) _ surrender_two wrong_signature

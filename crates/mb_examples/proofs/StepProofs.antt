@@ -1,6 +1,7 @@
 -- The examples of the machine, computed.
 use Rattle.std.proofs.Common.{◌≡◌, ℕ, ◌+◌, List, inl, inr, Option, None, Some, Bool, true, false, refl, sym, ap, subst, ◌∙◌, arith, lit<}
 use Rattle.std.specs.Prelude.{◌⊎◌, Result, Ok, Err, IsTrue, nat_lt, not, ◌||◌, find, if◌then◌else◌}
+use Rattle.std.proofs.lemmas.Bool.{false≢true}
 use Rattle.mb_model.specs.declared.event.Event.{Event}
 use Rattle.mb_model.specs.declared.event.Event.TheVariants as event
 use Rattle.mb_model.specs.declared.region.Secret.{Secret}
@@ -17,9 +18,6 @@ use Rattle.mb_lemmas.specs.RefusalLaws.{BringsBytes}
 use Rattle.mb_lemmas.proofs.RefusalLemmas.{machine_is_whole, machine_is_function}
 use Rattle.mb_examples.specs.Device.{world_at, dead_world}
 use Rattle.mb_examples.specs.StepExamples.{BootExamples, AlwaysExamples, RefusesOthers, SleepingExamples, AwakeExamples, GoExamples, NeverStops, StopExamples, StopsBetween, NeverWantsMemory, MemoryExamples}
-
-pub no : false ≡ true → ⊥
-no e = grind (arith, e)
 
 -- ---- the table of phases
 
@@ -80,12 +78,12 @@ goes signature = record {
 never_stops : (world : World) (given : Event) → ((answer : Reply) (next : World) → Machine world given answer next → may_be_cut answer ≡ false) → NeverStops world given
 never_stops world given none next (answered x) = (machine_is_whole world given reply.Stopped next x).1 refl
 never_stops world given none next (lacks_memory p) = absurd (grind (arith, p.answered))
-never_stops world given none next (loses_power p) = no (sym (none p.told p.whole p.machine) ∙ p.writes)
+never_stops world given none next (loses_power p) = false≢true (sym (none p.told p.whole p.machine) ∙ p.writes)
 
 never_unarmed : (world : World) (given : Event) → world.armed ≡ false → NeverStops world given
 never_unarmed world given e next (answered x) = (machine_is_whole world given reply.Stopped next x).1 refl
 never_unarmed world given e next (lacks_memory p) = absurd (grind (arith, p.answered))
-never_unarmed world given e next (loses_power p) = no (sym e ∙ p.armed)
+never_unarmed world given e next (loses_power p) = false≢true (sym e ∙ p.armed)
 
 -- no write can be cut in what is told
 told_uncut : (answer : Reply) (next : World) (told : Told) → ◌≡◌ {A = Told} (answer, next) told → may_be_cut told.0 ≡ false → may_be_cut answer ≡ false
@@ -185,7 +183,7 @@ stops_between world given told whole before after brings machine armed writes wa
 
 never_wants : (world : World) (given : Event) → may_want_memory given ≡ false → NeverWantsMemory world given
 never_wants world given e next (answered x) = (machine_is_whole world given reply.NoMemory next x).0 refl
-never_wants world given e next (lacks_memory p) = no (sym e ∙ p.wanted)
+never_wants world given e next (lacks_memory p) = false≢true (sym e ∙ p.wanted)
 never_wants world given e next (loses_power p) = absurd (grind (arith, p.answered))
 
 pub memory : (world : World) → MemoryExamples world

@@ -1,6 +1,7 @@
 -- The areas of a slot after one of them, or the selector, was written.
 use Rattle.std.proofs.Common.{◌≡◌, ◌≢◌, ℕ, zero, suc, ◌+◌, ◌*◌, ◌%◌, ◌==◌, ◌<◌, ◌≤◌, ◌⊎◌, inl, inr, Bool, true, false, not, if◌then◌else◌, Result, Ok, Err, OnOk, List, [], ◌∷◌, length, get_or, refl, ap, sym, subst, ◌∙◌, arith}
 use Rattle.std.proofs.lemmas.Bool.{cases_order}
+use mathlib.Core.Bool.{not-not}
 use Rattle.mb_model.specs.Pieces.{part}
 use Rattle.mb_model.specs.Board.{put}
 use Rattle.mb_model.specs.Memory.{slots, area_length, life_byte, spare, selector_of, first_area, second_area, current, other}
@@ -232,10 +233,6 @@ either_in_force slot before after least most sized same =
 pub flipped : (slot : ℕ) (before after : List ℕ) → slot ≤ 3 → length before ≡ 28672 → Torn slot 1 before after → IsSameOutside slot 1 before after
 flipped slot before after most sized torn = torn_same slot 1 before after (omega arith) torn
 
-not_not : (b : Bool) → not (not b) ≡ b
-not_not true = refl
-not_not false = refl
-
 -- and after a selector of the other parity was put, it is the other one
 pub exchanged : (slot byte : ℕ) (before after : List ℕ) → 1 ≤ slot → slot ≤ 3 → length before ≡ 28672 → (byte % 2 == 0) ≡ not (is_first_in_force before slot)
     → after ≡ put slot (byte ∷ []) before → AreExchanged slot before after
@@ -254,7 +251,7 @@ exchanged slot byte before after least most sized parity whole =
       not_in_force =
           other_is after slot
           ∙ ap (λ (b : Bool). part (offset_of slot (not b)) 4096 after) is
-          ∙ ap (λ (b : Bool). part (offset_of slot b) 4096 after) (not_not was)
+          ∙ ap (λ (b : Bool). part (offset_of slot b) 4096 after) (not-not was)
           ∙ half_kept slot was before after least most sized same
           ∙ sym (current_is before slot);
     }

@@ -3,6 +3,7 @@ use Rattle.std.proofs.Common.{◌≡◌, ◌<◌, ◌≤◌, ◌+◌, ℕ, List,
 use Rattle.std.specs.Prelude.{codes, flat_map, zero, suc, if◌then◌else◌}
 use Rattle.std.proofs.lemmas.Bool.{le-leb}
 use Rattle.std.specs.Fmt.{decimal}
+use Rattle.std.proofs.lemmas.Grind.{flat_map-append}
 use Rattle.std.proofs.lemmas.List.{take_more, append-nil}
 use Rattle.mb_model.specs.declared.layer.CodeName.{CodeName}
 use Rattle.mb_model.specs.declared.layer.Layer.{Layer}
@@ -18,10 +19,6 @@ use Rattle.mb_verifier.specs.Lines.{key_line, line_upto}
 pub text_of-append : (a b : List (List ℕ)) → text_of (a ++ b) ≡ text_of a ++ text_of b
 text_of-append [] b = refl
 text_of-append (line ∷ a) b = ap (λ t. ended line ++ t) (text_of-append a b) ∙ sym (append_assoc (ended line) (text_of a) (text_of b))
-
-flat_map-append : {X Y : Type 0} (f : X → List Y) (a b : List X) → flat_map f (a ++ b) ≡ flat_map f a ++ flat_map f b
-flat_map-append f [] b = refl
-flat_map-append f (x ∷ a) b = ap (λ t. f x ++ t) (flat_map-append f a b) ∙ sym (append_assoc (f x) (flat_map f a) (flat_map f b))
 
 take_nil : (n : ℕ) → take {A = List ℕ} n [] ≡ []
 take_nil zero = refl
