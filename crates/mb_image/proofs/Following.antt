@@ -7,7 +7,7 @@ use Rattle.mb_model.specs.declared.entry.Entry.{Entry}
 use Rattle.mb_model.specs.declared.entry.SignedEntry.{SignedEntry}
 use Rattle.mb_model.specs.Merkle.{Verifies, leaf_number}
 use Rattle.mb_model.specs.SignedTexts.{entry_text, IsSignedBy}
-use Rattle.mb_model.specs.Log.{entries_of, device_of, number_of, layers_of, Ruled}
+use Rattle.mb_model.specs.Log.{entries_of, device_of, Ruled}
 use Rattle.mb_model.specs.Valid.{Follows, EachFollows}
 use Rattle.mb_lemmas.proofs.ValidLogs.{EachFollows-push}
 use Rattle.mb_log.specs.declared.figures.Figures.{Figures}
@@ -91,15 +91,6 @@ figures_next log i d before after within was next = next was ∙ ap figures_of (
 -- how many entries stand before one
 pub short_front : (log : List SignedEntry) (i : ℕ) → i < length log → length (entries_of (take i log)) ≡ i
 short_front log i within = length-map (take i log) (λ (s : SignedEntry). s.entry) ∙ length-take-le i log (omega (arith, within))
-
--- what the figures tell
-pub figures_number : (figures : Figures) (log : List Entry) → figures ≡ figures_of log → figures.number ≡ number_of log
-unfolding figures_of
-figures_number figures log is = ap (λ (f : Figures). f.number) is
-
-pub figures_layers : (figures : Figures) (log : List Entry) → figures ≡ figures_of log → figures.layers ≡ layers_of log
-unfolding figures_of
-figures_layers figures log is = ap (λ (f : Figures). f.layers) is
 
 pub figures_nothing : figures_of [] ≡ figures_of (entries_of [])
 figures_nothing = refl

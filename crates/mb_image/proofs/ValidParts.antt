@@ -23,7 +23,7 @@ use Rattle.mb_image.proofs.RegionSteps.{Differ}
 use Rattle.mb_model.specs.declared.key.PublicKey.{PublicKey}
 use Rattle.mb_log.specs.declared.figures.Figures.{Figures}
 use Rattle.mb_log.specs.Figures.{figures_of}
-use Rattle.mb_image.proofs.Following.{figures_layers}
+use Rattle.mb_log.proofs.KeyLives.{figures_layers}
 
 -- ---- secrets
 

@@ -1,20 +1,14 @@
 -- The first entries of a log.
 use Rattle.std.proofs.Common.{◌≡◌, ℕ, ◌+◌, ◌-◌, ◌^◌, ◌≤◌, ◌<◌, List, [], ◌∷◌, ◌++◌, length, take, drop, sym, ap, subst, ◌∙◌, arith, get_or}
-use Rattle.std.proofs.lemmas.List.{take_more, map-append, length-map, length-take, take-append-drop}
+use Rattle.std.proofs.lemmas.List.{map-append, length-map, length-take, take-append-drop}
 use Rattle.mb_model.specs.declared.entry.Entry.{Entry}
 use Rattle.mb_model.specs.declared.entry.SignedEntry.{SignedEntry}
 use Rattle.mb_model.specs.Log.{entries_of, RuledLog}
-use Rattle.mb_lemmas.proofs.LogLemmas.{RuledLog-front}
+use Rattle.mb_lemmas.proofs.LogLemmas.{RuledLog-front, entries_more}
 use Rattle.mb_log.specs.declared.figures.Figures.{Figures}
 use Rattle.mb_log.specs.declared.life.Life.{Life}
 use Rattle.mb_log.specs.Figures.{figures_of}
 use Rattle.mb_log.specs.KeyLife.{IsLifeOf}
-
--- with one more
-pub one_more_entry : (log : List SignedEntry) (i : ℕ) (d : SignedEntry) → i < length log
-    → entries_of (take (i + 1) log) ≡ entries_of (take i log) ++ (get_or log i d).entry ∷ []
-one_more_entry log i d within =
-    ap entries_of (take_more log i d within) ∙ map-append (λ (s : SignedEntry). s.entry) (take i log) (get_or log i d ∷ [])
 
 -- they obey the rules where all do
 pub first_ruled : (log : List SignedEntry) (i : ℕ) → RuledLog (entries_of log) → RuledLog (entries_of (take i log))
@@ -35,7 +29,7 @@ pub figures_go_on : (log : List SignedEntry) (i : ℕ) (d : SignedEntry) (figure
     → ((before : List Entry) → length before < 2 ^ 32 - 1 → figures ≡ figures_of before → next ≡ figures_of (before ++ (get_or log i d).entry ∷ []))
     → next ≡ figures_of (entries_of (take (i + 1) log))
 figures_go_on log i d figures next within few are step =
-    step (entries_of (take i log)) (omega (arith, few_first log i few)) are ∙ ap figures_of (sym (one_more_entry log i d within))
+    step (entries_of (take i log)) (omega (arith, few_first log i few)) are ∙ ap figures_of (sym (entries_more log i d within))
 
 pub life_goes_on : (log : List SignedEntry) (i : ℕ) (d : SignedEntry) (n : ℕ) (figures : Figures) (life next : Life) → i < length log
     → figures ≡ figures_of (entries_of (take i log))
@@ -44,6 +38,6 @@ pub life_goes_on : (log : List SignedEntry) (i : ℕ) (d : SignedEntry) (n : ℕ
     → IsLifeOf (before ++ (get_or log i d).entry ∷ []) m next)
     → RuledLog (entries_of log) → IsLifeOf (entries_of (take (i + 1) log)) n next
 life_goes_on log i d n figures life next within are is step ruled =
-    let one = one_more_entry log i d within in
+    let one = entries_more log i d within in
     subst (λ (es : List Entry). IsLifeOf es n next) (sym one)
     (step (entries_of (take i log)) n are (subst RuledLog one (first_ruled log (i + 1) ruled)) (is ruled))

@@ -8,7 +8,7 @@ use Rattle.mb_model.specs.declared.order.KeyKind.{KeyKind}
 use Rattle.mb_model.specs.declared.entry.Entry.{Entry}
 use Rattle.mb_model.specs.declared.entry.Entry.TheVariants.{Birth, Change, NewKey, Succession}
 use Rattle.mb_model.specs.declared.state.Configuration.{Configuration}
-use Rattle.mb_model.specs.Log.{layers_of, last_of, RuledLog}
+use Rattle.mb_model.specs.Log.{number_of, layers_of, last_of, RuledLog}
 use Rattle.mb_model.specs.Lives.{ends, configuration, opened_by, lives_of}
 use Rattle.mb_model.specs.Acceptance.{KeyEntry, key_in, key_of, is_alive}
 use Rattle.mb_lemmas.proofs.ReaderLemmas.{no_lives_unmade, first_sight, first_lives, first_alive, stays_made, stays_alive, lives_on}
@@ -71,7 +71,11 @@ other_born before entry position number key_number n layer kind key life entry_i
     let made : KeyEntry = record { layer = layer; kind = kind; key = key } in
     stays_unborn before entry n life unborn (ap (key_in n) entry_is ∙ ap (λ b. if b then Some made else None) apart) is
 
--- the figures tell the layers
+-- what the figures tell
+pub figures_number : (figures : Figures) (before : List Entry) → figures ≡ figures_of before → figures.number ≡ number_of before
+unfolding figures_of
+figures_number figures before is = ap (λ (f : Figures). f.number) is
+
 pub figures_layers : (figures : Figures) (before : List Entry) → figures ≡ figures_of before → figures.layers ≡ layers_of before
 unfolding figures_of
 figures_layers figures before is = ap (λ (f : Figures). f.layers) is

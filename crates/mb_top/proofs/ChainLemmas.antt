@@ -1,6 +1,6 @@
 -- What carries out `verify`, `audit`, `chain` and `attach`.
-use Rattle.std.proofs.Common.{◌≡◌, ◌≢◌, ℕ, ◌≤◌, List, [], ◌∷◌, codes, length, Bool, false, is_some, true≢false, take, drop, min, Option, None, Some, Result, Ok, Err, refl, sym, ◌∙◌, ap, subst, arith}
-use Rattle.std.proofs.lemmas.List.{map-append, take-map, take_min, take-append-drop}
+use Rattle.std.proofs.Common.{◌≡◌, ◌≢◌, ℕ, ◌≤◌, List, [], ◌∷◌, codes, length, Bool, false, is_some, true≢false, take, min, Option, None, Some, Result, Ok, Err, refl, sym, ◌∙◌, ap, subst, arith}
+use Rattle.std.proofs.lemmas.List.{take-map, take_min}
 use Rattle.std.proofs.lemmas.List.Elements.{recursion_from_All}
 use Rattle.std.specs.Prelude.{IfOk}
 use Rattle.mb_format.specs.Format.{IsBytes}
@@ -30,10 +30,10 @@ use Rattle.mb_model.specs.ChainCommands.{ChainNames, AttachNames, entries_text, 
 use Rattle.mb_model.specs.VerifyCommand.{VerifyNames, refused_line, tell_verdict, verify_chain}
 use Rattle.mb_model.specs.AuditCommand.{AuditNames, own_lives, IsAudited, compare, audit_chain}
 use Rattle.mb_storing.specs.Storable.{IsStorableState}
-use Rattle.mb_lemmas.proofs.LogLemmas.{RuledLog-front}
 use Rattle.mb_lemmas.proofs.ValidStates.{valid_is_ruled}
 use Rattle.mb_lemmas.proofs.AuditLemmas.{audited}
 use Rattle.mb_run_laws.proofs.BirthLemmas.{chain_is_of}
+use Rattle.mb_log.proofs.Fronts.{first_ruled}
 use Rattle.mb_top.specs.declared.end.End.{End}
 use Rattle.mb_top.specs.declared.end.End.TheVariants as end
 use Rattle.mb_top.specs.declared.end.Refusal.TheVariants as refusal
@@ -187,12 +187,6 @@ lists_lack state n report before = λ final. memory_chosen _ _ _ at_first [] fin
 
 -- ---- the device's own list
 
--- the first entries of a log keep its rules
-front_ruled : (log : List SignedEntry) (k : ℕ) → RuledLog (entries_of log) → RuledLog (entries_of (take k log))
-front_ruled log k ruled =
-    RuledLog-front (entries_of (take k log)) (entries_of (drop k log))
-    (subst RuledLog (ap entries_of (sym (take-append-drop k log)) ∙ map-append (λ (s : SignedEntry). s.entry) (take k log) (drop k log)) ruled)
-
 -- the first entries of a log, of which there may be fewer
 first_of_log : (log : List SignedEntry) (count : ℕ) → entries_of (take (min count (length log)) log) ≡ take count (entries_of log)
 first_of_log log count = ap entries_of (take_min count log) ∙ sym (take-map (λ (s : SignedEntry). s.entry) count log)
@@ -202,6 +196,6 @@ pub own_list : {E : Type 0} (state : State) (count n : ℕ) (front : List Signed
     → front ≡ take (min count (length state.log)) state.log → (RuledLog (entries_of front) → IfOk result (λ list. list ≡ lives_of (entries_of front) n))
     → IfOk result (λ list. list ≡ own_lives state count n)
 own_list state count n front (Ok list) valid is followed =
-    let ruled : RuledLog (entries_of front) = subst (λ f. RuledLog (entries_of f)) (sym is) (front_ruled state.log (min count (length state.log)) (valid_is_ruled state valid)) in
+    let ruled : RuledLog (entries_of front) = subst (λ f. RuledLog (entries_of f)) (sym is) (first_ruled state.log (min count (length state.log)) (valid_is_ruled state valid)) in
     followed ruled ∙ ap (λ (es : List Entry). lives_of es n) (ap entries_of is ∙ first_of_log state.log count)
 own_list state count n front (Err why) valid is followed = tt

@@ -1,7 +1,7 @@
 -- Whether each entry of a log is good, one entry after another.
-use Rattle.std.proofs.Common.{◌≡◌, ◌≢◌, ◌<◌, ◌≤◌, ◌+◌, ◌-◌, ◌^◌, ℕ, List, [], ◌∷◌, ◌++◌, length, take, drop, get_or, Option, None, Some, Bool, false, true≢false, refl, sym, ap, subst, ◌∙◌, arith, append_assoc}
+use Rattle.std.proofs.Common.{◌≡◌, ◌≢◌, ◌<◌, ◌+◌, ◌-◌, ℕ, List, [], ◌∷◌, ◌++◌, length, take, drop, get_or, Option, None, Some, Bool, false, true≢false, refl, sym, ap, subst, ◌∙◌, arith, append_assoc}
 use Rattle.std.specs.Prelude.{◌↔◌, IsTrue, IfSome}
-use Rattle.std.proofs.lemmas.List.{take_more, take-append-drop, length-map, length-take-le}
+use Rattle.std.proofs.lemmas.List.{take_more, take-append-drop}
 use Rattle.mb_model.specs.declared.key.PublicKey.{PublicKey}
 use Rattle.mb_model.specs.declared.entry.Entry.{Entry}
 use Rattle.mb_model.specs.declared.entry.SignedEntry.{SignedEntry}
@@ -69,15 +69,6 @@ bad_entry maker log i d why within good bad = record {
 }
 
 -- ---- what they say
-
--- the figures of the entries up to one more
-pub figures_next : (log : List SignedEntry) (i : ℕ) (d : SignedEntry) (before after : Figures) → i < length log → length log ≤ 128
-    → before ≡ figures_of (entries_of (take i log))
-    → ((front : List Entry) → length front < 2 ^ 32 - 1 → before ≡ figures_of front → after ≡ figures_of (front ++ (get_or log i d).entry ∷ []))
-    → after ≡ figures_of (entries_of (take (i + 1) log))
-figures_next log i d before after within few was next =
-    let short : length (entries_of (take i log)) ≡ i = length-map (take i log) (λ (s : SignedEntry). s.entry) ∙ length-take-le i log (omega (arith, within)) in
-    next (entries_of (take i log)) (omega (arith, short, within, few)) was ∙ ap figures_of (sym (entries_more log i d within))
 
 -- the life of a key by the entries up to one more
 pub life_next : (maker : PublicKey) (log : List SignedEntry) (i : ℕ) (d : SignedEntry) (n : ℕ) (figures : Figures) (before after : Life) → i < length log

@@ -3,13 +3,10 @@ use Rattle.std.proofs.Common.{◌≡◌, ℕ, List, ◌∷◌, ◌++◌, Some, a
 use Rattle.std.specs.Int.{w32, to_be_bytes}
 use Rattle.std.specs.Option.{option_map}
 use Rattle.mb_model.specs.declared.entry.Entry.{Entry}
-use Rattle.mb_model.specs.Log.{number_of}
 use Rattle.mb_model.specs.SignedTexts.{statement_text}
 use Rattle.mb_model.specs.Acceptance.{key_of, is_alive}
-use Rattle.mb_log.specs.declared.figures.Figures.{Figures}
 use Rattle.mb_log.specs.declared.life.BornKey.{BornKey}
 use Rattle.mb_log.specs.declared.life.Life.{Life}
-use Rattle.mb_log.specs.Figures.{figures_of}
 use Rattle.mb_log.specs.KeyLife.{as_entry, IsLifeOf}
 
 -- ---- the signature
@@ -21,10 +18,6 @@ unfolding statement_text
 pieces_are serial front middle back message key number key_is number_is message_is = rw (key_is, number_is, message_is) (simp append_assoc)
 
 -- ---- what the entries say
-
-pub number_is : (figures : Figures) (log : List Entry) → figures ≡ figures_of log → figures.number ≡ number_of log
-unfolding figures_of
-number_is figures log is = ap (λ (f : Figures). f.number) is
 
 -- the entry of the key that was born
 pub born_is : (log : List Entry) (n : ℕ) (life : Life) (born : BornKey) → IsLifeOf log n life → life.born ≡ Some born → key_of log n ≡ Some (as_entry born)

@@ -1,7 +1,8 @@
 use Rattle.std.proofs.Common.{true≢false, sym, ◌∙◌}
 use Rattle.mb_lemmas.proofs.ValidStates.{follows_is_ruled}
 use Rattle.mb_model.specs.Log.{entries_of}
-use Rattle.mb_image.proofs.Following.{IfOk-weaker, figures_number}
+use Rattle.mb_log.proofs.KeyLives.{figures_number}
+use Rattle.mb_image.proofs.Following.{IfOk-weaker}
 use Rattle.mb_image.proofs.Reading.{matched}
 use Rattle.mb_image.proofs.ValidParts.{state_by, no_two_by}
 use Rattle.mb_image.proofs.validity.is_valid.Goals as goal

@@ -1,10 +1,11 @@
 use Rattle.std.proofs.Common.{take}
 use Rattle.std.proofs.lemmas.Result.{err_from_is_err_and}
 use Rattle.mb_model.specs.Log.{entries_of}
+use Rattle.mb_log.proofs.Fronts.{figures_go_on}
 use Rattle.mb_verifier.specs.Checked.{HasBadEntry}
 use Rattle.mb_verifier.specs.Ends.{refusal_of}
 use Rattle.mb_lemmas.proofs.ChainLemmas.{AreGood-nil}
-use Rattle.mb_verifier.proofs.Judging.{AreGood-more, bad_entry, figures_next, life_next, if_some_weaker}
+use Rattle.mb_verifier.proofs.Judging.{AreGood-more, bad_entry, life_next, if_some_weaker}
 use Rattle.mb_verifier.proofs.entries.judge.Goals as goal
 
 pub loop-signed-init : goal.loop-signed-init
@@ -31,6 +32,6 @@ loop-signed-preserved c =
     let good = AreGood-more maker log i _ within c.loop-signed.invariant.good (c.in_ok-check.ensures.good front c.loop-signed.invariant.figures) in
     record {
       good = good;
-      figures = figures_next log i _ c.loop-signed.figures c.add-in-loop-signed.new.self within c.requires.short c.loop-signed.invariant.figures c.add-in-loop-signed.ensures;
+      figures = figures_go_on log i _ c.loop-signed.figures c.add-in-loop-signed.new.self within c.requires.short c.loop-signed.invariant.figures c.add-in-loop-signed.ensures;
       life = life_next maker log i _ c.args.key c.loop-signed.figures c.loop-signed.life c.add.new.self within good c.loop-signed.invariant.figures c.loop-signed.invariant.life c.in_ok-add.ensures.ok;
     }
