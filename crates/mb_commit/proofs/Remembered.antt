@@ -78,9 +78,6 @@ knows_of memory root read figures state ready only reads counts = record {
   figures = counts state.codes state.log (read_spells memory root read state ready only reads);
 }
 
-pub only_root : (bbram : List ℕ) (root : Root) → RootIn bbram root → ((any : Root) → RootIn bbram any → any ≡ root) → IsOnlyRoot bbram root
-only_root bbram root holds only = record { holds = holds; only = only }
-
 pub small_area : (bbram : List ℕ) (root : Root) → IsOnlyRoot bbram root → root.area ≤ 1
 small_area bbram root only = (bounded bbram root only).area
 

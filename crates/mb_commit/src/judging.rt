@@ -126,7 +126,7 @@ fn view_now<B: Board>(
 
 /// The order that the bytes spell, with all that it comes to, where it passes every check. Else the answer to it.
 /// Nothing is written. `NoMemory` where an allocation fails, of which no clause says when.
-#[tactic(auto, using(crate::proofs::Remembered::remembered_root, crate::proofs::Remembered::only_root, crate::proofs::Judgement::none_step))]
+#[tactic(auto, using(crate::proofs::Remembered::remembered_root, mb_boot::proofs::Settled::only_root, crate::proofs::Judgement::none_step))]
 pub fn judge_text<B: Board, L: Ledger>(
     alloc: Global,
     up: &Up<R1>,
