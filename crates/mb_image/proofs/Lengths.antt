@@ -1,15 +1,11 @@
 -- How many entries the log has for which a memory stands.
-use Rattle.std.proofs.Common.{◌≡◌, ℕ, ◌+◌, ◌-◌, List, [], ◌∷◌, length, map, Option, None, Some, refl, sym, ap, subst, ◌∙◌, arith, length-append}
-use Rattle.std.proofs.lemmas.List.{length-map}
+use Rattle.std.proofs.Common.{◌≡◌, ℕ, ◌+◌, ◌-◌, List, [], length, Option, refl, sym, ap, subst, ◌∙◌, arith, length-append}
 use Rattle.mb_format.specs.Format.{IsBytes, Spells}
-use Rattle.mb_model.specs.declared.key.KeySeed.{KeySeed}
 use Rattle.mb_model.specs.declared.entry.Entry.{Entry}
 use Rattle.mb_model.specs.declared.entry.SignedEntry.{SignedEntry}
 use Rattle.mb_model.specs.declared.state.Codes.{Codes}
 use Rattle.mb_model.specs.declared.state.State.{State}
-use Rattle.mb_model.specs.declared.stored.Outgoing.{Outgoing}
 use Rattle.mb_model.specs.declared.stored.Root.{Root}
-use Rattle.mb_model.specs.OrderStep.{signed_by}
 use Rattle.mb_model.specs.StoredLog.{signed_for, outgoing_of, completed}
 use Rattle.mb_model.specs.Flash.{flash_area, public_format, public_of_parts, BeginsArea, HoldsPublic}
 use Rattle.mb_model.specs.Memory.{IsImage, IsBlank}
@@ -17,11 +13,7 @@ use Rattle.mb_model.specs.Meaning.{Contents, meant, RootIn, HasMeaning, is_dead,
 use Rattle.mb_model.specs.GenerateCommand.{log_length}
 use Rattle.mb_lemmas.proofs.MeaningLemmas.{IsBytes-flash_area, one_start, one_root_in, not_blank}
 use Rattle.mb_lemmas.proofs.FaultLemmas.{image_parts}
-
-signed_length : (device : KeySeed) (uses : ℕ) (outgoing : Option Outgoing) (unsigned : List Entry) → length (signed_for device uses outgoing unsigned) ≡ length unsigned
-signed_length device uses None unsigned = length-map unsigned (signed_by device (uses - 1))
-signed_length device uses (Some outgoing) [] = refl
-signed_length device uses (Some outgoing) (first ∷ rest) = omega (arith, length-map rest (signed_by device 0))
+use Rattle.mb_image.proofs.Meanings.{length-signed_for}
 
 -- the log that contents mean has an entry for each that is stored
 meant_length : (contents : Contents) → length (meant contents).log ≡ length contents.signed + length contents.unsigned
@@ -29,7 +21,7 @@ unfolding meant completed
 meant_length contents =
     let later = signed_for contents.root.device contents.root.uses (outgoing_of contents.root.pending) contents.unsigned in
     length-append contents.signed later
-    ∙ ap (λ n. length contents.signed + n) (signed_length contents.root.device contents.root.uses (outgoing_of contents.root.pending) contents.unsigned)
+    ∙ ap (λ n. length contents.signed + n) (length-signed_for contents.root.device contents.root.uses (outgoing_of contents.root.pending) contents.unsigned)
 
 -- what an image stands for, its two halves mean
 pub halves_mean : (image flash bbram flash' bbram' : List ℕ) (state : Option State) → IsImage image flash bbram → IsImage image flash' bbram' → StandsFor flash' bbram' state → HasMeaning flash bbram state

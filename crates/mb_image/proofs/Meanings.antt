@@ -37,7 +37,7 @@ signed_for_spelled device uses (Some outgoing) [] are = All-nil IsSpelled
 signed_for_spelled device uses (Some outgoing) (first ∷ rest) are =
     All-cons IsSpelled (signed_by outgoing.seed _ first) (map (signed_by device 0) rest) (signed_by_spelled outgoing.seed _ first (All-head entry_format.Allowed first rest are)) (all_by_spelled device 0 rest (All-tail entry_format.Allowed first rest are))
 
-length-signed_for : (device : KeySeed) (uses : ℕ) (outgoing : Option Outgoing) (unsigned : List Entry) → length (signed_for device uses outgoing unsigned) ≡ length unsigned
+pub length-signed_for : (device : KeySeed) (uses : ℕ) (outgoing : Option Outgoing) (unsigned : List Entry) → length (signed_for device uses outgoing unsigned) ≡ length unsigned
 length-signed_for device uses None unsigned = length-map unsigned (signed_by device _)
 length-signed_for device uses (Some outgoing) [] = refl
 length-signed_for device uses (Some outgoing) (first ∷ rest) = ap (λ (n : ℕ). suc n) (length-map rest (signed_by device 0))
