@@ -3,7 +3,7 @@ use Rattle.std.proofs.Common.{◌≡◌, ◌+◌, ◌-◌, ◌%◌, ◌==◌, �
 use Rattle.std.specs.Global.{Vec}
 use Rattle.std.specs.Vec.{vec_len, vec_capacity}
 use Rattle.std.specs.Int.{w16, w32, to_be_bytes}
-use Rattle.std.proofs.lemmas.List.{take_all, length-take-le, length-drop, length-replicate}
+use Rattle.std.proofs.lemmas.List.{take_all, length-replicate}
 use Rattle.std.proofs.lemmas.List.Elements.{All-head, All-tail, All-take, All-drop, All-replicate}
 use Rattle.std.proofs.Math.Seq.{take-append-add, drop-append-add}
 use Rattle.mb_format.specs.Format.{Spells}
@@ -18,6 +18,7 @@ use Rattle.mb_model.specs.Flash.{public_format, public_of_parts, IsFactoryFlash}
 use Rattle.mb_model.specs.Meaning.{HoldsRegion}
 use Rattle.mb_model.specs.Clean.{root_of, IsCleanFor}
 use Rattle.mb_model.specs.Factory.{IsBornWith}
+use Rattle.mb_model.proofs.Places.{length-part}
 use Rattle.mb_bytes.specs.Puts.{Appends, StopsShort}
 use Rattle.mb_bytes.proofs.Putting.{length_items}
 use Rattle.mb_officer.specs.NewImage.{filled, new_flash, memory_head, new_bbram, new_image}
@@ -58,9 +59,6 @@ part_after front rest at n after =
 
 blank_part : (at n : ℕ) (bytes : List ℕ) → IsBlank bytes → IsBlank (part at n bytes)
 blank_part at n bytes blank = All-take (λ b. b ≡ 0) n (drop at bytes) (All-drop (λ b. b ≡ 0) at bytes blank)
-
-part_length : (at n : ℕ) (bytes : List ℕ) → at + n ≤ length bytes → length (part at n bytes) ≡ n
-part_length at n bytes within = length-take-le n (drop at bytes) (omega (arith, within, length-drop at bytes))
 
 -- ---- the flash
 
@@ -160,7 +158,7 @@ module _ (root : List ℕ) (short : length root ≤ 4094) where
 
   later_region : (at : ℕ) → 8192 ≤ at → at + 4096 ≤ 28672 → HoldsRegion (part at 4096 (new_bbram root)) empty_region
   later_region at late within =
-      blank_region (part at 4096 (new_bbram root)) (omega (arith, part_length at 4096 (new_bbram root) (omega (arith, within, bbram_sized)))) (later_blank at 4096 late)
+      blank_region (part at 4096 (new_bbram root)) (omega (arith, length-part at 4096 (new_bbram root) (omega (arith, within, bbram_sized)))) (later_blank at 4096 late)
 
   -- the first area
   root_area : part 4096 4096 (new_bbram root) ≡ to_be_bytes w16 (length root) ++ (root ++ take (4094 - length root) after)
