@@ -3,10 +3,7 @@ use Rattle.std.proofs.Common.{◌≡◌, ℕ, ◌+◌, List, [], ◌++◌, refl,
 use Rattle.mb_model.specs.declared.key.KeySeed.{KeySeed}
 use Rattle.mb_model.specs.Winternitz.{coef, chain_step, steps, steps_from}
 use Rattle.mb_model.specs.Signing.{private_value, public_ends, signed_values}
-
-pub steps_none : (id : List ℕ) (q i a : ℕ) (x : List ℕ) → steps_from id q i a 0 x ≡ x
-unfolding steps_from
-steps_none id q i a x = refl
+use Rattle.mb_lms.proofs.Digits.{steps_none}
 
 pub steps_next : (id : List ℕ) (q i n : ℕ) (x : List ℕ) →
     steps_from id q i 0 (n + 1) x ≡ chain_step id q i n (steps_from id q i 0 n x)
