@@ -1,14 +1,10 @@
 -- An image that stands for a state gives the calls what they require.
-use Rattle.std.proofs.Common.{◌≡◌, ◌<◌, ℕ, Bool, List, [], ◌∷◌, length, Some, sym, ap, subst, ◌∙◌, arith, length-append}
-use Rattle.std.specs.Prelude.{AllPairs}
+use Rattle.std.proofs.Common.{◌≡◌, ℕ, Bool, List, [], length, Some, sym, ap, subst, arith, length-append}
 use Rattle.mb_model.specs.declared.state.State.{State}
-use Rattle.mb_model.specs.declared.region.Region.{Region}
 use Rattle.mb_model.specs.Board.{Memory, IsLoaded, image_of}
-use Rattle.mb_model.specs.Memory.{current}
-use Rattle.mb_model.specs.Meaning.{HoldsRegion, StandsFor, IsWellFormed}
+use Rattle.mb_model.specs.Meaning.{StandsFor, IsWellFormed}
 use Rattle.mb_lemmas.proofs.FaultLemmas.{image_parts}
 use Rattle.mb_storing.proofs.CommitLemmas.{live_contents}
-use Rattle.mb_region.specs.Regions.{HoldsSomeRegion}
 use Rattle.mb_boot.specs.Booting.{StandsForValid, KeepsState}
 use Rattle.mb_cuts.specs.Staged.{IsLive, HoldsImage, IsReady}
 

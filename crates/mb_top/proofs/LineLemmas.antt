@@ -1,11 +1,10 @@
 -- What the program comes to by its command line.
 use Rattle.std.proofs.Common.{◌≡◌, ℕ, true, false, List, [], ◌∷◌, codes, IsTrue, refl, sym, subst}
 use Rattle.mb_model.specs.declared.event.Answered.{Answered}
-use Rattle.mb_model.specs.Outside.{Outside, Prints, FailsToPrint}
+use Rattle.mb_model.specs.Outside.{Outside, FailsToPrint}
 use Rattle.mb_model.specs.Board.{Held}
-use Rattle.mb_model.specs.Commands.{Ended, PrintEnds, printed, not_printed, SaysLine, Stops, at_first}
+use Rattle.mb_model.specs.Commands.{Ended, PrintEnds, not_printed, SaysLine, at_first}
 use Rattle.mb_model.specs.Top.{Ends}
-use Rattle.mb_top.specs.declared.end.End.{End}
 use Rattle.mb_top.specs.declared.end.End.TheVariants as end
 use Rattle.mb_top.specs.Ending.{ended_at, end_line, end_status}
 use Rattle.mb_top.specs.Program.{ProgramEnds, helped, versioned, commanded}
