@@ -27,7 +27,7 @@ use Rattle.mb_lemmas.specs.SampleOrder.{surrender}
 use Rattle.mb_lemmas.proofs.LineLemmas.{cons_same}
 use Rattle.mb_lemmas.proofs.WordLemmas.{number_front, limited_fits, IsHex-same}
 
-numbered_fits : (n : ℕ) → IsTrue (is_layer_number n) → n < 2 ^ 64
+pub numbered_fits : (n : ℕ) → IsTrue (is_layer_number n) → n < 2 ^ 64
 numbered_fits n numbered = grind (arith, numbered)
 
 -- two letters of a line, from a place on
@@ -36,13 +36,14 @@ letters_at n line = 256 * get_or line n 0 + get_or line (n + 1) 0
 
 -- ---- targets
 
-abbrev target_letters : Target → ℕ
+-- the first letters of the word after "target"
+abbrev pub target_letters : Target → ℕ
 target_letters (target.Serial serial) = letters_at 7 (codes "target serial")
 target_letters (target.Length n) = letters_at 7 (codes "target length")
 target_letters (target.Owner layer hash) = letters_at 7 (codes "target owner")
 target_letters (target.Code layer hash) = letters_at 7 (codes "target code")
 
-says_letters : (line : List ℕ) (t : Target) → SaysTarget line t → letters_at 7 line ≡ target_letters t
+pub says_letters : (line : List ℕ) (t : Target) → SaysTarget line t → letters_at 7 line ≡ target_letters t
 says_letters line (target.Serial serial) says = ap (letters_at 7) says.1.2
 says_letters line (target.Length n) says = ap (letters_at 7) says.1
 says_letters line (target.Owner layer hash) says = ap (letters_at 7) says.2.2
@@ -56,7 +57,7 @@ layered_same a b v w k l nk nl e = number_front k l v w (numbered_fits k nk) (nu
 two_targets : (line : List ℕ) (s t : Target) → (target_letters s ≡ target_letters t → ⊥) → SaysTarget line s → SaysTarget line t → s ≡ t
 two_targets line s t apart hs ht = absurd (apart (sym (says_letters line s hs) ∙ says_letters line t ht))
 
-SaysTarget-same : (line : List ℕ) (s t : Target) → SaysTarget line s → SaysTarget line t → s ≡ t
+pub SaysTarget-same : (line : List ℕ) (s t : Target) → SaysTarget line s → SaysTarget line t → s ≡ t
 SaysTarget-same line (target.Serial a) (target.Serial b) hs ht =
     let word = append_cancel_left (codes "target serial ") hs.1.0 ht.1.0 (sym hs.1.2 ∙ ht.1.2) in
     ap (λ (x : List ℕ). target.Serial x) (IsHex-same hs.1.0 ht.1.0 a b word hs.1.1 ht.1.1)
@@ -87,7 +88,7 @@ front_letters (line ∷ lines) = letters_at 0 line
 abbrev pub target_front : ℕ
 target_front = letters_at 0 (codes "target")
 
-target_begins : (line : List ℕ) (t : Target) → SaysTarget line t → letters_at 0 line ≡ target_front
+pub target_begins : (line : List ℕ) (t : Target) → SaysTarget line t → letters_at 0 line ≡ target_front
 target_begins line (target.Serial serial) says = ap (letters_at 0) says.1.2
 target_begins line (target.Length n) says = ap (letters_at 0) says.1
 target_begins line (target.Owner layer hash) says = ap (letters_at 0) says.2.2
@@ -175,10 +176,10 @@ head_letters (act.Load payload) k = refl
 head_letters (act.Emergency payload) k = refl
 head_letters (act.NewKey kind) k = refl
 
-kind_same : (a b : KeyKind) → kind_word a ≡ kind_word b → a ≡ b
-kind_same kinds.Epoch kinds.Epoch e = refl
-kind_same kinds.Configuration kinds.Configuration e = refl
-kind_same a b e = absurd (omega (arith, ap (λ (x : List ℕ). get_or x 0 0) e))
+pub kind_word-same : (a b : KeyKind) → kind_word a ≡ kind_word b → a ≡ b
+kind_word-same kinds.Epoch kinds.Epoch e = refl
+kind_word-same kinds.Configuration kinds.Configuration e = refl
+kind_word-same a b e = absurd (omega (arith, ap (λ (x : List ℕ). get_or x 0 0) e))
 
 may_fits : (kind : OrderKind) (k : ℕ) → MayBeFor kind k → k < 2 ^ 64
 may_fits kind k may = omega (arith, may.1)
@@ -201,7 +202,7 @@ act_same lines (act.Emergency a) (act.Emergency b) k l fk fl e ha hb = (
 act_same lines (act.NewKey i) (act.NewKey j) k l fk fl e ha hb =
     let whole = append_cancel_left (codes "order newkey ") (decimal k ++ 32 ∷ kind_word i) (decimal l ++ 32 ∷ kind_word j) e in
     let parts = number_front k l (kind_word i) (kind_word j) fk fl whole in
-    (ap (λ (x : KeyKind). act.NewKey x) (kind_same i j parts.1), parts.0)
+    (ap (λ (x : KeyKind). act.NewKey x) (kind_word-same i j parts.1), parts.0)
 act_same lines a b k l fk fl e ha hb = two_acts a b k l (λ same. omega (arith, same)) e
 
 -- a draft's lines stand for at most one order

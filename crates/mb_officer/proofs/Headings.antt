@@ -17,11 +17,12 @@ use Rattle.mb_model.specs.Rules.{kind_of, MayBeFor}
 use Rattle.mb_model.specs.Lines.{spaced}
 use Rattle.mb_model.specs.Drafts.{kind_word, SaysTarget, order_words, IsDraft}
 use Rattle.mb_lemmas.proofs.LineLemmas.{cons_same}
+use Rattle.mb_lemmas.proofs.DraftLemmas.{letters_at, kind_word-same}
 use Rattle.mb_officer.specs.declared.draft.Loading.TheVariants as loading
 use Rattle.mb_officer.specs.declared.draft.Kind.{Kind}
 use Rattle.mb_officer.specs.declared.draft.Kind.TheVariants as kind
 use Rattle.mb_officer.specs.Drafting.{ordered_by, heading_line, order_kind, IsHeading, SaysTargets}
-use Rattle.mb_officer.proofs.Wording.{letters_at, layered_same, kind_word_same}
+use Rattle.mb_officer.proofs.Wording.{layered_same}
 
 establish_parts : (line word : List ℕ) (k : Kind) (n : ℕ) → line ≡ codes "order establish " ++ word → IsHeading line k n → (kind.Establish ≡ k) × MayBeFor orders.Surrender n × (word ≡ decimal n)
 establish_parts line word kind.Establish n e is = (refl, is.0, append_cancel_left (codes "order establish ") word (decimal n) (sym e ∙ is.1))
@@ -100,7 +101,7 @@ new_key_same : (line : List ℕ) (key : KeyKind) (k : Kind) (m n : ℕ) → IsHe
     → (kind.NewKey key ≡ k) × (m ≡ n)
 new_key_same line key k m n hj parts =
     let same = layered_same (decimal m ++ 32 ∷ kind_word key) (kind_word key) (kind_word parts.key) m n (upper_numbered m hj.0) (upper_numbered n parts.upper) refl parts.whole in
-    let key_same = kind_word_same key parts.key same.1 in
+    let key_same = kind_word-same key parts.key same.1 in
     (ap (λ (x : KeyKind). kind.NewKey x) key_same ∙ parts.is_kind, same.0)
 
 pub heading_same : (line : List ℕ) (j k : Kind) (m n : ℕ) → IsHeading line j m → IsHeading line k n → (j ≡ k) × (m ≡ n)

@@ -21,7 +21,7 @@ use Rattle.mb_lemmas.proofs.LineLemmas.{cons_same, cons_none}
 use Rattle.std.proofs.lemmas.Fmt.{decimal_injective}
 use Rattle.mb_model.proofs.KeyLemmas.{key_bytes-same}
 use Rattle.mb_lemmas.proofs.WordLemmas.{IsHex-same, limited_fits}
-use Rattle.mb_lemmas.proofs.DraftLemmas.{targets_same}
+use Rattle.mb_lemmas.proofs.DraftLemmas.{SaysTarget-same, target_begins, act_begins}
 use Rattle.mb_words.specs.declared.said.NotSaid.{NotSaid}
 use Rattle.mb_words.specs.declared.said.NotSaid.TheVariants as why
 use Rattle.mb_officer.specs.declared.draft.Loading.{Loading}
@@ -30,41 +30,11 @@ use Rattle.mb_officer.specs.declared.draft.Kind.{Kind}
 use Rattle.mb_officer.specs.declared.draft.Kind.TheVariants as kind
 use Rattle.mb_officer.specs.declared.draft.Said.{Said}
 use Rattle.mb_officer.specs.declared.draft.Said.TheVariants as said
-use Rattle.mb_officer.proofs.Wording.{letters_at}
 use Rattle.mb_officer.proofs.Headings.{from_targets, first_is, to_targets, heading_same}
 use Rattle.mb_words.specs.Words.{FindsSome}
 use Rattle.mb_officer.specs.Drafting.{load_act, ordered_by, order_kind, IsHeading, drafted, IsSound, SaysTargets, SaysLoad, SaysOwner, SaysRest, Follows, TellsNext, AddsTarget, IsFirst}
 
 -- ---- targets
-
--- a line says one target
-target_same : (line : List ℕ) (s t : Target) → SaysTarget line s → SaysTarget line t → s ≡ t
-target_same line s t hs ht =
-    let same = targets_same (line ∷ []) (line ∷ []) (s ∷ []) (t ∷ []) [] [] (hs, tt) (ht, tt) (λ e. omega (arith, e)) (λ e. omega (arith, e)) refl in
-    (cons_same s t [] [] same.0).0
-
-abbrev pub target_front : ℕ
-target_front = letters_at 0 (codes "target")
-
-pub target_begins : (line : List ℕ) (t : Target) → SaysTarget line t → letters_at 0 line ≡ target_front
-target_begins line (target.Serial serial) says = ap (letters_at 0) says.1.2
-target_begins line (target.Length n) says = ap (letters_at 0) says.1
-target_begins line (target.Owner layer hash) says = ap (letters_at 0) says.2.2
-target_begins line (target.Code layer hash) says = ap (letters_at 0) says.2.2
-
--- a line after the targets is none of a target
-act_line : (line : List ℕ) (lines : List (List ℕ)) (a : Act) → SayAct (line ∷ lines) a → letters_at 0 line ≡ target_front → ⊥
-act_line line lines (act.Establish owner trust) says front =
-    let first = (cons_same line says.owner_line lines (trust_line trust ∷ []) says.spelled).0 in
-    omega (arith, ap (letters_at 0) (first ∙ says.owned.2), front)
-act_line line lines act.Surrender says front = cons_none line lines (sym says)
-act_line line lines (act.Load payload) says front =
-    let first = (cons_same line _ lines (trust_line payload.trust ∷ says.code_line ∷ []) says.spelled).0 in
-    omega (arith, ap (letters_at 0) first, front)
-act_line line lines (act.Emergency payload) says front =
-    let first = (cons_same line _ lines (trust_line payload.trust ∷ says.code_line ∷ []) says.spelled).0 in
-    omega (arith, ap (letters_at 0) first, front)
-act_line line lines (act.NewKey k) says front = cons_none line lines (sym says)
 
 -- after targets, a line is one more target or the first of what goes with the order
 data Turn (k : Kind) (layer : ℕ) (targets : List Target) (line : List ℕ) (more : List (List ℕ)) (order : Order) : Type 0 where
@@ -130,9 +100,9 @@ more_target k layer targets line t more order is says = record {
 less_target : (k : Kind) (layer : ℕ) (targets : List Target) (line : List ℕ) (t : Target) (more : List (List ℕ)) (order : Order) → SaysTarget line t
     → Turn k layer targets line more order → SaysTargets k layer (targets ++ t ∷ []) more order
 less_target k layer targets line t more order is (target_next other says rest room) =
-    subst (λ (x : Target). SaysTargets k layer (targets ++ x ∷ []) more order) (target_same line other t says is) rest
+    subst (λ (x : Target). SaysTargets k layer (targets ++ x ∷ []) more order) (SaysTarget-same line other t says is) rest
 less_target k layer targets line t more order is (act_next says of_kind made) =
-    absurd (act_line line more order.act says (target_begins line t is))
+    absurd (act_begins (line ∷ more) order.act says (target_begins line t is))
 
 pub Follows-target : (k : Kind) (layer : ℕ) (targets after : List Target) (line : List ℕ) (t : Target) → IsSound (said.Heading k layer) targets
     → SaysTarget line t → after ≡ targets ++ t ∷ [] → length targets ≢ 8
@@ -149,7 +119,7 @@ Follows-target k layer targets after line t sound is longer room =
 full_turn : (k : Kind) (layer : ℕ) (targets : List Target) (line : List ℕ) (t : Target) (more : List (List ℕ)) (order : Order) → SaysTarget line t → length targets ≡ 8
     → Turn k layer targets line more order → ⊥
 full_turn k layer targets line t more order is full (target_next other also rest room) = omega (arith, full, room)
-full_turn k layer targets line t more order is full (act_next acts of_kind made) = act_line line more order.act acts (target_begins line t is)
+full_turn k layer targets line t more order is full (act_next acts of_kind made) = act_begins (line ∷ more) order.act acts (target_begins line t is)
 
 -- no ninth target
 pub full_none : (k : Kind) (layer : ℕ) (targets : List Target) (line : List ℕ) (t : Target) → SaysTarget line t → length targets ≡ 8

@@ -1,10 +1,9 @@
 -- The words of a draft's lines: each is what stands there in one way only.
-use Rattle.std.proofs.Common.{◌≡◌, ◌≤◌, ℕ, ◌+◌, ◌*◌, ◌<◌, inl, inr, List, [], ◌∷◌, ◌++◌, length, get_or, ◌^◌, refl, sym, ap, subst, ◌∙◌, arith, ◌⊎◌}
+use Rattle.std.proofs.Common.{◌≡◌, ◌≤◌, ℕ, ◌+◌, ◌<◌, inl, inr, List, [], ◌∷◌, ◌++◌, length, refl, sym, ap, subst, ◌∙◌, arith, ◌⊎◌}
 use Rattle.std.specs.Prelude.{codes, IsTrue}
 use Rattle.std.specs.Fmt.{decimal}
 use Rattle.std.proofs.lemmas.Fmt.{decimal_digit}
 use Rattle.std.proofs.lemmas.List.{append_cancel_left}
-use Rattle.mb_model.specs.declared.order.KeyKind.{KeyKind}
 use Rattle.mb_model.specs.declared.order.KeyKind.TheVariants as kinds
 use Rattle.mb_model.specs.declared.order.Target.{Target}
 use Rattle.mb_model.specs.declared.order.Target.TheVariants as target
@@ -12,8 +11,9 @@ use Rattle.mb_model.specs.declared.order.OrderKind.TheVariants.{Surrender}
 use Rattle.mb_model.specs.Layers.{is_layer_number}
 use Rattle.mb_model.specs.Rules.{MayBeFor}
 use Rattle.mb_model.specs.Texts.{IsHex}
-use Rattle.mb_model.specs.Drafts.{kind_word, SaysTarget}
+use Rattle.mb_model.specs.Drafts.{SaysTarget}
 use Rattle.mb_lemmas.proofs.WordLemmas.{number_front}
+use Rattle.mb_lemmas.proofs.DraftLemmas.{says_letters, numbered_fits}
 
 -- ---- layers
 
@@ -70,22 +70,6 @@ hex_word front line word bytes e other is f = subst (λ (x : List ℕ). IsHex x 
 
 -- ---- targets
 
--- two letters of a line, from a place on
-abbrev pub letters_at : ℕ → List ℕ → ℕ
-letters_at n line = 256 * get_or line n 0 + get_or line (n + 1) 0
-
-abbrev target_letters : Target → ℕ
-target_letters (target.Serial serial) = letters_at 0 (codes "serial")
-target_letters (target.Length n) = letters_at 0 (codes "length")
-target_letters (target.Owner layer hash) = letters_at 0 (codes "owner")
-target_letters (target.Code layer hash) = letters_at 0 (codes "code")
-
-says_letters : (line : List ℕ) (t : Target) → SaysTarget line t → letters_at 7 line ≡ target_letters t
-says_letters line (target.Serial serial) says = ap (letters_at 7) says.1.2
-says_letters line (target.Length n) says = ap (letters_at 7) says.1
-says_letters line (target.Owner layer hash) says = ap (letters_at 7) says.2.2
-says_letters line (target.Code layer hash) says = ap (letters_at 7) says.2.2
-
 -- a layer, a space, and the word of a hash
 pub record IsHashed (words : List ℕ) : Type 0 where
   pub layer : ℕ
@@ -120,9 +104,6 @@ code_parts words (target.Code layer hash) says = record {
 }
 code_parts words t says = absurd (omega (arith, says_letters (codes "target code " ++ words) t says))
 
-pub numbered_fits : (n : ℕ) → IsTrue (is_layer_number n) → n < 2 ^ 64
-numbered_fits n numbered = grind (arith, numbered)
-
 -- one layer and one word stand there
 pub layered_same : (words a b : List ℕ) (m n : ℕ) → IsTrue (is_layer_number m) → IsTrue (is_layer_number n) → words ≡ decimal m ++ 32 ∷ a
     → words ≡ decimal n ++ 32 ∷ b → (m ≡ n) × (a ≡ b)
@@ -133,11 +114,3 @@ pub hash_none : (words word : List ℕ) (n : ℕ) → IsTrue (is_layer_number n)
 hash_none words word n is e none hashed =
     let parts = layered_same words word hashed.word n hashed.layer is hashed.numbered e hashed.whole in
     none hashed.hash (hashed.sized, subst (λ (x : List ℕ). IsHex x hashed.hash) (sym parts.1) hashed.spelled)
-
--- ---- kinds of keys
-
-pub kind_word_same : (j k : KeyKind) → kind_word j ≡ kind_word k → j ≡ k
-kind_word_same kinds.Epoch kinds.Epoch e = refl
-kind_word_same kinds.Epoch kinds.Configuration e = absurd (omega (arith, ap length e))
-kind_word_same kinds.Configuration kinds.Epoch e = absurd (omega (arith, ap length e))
-kind_word_same kinds.Configuration kinds.Configuration e = refl
