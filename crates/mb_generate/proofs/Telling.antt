@@ -1,6 +1,6 @@
 -- The lines of a workload's script tell events, each line one.
 use Rattle.std.proofs.Common.{◌≡◌, ◌≢◌, ℕ, ◌+◌, ◌*◌, ◌≤◌, inl, inr, Bool, true, false, cond, List, [], ◌∷◌, ◌++◌, length, map, take, drop, replicate, refl, sym, ap, subst, ◌∙◌, arith, length-append}
-use Rattle.std.specs.Prelude.{All, codes, flat_map, filter, not, zip, ◌==◌}
+use Rattle.std.specs.Prelude.{All, codes, flat_map, filter, zip, ◌==◌}
 use Rattle.std.specs.List.{AllZip}
 use Rattle.std.specs.Fmt.{decimal}
 use Rattle.std.proofs.lemmas.Bool.{cases_lt, eqb-false}
@@ -9,9 +9,8 @@ use Rattle.std.proofs.lemmas.Grind.{flat_map-append}
 use Rattle.std.proofs.lemmas.List.{get_or_past, length-take}
 use Rattle.std.proofs.lemmas.List.Concat.{flat_map_single}
 use Rattle.std.proofs.lemmas.List.Elements.{All-nil, All-cons, All-head, All-tail, All-append, All-take, All-drop, All-same, All-weaker, All-from_recursion, filter-append}
-use Rattle.std.proofs.lemmas.List.Sums.{sum_by-append}
 use Rattle.hex.specs.Hex.{is_hex_digit}
-use Rattle.hex.proofs.HexLemmas.{decode_of-ok, decode_of-encode_lower, length-encode_with}
+use Rattle.hex.proofs.HexLemmas.{decode_of-ok, length-encode_with}
 use Rattle.mb_format.specs.Format.{IsBytes}
 use Rattle.mb_model.specs.declared.event.Event.{Event}
 use Rattle.mb_model.specs.declared.event.Event.TheVariants as event
@@ -21,10 +20,12 @@ use Rattle.mb_model.specs.Texts.{ended, IsHex}
 use Rattle.mb_model.specs.Lines.{IsLine, text_of, spaced, hex_word}
 use Rattle.mb_model.specs.OrderFormat.{order_format}
 use Rattle.mb_model.specs.OrderLines.{order_line}
-use Rattle.mb_model.specs.Script.{IsName, SaysEvent, is_skipped, with_before, is_command, commands_in}
+use Rattle.mb_model.specs.Script.{IsName, SaysEvent, is_skipped, with_before, commands_in}
 use Rattle.mb_model.specs.Workload.{RoundDraws, Draws, secret_name, put_line, round_lines, signed_orders, workload_lines}
 use Rattle.mb_lemmas.proofs.LineLemmas.{isnt}
-use Rattle.mb_lemmas.proofs.DrawLemmas.{length-with_before}
+use Rattle.mb_lemmas.proofs.DrawLemmas.{length-with_before, commands_in-append}
+use Rattle.mb_lemmas.proofs.EventLemmas.{counts}
+use Rattle.mb_lemmas.proofs.WordLemmas.{hex_word-read}
 use Rattle.mb_generate.specs.Drawing.{AreDraws}
 use Rattle.mb_generate.specs.Scripts.{sign_line}
 use Rattle.mb_generate.specs.Serving.{CanBeServed}
@@ -32,9 +33,6 @@ use Rattle.mb_generate.proofs.Drawings.{drawn_long}
 use Rattle.mb_generate.proofs.Spellings.{is_byte, BytesUpTo, IsSpelled, RoundBytes, DrawsBytes, draws_bytes, all_before, orders_spelled}
 
 -- ---- lines that tell events
-
-abbrev counts : List ℕ → Bool
-counts line = not (is_skipped line)
 
 -- Each line says an event: at most so many events, so many of them commands, and so many bytes of text.
 record Tells (lines : List (List ℕ)) (count commands most : ℕ) : Type 0 where
@@ -77,10 +75,6 @@ said_both [] b (e ∷ es) fs first second = absurd first
 said_both (line ∷ a) b [] fs first second = absurd first
 said_both (line ∷ a) b (e ∷ es) fs first second = (first.0, said_both a b es fs first.1 second)
 
-commands_both : (es fs : List Event) → commands_in (es ++ fs) ≡ commands_in es + commands_in fs
-unfolding commands_in
-commands_both es fs = sum_by-append (λ e. cond (is_command e) 1 0) es fs
-
 tells_both : {a b : List (List ℕ)} {m n c d s t : ℕ} → Tells a m c s → Tells b n d t → Tells (a ++ b) (m + n) (c + d) (s + t)
 tells_both {a} {b} first second = record {
   events = first.events ++ second.events;
@@ -88,7 +82,7 @@ tells_both {a} {b} first second = record {
   kept = filter-append counts a b ∙ (λ i. first.kept i ++ second.kept i);
   said = said_both a b first.events second.events first.said second.said;
   few = omega (arith, length-append first.events second.events, first.few, second.few);
-  few_commands = omega (arith, commands_both first.events second.events, first.few_commands, second.few_commands);
+  few_commands = omega (arith, commands_in-append first.events second.events, first.few_commands, second.few_commands);
   short = omega (arith, ap length (flat_map-append ended a b), length-append (text_of a) (text_of b), first.short, second.short);
 }
 
@@ -125,11 +119,6 @@ bytes_at bytes all i =
       | inr past ↦ omega (arith, get_or_past bytes i 0 past)
     ]
 
-hex_reads : (bytes : List ℕ) → IsBytes bytes → IsHex (hex_word bytes) bytes
-hex_reads [] are = inl (refl, refl)
-hex_reads (byte ∷ bytes) are =
-    inr ((λ none. omega (arith, length-encode_with (codes "0123456789abcdef") (byte ∷ bytes), ap length none)), decode_of-encode_lower (byte ∷ bytes) are)
-
 digit_stays : (byte : ℕ) → is_hex_digit byte ≡ true → byte ≢ 10
 digit_stays byte digit lf = let none : is_hex_digit 10 ≡ false = refl in cc
 
@@ -165,7 +154,7 @@ tells_order : (order : Order) → IsSpelled order → Tells (order_line order �
 unfolding commands_in
 tells_order order is =
     let bytes : List ℕ = order_format.spelling order in
-    let word = hex_reads bytes (bytes_at bytes is.each) in
+    let word = hex_word-read bytes (bytes_at bytes is.each) in
     tells (order_line order) (event.Command bytes (replicate 32 0)) 131079
     (All-append (isnt 10) (codes "command ") (hex_word bytes) (tested (codes "command ") refl) (hex_plain (hex_word bytes) bytes word))
     refl
@@ -193,7 +182,7 @@ name_plain n = All-weaker (λ (byte : ℕ). (0x21 ≤ byte) × (byte ≤ 0x7E)) 
 tells_put : (n : ℕ) (value : List ℕ) → BytesUpTo 128 value → Tells (put_line n value ∷ []) 1 0 268
 unfolding commands_in
 tells_put n value is =
-    let word = hex_reads value (bytes_at value is.each) in
+    let word = hex_word-read value (bytes_at value is.each) in
     tells (put_line n value) (event.Put 3 (secret_name n) value) 267
     (All-append (isnt 10) (codes "put 3 ") (secret_name n ++ 32 ∷ hex_word value) (tested (codes "put 3 ") refl)
     (All-append (isnt 10) (secret_name n) (32 ∷ hex_word value) (name_plain n)
@@ -205,7 +194,7 @@ tells_put n value is =
 tells_sign : (message : List ℕ) → BytesUpTo 32 message → Tells (sign_line message ∷ []) 1 0 75
 unfolding commands_in
 tells_sign message is =
-    let word = hex_reads message (bytes_at message is.each) in
+    let word = hex_word-read message (bytes_at message is.each) in
     tells (sign_line message) (event.Sign 3 1 message) 74
     (All-append (isnt 10) (codes "sign 3 1 ") (hex_word message) (tested (codes "sign 3 1 ") refl) (hex_plain (hex_word message) message word))
     refl

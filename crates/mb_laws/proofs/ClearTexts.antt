@@ -1,22 +1,17 @@
 -- Texts are clear where the lines of the grammar stand for at most one value, and some lines stand for one.
-use Rattle.std.proofs.Common.{◌≡◌, ℕ, ◌+◌, suc, zero, List, [], ◌∷◌, ◌++◌, length, refl, sym, subst, ◌∙◌, append_assoc, rules, lit≤}
-use Rattle.std.specs.Prelude.{replicate, codes}
-use Rattle.mb_format.specs.Combinators.{number_bytes}
-use Rattle.std.proofs.lemmas.List.{append-nil, length-replicate}
-use Rattle.mb_format.specs.Format.{IsBytes, Spells}
-use Rattle.mb_model.specs.declared.entry.Statement.{Statement}
-use Rattle.mb_model.specs.Lines.{IsBeginning, FailsAtLine, bad_line, ends_early, hex_word}
+use Rattle.std.proofs.Common.{◌≡◌, ℕ, ◌+◌, List, [], ◌∷◌, ◌++◌, length, refl, sym, subst, ◌∙◌, append_assoc, rules}
+use Rattle.std.specs.Prelude.{codes}
+use Rattle.std.proofs.lemmas.List.{append-nil}
+use Rattle.mb_model.specs.Lines.{IsBeginning, FailsAtLine, bad_line, ends_early}
 use Rattle.mb_model.specs.Script.{IsScript}
 use Rattle.mb_model.specs.Drafts.{IsDraft}
-use Rattle.mb_model.specs.ChainFormat.{statement_format}
 use Rattle.mb_model.specs.OrderLines.{IsOrderLine, IsStatementLine}
 use Rattle.mb_laws.specs.TextLaws.{IsClearText}
 use Rattle.mb_lemmas.specs.SampleOrder.{surrender, surrender_line}
 use Rattle.mb_lemmas.proofs.LineLemmas.{HasLines-same, HasLines-always, FailsAtLine-same, FailsAtLine-none}
 use Rattle.mb_lemmas.proofs.EventLemmas.{IsScript-same}
 use Rattle.mb_lemmas.proofs.DraftLemmas.{IsDraft-same, surrender_draft}
-use Rattle.mb_lemmas.proofs.OrderLineLemmas.{IsOrderLine-same, IsStatementLine-same, surrender_is}
-use Rattle.mb_laws.proofs.SaidLemmas.{hex_word-read}
+use Rattle.mb_lemmas.proofs.OrderLineLemmas.{IsOrderLine-same, IsStatementLine-same, surrender_is, some_statement, some_line, some_statement_is}
 
 -- ---- a text stands for something or has a first wrong line
 
@@ -73,39 +68,6 @@ clear {A} Grammar one some value stands = record {
 no_events : IsScript [] []
 no_events = record { said = search (rules); most = search (rules) }
 
--- a statement of nothing, with a signature of these bytes
-abbrev with_signature : List ℕ → Statement
-with_signature signature = record { number = 0; message = []; signature = signature }
-
--- zeros are bytes, and so are bytes after five of them
-IsBytes-zeros : (n : ℕ) → IsBytes (replicate n 0)
-IsBytes-zeros zero i = lit≤ tt
-IsBytes-zeros (suc n) zero = lit≤ tt
-IsBytes-zeros (suc n) (suc i) = IsBytes-zeros n i
-
-IsBytes-five : (bytes : List ℕ) → IsBytes bytes → IsBytes (0 ∷ 0 ∷ 0 ∷ 0 ∷ 0 ∷ bytes)
-IsBytes-five bytes are zero = lit≤ tt
-IsBytes-five bytes are (suc zero) = lit≤ tt
-IsBytes-five bytes are (suc (suc zero)) = lit≤ tt
-IsBytes-five bytes are (suc (suc (suc zero))) = lit≤ tt
-IsBytes-five bytes are (suc (suc (suc (suc zero)))) = lit≤ tt
-IsBytes-five bytes are (suc (suc (suc (suc (suc i))))) = are i
-
-spelled_with : (signature : List ℕ) → length signature ≡ 2348
-    → Spells statement_format (0 ∷ 0 ∷ 0 ∷ 0 ∷ 0 ∷ signature) (with_signature signature)
-unfolding statement_format number_bytes
-spelled_with signature sized = record { allowed = (lit≤ tt, (((lit≤ tt, lit≤ tt), refl), sized)); whole = refl }
-
-some_statement : IsStatementLine (hex_word (0 ∷ 0 ∷ 0 ∷ 0 ∷ 0 ∷ replicate 2348 0) ∷ []) (with_signature (replicate 2348 0))
-some_statement = record {
-  line = hex_word (0 ∷ 0 ∷ 0 ∷ 0 ∷ 0 ∷ replicate 2348 0);
-  bytes = 0 ∷ 0 ∷ 0 ∷ 0 ∷ 0 ∷ replicate 2348 0;
-  one = refl;
-  worded = hex_word-read (0 ∷ 0 ∷ 0 ∷ 0 ∷ 0 ∷ replicate 2348 0)
-      (IsBytes-five (replicate 2348 0) (IsBytes-zeros 2348));
-  spelled = spelled_with (replicate 2348 0) (length-replicate {A = ℕ} 2348 0);
-}
-
 pub scripts : IsClearText IsScript
 scripts = clear IsScript IsScript-same [] [] no_events
 
@@ -116,4 +78,4 @@ pub order_lines : IsClearText IsOrderLine
 order_lines = clear IsOrderLine IsOrderLine-same (surrender_line ∷ []) surrender surrender_is
 
 pub statement_lines : IsClearText IsStatementLine
-statement_lines = clear IsStatementLine IsStatementLine-same (hex_word (0 ∷ 0 ∷ 0 ∷ 0 ∷ 0 ∷ replicate 2348 0) ∷ []) (with_signature (replicate 2348 0)) some_statement
+statement_lines = clear IsStatementLine IsStatementLine-same (some_line ∷ []) some_statement some_statement_is

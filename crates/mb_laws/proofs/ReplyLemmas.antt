@@ -17,8 +17,7 @@ use Rattle.mb_model.specs.Refusals.{Refusal, powered_off, wrong_phase, zeroised,
 use Rattle.mb_model.specs.Replies.{HasLine, standing_word, refusal_words, reply_line}
 use Rattle.mb_laws.specs.TextLaws.{IsInRange}
 use Rattle.mb_lemmas.proofs.LineLemmas.{Without, isnt, first_same}
-use Rattle.mb_lemmas.proofs.WordLemmas.{number_front, limited_fits, IsHex-same}
-use Rattle.mb_laws.proofs.SaidLemmas.{hex_word-read}
+use Rattle.mb_lemmas.proofs.WordLemmas.{number_front, limited_fits, IsHex-same, hex_word-read}
 
 -- ---- words
 

@@ -5,21 +5,15 @@ use Rattle.std.specs.Fmt.{decimal}
 use Rattle.std.proofs.lemmas.Bool.{cases_lt}
 use Rattle.std.proofs.lemmas.List.{get_or_append_left, get_or_past}
 use Rattle.hex.specs.Hex.{IsBytes}
-use Rattle.hex.proofs.HexLemmas.{decode_of-encode_lower, length-encode_with}
 use Rattle.mb_model.specs.declared.event.Event.{Event}
 use Rattle.mb_model.specs.declared.event.Event.TheVariants as event
 use Rattle.mb_model.specs.declared.event.Tear.{Tear}
-use Rattle.mb_model.specs.Texts.{IsHex}
 use Rattle.mb_model.specs.Lines.{spaced, hex_word}
 use Rattle.mb_model.specs.Script.{IsTear, IsCut, IsScriptEvent, IsCutLine, EndsInHex, SaysEvent}
+use Rattle.mb_lemmas.proofs.WordLemmas.{hex_word-read}
 use Rattle.mb_laws.specs.TextLaws.{HoldsBytes, undrawn}
 
 -- ---- written words
-
-pub hex_word-read : (bytes : List ℕ) → IsBytes bytes → IsHex (hex_word bytes) bytes
-hex_word-read [] are = inl (refl, refl)
-hex_word-read (byte ∷ bytes) are =
-    inr ((λ none. omega (arith, length-encode_with (codes "0123456789abcdef") (byte ∷ bytes), ap length none)), decode_of-encode_lower (byte ∷ bytes) are)
 
 ends : (words : List (List ℕ)) (bytes : List ℕ) → IsBytes bytes → EndsInHex (spaced (words ++ hex_word bytes ∷ [])) words bytes
 ends words bytes are = (hex_word bytes, hex_word-read bytes are, refl)

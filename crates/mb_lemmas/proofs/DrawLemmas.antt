@@ -1,13 +1,13 @@
 -- Lemmas on draws: each event gets its own, in turn, and stays what a line can give.
-use Rattle.std.proofs.Common.{◌≡◌, ℕ, ◌+◌, ◌*◌, ◌≤◌, suc, List, [], ◌∷◌, ◌++◌, length, map, drop, refl, sym, ap, subst, ◌∙◌, arith, append_assoc}
+use Rattle.std.proofs.Common.{◌≡◌, ℕ, ◌+◌, ◌*◌, ◌≤◌, suc, List, [], ◌∷◌, ◌++◌, length, map, refl, sym, ap, subst, ◌∙◌, arith, append_assoc}
 use Rattle.std.specs.Prelude.{All, cond}
-use Rattle.std.proofs.lemmas.List.{append-nil, map_push, map-append, length-map, length-take, length-drop}
+use Rattle.std.proofs.lemmas.List.{append-nil, map_push, map-append, length-map}
 use Rattle.std.proofs.lemmas.List.Elements.{All-nil, All-cons, All-head, All-tail, All-same}
 use Rattle.std.proofs.lemmas.List.Sums.{sum_by-append}
-use Rattle.mb_model.specs.Pieces.{part}
 use Rattle.mb_model.specs.declared.event.Event.{Event}
 use Rattle.mb_model.specs.declared.event.Event.TheVariants as event
 use Rattle.mb_model.specs.Script.{IsScriptEvent, with_before, is_command, commands_in, drawn_event, drawn_events, Drawn}
+use Rattle.mb_model.proofs.Places.{length-part}
 
 map_map : {X Y Z : Type 0} (f : Y → Z) (g : X → Y) (xs : List X) → map f (map g xs) ≡ map (λ x. f (g x)) xs
 map_map f g [] = refl
@@ -62,21 +62,17 @@ drawn-after noise before (e ∷ events) =
 
 -- ---- what a line can give, with a draw
 
-count_append : (a b : List Event) → commands_in (a ++ b) ≡ commands_in a + commands_in b
+pub commands_in-append : (a b : List Event) → commands_in (a ++ b) ≡ commands_in a + commands_in b
 unfolding commands_in
-count_append a b = sum_by-append (λ e. cond (is_command e) 1 0) a b
-
--- 32 bytes of a noise that has them
-part-length : (noise : List ℕ) (n : ℕ) → n + 32 ≤ length noise → length (part n 32 noise) ≡ 32
-part-length noise n room = omega (arith, length-take 32 (drop n noise), length-drop n noise)
+commands_in-append a b = sum_by-append (λ e. cond (is_command e) 1 0) a b
 
 -- what is needed for the first of some events
 room : (noise : List ℕ) (before : List Event) (text draw : List ℕ) (events : List Event)
     → 32 * commands_in (before ++ event.Command text draw ∷ events) ≤ length noise → 32 * commands_in before + 32 ≤ length noise
 unfolding commands_in
 room noise before text draw events enough =
-    let all = count_append before (event.Command text draw ∷ events) in
-    let one : commands_in (event.Command text draw ∷ events) ≡ 1 + commands_in events = count_append (event.Command text draw ∷ []) events in
+    let all = commands_in-append before (event.Command text draw ∷ events) in
+    let one : commands_in (event.Command text draw ∷ events) ≡ 1 + commands_in events = commands_in-append (event.Command text draw ∷ []) events in
     omega (arith, enough, all, one)
 
 drawn_one : (noise : List ℕ) (before : List Event) (e : Event) (events : List Event) → 32 * commands_in (before ++ e ∷ events) ≤ length noise
@@ -87,7 +83,7 @@ drawn_one noise before event.Tamper events enough is = is
 drawn_one noise before event.Status events enough is = is
 drawn_one noise before event.Go events enough is = is
 drawn_one noise before (event.Cut count tear) events enough is = is
-drawn_one noise before (event.Command text draw) events enough is = part-length noise (32 * commands_in before) (room noise before text draw events enough)
+drawn_one noise before (event.Command text draw) events enough is = length-part (32 * commands_in before) 32 noise (room noise before text draw events enough)
 drawn_one noise before (event.Put region name value) events enough is = is
 drawn_one noise before (event.Get region name) events enough is = is
 drawn_one noise before (event.Drop region name) events enough is = is

@@ -183,7 +183,8 @@ says_count [] (e ∷ events) says = absurd says
 says_count (line ∷ lines) [] says = absurd says
 says_count (line ∷ lines) (e ∷ events) says = ap (λ (n : ℕ). suc n) (says_count lines events says.1)
 
-abbrev counts : List ℕ → Bool
+-- the line tells an event
+abbrev pub counts : List ℕ → Bool
 counts line = not (is_skipped line)
 
 one_counts : (line : List ℕ) → is_skipped line ≡ false → length (filter counts (line ∷ [])) ≡ 1

@@ -1,7 +1,7 @@
 -- A line with the bytes of an order, or of a statement, stands for one; and which line is wrong where another stands after it.
-use Rattle.std.proofs.Common.{◌≡◌, ℕ, inl, inr, List, [], ◌∷◌, ◌++◌, length, get_or, refl, sym, ap, subst, ◌∙◌, arith, length-append, rules}
-use Rattle.std.specs.Prelude.{codes}
-use Rattle.std.proofs.lemmas.List.{append_cancel_left, nil_from_length}
+use Rattle.std.proofs.Common.{◌≡◌, ℕ, zero, suc, inl, inr, List, [], ◌∷◌, ◌++◌, length, get_or, refl, sym, ap, subst, ◌∙◌, arith, length-append, lit≤, rules}
+use Rattle.std.specs.Prelude.{replicate, codes}
+use Rattle.std.proofs.lemmas.List.{append_cancel_left, nil_from_length, length-replicate}
 use Rattle.hex.specs.Hex.{decode_pairs, encode_with}
 use Rattle.hex.proofs.HexLemmas.{decode_of-ok}
 use Rattle.mb_format.specs.Format.{IsBytes, Spells, IsClearWhole, FailsWhole}
@@ -12,7 +12,7 @@ use Rattle.mb_format.proofs.Whole.{IsClearWhole-from_exact, IsExactWhole-from_ex
 use Rattle.mb_model.specs.declared.order.Order.{Order}
 use Rattle.mb_model.specs.declared.entry.Statement.{Statement}
 use Rattle.mb_model.specs.Texts.{IsHex}
-use Rattle.mb_model.specs.Lines.{FailsAtLine, ends_early}
+use Rattle.mb_model.specs.Lines.{FailsAtLine, ends_early, hex_word}
 use Rattle.mb_model.specs.OrderLines.{IsOrderLine, IsStatementLine, order_line}
 use Rattle.mb_model.specs.LayerFormat.{trust_format}
 use Rattle.mb_model.specs.OrderFormat.{target_format, payload_format, body_format, sized_signature_format, countersignatures_format, order_format}
@@ -21,7 +21,7 @@ use Rattle.mb_model.specs.ChainFormat.{statement_format}
 use Rattle.mb_model.proofs.OrderFormatLaws.{order_exact}
 use Rattle.mb_model.proofs.EntryFormatLaws.{statement_exact}
 use Rattle.mb_lemmas.proofs.LineLemmas.{cons_same, cons_none, IsBeginning-all, bad_after}
-use Rattle.mb_lemmas.proofs.WordLemmas.{IsHex-same}
+use Rattle.mb_lemmas.proofs.WordLemmas.{IsHex-same, hex_word-read}
 
 -- a hexadecimal word is bytes
 IsHex-bytes : (word bytes : List ℕ) → IsHex word bytes → IsBytes bytes
@@ -150,3 +150,44 @@ zero_none order is =
 
 pub order_first : (line : List ℕ) (later : List (List ℕ)) → ((order : Order) → IsOrderLine (line ∷ []) order → ⊥) → FailsAtLine IsOrderLine (line ∷ later) 1
 order_first line later none = first IsOrderLine order_one line later (surrender_line ∷ []) surrender surrender_is none
+
+-- ---- some statement, so that there is a line of one
+
+-- a statement of nothing, with a signature of these bytes
+abbrev pub statement_with : List ℕ → Statement
+statement_with signature = record { number = 0; message = []; signature = signature }
+
+-- zeros are bytes, and so are bytes after five of them
+IsBytes-zeros : (n : ℕ) → IsBytes (replicate n 0)
+IsBytes-zeros zero i = lit≤ tt
+IsBytes-zeros (suc n) zero = lit≤ tt
+IsBytes-zeros (suc n) (suc i) = IsBytes-zeros n i
+
+IsBytes-five : (bytes : List ℕ) → IsBytes bytes → IsBytes (0 ∷ 0 ∷ 0 ∷ 0 ∷ 0 ∷ bytes)
+IsBytes-five bytes are zero = lit≤ tt
+IsBytes-five bytes are (suc zero) = lit≤ tt
+IsBytes-five bytes are (suc (suc zero)) = lit≤ tt
+IsBytes-five bytes are (suc (suc (suc zero))) = lit≤ tt
+IsBytes-five bytes are (suc (suc (suc (suc zero)))) = lit≤ tt
+IsBytes-five bytes are (suc (suc (suc (suc (suc i))))) = are i
+
+spelled_with : (signature : List ℕ) → length signature ≡ 2348
+    → Spells statement_format (0 ∷ 0 ∷ 0 ∷ 0 ∷ 0 ∷ signature) (statement_with signature)
+unfolding statement_format number_bytes
+spelled_with signature sized = record { allowed = (lit≤ tt, (((lit≤ tt, lit≤ tt), refl), sized)); whole = refl }
+
+abbrev pub some_statement : Statement
+some_statement = statement_with (replicate 2348 0)
+
+abbrev pub some_line : List ℕ
+some_line = hex_word (0 ∷ 0 ∷ 0 ∷ 0 ∷ 0 ∷ replicate 2348 0)
+
+pub some_statement_is : IsStatementLine (some_line ∷ []) some_statement
+some_statement_is = record {
+  line = some_line;
+  bytes = 0 ∷ 0 ∷ 0 ∷ 0 ∷ 0 ∷ replicate 2348 0;
+  one = refl;
+  worded = hex_word-read (0 ∷ 0 ∷ 0 ∷ 0 ∷ 0 ∷ replicate 2348 0)
+      (IsBytes-five (replicate 2348 0) (IsBytes-zeros 2348));
+  spelled = spelled_with (replicate 2348 0) (length-replicate {A = ℕ} 2348 0);
+}

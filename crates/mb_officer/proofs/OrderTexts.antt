@@ -14,7 +14,7 @@ use Rattle.mb_model.specs.Rules.{kind_of}
 use Rattle.mb_model.specs.OrderFormat.{order_byte, target_format, act_by, body_of, body_format, order_body, sized_signature_format, countersignatures_format, order_format}
 use Rattle.mb_model.specs.OrderLines.{IsOrderLine}
 use Rattle.mb_lemmas.proofs.LineLemmas.{cons_same}
-use Rattle.mb_lemmas.proofs.WordLemmas.{IsHex-same}
+use Rattle.mb_lemmas.proofs.WordLemmas.{IsHex-same, hex_word-some}
 use Rattle.mb_lemmas.specs.SampleOrder.{surrender, surrender_line}
 use Rattle.mb_lemmas.proofs.OrderLineLemmas.{order_one, surrender_is}
 use Rattle.mb_words.specs.declared.said.NotSaid.{NotSaid}
@@ -48,10 +48,6 @@ line_finds line word bytes begins hex (Err why.NoMemory) unsaid = tt
 
 -- ---- what is written
 
-digits_of : (bytes : List ℕ) → 0 < length bytes → hex_word bytes ≡ encode_lower bytes
-digits_of [] some = absurd (omega (arith, some))
-digits_of (byte ∷ bytes) some = refl
-
 -- an order's spelling begins with the number of its kind
 order_some : (order : Order) → 0 < length (order_format.spelling order)
 unfolding order_format body_format number_bytes
@@ -65,4 +61,4 @@ order_some order =
 
 -- so its word is no dash
 pub order_digits : (order : Order) → hex_word (order_format.spelling order) ≡ encode_lower (order_format.spelling order)
-order_digits order = digits_of (order_format.spelling order) (order_some order)
+order_digits order = hex_word-some (order_format.spelling order) (order_some order)

@@ -1,8 +1,8 @@
 -- Signed and countersigned orders: what was made is what is said, and has a spelling again.
-use Rattle.std.proofs.Common.{◌≡◌, ◌≢◌, ℕ, ◌+◌, ◌-◌, ◌<◌, ◌≤◌, ◌⊎◌, inl, inr, true, false, List, [], ◌∷◌, ◌++◌, length, refl, sym, ap, subst, ◌∙◌, arith}
-use Rattle.std.specs.Prelude.{All, IsTrue, nat_lt}
+use Rattle.std.proofs.Common.{◌≡◌, ◌≢◌, ℕ, ◌+◌, ◌-◌, ◌<◌, ◌≤◌, inl, inr, List, [], ◌∷◌, ◌++◌, length, refl, sym, ap, subst, ◌∙◌, arith}
+use Rattle.std.specs.Prelude.{All, IsTrue}
 use Rattle.std.proofs.lemmas.List.Elements.{All-head, All-tail}
-use Rattle.std.proofs.lemmas.Bool.{cases_order}
+use Rattle.std.proofs.lemmas.Bool.{cases_order, le-ltb, lt-ltb}
 use Rattle.mb_format.specs.Combinators.{items}
 use Rattle.mb_model.specs.declared.order.Act.{Act}
 use Rattle.mb_model.specs.declared.order.Act.TheVariants as act
@@ -15,6 +15,7 @@ use Rattle.mb_model.specs.Rules.{kind_of, change_of, least_layer, is_load}
 use Rattle.mb_model.specs.SignedTexts.{order_text, countersigned_text}
 use Rattle.mb_model.specs.Signing.{signature_of}
 use Rattle.mb_model.specs.SignedOrders.{signed_order, with_countersignature, countersigned_order, IsCountersignable}
+use Rattle.mb_lemmas.proofs.WordLemmas.{upper_cases}
 
 pub signed_is : (k : Keyfile) (order : Order) (signature body : List ℕ) → signature ≡ signature_of k.seed k.next ((1 ∷ []) ++ body) → body ≡ order_body order
     → record order { signature = signature } ≡ signed_order k order
@@ -81,9 +82,6 @@ two_parts : (n : ℕ) (d e : Countersignature) → AreAllowed n (d ∷ e ∷ [])
 unfolding items
 two_parts n d e allowed = (allowed.0.0.0, allowed.0.0.1, allowed.1.0.0.0, allowed.1.0.0.1)
 
-upper_cases : (n : ℕ) → IsTrue (is_upper n) → (n ≡ 2) ⊎ (n ≡ 3)
-upper_cases n is = grind (arith, is)
-
 -- how the countersignatures stand, where one may be added
 data Standing (n m : ℕ) (list : List Countersignature) : Type 0 where
   none_there : list ≡ [] → Standing n m list
@@ -123,22 +121,16 @@ at_most_one order m allowed upper can = few order.layer m order.countersignature
 
 -- ---- one more
 
-lt_so : (a b : ℕ) → a < b → nat_lt a b ≡ true
-lt_so a b less = grind (arith, less)
-
-lt_not : (a b : ℕ) → b ≤ a → nat_lt a b ≡ false
-lt_not a b least = grind (arith, least)
-
 lower_before : (c d : Countersignature) → d.layer < c.layer → with_countersignature c (d ∷ []) ≡ d ∷ c ∷ []
 lower_before c d less =
-    let below = lt_so d.layer c.layer less in
-    let above = lt_not c.layer d.layer (omega (arith, less)) in
+    let below = lt-ltb d.layer c.layer less in
+    let above = le-ltb c.layer d.layer (omega (arith, less)) in
     simp (below, above) refl
 
 higher_after : (c d : Countersignature) → c.layer < d.layer → with_countersignature c (d ∷ []) ≡ c ∷ d ∷ []
 higher_after c d less =
-    let below = lt_not d.layer c.layer (omega (arith, less)) in
-    let above = lt_so c.layer d.layer less in
+    let below = le-ltb d.layer c.layer (omega (arith, less)) in
+    let above = lt-ltb c.layer d.layer less in
     simp (below, above) refl
 
 all_allowed : (n m : ℕ) (c : Countersignature) (list : List Countersignature) → c.layer ≡ m → n < m → IsTrue (is_upper m) → 1 ≤ n

@@ -1,12 +1,11 @@
 -- How far the draws of a script have been placed.
 use Rattle.std.proofs.Common.{◌≡◌, ℕ, ◌+◌, ◌-◌, ◌*◌, ◌<◌, ◌≤◌, zero, suc, true, List, [], ◌∷◌, ◌++◌, length, length-append, take, drop, refl, sym, ap, ◌∙◌, arith, append_assoc}
-use Rattle.std.specs.Prelude.{IsTrue, Some, slice_get, slice_set, cond}
+use Rattle.std.specs.Prelude.{IsTrue, Some, slice_get, slice_set}
 use Rattle.std.proofs.lemmas.List.{length-take-le, length-drop, take-append-drop, take_at, drop-drop, set-append_right}
-use Rattle.std.proofs.lemmas.List.Sums.{sum_by-append}
 use Rattle.mb_model.specs.declared.event.Event.{Event}
 use Rattle.mb_model.specs.declared.event.Event.TheVariants as event
 use Rattle.mb_model.specs.Script.{with_before, is_command, commands_in, drawn_event, drawn_events}
-use Rattle.mb_lemmas.proofs.DrawLemmas.{drawn-push, drawn-length}
+use Rattle.mb_lemmas.proofs.DrawLemmas.{drawn-push, drawn-length, commands_in-append}
 
 -- The events before a place have their draws, and the noise after these is left.
 pub record IsDrawing (noise : List ℕ) (old now : List Event) (left : List ℕ) (at : ℕ) : Type 0 where
@@ -53,10 +52,6 @@ take_one old at e within here =
 
 -- ---- the noise
 
-count_append : (a b : List Event) → commands_in (a ++ b) ≡ commands_in a + commands_in b
-unfolding commands_in
-count_append a b = sum_by-append (λ e. cond (is_command e) 1 0) a b
-
 one_command : (e : Event) → is_command e ≡ true → commands_in (e ∷ []) ≡ 1
 unfolding commands_in
 one_command e is = rw is refl
@@ -65,8 +60,8 @@ pub draw_left : (noise : List ℕ) (old now : List Event) (left : List ℕ) (at 
     → 32 * commands_in old ≤ length noise → IsTrue (is_command e) → 32 ≤ length left
 draw_left noise old now left at e is within got enough command =
     let here = old_event noise old now left at e is within got in
-    let all = ap commands_in (old_split old at e here) ∙ count_append (take at old) (e ∷ drop (at + 1) old) in
-    let remaining : commands_in (e ∷ drop (at + 1) old) ≡ commands_in (e ∷ []) + commands_in (drop (at + 1) old) = count_append (e ∷ []) (drop (at + 1) old) in
+    let all = ap commands_in (old_split old at e here) ∙ commands_in-append (take at old) (e ∷ drop (at + 1) old) in
+    let remaining : commands_in (e ∷ drop (at + 1) old) ≡ commands_in (e ∷ []) + commands_in (drop (at + 1) old) = commands_in-append (e ∷ []) (drop (at + 1) old) in
     omega (arith, enough, all, remaining, one_command e command, ap length is.rest, length-drop (32 * commands_in (take at old)) noise)
 
 same_draw : (noise left : List ℕ) (before : List Event) (e : Event) → left ≡ drop (32 * commands_in before) noise → drawn_event left [] e ≡ drawn_event noise before e
@@ -106,7 +101,7 @@ place_one noise old now mid new left remaining at e placeholder drawn is within 
     let event_is : drawn ≡ drawn_event noise before e = made ∙ same_draw noise left before e is.rest in
     let fronts : drawn_events noise (take (at + 1) old) ≡ front ++ drawn ∷ [] =
     ap (drawn_events noise) one ∙ drawn-push noise before e ∙ ap (λ (x : Event). front ++ x ∷ []) (sym event_is) in
-    let counted = ap commands_in one ∙ count_append before (e ∷ []) in
+    let counted = ap commands_in one ∙ commands_in-append before (e ∷ []) in
     let places : 32 * commands_in before + 32 * commands_in (e ∷ []) ≡ 32 * commands_in (take (at + 1) old) = omega (arith, counted) in
     record {
       drawn = new_is ∙ sym (append_assoc front (drawn ∷ []) back) ∙ ap (λ (x : List Event). x ++ back) (sym fronts);

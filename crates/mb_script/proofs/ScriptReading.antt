@@ -1,6 +1,6 @@
 -- How far a script has been read.
-use Rattle.std.proofs.Common.{◌≡◌, ◌≢◌, ℕ, ◌+◌, ◌<◌, ◌≤◌, List, [], ◌∷◌, ◌++◌, length, length-append, refl, sym, ap, subst, ◌∙◌, arith, append_assoc, Bool, true, false}
-use Rattle.std.specs.Prelude.{not, filter}
+use Rattle.std.proofs.Common.{◌≡◌, ◌≢◌, ℕ, ◌+◌, ◌<◌, ◌≤◌, List, [], ◌∷◌, ◌++◌, length, length-append, refl, sym, ap, subst, ◌∙◌, arith, append_assoc, true, false}
+use Rattle.std.specs.Prelude.{filter}
 use Rattle.std.specs.List.{AllZip}
 use Rattle.std.proofs.lemmas.List.{append-nil}
 use Rattle.std.proofs.lemmas.List.Elements.{filter-append}
@@ -8,7 +8,7 @@ use Rattle.mb_model.specs.declared.event.Event.{Event}
 use Rattle.mb_model.specs.Lines.{HasLines, IsBeginning, FailsAtLine, Reads, TextFailsAtLine}
 use Rattle.mb_model.specs.Script.{SaysEvent, is_skipped, IsScript}
 use Rattle.mb_lemmas.proofs.LineLemmas.{HasLines-nil, HasLines-always, IsBeginning-all, bad_after}
-use Rattle.mb_lemmas.proofs.EventLemmas.{too_many_events}
+use Rattle.mb_lemmas.proofs.EventLemmas.{too_many_events, counts}
 use Rattle.mb_words.specs.Words.{SplitsLine}
 use Rattle.mb_words.proofs.NextLines.{shorter, with_line}
 
@@ -39,9 +39,6 @@ one_more text rest line remaining events more_events number is splits some stand
   count = omega (arith, is.count, length-append is.before (line ∷ []));
   less = omega (arith, is.less, shorter rest line remaining splits some);
 }
-
-abbrev counts : List ℕ → Bool
-counts line = not (is_skipped line)
 
 one_left : (line : List ℕ) → is_skipped line ≡ true → filter counts (line ∷ []) ≡ []
 one_left line skipped = rw skipped refl

@@ -9,6 +9,7 @@ use Rattle.hex.specs.Hex.{encode_with, encode_lower, lower_digits}
 use Rattle.mb_model.specs.Lines.{hex_word}
 use Rattle.mb_bytes.specs.Puts.{Appends, StopsShort, Puts}
 use Rattle.mb_bytes.proofs.Putting.{puts_then, puts_stop, puts_stop_later}
+use Rattle.mb_lemmas.proofs.WordLemmas.{hex_word-some}
 
 -- ---- puts, one after another
 
@@ -48,11 +49,6 @@ pub encode_more : (bytes : List ℕ) (i byte : ℕ) → i < length bytes → byt
 encode_more bytes i byte less is =
     ap encode_lower (take_more bytes i 0 less ∙ ap (λ (b : ℕ). take i bytes ++ b ∷ []) (sym is)) ∙ encode-append (take i bytes) (byte ∷ [])
 
--- the word of bytes, of which there are some
-pub hex_some : (bytes : List ℕ) → 0 < length bytes → hex_word bytes ≡ encode_lower bytes
-hex_some [] some = absurd (omega (arith, some))
-hex_some (byte ∷ bytes) some = refl
-
 pub nothing_put : (out : Vec ℕ) → Appends (encode_lower []) out out
 unfolding encode_with
 nothing_put out = record { items = sym (append-nil out.items); len = omega arith; capacity = omega arith }
@@ -66,6 +62,6 @@ pub hex_stops : (bytes : List ℕ) (i byte : ℕ) (old middle new : Vec ℕ) →
     → Appends (encode_lower (take i bytes)) old middle → StopsShort (encode_lower (byte ∷ [])) middle new → StopsShort (hex_word bytes) old new
 hex_stops bytes i byte old middle new less is some front stops =
     let one = encode_more bytes i byte less is in
-    let whole = sym (encode-append (take (i + 1) bytes) (drop (i + 1) bytes)) ∙ ap encode_lower (take-append-drop (i + 1) bytes) ∙ sym (hex_some bytes some) in
+    let whole = sym (encode-append (take (i + 1) bytes) (drop (i + 1) bytes)) ∙ ap encode_lower (take-append-drop (i + 1) bytes) ∙ sym (hex_word-some bytes some) in
     let here = subst (λ (x : List ℕ). StopsShort x old new) (sym one) (puts_stop_later front stops) in
     subst (λ (x : List ℕ). StopsShort x old new) whole (puts_stop (encode_lower (drop (i + 1) bytes)) here)

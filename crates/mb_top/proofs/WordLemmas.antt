@@ -1,11 +1,10 @@
 -- Which request words are.
-use Rattle.std.proofs.Common.{◌≡◌, ◌≢◌, ℕ, ◌≤◌, List, [], ◌∷◌, length, All, map, codes, IsTrue, refl, sym, ◌∙◌, ap, subst, ◌⊎◌, inl, inr, arith}
+use Rattle.std.proofs.Common.{◌≡◌, ◌≢◌, ℕ, ◌≤◌, List, [], ◌∷◌, length, All, map, codes, refl, sym, ◌∙◌, ap, subst, inl, inr, arith}
 use Rattle.std.proofs.lemmas.Fmt.{decimal_digit, decimal_nonempty, digits_value-decimal}
 use Rattle.std.proofs.lemmas.List.Elements.{All-nil, All-cons, All-head, All-tail, All-map}
 use Rattle.std.specs.Fmt.{decimal}
 use Rattle.std.specs.Str.Parse.{digits_value}
 use Rattle.std.proofs.lemmas.Str.Parse.{numerals_by_value, tells_digits}
-use Rattle.mb_model.specs.Layers.{is_upper}
 use Rattle.mb_model.specs.Lines.{IsNumber, number_limit}
 use Rattle.mb_model.specs.RunCommand.{RunNames}
 use Rattle.mb_model.specs.Keygen.{KeygenNames}
@@ -16,6 +15,7 @@ use Rattle.mb_model.specs.AuditCommand.{AuditNames}
 use Rattle.mb_model.specs.ChainCommands.{ChainNames, AttachNames}
 use Rattle.mb_model.specs.GenerateCommand.{GenerateNames}
 use Rattle.mb_model.specs.Top.{Request, runs, makes_key, signs, countersigns, makes_device, verifies, audits, shows_chain, attaches, generates, IsRequest}
+use Rattle.mb_lemmas.proofs.WordLemmas.{upper_cases}
 use Rattle.mb_top.specs.Words.{IsCalled, IsLayerWord, IsRoundsWord}
 
 pub layer_two : (word : List ℕ) → word ≡ codes "2" → IsLayerWord word 2
@@ -24,12 +24,9 @@ layer_two word is = record { upper = refl; spelled = is ∙ sym (decimal_digit 2
 pub layer_three : (word : List ℕ) → word ≡ codes "3" → IsLayerWord word 3
 layer_three word is = record { upper = refl; spelled = is ∙ sym (decimal_digit 3 (omega arith)) }
 
-two_or_three : (layer : ℕ) → IsTrue (is_upper layer) → (layer ≡ 2) ⊎ (layer ≡ 3)
-two_or_three layer upper = grind (arith, upper)
-
 pub no_layer : (word : List ℕ) → (word ≡ codes "2" → ⊥) → (word ≡ codes "3" → ⊥) → (layer : ℕ) → IsLayerWord word layer → ⊥
 no_layer word not_two not_three layer is =
-    elim (two_or_three layer is.upper) [
+    elim (upper_cases layer is.upper) [
       | inl two ↦ not_two (is.spelled ∙ ap (λ (n : ℕ). decimal n) two ∙ decimal_digit 2 (omega arith))
       | inr three ↦ not_three (is.spelled ∙ ap (λ (n : ℕ). decimal n) three ∙ decimal_digit 3 (omega arith))
     ]
