@@ -18,6 +18,7 @@ use Rattle.mb_model.specs.Script.{IsName, FitsMessage}
 use Rattle.mb_model.specs.Valid.{IsValidState}
 use Rattle.mb_lemmas.proofs.ValidStates.{valid_is_ruled, region_is_valid, valid_with}
 use Rattle.mb_lemmas.proofs.ValidRegions.{valid_over_put, valid_over_drop}
+use Rattle.mb_lemmas.specs.RegionLaws.{without_secret}
 use Rattle.mb_storing.specs.Holding.{Means, IsReady}
 use Rattle.mb_storing.specs.Answering.{IsAnswered, tells, IsCutShort}
 use Rattle.mb_storing.specs.Storable.{HasRegionRecord}
@@ -28,7 +29,7 @@ use Rattle.mb_format.specs.Combinators.{limit}
 use Rattle.std.specs.Int.{w32}
 use Rattle.mb_layer_events.specs.declared.end.NotPut.{NotPut}
 use Rattle.mb_layer_events.specs.declared.end.NotPut.TheVariants.{Full, NoMemory}
-use Rattle.mb_layer_events.specs.Secrets.{IsKeptRegion, is_full_for, put, without, IsPut, IsDropped, PutOf, PutsInto, secret_of}
+use Rattle.mb_layer_events.specs.Secrets.{IsKeptRegion, is_full_for, put, IsPut, IsDropped, PutOf, PutsInto, secret_of}
 
 -- an answer is to the outcome that an event has
 pub answered_as : {outcome known : Outcome} {answer : Reply} {before after : Memory} → outcome ≡ known → IsAnswered known answer before after → IsAnswered outcome answer before after
@@ -46,7 +47,7 @@ put_record name value number old new is_name fits small kept is =
     subst HasRegionRecord (sym is.is) (region_record (put secret old) (put_region secret old own kept.storable is.room))
 
 pub drop_record : (name : List ℕ) (old new : Region) → IsKeptRegion old → IsDropped old name new → HasRegionRecord new
-drop_record name old new kept is = subst HasRegionRecord (sym is.is) (region_record (without name old) (drop_region name old kept.storable))
+drop_record name old new kept is = subst HasRegionRecord (sym is.is) (region_record (without_secret name old) (drop_region name old kept.storable))
 
 -- ---- what the stored region comes to
 
@@ -120,18 +121,18 @@ get_told L read name state old answer memory named same is ready =
 drop_none : (L : ℕ) (name : List ℕ) (state : State) → list_any (has_name name) (region_of state L).secrets ≡ false → drop_event L name state ≡ (reply.Absent, state)
 unfolding drop_event
 drop_none L name state none =
-    ap (λ (b : Bool). let o : Outcome = if b then (reply.Dropped, with_region state L (without name (region_of state L))) else (reply.Absent, state) in o) none
+    ap (λ (b : Bool). let o : Outcome = if b then (reply.Dropped, with_region state L (without_secret name (region_of state L))) else (reply.Absent, state) in o) none
 
 drop_outcome : (L : ℕ) (name : List ℕ) (state : State) (new : Region) → IsDropped (region_of state L) name new → drop_event L name state ≡ (reply.Dropped, with_region state L new)
 unfolding drop_event
 drop_outcome L name state new is =
-    ap (λ (b : Bool). let o : Outcome = if b then (reply.Dropped, with_region state L (without name (region_of state L))) else (reply.Absent, state) in o) is.there
+    ap (λ (b : Bool). let o : Outcome = if b then (reply.Dropped, with_region state L (without_secret name (region_of state L))) else (reply.Absent, state) in o) is.there
     ∙ ap (λ (r : Region). let o : Outcome = (reply.Dropped, with_region state L r) in o) (sym is.is)
 
 drop_valid : (L : ℕ) (name : List ℕ) (state : State) (new : Region) → IsDropped (region_of state L) name new → Runnable state.layers L → IsValidState state → IsValidState (with_region state L new)
 drop_valid L name state new is runs valid =
-    let next : IsValidState (with_region state L (without name (region_of state L))) =
-    valid_with state L (without name (region_of state L)) valid (λ upper. valid_over_drop (entries_of state.log) state.layers L name (region_of state L) upper runs (region_is_valid state L upper valid)) in
+    let next : IsValidState (with_region state L (without_secret name (region_of state L))) =
+    valid_with state L (without_secret name (region_of state L)) valid (λ upper. valid_over_drop (entries_of state.log) state.layers L name (region_of state L) upper runs (region_is_valid state L upper valid)) in
     subst (λ (r : Region). IsValidState (with_region state L r)) (sym is.is) next
 
 pub drop_absent : (L : ℕ) (name : List ℕ) (state : State) (memory : Memory) → list_any (has_name name) (region_of state L).secrets ≡ false → IsReady memory state

@@ -1,11 +1,12 @@
 -- What becomes of the secrets of a region in memory. Is a secret of another name ever lost?
-use Rattle.std.specs.Prelude.{◌≡◌, ◌≢◌, ℕ, nat_le, Bool, true, false, not, ◌&&◌, List, length, filter, AllPairs}
+use Rattle.std.specs.Prelude.{◌≡◌, ◌≢◌, ℕ, nat_le, Bool, true, false, not, ◌&&◌, List, length, AllPairs}
 use Rattle.std.specs.Prelude.{Result, Ok, Err, Option, Some, None}
 use Rattle.std.specs.List.{list_any}
 use Rattle.mb_model.specs.declared.region.Region.{Region}
 use Rattle.mb_model.specs.declared.region.Secret.{Secret}
 use Rattle.mb_model.specs.LayerEvents.{has_name, with_secret}
 use Rattle.mb_storing.specs.Storable.{IsStorableRegion}
+use Rattle.mb_lemmas.specs.RegionLaws.{without_secret}
 use Rattle.mb_layer_events.specs.declared.end.NotPut.{NotPut}
 use Rattle.mb_layer_events.specs.declared.end.NotPut.TheVariants.{Full, NoMemory}
 
@@ -22,10 +23,6 @@ is_full_for name region = not (list_any (has_name name) region.secrets) && nat_l
 abbrev pub put : Secret → Region → Region
 put secret region = record region { secrets = with_secret secret region.secrets }
 
--- the region without the secret of this name
-abbrev pub without : List ℕ → Region → Region
-without name region = record region { secrets = filter (λ secret. not (has_name name secret)) region.secrets }
-
 -- there was room for the secret, and it was put
 pub record IsPut (old : Region) (secret : Secret) (new : Region) : Type 0 where
   pub room : is_full_for secret.name old ≡ false
@@ -40,7 +37,7 @@ PutOf old secret (Err NoMemory) new = Unit {0}
 -- there was such a secret, and it was taken out
 pub record IsDropped (old : Region) (name : List ℕ) (new : Region) : Type 0 where
   pub there : list_any (has_name name) old.secrets ≡ true
-  pub is : new ≡ without name old
+  pub is : new ≡ without_secret name old
 
 -- what dropping a secret comes to
 abbrev pub DropOf : Region → List ℕ → Bool → Region → Type 0
