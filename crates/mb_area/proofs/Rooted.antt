@@ -14,7 +14,6 @@ use Rattle.mb_model.specs.Memory.{IsBlank, current, HoldsRecord}
 use Rattle.mb_model.specs.Flash.{flash_area}
 use Rattle.mb_model.specs.Meaning.{RootIn, Contents, HoldsContents, meant}
 use Rattle.mb_model.specs.Clean.{root_of}
-use Rattle.mb_lemmas.proofs.PublicLemmas.{bounded_by}
 use Rattle.mb_lemmas.proofs.MeaningLemmas.{one_root}
 use Rattle.mb_storing.specs.Commits.{both_done, at_rest}
 use Rattle.mb_storing.specs.Holding.{KeepsContents}
@@ -42,9 +41,6 @@ in_force area bbram root same holds = subst (λ (xs : List ℕ). HoldsRecord roo
 
 pub some_held : (area : List ℕ) (memory : Memory) → area ≡ current memory.bbram 1 → HasSomeRoot memory → HoldsSomeRoot area
 some_held area memory same some = record { root = some.root; holds = subst (λ (xs : List ℕ). HoldsRecord root_format xs some.root) (sym same) some.holds.holds }
-
-pub small_area : (root : Root) → root_format.Allowed root → root.area ≤ 1
-small_area root is = (bounded_by root is).area
 
 -- ---- writing
 

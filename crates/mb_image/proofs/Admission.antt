@@ -1,7 +1,7 @@
 -- Which secrets and keys a layer admitted at each change, by a log that obeys the rules.
 use Rattle.std.proofs.Common.{◌≡◌, ◌<◌, ◌≤◌, ◌+◌, ℕ, zero, suc, List, [], ◌∷◌, ◌++◌, inl, inr, length, map, get_or, Bool, Option, true, false, true≢false, refl, sym, ap, subst, ◌∙◌, arith}
 use Rattle.std.specs.Prelude.{◌||◌, not, nat_lt, All, Contains, IsTrue, if◌then◌else◌}
-use Rattle.std.proofs.lemmas.List.Elements.{All-nil, All-cons}
+use Rattle.std.proofs.lemmas.Bool.{le-ltb}
 use Rattle.mb_model.specs.declared.key.PublicKey.{PublicKey}
 use Rattle.mb_model.specs.declared.layer.Layers.{Layers}
 use Rattle.mb_model.specs.declared.layer.Pair.{Pair}
@@ -12,28 +12,16 @@ use Rattle.mb_model.specs.declared.entry.Entry.{Entry}
 use Rattle.mb_model.specs.declared.entry.Entry.TheVariants.{Birth, Change, NewKey, Succession}
 use Rattle.mb_model.specs.declared.region.RegionKey.{RegionKey}
 use Rattle.mb_model.specs.Layers.{is_upper, is_in}
-use Rattle.mb_model.specs.Rules.{admits, is_kept, kept_regions}
+use Rattle.mb_model.specs.Rules.{admits}
 use Rattle.mb_model.specs.Log.{number_of, layers_of, RuledLog}
 use Rattle.mb_model.specs.Lives.{ends, Alive, MadeKey, alive_keys}
 use Rattle.mb_model.specs.Regions.{AdmittedSince, KeyAdmitted}
 use Rattle.mb_model.specs.Valid.{as_made}
 use Rattle.mb_lemmas.proofs.LogLemmas.{number_of-append, number_of-push}
 use Rattle.mb_lemmas.proofs.AliveLemmas.{listed_is_alive}
-use Rattle.mb_lemmas.proofs.RegionLemmas.{at_upper}
-use Rattle.mb_lemmas.proofs.Splits.{two_splits, All-split}
+use Rattle.mb_lemmas.proofs.Splits.{two_splits, All-split, All-from_splits}
+use Rattle.mb_lemmas.proofs.ValidRegions.{kept_at}
 use Rattle.mb_image.specs.Losses.{loss}
-
--- what holds at each place of a list holds of all of it
-pub All-from_splits : {X : Type 0} (P : X → Type 0) (xs : List X) → ((before : List X) (x : X) (rest : List X) → xs ≡ before ++ x ∷ rest → P x) → All P xs
-All-from_splits P [] each = All-nil P
-All-from_splits P (x ∷ xs) each =
-    All-cons P x xs (each [] x xs refl)
-    (All-from_splits P xs (λ before y rest split. each (x ∷ before) y rest (ap (λ ys. x ∷ ys) split)))
-
-kept_at : (layers : Layers) (kind : ChangeKind) (k : ℕ) (cosigned : Pair) (L : ℕ) → IsTrue (is_upper L)
-    → is_in L (kept_regions layers kind k cosigned) ≡ is_kept layers kind k cosigned L
-kept_at layers kind k cosigned L upper =
-    at_upper (λ m. is_in m (kept_regions layers kind k cosigned) ≡ is_kept layers kind k cosigned m) L upper refl refl
 
 -- the region that an entry keeps is the one that its layer admits
 kept_is : (log before later : List Entry) (position number : ℕ) (kind : ChangeKind) (k : ℕ) (cosigned : Pair) (layers : Layers) (kept : Pair) (next : Option PublicKey) (L : ℕ)
@@ -54,9 +42,6 @@ loss_of : (b : Bool) (number c : ℕ) → (if b then 0 else number) ≤ c → c 
 loss_of true number c less above = refl
 loss_of false number c less above = absurd (omega (arith, less, above))
 
-not_beneath : (k L : ℕ) → k ≤ L → nat_lt L k ≡ false
-not_beneath k L low = grind (arith, low)
-
 not_above : (k L : ℕ) → nat_lt L k ≡ false → k ≤ L
 not_above k L off = grind (arith, off)
 
@@ -68,7 +53,7 @@ admitted_after log c L upper ruled lost =
     let small : (if is_in L kept then 0 else number) ≤ c = All-split (λ (e : Entry). loss L e ≤ c) before entry later (subst (All (λ (e : Entry). loss L e ≤ c)) split lost) in
     either (nat_lt L k) (admits (layers_of before) kind k cosigned L) (is_in L kept)
     (kept_is log before later position number kind k cosigned layers kept next L upper ruled split)
-    (not_beneath k L beneath)
+    (le-ltb L k beneath)
     (loss_of (is_in L kept) number c small above)
 
 loss_by : (b : Bool) (number c : ℕ) → (b ≡ false → c < number → ⊥) → (if b then 0 else number) ≤ c
@@ -153,7 +138,7 @@ alive_is_admitted log n L key_kind key upper ruled alive = record {
       let lasts : ends key_kind L change ≡ false = All-split (λ (e : Entry). ends key_kind L e ≡ false) after.0 change later (subst (All (λ (e : Entry). ends key_kind L e ≡ false)) after.1 alive.lasts) in
       either (nat_lt L k) (admits (layers_of before) kind k cosigned L) (is_in L kept)
       (kept_is log before later position number kind k cosigned layers kept next L upper ruled split)
-      (not_beneath k L beneath)
+      (le-ltb L k beneath)
       (goes_along key_kind L position number kind k cosigned layers kept next lasts beneath);
 }
 

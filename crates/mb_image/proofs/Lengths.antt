@@ -13,7 +13,7 @@ use Rattle.mb_model.specs.Meaning.{Contents, meant, RootIn, HasMeaning, is_dead,
 use Rattle.mb_model.specs.GenerateCommand.{log_length}
 use Rattle.mb_lemmas.proofs.MeaningLemmas.{IsBytes-flash_area, one_start, one_root_in, not_blank}
 use Rattle.mb_lemmas.proofs.FaultLemmas.{image_parts}
-use Rattle.mb_image.proofs.Meanings.{length-signed_for}
+use Rattle.mb_lemmas.proofs.PublicLemmas.{length-signed_for}
 
 -- the log that contents mean has an entry for each that is stored
 meant_length : (contents : Contents) → length (meant contents).log ≡ length contents.signed + length contents.unsigned

@@ -1,5 +1,5 @@
 -- One more entry of a log.
-use Rattle.std.proofs.Common.{◌≡◌, ◌<◌, ◌+◌, ℕ, List, [], ◌∷◌, ◌++◌, length, take, map, get_or, Bool, true, false, cond, refl, sym, ap, ◌∙◌}
+use Rattle.std.proofs.Common.{◌≡◌, ◌<◌, ◌+◌, ℕ, List, [], ◌++◌, length, take, get_or, refl, sym, ap, ◌∙◌}
 use Rattle.std.specs.Prelude.{filter, unwrap_or}
 use Rattle.mb_model.specs.declared.layer.Layers.{Layers}
 use Rattle.mb_model.specs.Layers.{unowned_layers}
@@ -10,14 +10,9 @@ use Rattle.mb_model.specs.Log.{entries_of, last_of, layers_in, layers_of}
 use Rattle.mb_model.specs.Lives.{alive_keys}
 use Rattle.mb_lemmas.specs.AliveLaws.{goes_on, made_by}
 use Rattle.mb_lemmas.proofs.AliveLemmas.{alive_keys-push}
+use Rattle.mb_lemmas.proofs.ValidRegions.{filter-map}
 use Rattle.mb_image.specs.declared.alive.MadeKey.{MadeKey}
 use Rattle.mb_image.specs.Keys.{as_listed, listed}
-
-filter-map : {X Y : Type 0} (p : Y → Bool) (f : X → Y) (xs : List X) → filter p (map f xs) ≡ map f (filter (λ x. p (f x)) xs)
-filter-map p f [] = refl
-filter-map p f (x ∷ xs) =
-    ap (λ more. cond (p (f x)) (f x ∷ more) more) (filter-map p f xs)
-    ∙ elim (p (f x)) as (λ b. cond b (f x ∷ map f (filter (λ y. p (f y)) xs)) (map f (filter (λ y. p (f y)) xs)) ≡ map f (cond b (x ∷ filter (λ y. p (f y)) xs) (filter (λ y. p (f y)) xs))) [ false ↦ refl | true ↦ refl ]
 
 -- the keys that are left
 pub listed-filter : (L : ℕ) (entry : Entry) (keys kept : List MadeKey) → kept ≡ filter (λ made. goes_on L entry (as_listed made)) keys

@@ -1,7 +1,6 @@
 -- The state that stored contents mean.
-use Rattle.std.proofs.Common.{◌≡◌, ◌≤◌, ℕ, suc, List, [], ◌∷◌, ◌++◌, length, map, Option, None, Some, refl, sym, ap, subst, ◌∙◌, arith, length-append}
+use Rattle.std.proofs.Common.{◌≡◌, ◌≤◌, ℕ, List, [], ◌∷◌, ◌++◌, length, map, Option, None, Some, refl, sym, ap, subst, ◌∙◌, arith, length-append}
 use Rattle.std.specs.Prelude.{All}
-use Rattle.std.proofs.lemmas.List.{length-map}
 use Rattle.std.proofs.lemmas.List.Elements.{All-nil, All-cons, All-append, All-head, All-tail}
 use Rattle.mb_model.specs.declared.key.KeySeed.{KeySeed}
 use Rattle.mb_model.specs.declared.entry.Entry.{Entry}
@@ -17,6 +16,7 @@ use Rattle.mb_model.specs.Meaning.{Contents, HoldsContents, meant, is_live, IsWe
 use Rattle.mb_model.specs.Faults.{AreSound}
 use Rattle.mb_model.specs.Signing.{public_of}
 use Rattle.mb_model.specs.Valid.{IsValidState}
+use Rattle.mb_lemmas.proofs.PublicLemmas.{length-signed_for}
 use Rattle.mb_image.specs.Stored.{CanBeCompleted}
 
 abbrev pub IsSpelled : SignedEntry → Type 0
@@ -36,11 +36,6 @@ signed_for_spelled device uses None unsigned are = all_by_spelled device _ unsig
 signed_for_spelled device uses (Some outgoing) [] are = All-nil IsSpelled
 signed_for_spelled device uses (Some outgoing) (first ∷ rest) are =
     All-cons IsSpelled (signed_by outgoing.seed _ first) (map (signed_by device 0) rest) (signed_by_spelled outgoing.seed _ first (All-head entry_format.Allowed first rest are)) (all_by_spelled device 0 rest (All-tail entry_format.Allowed first rest are))
-
-pub length-signed_for : (device : KeySeed) (uses : ℕ) (outgoing : Option Outgoing) (unsigned : List Entry) → length (signed_for device uses outgoing unsigned) ≡ length unsigned
-length-signed_for device uses None unsigned = length-map unsigned (signed_by device _)
-length-signed_for device uses (Some outgoing) [] = refl
-length-signed_for device uses (Some outgoing) (first ∷ rest) = ap (λ (n : ℕ). suc n) (length-map rest (signed_by device 0))
 
 -- each entry of the completed log has a spelling
 pub meant_spelled : (contents : Contents) (state : State) → CanBeCompleted contents → state ≡ meant contents → All IsSpelled state.log

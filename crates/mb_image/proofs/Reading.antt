@@ -1,5 +1,5 @@
 -- What a memory holds, found piece by piece.
-use Rattle.std.proofs.Common.{◌≡◌, ◌≤◌, ℕ, List, map, Option, None, Some, sym, ap, subst, ◌∙◌, arith, length-append}
+use Rattle.std.proofs.Common.{◌≡◌, ℕ, List, map, Option, None, Some, sym, ap, subst, ◌∙◌, arith, length-append}
 use Rattle.std.specs.Prelude.{MatchOption}
 use Rattle.std.proofs.lemmas.List.{length-map}
 use Rattle.std.proofs.lemmas.List.Elements.{All-weaker}
@@ -19,7 +19,7 @@ use Rattle.mb_layout.specs.Found.{Finds}
 use Rattle.mb_model.specs.declared.region.Region.{Region}
 use Rattle.mb_model.proofs.RecordFormatLaws.{public_exact}
 use Rattle.mb_lemmas.proofs.MeaningLemmas.{one_begun, IsBytes-flash_area}
-use Rattle.mb_lemmas.proofs.PublicLemmas.{bounded_by, public_few, public_entries, signed_front, unsigned_rest}
+use Rattle.mb_lemmas.proofs.PublicLemmas.{bounded_by, public_few, public_entries, signed_front, unsigned_rest, entry_from_signed}
 use Rattle.mb_image.specs.Entries.{IsSplit}
 use Rattle.mb_image.specs.Stored.{CanBeCompleted}
 
@@ -66,14 +66,6 @@ some_holds area held found region is finds some =
 
 -- ---- what is allowed
 
-entry_of : (signed : SignedEntry) → signed_entry_format.Allowed signed → entry_format.Allowed signed.entry
-unfolding signed_entry_format
-entry_of signed is = is.0
-
--- which area of the flash a root names
-pub held_area : (root : Root) → root_format.Allowed root → root.area ≤ 1
-held_area root is = (bounded_by root is).area
-
 -- the contents of a memory can be completed
 pub held_can_be_completed : (flash bbram : List ℕ) (contents : Contents) → HoldsContents flash bbram contents → CanBeCompleted contents
 held_can_be_completed flash bbram c holds =
@@ -87,7 +79,7 @@ held_can_be_completed flash bbram c holds =
       outgoing = bounded.outgoing;
       few = omega (arith, few, length-append (map with_signature c.signed) (map without_signature c.unsigned), length-map c.signed with_signature, length-map c.unsigned without_signature);
       unsigned = omega (arith, holds.public.counted.counted, bounded.unsigned);
-      signed_spelled = All-weaker signed_entry_format.Allowed (λ (s : SignedEntry). entry_format.Allowed s.entry) entry_of c.signed (signed_front c.signed (map without_signature c.unsigned) entries);
+      signed_spelled = All-weaker signed_entry_format.Allowed (λ (s : SignedEntry). entry_format.Allowed s.entry) entry_from_signed c.signed (signed_front c.signed (map without_signature c.unsigned) entries);
       unsigned_spelled = unsigned_rest c.signed c.unsigned entries;
     }
 

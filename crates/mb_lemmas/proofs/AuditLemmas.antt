@@ -1,12 +1,11 @@
 -- What an audit finds out, of any bytes that have a verdict.
 use Rattle.std.proofs.Common.{◌≡◌, ℕ, List, ◌++◌, length, take, sym, ap, subst, ◌∙◌, le_refl}
-use Rattle.std.proofs.lemmas.List.{length-map, take-append-le, take_all}
+use Rattle.std.proofs.lemmas.List.{take-append-le, take_all}
 use Rattle.mb_format.specs.Format.{IsBytes, Spells, IsClearWhole}
 use Rattle.mb_format.proofs.Whole.{IsClearWhole-from_exact}
 use Rattle.mb_model.specs.declared.key.PublicKey.{PublicKey}
 use Rattle.mb_model.specs.declared.entry.Chain.{Chain}
 use Rattle.mb_model.specs.declared.entry.Entry.{Entry}
-use Rattle.mb_model.specs.declared.entry.SignedEntry.{SignedEntry}
 use Rattle.mb_model.specs.declared.state.Report.{Report}
 use Rattle.mb_model.specs.declared.state.State.{State}
 use Rattle.mb_model.specs.Log.{entries_of}
@@ -17,13 +16,10 @@ use Rattle.mb_model.specs.Acceptance.{Verdict, IsVerdict, Accepts, Honest}
 use Rattle.mb_model.specs.AuditCommand.{own_lives, TellsOfDevice, IsAudited}
 use Rattle.mb_model.proofs.EntryFormatLaws.{chain_exact}
 use Rattle.mb_lemmas.proofs.ChainLemmas.{honest_is_front}
+use Rattle.mb_lemmas.proofs.LogLemmas.{length-entries_of}
 
 chain_clear : IsClearWhole chain_format
 chain_clear = IsClearWhole-from_exact chain_exact
-
--- a signed entry has one entry
-entries_counted : (log : List SignedEntry) → length (entries_of log) ≡ length log
-entries_counted log = length-map log (λ (s : SignedEntry). s.entry)
 
 -- the first entries of a log are the chain's, as many as it has
 first_entries : (log chain : List Entry) (later : List Entry) → log ≡ chain ++ later → take (length chain) log ≡ chain
@@ -40,7 +36,7 @@ tells state maker bytes n report chain are valid accepts spelled honest =
     let front = honest_is_front maker accepts.chain.entries state.log accepts.good valid.log
     (subst (λ (c : Chain). Honest c.entries maker (entries_of state.log)) (sym same) honest) in
     let count : report.entries ≡ length own =
-    ap (λ (r : Report). r.entries) accepts.report_is ∙ sym (entries_counted accepts.chain.entries) in
+    ap (λ (r : Report). r.entries) accepts.report_is ∙ sym (length-entries_of accepts.chain.entries) in
     record {
       later = front.0;
       begins = front.1 ∙ ap (λ (c : Chain). entries_of c.entries ++ front.0) same;

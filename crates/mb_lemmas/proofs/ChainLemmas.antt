@@ -1,9 +1,10 @@
 -- A chain has one verdict at most; an accepted one obeys the rules, and is the beginning of its device's log where none of it is forged.
 use Rattle.std.proofs.Common.{◌≡◌, ◌≢◌, ℕ, ◌<◌, List, [], ◌∷◌, ◌++◌, inl, inr, length, Option, None, Some, Bool, true, false, refl, sym, ap, subst, ◌∙◌, arith, length-append}
-use Rattle.std.specs.Prelude.{◌⊎◌, Any, Contains, get_or, unwrap_or, zero, suc}
+use Rattle.std.specs.Prelude.{◌⊎◌, Any, Contains, get_or, zero, suc}
 use Rattle.std.specs.Option.{option_or}
 use Rattle.std.proofs.Math.Seq.{append_snoc}
 use Rattle.std.proofs.lemmas.List.{append-nil, map-append, get_or_append_left}
+use Rattle.std.proofs.lemmas.List.Kept.{Any-cons}
 use Rattle.mb_format.specs.Format.{IsBytes, Spells, FailsWhole, IsClearWhole}
 use Rattle.mb_format.proofs.Whole.{IsClearWhole-from_exact}
 use Rattle.mb_model.specs.declared.key.PublicKey.{PublicKey}
@@ -22,15 +23,7 @@ use Rattle.mb_model.specs.Valid.{EachFollows}
 use Rattle.mb_model.specs.Acceptance.{ChainRefusal, bad_form, bad_signature, bad_order, breaks_rules, key_unknown, bad_statement, wrong_number, key_ended, in_charge, IsCertified, IsInPlace, IsGood, AreGood, IsNext, KeyEntry, key_of, is_alive, IsStated, IfStatement, IsCurrent, IsGoodFor, report_of, Accepts, IsRefused, Honest}
 use Rattle.mb_model.proofs.EntryFormatLaws.{chain_exact}
 use Rattle.mb_lemmas.proofs.LogLemmas.{split_push}
-use Rattle.mb_lemmas.proofs.Splits.{same_halves, two_splits, map_split, IsOne, one_more, Lacks, one_lacks, lacks_none}
-
-some_same : {X : Type 0} (x y : X) → ◌≡◌ {A = Option X} (Some x) (Some y) → x ≡ y
-some_same {X} x y e = ap (λ (o : Option X). unwrap_or o x) e
-
-none_is_some : {X : Type 0} (o : Option X) (x : X) → o ≡ None → o ≡ Some x → ⊥
-none_is_some {X} o x none some =
-    let e : ◌≡◌ {A = Option X} None (Some x) = sym none ∙ some in
-    grind (arith, e)
+use Rattle.mb_lemmas.proofs.Splits.{same_halves, two_splits, map_split, IsOne, one_more, Lacks, one_lacks, lacks_none, some_same, none_is_some}
 
 -- ---- an entry that is not good
 
@@ -352,9 +345,6 @@ contains_split (y ∷ xs) (suc k) x inside is =
     let found = contains_split xs k x (omega (arith, inside)) is in
     (y ∷ found.0, found.1, ap (λ t. y ∷ t) found.2)
 
-any_cons : {X : Type 0} (P : X → Type 0) (x : X) (xs : List X) → Any P xs → Any P (x ∷ xs)
-any_cons P x xs any = (suc any.0, any.1, omega (arith, any.2), any.3, any.4)
-
 any_left : {X : Type 0} (P : X → Type 0) (xs ys : List X) → Any P xs → Any P (xs ++ ys)
 any_left P xs ys any =
     let long = length-append xs ys in
@@ -372,7 +362,7 @@ unfolding last_of
 named_somewhere named [] x is = absurd (none_is_some None x refl is)
 named_somewhere named (first ∷ rest) x is =
     elim (named_last named first rest x (last_of named rest) refl is) [
-      | inl remaining ↦ any_cons (λ entry. named entry ≡ Some x) first rest (named_somewhere named rest x remaining)
+      | inl remaining ↦ Any-cons (λ entry. named entry ≡ Some x) first rest (named_somewhere named rest x remaining)
       | inr here ↦ (0, first, omega arith, refl, here)
     ]
 

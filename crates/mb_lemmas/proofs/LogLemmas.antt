@@ -2,7 +2,7 @@
 use Rattle.std.proofs.Common.{◌≡◌, ◌≢◌, ◌⊎◌, inl, inr, ◌≤◌, ◌<◌, ℕ, ◌+◌, List, [], ◌∷◌, ◌++◌, length, take, get_or, Option, None, Some, Bool, true, false, cond, refl, sym, ap, subst, ◌∙◌, arith, append_assoc, length-append}
 use Rattle.std.specs.Prelude.{take_while, reverse, is_some, is_none, unwrap_or, All, if◌then◌else◌}
 use Rattle.std.specs.Option.{option_or}
-use Rattle.std.proofs.lemmas.List.{reverse-append, append-nil, map-append, take_more}
+use Rattle.std.proofs.lemmas.List.{reverse-append, append-nil, map-append, length-map, take_more}
 use Rattle.std.proofs.lemmas.List.Elements.{All-tail, All-head}
 use Rattle.std.proofs.Math.Seq.{append_snoc}
 use Rattle.std.proofs.lemmas.List.Sums.{sum_by_push, sum_by-append, sum_by-cons, count_by-le-length, take_while-cons}
@@ -15,6 +15,7 @@ use Rattle.mb_model.specs.declared.entry.Entry.TheVariants.{Birth, Change, NewKe
 use Rattle.mb_model.specs.declared.entry.SignedEntry.{SignedEntry}
 use Rattle.mb_model.specs.Layers.{unowned_layers}
 use Rattle.mb_model.specs.Log.{entries_of, is_change, layers_in, device_in, keys_in, last_of, number_of, layers_of, device_of, used, made, Ruled, RuledLog}
+use Rattle.mb_lemmas.proofs.LineLemmas.{cons_same}
 
 pub number_of-push : (log : List Entry) (entry : Entry) → number_of (log ++ entry ∷ []) ≡ number_of log + (if is_change entry then 1 else 0)
 unfolding number_of
@@ -120,24 +121,20 @@ used-split before entry rest key is none =
     let more : used (before ++ entry ∷ [] ++ rest) ≡ used (before ++ entry ∷ []) + length rest = used-more (before ++ entry ∷ []) rest none in
     ap used (sym (append_snoc before entry rest)) ∙ omega (arith, zero, more)
 
--- the parts of two lists that are equal
-cons_parts : {X : Type 0} (x y : X) (xs ys : List X) → x ∷ xs ≡ y ∷ ys → (x ≡ y) × (xs ≡ ys)
-cons_parts x y xs ys e = (cc, cc)
-
 -- a place in a list with one more at the end is that end, or stands before it
 pub split_push : {X : Type 0} (xs ys zs : List X) (x y : X) → xs ++ x ∷ [] ≡ ys ++ y ∷ zs
     → ((zs ≡ []) × (xs ≡ ys) × (x ≡ y)) ⊎ ((more : List X) × (zs ≡ more ++ x ∷ []) × (xs ≡ ys ++ y ∷ more))
 split_push [] [] zs x y e =
-    let parts = cons_parts x y [] zs e in
+    let parts = cons_same x y [] zs e in
     inl (sym parts.1, refl, parts.0)
 split_push (a ∷ xs) [] zs x y e =
-    let parts = cons_parts a y (xs ++ x ∷ []) zs e in
+    let parts = cons_same a y (xs ++ x ∷ []) zs e in
     inr (xs, sym parts.1, ap (λ b. b ∷ xs) parts.0)
 split_push [] (b ∷ ys) zs x y e =
-    let parts = cons_parts x b [] (ys ++ y ∷ zs) e in
+    let parts = cons_same x b [] (ys ++ y ∷ zs) e in
     absurd (omega (arith, ap length parts.1, length-append ys (y ∷ zs)))
 split_push (a ∷ xs) (b ∷ ys) zs x y e =
-    let parts = cons_parts a b (xs ++ x ∷ []) (ys ++ y ∷ zs) e in
+    let parts = cons_same a b (xs ++ x ∷ []) (ys ++ y ∷ zs) e in
     elim (split_push xs ys zs x y parts.1) [
       | inl end ↦ inl (end.0, ap (λ h. h ∷ xs) parts.0 ∙ ap (λ t. b ∷ t) end.1, end.2)
       | inr found ↦ inr (found.0, found.1, ap (λ h. h ∷ xs) parts.0 ∙ ap (λ t. b ∷ t) found.2)
@@ -222,6 +219,10 @@ number-le log before position number kind k cosigned layers kept next rest ruled
     let own : number ≡ number_of before + 1 = (ruled before (Change position number kind k cosigned layers kept next) rest split).1.counted in
     let whole : number_of log ≡ number_of before + number_of (Change position number kind k cosigned layers kept next ∷ rest) = ap number_of split ∙ number_of-append before _ in
     omega (arith, own, whole, number_of-change position number kind k cosigned layers kept next rest)
+
+-- a signed entry has one entry
+pub length-entries_of : (log : List SignedEntry) → length (entries_of log) ≡ length log
+length-entries_of log = length-map log (λ (s : SignedEntry). s.entry)
 
 -- the entries up to one more
 pub entries_more : (log : List SignedEntry) (i : ℕ) (d : SignedEntry) → i < length log

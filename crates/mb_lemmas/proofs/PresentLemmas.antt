@@ -60,7 +60,7 @@ nothing_opened log more n L lives same now = (
       ∙ ap (λ (x : Layers). let c : Configuration = record { number = now.1; upto = L; layers = x } in now.0 ++ c ∷ []) same,
 )
 
-not_first : (before : List Entry) (entry : Entry) (more : List Entry) → before ++ entry ∷ more ≡ [] → ⊥
+pub not_first : (before : List Entry) (entry : Entry) (more : List Entry) → before ++ entry ∷ more ≡ [] → ⊥
 not_first before entry more e = omega (arith, ap length e, length-append before (entry ∷ more))
 
 above : (k L : ℕ) → nat_le k L ≡ false → L < k

@@ -1,11 +1,13 @@
 -- What is true of a root and of a public record that can be spelled: their numbers are small, and their entries can be
 -- spelled too.
-use Rattle.std.proofs.Common.{◌≤◌, List, [], ◌∷◌, ◌++◌, length, map, Option, None, Some, arith}
+use Rattle.std.proofs.Common.{◌≡◌, ◌≤◌, ℕ, suc, List, [], ◌∷◌, ◌++◌, length, map, Option, None, Some, refl, ap, arith}
 use Rattle.std.specs.Prelude.{All, IfSome}
 use Rattle.std.specs.List.{AllByRecursion}
+use Rattle.std.proofs.lemmas.List.{length-map}
 use Rattle.std.proofs.lemmas.List.Elements.{All-nil, All-cons}
 use Rattle.mb_format.specs.Combinators.{optional}
 use Rattle.mb_format.proofs.Compositions.{items_all}
+use Rattle.mb_model.specs.declared.key.KeySeed.{KeySeed}
 use Rattle.mb_model.specs.declared.entry.Entry.{Entry}
 use Rattle.mb_model.specs.declared.entry.PublicEntry.{PublicEntry}
 use Rattle.mb_model.specs.declared.entry.SignedEntry.{SignedEntry}
@@ -14,8 +16,9 @@ use Rattle.mb_model.specs.declared.stored.Pending.{Pending}
 use Rattle.mb_model.specs.declared.stored.Public.{Public}
 use Rattle.mb_model.specs.declared.stored.Root.{Root}
 use Rattle.mb_model.specs.EntryFormat.{entry_format, signed_entry_format}
+use Rattle.mb_model.specs.OrderStep.{signed_by}
 use Rattle.mb_model.specs.RootFormat.{outgoing_format, pending_format, root_format}
-use Rattle.mb_model.specs.StoredLog.{unsigned_by, outgoing_of}
+use Rattle.mb_model.specs.StoredLog.{signed_for, unsigned_by, outgoing_of}
 use Rattle.mb_model.specs.Flash.{public_entry_format, public_format, with_signature, without_signature}
 
 -- ---- the root
@@ -76,3 +79,16 @@ pub unsigned_rest : (signed : List SignedEntry) (unsigned : List Entry) → AllB
 unsigned_rest [] [] are = All-nil entry_format.Allowed
 unsigned_rest [] (entry ∷ more) are = All-cons entry_format.Allowed entry more (entry_from_public entry are.0) (unsigned_rest [] more are.1)
 unsigned_rest (one ∷ rest) unsigned are = unsigned_rest rest unsigned are.1
+
+-- a signed entry has an entry
+pub entry_from_signed : (signed : SignedEntry) → signed_entry_format.Allowed signed → entry_format.Allowed signed.entry
+unfolding signed_entry_format
+entry_from_signed signed is = is.0
+
+-- ---- signatures that are still to be made
+
+-- as many entries are signed as there are
+pub length-signed_for : (device : KeySeed) (uses : ℕ) (outgoing : Option Outgoing) (unsigned : List Entry) → length (signed_for device uses outgoing unsigned) ≡ length unsigned
+length-signed_for device uses None unsigned = length-map unsigned (signed_by device _)
+length-signed_for device uses (Some outgoing) [] = refl
+length-signed_for device uses (Some outgoing) (first ∷ rest) = ap (λ (n : ℕ). suc n) (length-map rest (signed_by device 0))

@@ -18,6 +18,7 @@ use Rattle.mb_lemmas.specs.AliveLaws.{makes, IsUnmade}
 use Rattle.mb_lemmas.specs.ReaderLaws.{first_life}
 use Rattle.mb_lemmas.proofs.LogLemmas.{last_of-push, RuledLog-front, made-push}
 use Rattle.mb_lemmas.proofs.AliveLemmas.{alive_keys-nil, alive_keys-cons, alive_is_listed, high_is_unmade, later_is_unmade, one_listed, lives_from-other, unmade_has_no_lives, lives_of-push}
+use Rattle.mb_lemmas.proofs.Splits.{some_same}
 
 -- ---- what is named last
 
@@ -71,9 +72,6 @@ makes_none n (Succession position key) other = refl
 unnamed_is_unmade : (log : List Entry) (n : ℕ) → key_of log n ≡ None → IsUnmade log n
 unfolding key_of
 unnamed_is_unmade log n none = All-weaker (λ e. key_in n e ≡ None) (λ e. makes n e ≡ false) (names_none n) log (last_is_none (key_in n) log none)
-
-some_same : {X : Type 0} (x y : X) → Some x ≡ Some y → x ≡ y
-some_same x y e = cc
 
 -- the entry is the one that makes this key
 abbrev IsEntryOf : ℕ → KeyEntry → Entry → Type 0

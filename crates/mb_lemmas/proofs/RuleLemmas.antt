@@ -76,7 +76,7 @@ placed_can old (act.Emergency payload) kind e =
 placed_can old (act.NewKey key_kind) kind e = grind arith
 
 -- two layers with the same four fields are one
-abbrev layer_with : Option PublicKey → Option CodeName → Bool → Trust → Layer
+abbrev pub layer_with : Option PublicKey → Option CodeName → Bool → Trust → Layer
 layer_with owner code reliable trust = record { owner = owner; code = code; reliable = reliable; trust = trust }
 
 layer_same : (a b : Layer) → a.owner ≡ b.owner → a.code ≡ b.code → a.reliable ≡ b.reliable → a.trust ≡ b.trust → a ≡ b

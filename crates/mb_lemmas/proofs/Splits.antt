@@ -1,13 +1,26 @@
 -- Places in lists, and answers of which at most one is given.
-use Rattle.std.proofs.Common.{◌≡◌, ℕ, ◌+◌, List, [], ◌∷◌, ◌++◌, inl, inr, length, map, refl, sym, ap, subst, ◌∙◌, arith}
+use Rattle.std.proofs.Common.{◌≡◌, ℕ, ◌+◌, Option, None, Some, List, [], ◌∷◌, ◌++◌, inl, inr, length, map, refl, sym, ap, subst, ◌∙◌, arith}
 use Rattle.std.specs.Prelude.{◌⊎◌, All}
 use Rattle.std.proofs.lemmas.List.Elements.{All-nil, All-cons, All-head, All-tail}
 use Rattle.mb_model.specs.Rules.{IsFirstFailing}
+use Rattle.mb_lemmas.proofs.LineLemmas.{cons_same}
+
+-- ---- values that may be missing
+
+pub some_same : {X : Type 0} (x y : X) → Some x ≡ Some y → x ≡ y
+some_same x y e = cc
+
+pub none_is_some : {X : Type 0} (o : Option X) (x : X) → o ≡ None → o ≡ Some x → ⊥
+none_is_some o x none some = cc
 
 -- ---- lists
 
-cons_parts : {X : Type 0} (x y : X) (xs ys : List X) → x ∷ xs ≡ y ∷ ys → (x ≡ y) × (xs ≡ ys)
-cons_parts x y xs ys e = (cc, cc)
+-- what holds at each place of a list holds of all of it
+pub All-from_splits : {X : Type 0} (P : X → Type 0) (xs : List X) → ((before : List X) (x : X) (rest : List X) → xs ≡ before ++ x ∷ rest → P x) → All P xs
+All-from_splits P [] each = All-nil P
+All-from_splits P (x ∷ xs) each =
+    All-cons P x xs (each [] x xs refl)
+    (All-from_splits P xs (λ before y rest split. each (x ∷ before) y rest (ap (λ ys. x ∷ ys) split)))
 
 -- of two parts of a list, the first is as long as another first part: then both are
 pub same_halves : {X : Type 0} (xs us ys vs : List X) → length xs ≡ length us → xs ++ ys ≡ us ++ vs → (xs ≡ us) × (ys ≡ vs)
@@ -15,22 +28,22 @@ same_halves [] [] ys vs long e = (refl, e)
 same_halves [] (u ∷ us) ys vs long e = absurd (omega (arith, long))
 same_halves (x ∷ xs) [] ys vs long e = absurd (omega (arith, long))
 same_halves (x ∷ xs) (u ∷ us) ys vs long e =
-    let parts = cons_parts x u (xs ++ ys) (us ++ vs) e in
+    let parts = cons_same x u (xs ++ ys) (us ++ vs) e in
     let rest = same_halves xs us ys vs (omega (arith, long)) parts.1 in
     (ap (λ h. h ∷ xs) parts.0 ∙ ap (λ t. u ∷ t) rest.0, rest.1)
 
 -- two places in a list are one, or one stands before the other
 pub two_splits : {X : Type 0} (xs ys : List X) (x y : X) (rs ss : List X) → xs ++ x ∷ rs ≡ ys ++ y ∷ ss
     → ((xs ≡ ys) × (x ≡ y)) ⊎ (((more : List X) × (ys ≡ xs ++ x ∷ more)) ⊎ ((more : List X) × (xs ≡ ys ++ y ∷ more)))
-two_splits [] [] x y rs ss e = inl (refl, (cons_parts x y rs ss e).0)
+two_splits [] [] x y rs ss e = inl (refl, (cons_same x y rs ss e).0)
 two_splits [] (b ∷ ys) x y rs ss e =
-    let parts = cons_parts x b rs (ys ++ y ∷ ss) e in
+    let parts = cons_same x b rs (ys ++ y ∷ ss) e in
     inr (inl (ys, ap (λ h. h ∷ ys) (sym parts.0)))
 two_splits (a ∷ xs) [] x y rs ss e =
-    let parts = cons_parts a y (xs ++ x ∷ rs) ss e in
+    let parts = cons_same a y (xs ++ x ∷ rs) ss e in
     inr (inr (xs, ap (λ h. h ∷ xs) parts.0))
 two_splits (a ∷ xs) (b ∷ ys) x y rs ss e =
-    let parts = cons_parts a b (xs ++ x ∷ rs) (ys ++ y ∷ ss) e in
+    let parts = cons_same a b (xs ++ x ∷ rs) (ys ++ y ∷ ss) e in
     elim (two_splits xs ys x y rs ss parts.1) [
       | inl same ↦ inl (ap (λ h. h ∷ xs) parts.0 ∙ ap (λ t. b ∷ t) same.0, same.1)
       | inr (inl first) ↦ inr (inl (first.0, ap (λ t. b ∷ t) first.1 ∙ ap (λ h. h ∷ xs ++ x ∷ first.0) (sym parts.0)))
@@ -50,9 +63,9 @@ pub map_split : {X Y : Type 0} (f : X → Y) (xs : List X) (before rest : List Y
 map_split f [] [] rest y e = absurd (omega (arith, ap length e))
 map_split f [] (b ∷ before) rest y e = absurd (omega (arith, ap length e))
 map_split f (x ∷ xs) [] rest y e =
-    record { front = []; x = x; back = xs; split = refl; before_is = refl; y_is = (cons_parts (f x) y (map f xs) rest e).0 }
+    record { front = []; x = x; back = xs; split = refl; before_is = refl; y_is = (cons_same (f x) y (map f xs) rest e).0 }
 map_split f (x ∷ xs) (b ∷ before) rest y e =
-    let parts = cons_parts (f x) b (map f xs) (before ++ y ∷ rest) e in
+    let parts = cons_same (f x) b (map f xs) (before ++ y ∷ rest) e in
     let found = map_split f xs before rest y parts.1 in
     record {
       front = x ∷ found.front;

@@ -38,7 +38,7 @@ use Rattle.mb_lemmas.proofs.AliveLemmas.{alive_keys-push}
 
 -- ---- keys over an entry
 
-filter-map : {X Y : Type 0} (p : Y → Bool) (f : X → Y) (xs : List X) → filter p (map f xs) ≡ map f (filter (λ x. p (f x)) xs)
+pub filter-map : {X Y : Type 0} (p : Y → Bool) (f : X → Y) (xs : List X) → filter p (map f xs) ≡ map f (filter (λ x. p (f x)) xs)
 filter-map p f [] = refl
 filter-map p f (x ∷ xs) =
     ap (λ more. cond (p (f x)) (f x ∷ more) more) (filter-map p f xs)
@@ -64,7 +64,7 @@ keys_over log entry L keys are =
 abbrev ended_by : Bool → Bool → KeyKind → Bool
 ended_by beneath agrees kind = if beneath then false else if agrees then not (is_epoch kind) else true
 
-kept_at : (layers : Layers) (kind : ChangeKind) (k : ℕ) (cosigned : Pair) (L : ℕ) → IsTrue (is_upper L)
+pub kept_at : (layers : Layers) (kind : ChangeKind) (k : ℕ) (cosigned : Pair) (L : ℕ) → IsTrue (is_upper L)
     → is_in L (kept_regions layers kind k cosigned) ≡ is_kept layers kind k cosigned L
 kept_at layers kind k cosigned L upper =
     at_upper (λ m. is_in m (kept_regions layers kind k cosigned) ≡ is_kept layers kind k cosigned m) L upper refl refl

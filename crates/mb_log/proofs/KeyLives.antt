@@ -1,5 +1,5 @@
 -- What entries say of one key of a region, with one more.
-use Rattle.std.proofs.Common.{◌≡◌, ℕ, List, [], ◌∷◌, ◌++◌, Bool, true, false, ◌≢◌, inl, inr, refl, sym, ap, subst, ◌∙◌, Option, None, Some, eq-eqb}
+use Rattle.std.proofs.Common.{◌≡◌, ℕ, List, [], ◌∷◌, ◌++◌, Bool, true, false, ◌≢◌, inl, inr, refl, sym, ap, subst, ◌∙◌, None, Some, eq-eqb}
 use Rattle.std.specs.Prelude.{Result, Ok, Err, OnOk, ◌==◌, not, ◌&&◌, if◌then◌else◌}
 use Rattle.std.specs.Option.{option_map}
 use Rattle.std.proofs.lemmas.Bool.Decides.{eqb_tells}
@@ -12,17 +12,12 @@ use Rattle.mb_model.specs.Log.{number_of, layers_of, last_of, RuledLog}
 use Rattle.mb_model.specs.Lives.{ends, configuration, opened_by, lives_of}
 use Rattle.mb_model.specs.Acceptance.{KeyEntry, key_in, key_of, is_alive}
 use Rattle.mb_lemmas.proofs.ReaderLemmas.{no_lives_unmade, first_sight, first_lives, first_alive, stays_made, stays_alive, lives_on}
+use Rattle.mb_lemmas.proofs.Splits.{some_same, none_is_some}
 use Rattle.mb_log.specs.declared.life.BornKey.{BornKey}
 use Rattle.mb_log.specs.declared.life.Life.{Life}
 use Rattle.mb_log.specs.declared.figures.Figures.{Figures}
 use Rattle.mb_log.specs.Figures.{figures_of}
 use Rattle.mb_log.specs.KeyLife.{as_entry, IsLifeOf}
-
-some_same : {X : Type 0} (x y : X) → Some x ≡ Some y → x ≡ y
-some_same x y e = cc
-
-none_is_some : {X : Type 0} (x : X) (o : Option X) → o ≡ None → o ≡ Some x → ⊥
-none_is_some x o a b = cc
 
 no_key : (n : ℕ) → key_of [] n ≡ None
 unfolding key_of last_of
@@ -33,7 +28,7 @@ pub life_begins : (n : ℕ) (lives : List Configuration) → lives ≡ [] → Is
 life_begins n lives none = record {
   number = refl;
   born = no_key n;
-  alive = λ made e. absurd (none_is_some made (key_of [] n) (no_key n) e);
+  alive = λ made e. absurd (none_is_some (key_of [] n) made (no_key n) e);
   lives = none ∙ sym (no_lives_unmade [] n (no_key n));
 }
 
@@ -46,7 +41,7 @@ stays_unborn before entry n life unborn other is =
     record {
       number = is.number;
       born = none_yet ∙ sym (ap (option_map as_entry) unborn);
-      alive = λ made e. absurd (none_is_some made (key_of (before ++ entry ∷ []) n) none_yet e);
+      alive = λ made e. absurd (none_is_some (key_of (before ++ entry ∷ []) n) made none_yet e);
       lives = is.lives ∙ no_lives_unmade before n none ∙ sym (no_lives_unmade (before ++ entry ∷ []) n none_yet);
     }
 

@@ -21,7 +21,7 @@ use Rattle.mb_bytes.specs.Puts.{Puts, Writes}
 use Rattle.mb_model.specs.Factory.{serial_from, first_key, layers_at_birth, birth_entry, codes_at_birth, state_at_birth, IsFactoryImage}
 use Rattle.mb_model.proofs.FormatBounds.{public_short}
 use Rattle.mb_lemmas.proofs.FactoryLemmas.{birth_is_valid}
-use Rattle.mb_storing.proofs.StorableFormats.{signed_entry}
+use Rattle.mb_lemmas.proofs.PublicLemmas.{entry_from_signed}
 use Rattle.mb_storing.proofs.StorableMemories.{birth_storable}
 use Rattle.mb_storing.proofs.StorableRecords.{resting_root, resting_public, root_room}
 use Rattle.mb_officer.specs.NewImage.{root_at_birth, new_flash, new_bbram, new_image}
@@ -80,7 +80,7 @@ module _ (maker : KeySeed) (index : ℕ) (owner : PublicKey) (code noise : List 
   unfolding state_at_birth signed_by
   birth_spelled =
       let signed = signed_by maker index (birth_entry owner code noise) in
-      signed_entry signed (All-head signed_entry_format.Allowed signed [] (birth_storable maker index owner code noise is short long).log)
+      entry_from_signed signed (All-head signed_entry_format.Allowed signed [] (birth_storable maker index owner code noise is short long).log)
 
   -- ---- as they are made
 

@@ -1,5 +1,5 @@
 -- The indices of device keys in a log count entries.
-use Rattle.std.proofs.Common.{◌≡◌, ◌≢◌, ◌<◌, ℕ, List, [], ◌∷◌, ◌++◌, length, Option, None, Some, refl, sym, ap, subst, ◌∙◌, arith, length-append}
+use Rattle.std.proofs.Common.{◌≡◌, ◌≢◌, ◌<◌, ℕ, List, [], ◌∷◌, ◌++◌, length, Option, None, Some, refl, sym, ap, subst, ◌∙◌, arith}
 use Rattle.std.specs.Prelude.{All, IsSome}
 use Rattle.std.specs.Option.{option_or}
 use Rattle.std.proofs.lemmas.List.{map-append, length-map}
@@ -14,6 +14,7 @@ use Rattle.mb_model.specs.SignedTexts.{entry_text, IsSignedBy}
 use Rattle.mb_model.specs.Valid.{IsValidState}
 use Rattle.mb_lemmas.proofs.LogLemmas.{used-split}
 use Rattle.mb_lemmas.proofs.ReaderLemmas.{none_of_two}
+use Rattle.mb_lemmas.proofs.PresentLemmas.{not_first}
 use Rattle.mb_model.specs.Runs.{NamesDevice, HasInCharge, SignsEntriesOnce}
 
 -- the entry of a signed one
@@ -24,16 +25,13 @@ some_is : {X : Type 0} (o : Option X) → IsSome o → (x : X) × (o ≡ Some x)
 some_is None is = absurd (grind (arith, is))
 some_is (Some x) is = (x, refl)
 
-not_nothing : (before : List Entry) (entry : Entry) (more : List Entry) → before ++ entry ∷ more ≡ [] → ⊥
-not_nothing before entry more e = omega (arith, ap length e, length-append before (entry ∷ more))
-
 pub indices_count : (state : State) (front : List SignedEntry) (namer : SignedEntry) (between : List SignedEntry) (signed : SignedEntry) → IsValidState state
     → HasInCharge state.log front namer between signed → leaf_number signed.signature ≡ length between
 indices_count state front namer between signed valid has =
     let before : List SignedEntry = front ++ namer ∷ between in
     let follows = valid.log before signed has.rest has.split in
     let whole : entries_of before ≡ entries_of front ++ namer.entry ∷ entries_of between = map-append entry_in front (namer ∷ between) in
-    let some : entries_of before ≢ [] = λ e. not_nothing (entries_of front) namer.entry (entries_of between) (sym whole ∙ e) in
+    let some : entries_of before ≢ [] = λ e. not_first (entries_of front) namer.entry (entries_of between) (sym whole ∙ e) in
     let key = some_is (device_in namer.entry) has.names in
     let none : All (λ e. device_in e ≡ None) (entries_of between) = All-map (λ e. device_in e ≡ None) entry_in between has.none in
     (follows.in_order some).next

@@ -1,6 +1,7 @@
 -- A statement that is attached to the log of the device, then or later, is accepted.
 use Rattle.std.proofs.Common.{◌≡◌, ◌≢◌, ◌≤◌, ◌<◌, ℕ, ◌+◌, List, [], ◌∷◌, ◌++◌, length, Option, None, Some, Bool, true, false, cond, refl, sym, ap, subst, ◌∙◌, arith, append_assoc}
-use Rattle.std.specs.Prelude.{nat_lt, not, take_while, All, Contains, IsSomeAnd}
+use Rattle.std.specs.Prelude.{not, take_while, All, Contains, IsSomeAnd}
+use Rattle.std.proofs.lemmas.Bool.{le-ltb}
 use Rattle.std.proofs.lemmas.List.{map-append}
 use Rattle.std.proofs.lemmas.List.Elements.{All-nil, All-cons, All-head, All-tail, All-append, All-map, All-weaker}
 use Rattle.std.proofs.lemmas.List.Sums.{sum_by-cons, take_while-cons}
@@ -34,6 +35,7 @@ use Rattle.mb_lemmas.proofs.ValidStates.{valid_is_ruled}
 use Rattle.mb_lemmas.proofs.ValidSteps.{step_valid, run_valid}
 use Rattle.mb_lemmas.proofs.ReaderLemmas.{living_is_flagged, not_true}
 use Rattle.mb_lemmas.proofs.SignatureLemmas.{signature_verifies}
+use Rattle.mb_lemmas.proofs.Splits.{All-from_splits}
 use Rattle.mb_model.specs.Runs.{BeginsWith, worlds_of, StaysAccepted, IsAcceptedIn, StatementsStayAccepted}
 use Rattle.mb_model.specs.Attach.{is_change_above, cut_at, stated_chain}
 use Rattle.mb_run_laws.specs.StatementLaws.{IsStatedIn, entry_of}
@@ -62,11 +64,6 @@ statement_of_key world given n index statement next step =
     )
 
 -- ---- lists
-
-all_from_splits : {X : Type 0} (P : X → Type 0) (xs : List X) → ((before : List X) (x : X) (rest : List X) → xs ≡ before ++ x ∷ rest → P x) → All P xs
-all_from_splits P [] each = All-nil P
-all_from_splits P (x ∷ xs) each =
-    All-cons P x xs (each [] x xs refl) (all_from_splits P xs (λ before y rest e. each (x ∷ before) y rest (ap (λ t. x ∷ t) e)))
 
 -- what passes at the front is taken
 taken_past : {X : Type 0} (p : X → Bool) (front back : List X) → All (λ x. p x ≡ true) front → take_while p (front ++ back) ≡ front ++ take_while p back
@@ -106,13 +103,10 @@ taken p (x ∷ xs) = subst (Taken p (x ∷ xs)) (sym (take_while-cons p x xs)) (
 abbrev stays_in : ℕ → SignedEntry → Bool
 stays_in n signed = not (is_change_above n signed.entry)
 
-not_less : (a b : ℕ) → b ≤ a → nat_lt a b ≡ false
-not_less a b least = grind (arith, least)
-
 no_higher : (log before : List Entry) (entry : Entry) (rest : List Entry) → RuledLog log → log ≡ before ++ entry ∷ rest → is_change_above (number_of log) entry ≡ false
 no_higher log before (Birth serial key layers) rest ruled split = refl
 no_higher log before (Change position number kind layer cosigned layers kept next) rest ruled split =
-    not_less (number_of log) number (number-le log before position number kind layer cosigned layers kept next rest ruled split)
+    le-ltb (number_of log) number (number-le log before position number kind layer cosigned layers kept next rest ruled split)
 no_higher log before (NewKey position number key_number layer kind key) rest ruled split = refl
 no_higher log before (Succession position key) rest ruled split = refl
 
@@ -123,7 +117,7 @@ split_entries log before signed rest split = ap entries_of split ∙ map-append 
 -- a log has no change with a number above its own
 all_stay : (log : List SignedEntry) → RuledLog (entries_of log) → All (λ signed. stays_in (number_of (entries_of log)) signed ≡ true) log
 all_stay log ruled =
-    all_from_splits (λ (signed : SignedEntry). stays_in (number_of (entries_of log)) signed ≡ true) log
+    All-from_splits (λ (signed : SignedEntry). stays_in (number_of (entries_of log)) signed ≡ true) log
     (λ before signed rest split.
     ap not (no_higher (entries_of log) (entries_of before) signed.entry (entries_of rest) ruled (split_entries log before signed rest split)))
 
@@ -161,7 +155,7 @@ quiet_after : (log cut tail : List SignedEntry) → RuledLog (entries_of (log ++
     → All (λ signed. stays_in (number_of (entries_of log)) signed ≡ true) cut → All IsQuiet cut
 quiet_after log cut tail ruled some stay =
     let n : ℕ = number_of (entries_of log) in
-    all_from_splits IsQuiet cut
+    All-from_splits IsQuiet cut
     (λ before signed rest split.
     let past : List Entry = entries_of log ++ entries_of before in
     let stays : stays_in n signed ≡ true = stay_at cut before signed rest split (λ s. stays_in n s ≡ true) stay in

@@ -24,7 +24,6 @@ use Rattle.mb_model.specs.declared.region.RegionKey.{RegionKey}
 use Rattle.mb_model.specs.declared.region.Secret.{Secret}
 use Rattle.mb_model.specs.declared.state.Codes.{Codes}
 use Rattle.mb_model.specs.declared.stored.Fate.TheVariants.{Keep}
-use Rattle.mb_model.specs.declared.entry.SignedEntry.{SignedEntry}
 use Rattle.mb_model.specs.Layers.{unowned, layer_of}
 use Rattle.mb_model.specs.Rules.{kind_of, change_of, is_load, placed, loaded_layer, admits, after}
 use Rattle.mb_model.specs.Born.{born_key}
@@ -39,6 +38,7 @@ use Rattle.mb_model.specs.OrderFormat.{payload_format, act_by}
 use Rattle.mb_model.specs.Flash.{code_format, codes_format}
 use Rattle.mb_model.specs.OrderStep.{signed_by, code_after, codes_after}
 use Rattle.mb_lemmas.proofs.SignatureLemmas.{length-signature_of, public_sized, born_key-sized}
+use Rattle.mb_lemmas.proofs.RuleLemmas.{layer_with}
 
 -- ---- numbers and options
 
@@ -78,9 +78,6 @@ unfolding region_key_format key_kind_format
 used_key_allowed key is left = (is.0, (tt, (is.1.1.0, (omega arith, omega (arith, left)))))
 
 -- ---- layers
-
-abbrev layer_with : Option PublicKey → Option CodeName → Bool → Trust → Layer
-layer_with owner code reliable trust = record { owner = owner; code = code; reliable = reliable; trust = trust }
 
 pub unowned_allowed : layer_format.Allowed unowned
 unfolding layer_format
@@ -240,10 +237,6 @@ succession_allowed position key small is = (tt, (small, is))
 pub signed_allowed : (key : KeySeed) (index : ℕ) (entry : Entry) → entry_format.Allowed entry → signed_entry_format.Allowed (signed_by key index entry)
 unfolding signed_entry_format signed_by
 signed_allowed key index entry is = (is, length-signature_of key index (entry_text entry))
-
-pub signed_entry : (signed : SignedEntry) → signed_entry_format.Allowed signed → entry_format.Allowed signed.entry
-unfolding signed_entry_format
-signed_entry signed is = is.0
 
 -- ---- fates and secrets
 

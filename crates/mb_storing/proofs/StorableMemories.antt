@@ -1,5 +1,5 @@
 -- A state for which a memory stands can be stored, and so can that of a new device.
-use Rattle.std.proofs.Common.{◌≡◌, ◌≤◌, ℕ, List, [], ◌∷◌, ◌++◌, inl, inr, length, map, take, suc, Option, None, Some, Bool, true, false, refl, sym, ap, subst, arith, length-append}
+use Rattle.std.proofs.Common.{◌≡◌, ◌≤◌, ℕ, List, [], ◌∷◌, ◌++◌, inl, inr, length, map, take, Option, None, Some, Bool, true, false, refl, sym, subst, arith, length-append}
 use Rattle.std.specs.Prelude.{All, unwrap_or, if◌then◌else◌}
 use Rattle.std.specs.Option.{option_or}
 use Rattle.std.specs.List.{list_any, AllByRecursion}
@@ -39,10 +39,10 @@ use Rattle.mb_model.specs.Meaning.{Contents, HoldsContents, fated, fate_of_two, 
 use Rattle.mb_model.specs.Valid.{IsValidState}
 use Rattle.mb_model.specs.Factory.{layers_at_birth, serial_from, birth_entry, state_at_birth}
 use Rattle.mb_model.proofs.Places.{length-part}
-use Rattle.mb_lemmas.proofs.PublicLemmas.{root_pending, public_few, public_entries, signed_front, unsigned_rest}
+use Rattle.mb_lemmas.proofs.PublicLemmas.{root_pending, public_few, public_entries, signed_front, unsigned_rest, entry_from_signed, length-signed_for}
 use Rattle.mb_storing.specs.Storable.{IsStorableRegion, IsStorableState}
 use Rattle.mb_storing.proofs.CommitLemmas.{live_contents}
-use Rattle.mb_storing.proofs.StorableFormats.{keep_allowed, signed_entry, small_number, born_seed_allowed, born_public_allowed, unowned_allowed, layers_allowed, first_layer_allowed, first_codes_allowed, birth_allowed, signed_allowed}
+use Rattle.mb_storing.proofs.StorableFormats.{keep_allowed, small_number, born_seed_allowed, born_public_allowed, unowned_allowed, layers_allowed, first_layer_allowed, first_codes_allowed, birth_allowed, signed_allowed}
 use Rattle.mb_storing.proofs.StorableOrders.{empty_storable}
 
 -- ---- the root
@@ -125,11 +125,6 @@ all_signed device uses (Some outgoing) [] are = All-nil signed_entry_format.Allo
 all_signed device uses (Some outgoing) (first ∷ rest) are =
     All-cons signed_entry_format.Allowed _ (map (signed_by device 0) rest) (signed_allowed outgoing.seed _ first are.0) (mapped_signed device 0 rest are.1)
 
-length-signed_for : (device : KeySeed) (uses : ℕ) (outgoing : Option Outgoing) (unsigned : List Entry) → length (signed_for device uses outgoing unsigned) ≡ length unsigned
-length-signed_for device uses None unsigned = length-map unsigned (signed_by device _)
-length-signed_for device uses (Some outgoing) [] = refl
-length-signed_for device uses (Some outgoing) (first ∷ rest) = ap (λ (n : ℕ). suc n) (length-map rest (signed_by device 0))
-
 -- the layers that entries name can be stored
 abbrev NamesAllowed : Option Layers → Type 0
 NamesAllowed None = Unit {0}
@@ -149,7 +144,7 @@ either_names (Some layers) own is_later is_own = is_later
 last_names : (log : List SignedEntry) → AllByRecursion signed_entry_format.Allowed log → NamesAllowed (last_of layers_in (entries_of log))
 unfolding last_of
 last_names [] are = tt
-last_names (signed ∷ rest) are = either_names (last_of layers_in (entries_of rest)) (layers_in signed.entry) (last_names rest are.1) (entry_names signed.entry (signed_entry signed are.0))
+last_names (signed ∷ rest) are = either_names (last_of layers_in (entries_of rest)) (layers_in signed.entry) (last_names rest are.1) (entry_names signed.entry (entry_from_signed signed are.0))
 
 named_or_none : (named : Option Layers) → NamesAllowed named → layers_format.Allowed (unwrap_or named unowned_layers)
 named_or_none None is = layers_allowed unowned_layers unowned_allowed unowned_allowed unowned_allowed

@@ -2,7 +2,6 @@
 use Rattle.std.proofs.Common.{◌≡◌, ℕ, ◌+◌, ◌≤◌, ◌<◌, List, [], ◌∷◌, length, Some, Bool, true, false, refl, sym, subst, arith, length-append}
 use Rattle.std.specs.Prelude.{◌==◌, nat_lt, All, IsSome, if◌then◌else◌}
 use Rattle.std.specs.Int.{w32}
-use Rattle.std.proofs.lemmas.List.{length-map}
 use Rattle.std.proofs.lemmas.List.Elements.{All-nil, All-push, All-filter}
 use Rattle.std.proofs.lemmas.List.Sums.{length-filter, count_by-le-length}
 use Rattle.mb_format.specs.Combinators.{limit, optional}
@@ -17,7 +16,6 @@ use Rattle.mb_model.specs.declared.order.Order.{Order}
 use Rattle.mb_model.specs.declared.order.OrderKind.{OrderKind}
 use Rattle.mb_model.specs.declared.order.OrderKind.TheVariants as kinds
 use Rattle.mb_model.specs.declared.entry.Entry.{Entry}
-use Rattle.mb_model.specs.declared.entry.SignedEntry.{SignedEntry}
 use Rattle.mb_model.specs.declared.region.Region.{Region}
 use Rattle.mb_model.specs.declared.region.RegionKey.{RegionKey}
 use Rattle.mb_model.specs.declared.state.State.{State}
@@ -31,7 +29,7 @@ use Rattle.mb_model.specs.EntryFormat.{entry_format, signed_entry_format}
 use Rattle.mb_model.specs.RootFormat.{region_key_format}
 use Rattle.mb_model.specs.OrderFormat.{act_by, body_format, order_format}
 use Rattle.mb_model.specs.OrderStep.{region_of, with_region, change_by, needs_succession, RegionHasRoom, Passes, signed_by, log_with, succeeded, device_after, cosigned_by, named_next, changed_layers, change_entry, changed, key_made, key_entry, keyed, ready_for, carried_out, obeyed}
-use Rattle.mb_lemmas.proofs.LogLemmas.{number_of-le-length, made-le-length}
+use Rattle.mb_lemmas.proofs.LogLemmas.{number_of-le-length, made-le-length, length-entries_of}
 use Rattle.mb_storing.specs.Storable.{IsStorableRegion, IsStorableState}
 use Rattle.mb_model.specs.Work.{succession_entry}
 use Rattle.mb_storing.proofs.CommitLemmas.{kept_ready, succeeded_layers}
@@ -88,9 +86,6 @@ with_region_storable state L region is own = record {
 -- how many entries, changes and keys a log that can be stored tells of
 pub small_length : (state : State) → IsStorableState state → length state.log < limit w32
 small_length state is = small_number (length state.log) is.few
-
-length-entries_of : (log : List SignedEntry) → length (entries_of log) ≡ length log
-length-entries_of log = length-map log (λ (signed : SignedEntry). signed.entry)
 
 pub number_small : (state : State) → IsStorableState state → number_of (entries_of state.log) < limit w32
 number_small state is =

@@ -45,10 +45,11 @@ use Rattle.mb_lemmas.proofs.OwnEntries.{appends_own}
 use Rattle.mb_lemmas.proofs.ValidStates.{valid_is_ruled}
 use Rattle.mb_lemmas.proofs.ValidLogs.{named_is_some}
 use Rattle.mb_lemmas.proofs.ValidSteps.{obeyed_valid}
+use Rattle.mb_lemmas.proofs.PublicLemmas.{entry_from_signed}
 use Rattle.mb_model.specs.Work.{own_fate, gives_way, outgoing_with, succession_entry, new_entries, pending_for}
 use Rattle.mb_storing.specs.Commits.{root_for}
 use Rattle.mb_storing.specs.Storable.{IsStorableRegion, IsStorableState, HasRegionRecord}
-use Rattle.mb_storing.proofs.StorableFormats.{keep_allowed, signed_entry, some_allowed, none_allowed, born_public_allowed, succession_allowed}
+use Rattle.mb_storing.proofs.StorableFormats.{keep_allowed, some_allowed, none_allowed, born_public_allowed, succession_allowed}
 use Rattle.mb_storing.proofs.StorableOrders.{small_length, key_made_allowed, ready_by_storable, obeyed_storable}
 
 -- ---- the root
@@ -177,7 +178,7 @@ own_allowed state order draw allowed passes is =
     let ready : State = ready_for state order draw in
     let own : Entry = own_entry ready order order.act draw in
     let are : All signed_entry_format.Allowed (log_with ready own) = subst (All signed_entry_format.Allowed) (appends_own state order draw) (obeyed_storable state order draw allowed passes is).log in
-    signed_entry (signed_by ready.device (used (entries_of ready.log)) own) (All-split signed_entry_format.Allowed ready.log (signed_by ready.device (used (entries_of ready.log)) own) [] are)
+    entry_from_signed (signed_by ready.device (used (entries_of ready.log)) own) (All-split signed_entry_format.Allowed ready.log (signed_by ready.device (used (entries_of ready.log)) own) [] are)
 
 new_allowed : (needed : Bool) (first own : Entry) → entry_format.Allowed first → entry_format.Allowed own → All entry_format.Allowed (if needed then first ∷ own ∷ [] else own ∷ [])
 new_allowed true first own is is_own =

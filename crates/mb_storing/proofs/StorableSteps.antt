@@ -1,5 +1,5 @@
 -- Each step of the machine leads from a state that can be stored to one that can be.
-use Rattle.std.proofs.Common.{◌≡◌, ◌≤◌, ◌<◌, ℕ, ◌+◌, List, [], ◌∷◌, ◌++◌, inl, inr, length, map, Option, None, Some, Bool, true, false, refl, sym, ap, subst, ◌∙◌, arith, length-append, eqb-true, ne_eqb, cond, zero, suc}
+use Rattle.std.proofs.Common.{◌≡◌, ◌≤◌, ◌<◌, ℕ, ◌+◌, List, [], ◌∷◌, ◌++◌, inl, inr, length, map, Option, None, Some, Bool, true, false, refl, sym, ap, subst, ◌∙◌, arith, length-append, eqb-true, ne_eqb, cond}
 use Rattle.std.specs.Prelude.{◌&&◌, ◌||◌, not, find, filter, nat_lt, nat_le, All, AllPairs, IsTrue, Result, Ok, Err, if◌then◌else◌}
 use Rattle.std.specs.List.{list_any}
 use Rattle.std.proofs.lemmas.Bool.{and_from, leb-false, le-leb}

@@ -2,7 +2,8 @@ use Rattle.std.proofs.Common.{◌≡◌, ◌∙◌, sym, subst, List, ℕ, arith
 use Rattle.std.proofs.lemmas.List.{take_at}
 use Rattle.mb_model.specs.RootFormat.{root_format}
 use Rattle.mb_model.specs.Memory.{current, HoldsRecord}
-use Rattle.mb_area.proofs.Rooted.{in_force, some_held, small_area}
+use Rattle.mb_lemmas.proofs.PublicLemmas.{bounded_by}
+use Rattle.mb_area.proofs.Rooted.{in_force, some_held}
 use Rattle.mb_area.proofs.root.read_root.Goals as goal
 
 pub held_root-requires : goal.held_root-requires
@@ -21,4 +22,4 @@ returns-clause-root g c = λ root is. (
     c.held_root.ensures.only root (subst (λ (xs : List ℕ). HoldsRecord root_format xs root) (sym same) is.holds))
 
 pub returns-clause-area : goal.returns-clause-area
-returns-clause-area g c = small_area c.held_root.result c.held_root.ensures.holds.spelled.allowed
+returns-clause-area g c = (bounded_by c.held_root.result c.held_root.ensures.holds.spelled.allowed).area

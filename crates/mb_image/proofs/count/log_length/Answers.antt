@@ -2,11 +2,11 @@ use Rattle.std.proofs.Common.{arith, refl}
 use Rattle.mb_format.specs.Format.{IsBytes}
 use Rattle.mb_lemmas.proofs.FaultLemmas.{image_bbram_bytes}
 use Rattle.mb_image.proofs.Lengths.{halves_mean, blank_counts, rootless_counts, live_counts}
-use Rattle.mb_image.proofs.Reading.{held_area}
+use Rattle.mb_lemmas.proofs.PublicLemmas.{bounded_by}
 use Rattle.mb_image.proofs.count.log_length.Goals as goal
 
 pub count_entries-requires-clause-area : goal.count_entries-requires-clause-area
-count_entries-requires-clause-area c = held_area c.in-Some-root_of.root c.in-Some-root_of.ensures.holds.spelled.allowed
+count_entries-requires-clause-area c = (bounded_by c.in-Some-root_of.root c.in-Some-root_of.ensures.holds.spelled.allowed).area
 
 pub returns-then-is_blank : goal.returns-then-is_blank
 returns-then-is_blank c = λ flash bbram state is stands.

@@ -1,8 +1,9 @@
-use Rattle.mb_image.proofs.Reading.{held_area, none_holds, some_holds, matched}
+use Rattle.mb_lemmas.proofs.PublicLemmas.{bounded_by}
+use Rattle.mb_image.proofs.Reading.{none_holds, some_holds, matched}
 use Rattle.mb_image.proofs.stored.stored_in.Goals as goal
 
 pub public_in-requires-clause-area : goal.public_in-requires-clause-area
-public_in-requires-clause-area c = held_area c.args.root c.requires.root.holds.spelled.allowed
+public_in-requires-clause-area c = (bounded_by c.args.root c.requires.root.holds.spelled.allowed).area
 
 pub returns-in_default-2-clause-err : goal.returns-in_default-2-clause-err
 returns-in_default-2-clause-err c =
