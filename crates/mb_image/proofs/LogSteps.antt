@@ -1,12 +1,10 @@
 -- One more entry of a log.
 use Rattle.std.proofs.Common.{◌≡◌, ◌<◌, ◌+◌, ℕ, List, [], ◌++◌, length, take, get_or, refl, sym, ap, ◌∙◌}
-use Rattle.std.specs.Prelude.{filter, unwrap_or}
-use Rattle.mb_model.specs.declared.layer.Layers.{Layers}
-use Rattle.mb_model.specs.Layers.{unowned_layers}
-use Rattle.mb_lemmas.proofs.LogLemmas.{layers_of-push, entries_more}
+use Rattle.std.specs.Prelude.{filter}
+use Rattle.mb_lemmas.proofs.LogLemmas.{entries_more}
 use Rattle.mb_model.specs.declared.entry.Entry.{Entry}
 use Rattle.mb_model.specs.declared.entry.SignedEntry.{SignedEntry}
-use Rattle.mb_model.specs.Log.{entries_of, last_of, layers_in, layers_of}
+use Rattle.mb_model.specs.Log.{entries_of}
 use Rattle.mb_model.specs.Lives.{alive_keys}
 use Rattle.mb_lemmas.specs.AliveLaws.{goes_on, made_by}
 use Rattle.mb_lemmas.proofs.AliveLemmas.{alive_keys-push}
@@ -30,16 +28,3 @@ alive_more log i L d before after within was is =
     ∙ ap (λ keys. filter (goes_on L entry) keys ++ made_by L entry) was
     ∙ sym (alive_keys-push (entries_of (take i log)) entry L)
     ∙ ap (λ es. alive_keys es L) (sym (entries_more log i d within))
-
--- ---- what is named last
-
-pub layers_none : layers_of [] ≡ unowned_layers
-unfolding layers_of last_of
-layers_none = refl
-
-pub layers_more : (log : List SignedEntry) (i : ℕ) (d : SignedEntry) (layers : Layers) → i < length log
-    → layers ≡ layers_of (entries_of (take i log)) → unwrap_or (layers_in (get_or log i d).entry) layers ≡ layers_of (entries_of (take (i + 1) log))
-layers_more log i d layers within was =
-    ap (unwrap_or (layers_in (get_or log i d).entry)) was
-    ∙ sym (layers_of-push (entries_of (take i log)) (get_or log i d).entry)
-    ∙ ap layers_of (sym (entries_more log i d within))

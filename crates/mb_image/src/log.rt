@@ -3,15 +3,14 @@
 ghost use Rattle.std.specs.Prelude.{◌≡◌, ◌↔◌, ◌+◌, ◌-◌, ◌^◌, ◌<◌, List, length, All, IfOk, IsTrue, MatchOption, OnOk};
 ghost use Rattle.mb_model.specs.declared.entry.Entry.{Entry};
 ghost use Rattle.mb_model.specs.EntryFormat.{entry_format};
-ghost use Rattle.mb_model.specs.Log.{entries_of, layers_in, layers_of};
-ghost use Rattle.mb_model.specs.Layers.{unowned_layers};
+ghost use Rattle.mb_model.specs.Log.{entries_of};
 ghost use Rattle.mb_model.specs.Valid.{Follows, EachFollows};
 ghost use Rattle.mb_log.specs.Figures.{figures_of};
 ghost use Rattle.mb_image.specs.Verified.{IsVerified};
 
 use mb_cert::{certifies, leaf_number};
 use mb_log::Figures;
-use mb_model::{Entry, Follow, Layer, Layers, NoMemory, SignedEntry, Trust};
+use mb_model::{Follow, NoMemory, SignedEntry};
 use std::alloc::Global;
 
 /// What the entries of a log say together, where each follows from those before it; else none.
@@ -53,42 +52,4 @@ fn verifies(alloc: Global, figures: &Figures, signed: &SignedEntry) -> Result<bo
         return Ok(false);
     };
     certifies(alloc, key, signed)
-}
-
-/// The layers of the last birth or change of the log.
-pub(crate) fn layers_of(log: &[SignedEntry]) -> Layers
-    ensures { result ≡ layers_of (entries_of log.now) }
-{
-    let mut layers = unowned_layers();
-    for signed in log {
-        layers = layers_in(&signed.entry).unwrap_or(layers);
-    }
-    layers
-}
-
-/// The layers that an entry names.
-fn layers_in(entry: &Entry) -> Option<Layers>
-    ensures { result ≡ layers_in entry.now }
-{
-    match entry {
-        Entry::Birth { layers, .. } | Entry::Change { layers, .. } => Some(*layers),
-        Entry::NewKey { .. } | Entry::Succession { .. } => None,
-    }
-}
-
-/// Layers without owners.
-pub(crate) fn unowned_layers() -> Layers
-    ensures { result ≡ unowned_layers }
-{
-    let unowned = Layer {
-        owner: None,
-        code: None,
-        reliable: false,
-        trust: Trust::Never,
-    };
-    Layers {
-        one: unowned,
-        two: unowned,
-        three: unowned,
-    }
 }

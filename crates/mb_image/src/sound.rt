@@ -10,10 +10,10 @@ ghost use Rattle.mb_image.specs.Stored.{contents_of, CanBeCompleted};
 
 use crate::complete::completed;
 use crate::fates::fated;
-use crate::log::layers_of;
 use crate::stored::Stored;
 use crate::validity::is_valid;
 use mb_lms::Steps;
+use mb_log::layers_of;
 use mb_model::{Fate, NoMemory, Pending, Root, State};
 use mb_signer::{KeptTree, public_kept};
 use std::alloc::Global;

@@ -1,10 +1,13 @@
 -- The first entries of a log.
-use Rattle.std.proofs.Common.{◌≡◌, ℕ, ◌+◌, ◌-◌, ◌^◌, ◌≤◌, ◌<◌, List, [], ◌∷◌, ◌++◌, length, take, drop, sym, ap, subst, ◌∙◌, arith, get_or}
+use Rattle.std.proofs.Common.{◌≡◌, ℕ, ◌+◌, ◌-◌, ◌^◌, ◌≤◌, ◌<◌, List, [], ◌∷◌, ◌++◌, length, take, drop, refl, sym, ap, subst, ◌∙◌, arith, get_or}
 use Rattle.std.proofs.lemmas.List.{map-append, length-map, length-take, take-append-drop}
+use Rattle.std.specs.Prelude.{unwrap_or}
 use Rattle.mb_model.specs.declared.entry.Entry.{Entry}
 use Rattle.mb_model.specs.declared.entry.SignedEntry.{SignedEntry}
-use Rattle.mb_model.specs.Log.{entries_of, RuledLog}
-use Rattle.mb_lemmas.proofs.LogLemmas.{RuledLog-front, entries_more}
+use Rattle.mb_model.specs.Log.{entries_of, RuledLog, last_of, layers_in, layers_of}
+use Rattle.mb_model.specs.declared.layer.Layers.{Layers}
+use Rattle.mb_model.specs.Layers.{unowned_layers}
+use Rattle.mb_lemmas.proofs.LogLemmas.{RuledLog-front, entries_more, layers_of-push}
 use Rattle.mb_log.specs.declared.figures.Figures.{Figures}
 use Rattle.mb_log.specs.declared.life.Life.{Life}
 use Rattle.mb_log.specs.Figures.{figures_of}
@@ -41,3 +44,16 @@ life_goes_on log i d n figures life next within are is step ruled =
     let one = entries_more log i d within in
     subst (λ (es : List Entry). IsLifeOf es n next) (sym one)
     (step (entries_of (take i log)) n are (subst RuledLog one (first_ruled log (i + 1) ruled)) (is ruled))
+
+-- ---- the layers that are named last
+
+pub layers_none : layers_of [] ≡ unowned_layers
+unfolding layers_of last_of
+layers_none = refl
+
+pub layers_more : (log : List SignedEntry) (i : ℕ) (d : SignedEntry) (layers : Layers) → i < length log
+    → layers ≡ layers_of (entries_of (take i log)) → unwrap_or (layers_in (get_or log i d).entry) layers ≡ layers_of (entries_of (take (i + 1) log))
+layers_more log i d layers within was =
+    ap (unwrap_or (layers_in (get_or log i d).entry)) was
+    ∙ sym (layers_of-push (entries_of (take i log)) (get_or log i d).entry)
+    ∙ ap layers_of (sym (entries_more log i d within))

@@ -3,7 +3,7 @@
 ghost use Rattle.std.specs.Prelude.{◌≡◌, ℕ, ◌+◌, ◌-◌, ◌^◌, ◌<◌, ◌≤◌, List, [], ◌∷◌, ◌++◌, length};
 ghost use Rattle.mb_model.specs.declared.entry.Entry.{Entry};
 ghost use Rattle.mb_model.specs.Layers.{unowned, unowned_layers};
-ghost use Rattle.mb_model.specs.Log.{entries_of, is_change, layers_in, device_in, keys_in};
+ghost use Rattle.mb_model.specs.Log.{entries_of, is_change, layers_in, layers_of, device_in, keys_in};
 ghost use Rattle.mb_log.specs.Figures.{figures_of};
 
 use mb_model::{Entry, Layer, Layers, PublicKey, SignedEntry, Trust};
@@ -103,6 +103,17 @@ fn is_change(entry: &Entry) -> bool
     ensures { result ≡ is_change entry.now }
 {
     matches!(entry, Entry::Change { .. })
+}
+
+/// The layers of the last birth or change of the log; layers without owners where there is none.
+pub fn layers_of(log: &[SignedEntry]) -> Layers
+    ensures { result ≡ layers_of (entries_of log.now) }
+{
+    let mut layers = unowned_layers();
+    for signed in log {
+        layers = layers_in(&signed.entry).unwrap_or(layers);
+    }
+    layers
 }
 
 /// The layers that an entry names.

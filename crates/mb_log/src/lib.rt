@@ -16,7 +16,7 @@ mod rules;
 mod serial;
 
 pub use additions::{bodies, needed};
-pub use figures::Figures;
+pub use figures::{Figures, layers_of};
 pub use keys::born;
 pub use life::{BornKey, Life, ends, lives};
 pub use rules::follows;

@@ -1,7 +1,7 @@
 use Rattle.std.proofs.Common.{sym, ap, ◌∙◌}
 use Rattle.std.specs.Prelude.{unwrap_or}
-use Rattle.mb_image.proofs.LogSteps.{layers_none, layers_more}
-use Rattle.mb_image.proofs.log.layers_of.Goals as goal
+use Rattle.mb_log.proofs.Fronts.{layers_none, layers_more}
+use Rattle.mb_log.proofs.figures.layers_of.Goals as goal
 
 pub loop-signed-init : goal.loop-signed-init
 loop-signed-init c = c.unowned_layers-layers.ensures ∙ sym layers_none
