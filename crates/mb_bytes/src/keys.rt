@@ -94,7 +94,8 @@ pub fn key_kind_at(cursor: &mut Cursor) -> Result<KeyKind, BadRecord>
     }
 }
 
-fn tree_number(tree: Tree) -> u32
+/// The LMS type number of a tree, 5 to 9 (RFC 8554, section 5.1).
+pub fn tree_type(tree: Tree) -> u32
     ensures { result ≡ tree_type tree }
 {
     match tree {
@@ -106,7 +107,8 @@ fn tree_number(tree: Tree) -> u32
     }
 }
 
-fn chains_number(chains: Chains) -> u32
+/// The LM-OTS type number of chains, 1 to 4 (RFC 8554, section 4.1).
+pub fn chains_type(chains: Chains) -> u32
     ensures { result ≡ chains_type chains }
 {
     match chains {
@@ -122,8 +124,8 @@ fn chains_number(chains: Chains) -> u32
 pub fn put_public_key(out: &mut Vec<u8>, key: &PublicKey) -> Result<(), NoMemory>
     ensures { Puts (public_key_format.spelling key.now) out.old result out.new }
 {
-    put_u32(out, tree_number(key.tree))?;
-    put_u32(out, chains_number(key.chains))?;
+    put_u32(out, tree_type(key.tree))?;
+    put_u32(out, chains_type(key.chains))?;
     put_slice(out, &key.identifier)?;
     put_slice(out, &key.root)
 }

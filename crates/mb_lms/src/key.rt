@@ -6,8 +6,8 @@ ghost use Rattle.mb_model.specs.declared.key.PublicKey.{PublicKey};
 ghost use Rattle.mb_model.specs.Key.{IsSized, key_bytes};
 
 use crate::bytes::u32_at;
-use crate::parameters::{chains_of_type, chains_type, tree_of_type, tree_type};
-use mb_bytes::put_at;
+use crate::parameters::{chains_of_type, tree_of_type};
+use mb_bytes::{chains_type, put_at, tree_type};
 use mb_model::PublicKey;
 use sha2::{Digest, Sha256};
 

@@ -7,19 +7,6 @@ ghost use Rattle.mb_model.specs.Key.{tree_type, height, chains_type, digit_bits,
 
 use mb_model::{Chains, Tree};
 
-/// The LMS type number, 5 to 9.
-pub(crate) fn tree_type(tree: Tree) -> u32
-    ensures { result ≡ tree_type tree }
-{
-    match tree {
-        Tree::H5 => 5,
-        Tree::H10 => 6,
-        Tree::H15 => 7,
-        Tree::H20 => 8,
-        Tree::H25 => 9,
-    }
-}
-
 /// The tree of an LMS type number; none where it is not in the table.
 pub(crate) fn tree_of_type(number: u32) -> Option<Tree>
     ensures { MatchOption result ((tree : Tree) → tree_type tree ≡ number → ⊥) (λ tree. tree_type tree ≡ number) }
@@ -45,18 +32,6 @@ pub(crate) fn height(tree: Tree) -> u32
         Tree::H15 => 15,
         Tree::H20 => 20,
         Tree::H25 => 25,
-    }
-}
-
-/// The LM-OTS type number, 1 to 4.
-pub(crate) fn chains_type(chains: Chains) -> u32
-    ensures { result ≡ chains_type chains }
-{
-    match chains {
-        Chains::W1 => 1,
-        Chains::W2 => 2,
-        Chains::W4 => 3,
-        Chains::W8 => 4,
     }
 }
 

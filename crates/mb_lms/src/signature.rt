@@ -9,8 +9,9 @@ ghost use Rattle.mb_model.specs.Merkle.{HasForm, leaf_number, randomizer, root_f
 
 use crate::bytes::{begun, u32_at};
 use crate::one_time::{digits_of, one_time_key};
-use crate::parameters::{chain_count, chains_type, height, tree_type};
+use crate::parameters::{chain_count, height};
 use crate::tree::{climb, leaf_node};
+use mb_bytes::{chains_type, tree_type};
 use mb_model::PublicKey;
 use sha2::{Digest, Sha256};
 

@@ -1,9 +1,10 @@
 //! Keys and signatures that another program made.
 
 use super::*;
-use crate::parameters::{chain_count, chains_type, height, tree_type};
+use crate::parameters::{chain_count, height};
 use crate::signature::{begun_text, has_form, root_from};
 use hex::FromHex;
+use mb_bytes::{chains_type, tree_type};
 use mb_model::{Chains, PublicKey, Tree};
 use sha2::Digest;
 use std::alloc::Global;
