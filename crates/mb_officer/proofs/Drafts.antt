@@ -28,7 +28,7 @@ use Rattle.mb_officer.specs.declared.draft.Said.TheVariants as said
 use Rattle.mb_words.proofs.NextLines.{with_line}
 use Rattle.mb_words.specs.Words.{SplitsLine}
 use Rattle.mb_officer.specs.Drafting.{load_act, ordered_by, heading_line, drafted, IsSound, SaysTargets, SaysCode, SaysLoad, SaysOwner, SaysRest, Follows}
-use Rattle.mb_officer.proofs.Lines.{establish_load, from_owner, from_version}
+use Rattle.mb_officer.proofs.Lines.{says_only_act, establish_load, from_owner, from_version}
 use Rattle.mb_officer.proofs.Headings.{from_targets}
 
 -- ---- the end of the text
@@ -78,37 +78,11 @@ establish_unfinished layer targets order says =
     establish_more order.act at.0 at.1
 
 pub surrender_finished : (layer : ℕ) (targets : List Target) → length targets ≤ 8 → SaysTargets kind.Surrender layer targets [] (drafted layer targets act.Surrender)
-surrender_finished layer targets room = record {
-  target_lines = [];
-  act_lines = [];
-  more = [];
-  spelled = refl;
-  targeted = tt;
-  all = sym (append-nil targets);
-  few = room;
-  says_act = refl;
-  of_kind = refl;
-  of_layer = refl;
-  unsigned = refl;
-  alone = refl;
-}
+surrender_finished layer targets room = says_only_act kind.Surrender layer targets [] act.Surrender room refl refl
 
 pub new_key_finished : (key : KeyKind) (layer : ℕ) (targets : List Target) → length targets ≤ 8
     → SaysTargets (kind.NewKey key) layer targets [] (drafted layer targets (act.NewKey key))
-new_key_finished key layer targets room = record {
-  target_lines = [];
-  act_lines = [];
-  more = [];
-  spelled = refl;
-  targeted = tt;
-  all = sym (append-nil targets);
-  few = room;
-  says_act = refl;
-  of_kind = refl;
-  of_layer = refl;
-  unsigned = refl;
-  alone = refl;
-}
+new_key_finished key layer targets room = says_only_act (kind.NewKey key) layer targets [] (act.NewKey key) room refl refl
 
 pub heading_at : (s : Said) (k j : Kind) (layer : ℕ) → s ≡ said.Heading k layer → k ≡ j → s ≡ said.Heading j layer
 heading_at s k j layer e f = e ∙ ap (λ (x : Kind). said.Heading x layer) f

@@ -217,6 +217,24 @@ load_lines line more version trust code_line code remaining coded fits small spe
       cc;
 }
 
+-- lines that say what goes with an order, after the targets that were read
+pub says_only_act : (k : Kind) (layer : ℕ) (targets : List Target) (lines : List (List ℕ)) (a : Act) → length targets ≤ 8 → SayAct lines a → ordered_by a ≡ k
+    → SaysTargets k layer targets lines (drafted layer targets a)
+says_only_act k layer targets lines a room says is = record {
+  target_lines = [];
+  act_lines = lines;
+  more = [];
+  spelled = refl;
+  targeted = tt;
+  all = sym (append-nil targets);
+  few = room;
+  says_act = says;
+  of_kind = is;
+  of_layer = refl;
+  unsigned = refl;
+  alone = refl;
+}
+
 -- ---- the new owner
 
 pub from_owner : (layer : ℕ) (targets : List Target) (line : List ℕ) (owner : PublicKey) (more : List (List ℕ)) (order : Order) → length targets ≤ 8 → IsSized owner
@@ -224,20 +242,8 @@ pub from_owner : (layer : ℕ) (targets : List Target) (line : List ℕ) (owner 
 from_owner layer targets line owner more order room sized owned says =
     let made = sym says.made in
     subst (λ (x : Order). SaysTargets kind.Establish layer targets (line ∷ more) x) made
-    (record {
-      target_lines = [];
-      act_lines = line ∷ more;
-      more = [];
-      spelled = refl;
-      targeted = tt;
-      all = sym (append-nil targets);
-      few = room;
-      says_act = record { owner_line = line; owned = owned; sized = sized; spelled = ap (λ (x : List (List ℕ)). line ∷ x) says.spelled };
-      of_kind = refl;
-      of_layer = refl;
-      unsigned = refl;
-      alone = refl;
-    })
+    (says_only_act kind.Establish layer targets (line ∷ more) (act.Establish owner says.trust) room
+    (record { owner_line = line; owned = owned; sized = sized; spelled = ap (λ (x : List (List ℕ)). line ∷ x) says.spelled }) refl)
 
 to_owner : (layer : ℕ) (targets : List Target) (line : List ℕ) (owner : PublicKey) (more : List (List ℕ)) (order : Order) → IsSized owner
     → EndsInHex line (codes "owner" ∷ []) (key_bytes owner) → FirstOf kind.Establish layer targets line more order → SaysOwner layer owner targets more order
@@ -267,36 +273,12 @@ pub from_version : (l : Loading) (layer : ℕ) (targets : List Target) (line : L
     → SaysTargets (kind.Load l) layer targets (line ∷ more) order
 from_version loading.Ordinary layer targets line version more order room fits spelled says =
     subst (λ (x : Order). SaysTargets (kind.Load loading.Ordinary) layer targets (line ∷ more) x) (sym says.coded.made)
-    (record {
-      target_lines = [];
-      act_lines = line ∷ more;
-      more = [];
-      spelled = refl;
-      targeted = tt;
-      all = sym (append-nil targets);
-      few = room;
-      says_act = load_lines line more version says.trust says.coded.line says.coded.code says.remaining says.coded.coded says.coded.fits fits spelled says.spelled says.coded.spelled;
-      of_kind = refl;
-      of_layer = refl;
-      unsigned = refl;
-      alone = refl;
-    })
+    (says_only_act (kind.Load loading.Ordinary) layer targets (line ∷ more) (act.Load (record { version = version; trust = says.trust; code = says.coded.code })) room
+    (load_lines line more version says.trust says.coded.line says.coded.code says.remaining says.coded.coded says.coded.fits fits spelled says.spelled says.coded.spelled) refl)
 from_version loading.Emergency layer targets line version more order room fits spelled says =
     subst (λ (x : Order). SaysTargets (kind.Load loading.Emergency) layer targets (line ∷ more) x) (sym says.coded.made)
-    (record {
-      target_lines = [];
-      act_lines = line ∷ more;
-      more = [];
-      spelled = refl;
-      targeted = tt;
-      all = sym (append-nil targets);
-      few = room;
-      says_act = load_lines line more version says.trust says.coded.line says.coded.code says.remaining says.coded.coded says.coded.fits fits spelled says.spelled says.coded.spelled;
-      of_kind = refl;
-      of_layer = refl;
-      unsigned = refl;
-      alone = refl;
-    })
+    (says_only_act (kind.Load loading.Emergency) layer targets (line ∷ more) (act.Emergency (record { version = version; trust = says.trust; code = says.coded.code })) room
+    (load_lines line more version says.trust says.coded.line says.coded.code says.remaining says.coded.coded says.coded.fits fits spelled says.spelled says.coded.spelled) refl)
 
 to_version : (l : Loading) (layer : ℕ) (targets : List Target) (line : List ℕ) (version : ℕ) (more : List (List ℕ)) (order : Order) → version ≤ number_limit
     → line ≡ spaced (codes "version" ∷ decimal version ∷ []) → FirstOf (kind.Load l) layer targets line more order → SaysLoad l layer version targets more order
