@@ -1,6 +1,5 @@
 //! The states of a device in which work is left.
 
-ghost use Rattle.std.specs.Prelude.{◌≡◌, ◌≤◌, false};
 ghost use Rattle.std.proofs.Common.{rules};
 
 use mb_ratchet::{Off, One, Place, R1, Reaches, Register, Up};

@@ -1,6 +1,6 @@
 //! What an order demands of the device.
 
-ghost use Rattle.std.specs.Prelude.{◌≡◌, ◌↔◌, All, IsTrue, MatchOption};
+ghost use Rattle.std.specs.Prelude.{◌↔◌, All, IsTrue, MatchOption};
 ghost use Rattle.mb_model.specs.declared.order.Target.{Target};
 ghost use Rattle.mb_model.specs.Rules.{TargetHolds, IsFirstFailing};
 ghost use Rattle.mb_model.specs.OrderFormat.{order_format};

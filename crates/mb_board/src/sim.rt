@@ -1,11 +1,11 @@
 //! A board that simulates a device in memory.
 
-ghost use Rattle.std.specs.Prelude.{◌≡◌, ◌+◌, ◌*◌, ◌-◌, ◌/◌, ◌<◌, ◌≤◌, ◌++◌, ◌∷◌, [], List, Some, None, true, false, length, All, IfOk, IfSome, IfNone, OnOk, OnErr, vec_len, vec_capacity};
+ghost use Rattle.std.specs.Prelude.{◌≡◌, ◌+◌, ◌*◌, ◌-◌, ◌/◌, ◌<◌, ◌≤◌, ◌++◌, ◌∷◌, [], List, Some, None, true, false, length, IfOk, IfSome, IfNone, OnOk, OnErr, vec_len, vec_capacity};
 ghost use Rattle.std.specs.Result.{is_ok};
 ghost use Rattle.std.proofs.Common.{ap};
 ghost use Rattle.mb_format.specs.Format.{IsBytes};
 ghost use Rattle.mb_model.specs.Script.{IsScriptEvent};
-ghost use Rattle.mb_model.specs.Board.{Memory, loaded, put, erased, power_after, memory_after, armed_after};
+ghost use Rattle.mb_model.specs.Board.{loaded, put, erased, power_after, memory_after, armed_after};
 ghost use Rattle.mb_board.specs.Calls.{power_of, level_of, metered, Torn};
 ghost use Rattle.mb_board.specs.Cuts.{unused, passes, left_by, KeepsAll, cut_left, cut_after, meter_of, is_armed};
 ghost use Rattle.mb_board.specs.Reach.{Reached};

@@ -1,6 +1,6 @@
 //! Bytes with an offset among them, and the fields that are read from there.
 
-ghost use Rattle.std.specs.Prelude.{◌≡◌, ℕ, ◌+◌, ◌≤◌, length};
+ghost use Rattle.std.specs.Prelude.{◌≡◌, ◌+◌, ◌≤◌, length};
 ghost use Rattle.mb_format.specs.Format.{IsBytes};
 
 use mb_model::BadRecord;

@@ -3,9 +3,9 @@
 //! Each reader is a part of a larger one: `BadRecord` carries the offset at which the field begins that lacks bytes or
 //! is not allowed, and the cursor may then stand anywhere.
 
-ghost use Rattle.std.specs.Prelude.{◌≡◌, ◌<◌, ◌≤◌, ◌++◌, ◌^◌, length, IfOk};
+ghost use Rattle.std.specs.Prelude.{◌<◌, ◌≤◌, ◌++◌, ◌^◌, length, IfOk};
 ghost use Rattle.std.specs.Int.{w8, w16, w32};
-ghost use Rattle.mb_format.specs.Combinators.{number, between, flag, flag_byte, sized};
+ghost use Rattle.mb_format.specs.Combinators.{number, between, flag, sized};
 ghost use Rattle.mb_bytes.specs.Reads.{bad_at, Reads, ReadsAs};
 ghost use Rattle.mb_bytes.specs.Puts.{Puts};
 

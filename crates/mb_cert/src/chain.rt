@@ -1,6 +1,6 @@
 //! Whole chains of certificates.
 
-ghost use Rattle.std.specs.Prelude.{◌≡◌, ◌≤◌, length};
+ghost use Rattle.std.specs.Prelude.{◌≤◌, length};
 ghost use Rattle.mb_format.specs.Combinators.{mark, optional};
 ghost use Rattle.mb_model.specs.EntryFormat.{entry_format, signed_entry_format};
 ghost use Rattle.mb_model.specs.ChainFormat.{chain_word, statement_format, chain_format};

@@ -1,6 +1,6 @@
 //! The line of a statement, as it is handed on, read.
 
-ghost use Rattle.std.specs.Prelude.{◌≡◌, ◌∷◌, [], IfOk};
+ghost use Rattle.std.specs.Prelude.{◌∷◌, [], IfOk};
 ghost use Rattle.mb_format.specs.Format.{Spells};
 ghost use Rattle.mb_model.specs.ChainFormat.{statement_format};
 ghost use Rattle.mb_model.specs.OrderLines.{IsStatementLine};

@@ -1,6 +1,6 @@
 //! The signatures of an order: its owner's, and those of the owners above.
 
-ghost use Rattle.std.specs.Prelude.{◌≡◌, ◌≤◌, ◌-◌, length, IfOk};
+ghost use Rattle.std.specs.Prelude.{◌≤◌, ◌-◌, length, IfOk};
 ghost use Rattle.std.specs.List.{All};
 ghost use Rattle.mb_model.specs.OrderFormat.{Body, sized_signature_format, countersignature_format, countersignatures_format};
 ghost use Rattle.mb_bytes.specs.Reads.{Reads};

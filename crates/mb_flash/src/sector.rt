@@ -1,6 +1,6 @@
 //! The bytes of one sector, and of several.
 
-ghost use Rattle.std.specs.Prelude.{◌≡◌, ℕ, ◌+◌, ◌*◌, ◌<◌, ◌≤◌, ◌++◌, ◌⊎◌, List, length, true, IsTrue, OnOk, Ok};
+ghost use Rattle.std.specs.Prelude.{◌≡◌, ℕ, ◌+◌, ◌*◌, ◌<◌, ◌≤◌, ◌++◌, ◌⊎◌, length, true, IsTrue, OnOk, Ok};
 ghost use Rattle.mb_model.specs.Pieces.{part};
 ghost use Rattle.mb_model.specs.Board.{IsLoaded, erased};
 ghost use Rattle.mb_board.specs.Calls.{power_of, level_of, IsMetered};

@@ -12,12 +12,12 @@
 //! It stands on no other crate.
 #![tactic(auto)]
 
-ghost use Rattle.std.specs.Prelude.{◌≡◌, ℕ, List, [], ◌∷◌, ◌++◌, replicate};
+ghost use Rattle.std.specs.Prelude.{ℕ, [], ◌∷◌, ◌++◌};
 ghost use Rattle.std.specs.Int.{w8, w16, w32, w64};
 ghost use Rattle.mb_format.specs.Format.{SpelledAt, IsClear, IsClearWhole, IsShort, FailsWhole};
 ghost use Rattle.mb_format.specs.Reading.{IsLocal};
 ghost use Rattle.mb_format.specs.Combinators.{number, raw};
-ghost use Rattle.mb_format.specs.Examples.{Word, Text, Sample, sample, short_bytes, short_sample, mistagged_bytes};
+ghost use Rattle.mb_format.specs.Examples.{sample, short_bytes, short_sample, mistagged_bytes};
 
 /// At each offset of any bytes one number of a width is spelled, or one offset fails.
 pub fn numbers_are_clear()

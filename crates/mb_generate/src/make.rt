@@ -1,6 +1,6 @@
 //! A whole workload.
 
-ghost use Rattle.std.specs.Prelude.{◌≡◌, ◌+◌, ◌*◌, ◌≤◌, [], length, IfOk};
+ghost use Rattle.std.specs.Prelude.{◌+◌, ◌*◌, ◌≤◌, [], length, IfOk};
 ghost use Rattle.mb_model.specs.Born.{officer_key};
 ghost use Rattle.mb_model.specs.Signing.{public_of};
 ghost use Rattle.mb_model.specs.Factory.{IsFactoryImage};

@@ -1,16 +1,16 @@
 //! The script of a workload.
 
-ghost use Rattle.std.specs.Prelude.{◌≡◌, ◌+◌, ◌-◌, ◌*◌, ◌≤◌, ◌<◌, ◌++◌, ◌∷◌, [], List, length, codes, IfOk, OnOk};
+ghost use Rattle.std.specs.Prelude.{◌≡◌, ◌+◌, ◌-◌, ◌*◌, ◌≤◌, ◌<◌, ◌++◌, [], length, IfOk, OnOk};
 ghost use Rattle.std.specs.String.{string_bytes};
 ghost use Rattle.mb_model.specs.declared.key.Trust.TheVariants.{Countersigned};
 ghost use Rattle.mb_model.specs.declared.order.Act.TheVariants as act;
 ghost use Rattle.mb_model.specs.Signing.{public_of};
 ghost use Rattle.mb_model.specs.Texts.{ended};
-ghost use Rattle.mb_model.specs.Lines.{spaced, hex_word, text_of};
+ghost use Rattle.mb_model.specs.Lines.{hex_word, text_of};
 ghost use Rattle.mb_model.specs.OrderFormat.{order_format};
 ghost use Rattle.mb_model.specs.OrderLines.{order_line};
 ghost use Rattle.mb_model.specs.SignedOrders.{used_once, signed_order};
-ghost use Rattle.mb_model.specs.Workload.{Draws, Plan, first_plans, round_plan, signed, put_line, round_lines, workload_lines};
+ghost use Rattle.mb_model.specs.Workload.{first_plans, put_line, workload_lines};
 ghost use Rattle.mb_generate.specs.Drawing.{round_of, draws_of};
 ghost use Rattle.mb_generate.specs.Orders.{AreOfficers, HaveUsed, CodesFit};
 ghost use Rattle.mb_generate.specs.Scripts.{puts_text, first_orders_text, sign_line, AppendsRound, SignsRound};

@@ -1,6 +1,6 @@
 //! What a host is for those who use it.
 
-ghost use Rattle.std.specs.Prelude.{◌≡◌, ◌≢◌, ◌≤◌, length, IfOk, OnOk, OnErr, IsErrOf, vec_len};
+ghost use Rattle.std.specs.Prelude.{◌≡◌, ◌≤◌, IfOk, OnOk, OnErr, IsErrOf, vec_len};
 ghost use Rattle.mb_model.specs.Outside.{Outside, HoldsFile, HoldsTooMuch, read_once, FailsToRead};
 ghost use Rattle.mb_model.specs.Outside.{Writes, FailsToWrite, Prints, FailsToPrint};
 

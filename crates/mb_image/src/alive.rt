@@ -4,7 +4,7 @@ ghost use Rattle.std.specs.Prelude.{◌≡◌, ◌++◌, IfOk, OnOk, filter, opt
 ghost use Rattle.mb_model.specs.Lives.{ends, alive_keys};
 ghost use Rattle.mb_model.specs.Log.{entries_of};
 ghost use Rattle.mb_lemmas.specs.AliveLaws.{goes_on, made_by};
-ghost use Rattle.mb_image.specs.Keys.{as_listed, listed};
+ghost use Rattle.mb_image.specs.Keys.{listed};
 
 use mb_log::ends;
 use mb_model::{Entry, KeyKind, NoMemory, PublicKey, SignedEntry};

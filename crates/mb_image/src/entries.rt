@@ -1,6 +1,6 @@
 //! Stored entries, signed and not signed yet.
 
-ghost use Rattle.std.specs.Prelude.{◌≡◌, ◌↔◌, List, ◌++◌, IfOk, IsTrue, MatchOption, map};
+ghost use Rattle.std.specs.Prelude.{◌≡◌, ◌↔◌, List, IfOk, IsTrue, MatchOption, map};
 ghost use Rattle.mb_model.specs.declared.entry.Entry.{Entry};
 ghost use Rattle.mb_model.specs.declared.entry.SignedEntry.{SignedEntry};
 ghost use Rattle.mb_model.specs.Flash.{with_signature, without_signature};

@@ -1,6 +1,6 @@
 //! What becomes of a region.
 
-ghost use Rattle.std.specs.Prelude.{◌≡◌, ◌↔◌, IfOk, IsTrue, filter};
+ghost use Rattle.std.specs.Prelude.{◌≡◌, IfOk, filter};
 ghost use Rattle.std.specs.List.{list_any};
 ghost use Rattle.mb_model.specs.Regions.{is_epoch};
 ghost use Rattle.mb_model.specs.LayerEvents.{has_number};

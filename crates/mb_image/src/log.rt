@@ -1,6 +1,6 @@
 //! Whether each entry of a log follows from those before it.
 
-ghost use Rattle.std.specs.Prelude.{◌≡◌, ◌↔◌, ◌+◌, ◌-◌, ◌^◌, ◌<◌, List, length, All, IfOk, IsTrue, MatchOption, OnOk};
+ghost use Rattle.std.specs.Prelude.{◌≡◌, ◌↔◌, ◌-◌, ◌^◌, ◌<◌, List, length, All, IfOk, IsTrue, MatchOption};
 ghost use Rattle.mb_model.specs.declared.entry.Entry.{Entry};
 ghost use Rattle.mb_model.specs.EntryFormat.{entry_format};
 ghost use Rattle.mb_model.specs.Log.{entries_of};

@@ -1,7 +1,7 @@
 //! The state that stored contents mean.
 
 ghost use Rattle.std.specs.Prelude.{◌≡◌, ◌↔◌, ◌+◌, ◌≤◌, IfOk, IsTrue, MatchOption};
-ghost use Rattle.mb_model.specs.Log.{entries_of, layers_of};
+ghost use Rattle.mb_model.specs.Log.{layers_of};
 ghost use Rattle.mb_model.specs.StoredLog.{HasIndex};
 ghost use Rattle.mb_model.specs.Meaning.{meant, fate_of_two, fate_of_three};
 ghost use Rattle.mb_model.specs.Faults.{AreSound};

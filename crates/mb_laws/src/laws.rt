@@ -1,6 +1,6 @@
 //! Laws of the layers, their rules and the log: what the definitions give, and worked examples.
 
-ghost use Rattle.std.specs.Prelude.{◌≤◌, List, length, ◌≢◌, [], ℕ};
+ghost use Rattle.std.specs.Prelude.{◌≤◌, List, length, ◌≢◌, []};
 ghost use Rattle.mb_model.specs.Layers.{IsLayers};
 ghost use Rattle.mb_model.specs.Log.{number_of, layers_of, used, made, RuledLog};
 ghost use Rattle.mb_laws.specs.LayerLaws.{RunnableLayersAreReliable, ReliableLayersRun, OrdersPlaceWhatEntriesShow, EntriesShowWhatOrdersPlace, LayersStayLayers, UnreliableRegionsAreEmpty, LastLayersCount, LastDeviceCounts, UsedAfterTheLast, ChangesKeepRightly, NewKeysKeepRightly, OtherEntriesKeepRightly, NowIsAdmitted};

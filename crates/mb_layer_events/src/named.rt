@@ -1,8 +1,7 @@
 //! Secrets by their names.
 
-ghost use Rattle.std.specs.Prelude.{◌≡◌, ◌≤◌, ℕ, true, false, not, length, find, filter, position, IfOk, OnOk};
+ghost use Rattle.std.specs.Prelude.{◌≡◌, true, false, find, position};
 ghost use Rattle.mb_model.specs.LayerEvents.{has_name, value_reply};
-ghost use Rattle.mb_model.specs.RegionFormat.{secret_format};
 ghost use Rattle.mb_layer_events.specs.Secrets.{IsKeptRegion, PutOf, DropOf};
 
 use crate::end::NotPut;

@@ -1,10 +1,9 @@
 //! Messages that a layer has signed.
 
-ghost use Rattle.std.specs.Prelude.{◌≡◌, ◌+◌, ◌≤◌, ◌<◌, length, vec_len, vec_capacity, IfOk, true};
+ghost use Rattle.std.specs.Prelude.{◌≡◌, ◌+◌, ◌≤◌, ◌<◌, length, IfOk, true};
 ghost use Rattle.mb_format.specs.Format.{IsBytes};
 ghost use Rattle.mb_model.specs.declared.state.State.{State};
 ghost use Rattle.mb_model.specs.Board.{IsLoaded};
-ghost use Rattle.mb_model.specs.ChainFormat.{statement_format};
 ghost use Rattle.mb_model.specs.Layers.{Runnable};
 ghost use Rattle.mb_model.specs.LayerEvents.{sign_event};
 ghost use Rattle.mb_model.specs.Log.{entries_of, number_of};

@@ -1,6 +1,6 @@
 //! The last signatures of a stored public record, without memory.
 
-ghost use Rattle.std.specs.Prelude.{◌≡◌, ◌≤◌, ◌*◌, ◌+◌, [], ◌∷◌, length, vec_len, vec_capacity};
+ghost use Rattle.std.specs.Prelude.{◌≤◌, ◌*◌, ◌+◌, [], ◌∷◌, length, vec_len, vec_capacity};
 ghost use Rattle.mb_layout.specs.Edits.{IsCompleted, KeepsRoom};
 ghost use Rattle.mb_layout.specs.LastEntries.{FindsLast};
 ghost use Rattle.mb_layout.specs.UnsignedEntries.{PassesEntry, FindsUnsigned, FindsTwoUnsigned};

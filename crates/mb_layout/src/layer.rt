@@ -1,9 +1,7 @@
 //! Layers as bytes.
 
 ghost use Rattle.std.specs.Prelude.{◌≡◌};
-ghost use Rattle.std.specs.Int.{w8};
-ghost use Rattle.mb_format.specs.Combinators.{table};
-ghost use Rattle.mb_model.specs.LayerFormat.{has_nothing, has_owner, has_code, has_reliable_code, has_rows, has_byte, layer_by, trust_by, code_name_format, layer_format, layers_format};
+ghost use Rattle.mb_model.specs.LayerFormat.{has_nothing, has_owner, has_code, has_reliable_code, layer_by, trust_by, code_name_format, layer_format, layers_format};
 ghost use Rattle.mb_bytes.specs.Reads.{bad_at, Reads, ReadsExactly};
 ghost use Rattle.mb_bytes.specs.Puts.{Puts, Writes};
 ghost use Rattle.mb_layout.specs.Parts.{loaded_byte};

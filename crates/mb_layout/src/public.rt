@@ -1,7 +1,6 @@
 //! Public records as bytes.
 
-ghost use Rattle.std.specs.Prelude.{◌≡◌, ◌≤◌, ◌<◌, ◌+◌, length, map};
-ghost use Rattle.std.specs.List.{All};
+ghost use Rattle.std.specs.Prelude.{◌≤◌, ◌<◌, ◌+◌, length, map};
 ghost use Rattle.mb_format.specs.Combinators.{optional};
 ghost use Rattle.mb_model.specs.EntryFormat.{signature_format};
 ghost use Rattle.mb_model.specs.Flash.{code_format, codes_format, public_entry_format, public_format, public_of_parts, with_signature, without_signature};

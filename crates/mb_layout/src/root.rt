@@ -1,6 +1,6 @@
 //! Root records as bytes, and the keys of regions, which stand in them too.
 
-ghost use Rattle.std.specs.Prelude.{◌≡◌, ◌≤◌, [], ◌∷◌, length};
+ghost use Rattle.std.specs.Prelude.{◌≤◌, [], ◌∷◌, length};
 ghost use Rattle.std.specs.Int.{w8};
 ghost use Rattle.mb_format.specs.Combinators.{mark, number, optional};
 ghost use Rattle.mb_model.specs.RootFormat.{region_key_format, outgoing_format, add_tag, fate_by, fate_format, pending_format, root_format};

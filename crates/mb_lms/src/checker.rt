@@ -1,6 +1,6 @@
 //! Whether a signature is one of a text (RFC 8554, section 5.4.2).
 
-ghost use Rattle.std.specs.Prelude.{◌≡◌, ◌↔◌, ◌++◌, IsTrue};
+ghost use Rattle.std.specs.Prelude.{◌↔◌, ◌++◌, IsTrue};
 ghost use Rattle.mb_model.specs.Merkle.{Verifies};
 
 use crate::signature::{begun_text, has_form, leads_to_root};

@@ -1,6 +1,6 @@
 //! What a list of entries says together.
 
-ghost use Rattle.std.specs.Prelude.{◌≡◌, ℕ, ◌+◌, ◌-◌, ◌^◌, ◌<◌, ◌≤◌, List, [], ◌∷◌, ◌++◌, length};
+ghost use Rattle.std.specs.Prelude.{◌≡◌, ◌+◌, ◌-◌, ◌^◌, ◌<◌, ◌≤◌, List, [], ◌∷◌, ◌++◌, length};
 ghost use Rattle.mb_model.specs.declared.entry.Entry.{Entry};
 ghost use Rattle.mb_model.specs.Layers.{unowned, unowned_layers};
 ghost use Rattle.mb_model.specs.Log.{entries_of, is_change, layers_in, layers_of, device_in, keys_in};

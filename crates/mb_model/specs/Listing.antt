@@ -7,7 +7,6 @@ use Rattle.sha2.specs.Sha256.{sha256}
 use Rattle.mb_model.specs.declared.key.PublicKey.{PublicKey}
 use Rattle.mb_model.specs.declared.layer.CodeName.{CodeName}
 use Rattle.mb_model.specs.declared.layer.Layer.{Layer}
-use Rattle.mb_model.specs.declared.order.KeyKind.{KeyKind}
 use Rattle.mb_model.specs.declared.state.Configuration.{Configuration}
 use Rattle.mb_model.specs.declared.state.Report.{Report}
 use Rattle.mb_model.specs.declared.event.Answered.{Answered}

@@ -1,6 +1,6 @@
 //! A list of bytes that contracts see as a list.
 
-ghost use Rattle.std.specs.Prelude.{◌≡◌, List, ℕ, IfOk, IsOkAnd};
+ghost use Rattle.std.specs.Prelude.{◌≡◌, List, ℕ, IfOk};
 
 use crate::memory::NoMemory;
 use std::alloc::Global;

@@ -1,7 +1,7 @@
 //! The lists of the model: one generic list, with a name for each use.
 
-ghost use Rattle.std.specs.Prelude.{◌≡◌, ◌<◌, ◌++◌, ◌∷◌, [], List, length, take, IfOk, OnOk, OnErr, slice_set, remove};
-ghost use Rattle.std.specs.Prelude.{slice_get, Some, vec_len};
+ghost use Rattle.std.specs.Prelude.{◌≡◌, ◌<◌, ◌++◌, ◌∷◌, [], List, length, take, OnOk, OnErr, slice_set, remove};
+ghost use Rattle.std.specs.Prelude.{slice_get, Some};
 
 use crate::bytes::Bytes;
 use crate::memory::NoMemory;

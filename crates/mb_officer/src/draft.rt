@@ -1,6 +1,6 @@
 //! The draft of an order, read line by line.
 
-ghost use Rattle.std.specs.Prelude.{◌≡◌, ◌≤◌, ◌∷◌, ◌++◌, [], List, length, codes, IsTrue, IfOk, MatchOption, None, Some};
+ghost use Rattle.std.specs.Prelude.{◌≡◌, ◌≤◌, ◌++◌, [], List, length, codes, IfOk, MatchOption, None, Some};
 ghost use Rattle.std.specs.Fmt.{decimal};
 ghost use Rattle.mb_model.specs.declared.order.OrderKind.TheVariants.{Surrender};
 ghost use Rattle.mb_model.specs.Rules.{MayBeFor};

@@ -1,6 +1,6 @@
 //! The states of a small register.
 
-ghost use Rattle.std.specs.Prelude.{◌≡◌, ◌≤◌, ℕ, true, false};
+ghost use Rattle.std.specs.Prelude.{◌≡◌, ℕ, true, false};
 ghost use Rattle.std.proofs.Common.{rules};
 
 use super::*;

@@ -1,6 +1,6 @@
 //! The events that the lines of a script say.
 
-ghost use Rattle.std.specs.Prelude.{◌≡◌, ◌≢◌, ◌++◌, ◌∷◌, ◌≤◌, ℕ, List, All, MatchOption, codes};
+ghost use Rattle.std.specs.Prelude.{◌≢◌, ◌++◌, ◌∷◌, ℕ, List, All, MatchOption, codes};
 ghost use Rattle.mb_model.specs.Script.{SaysEvent};
 ghost use Rattle.mb_words.specs.Words.{Finds, FindsSome};
 ghost use Rattle.mb_script.specs.Reading.{SaysTail, SaysSecret};

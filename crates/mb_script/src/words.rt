@@ -1,7 +1,6 @@
 //! The words of a line.
 
 ghost use Rattle.std.specs.Prelude.{◌≡◌, ◌↔◌, ℕ, List, MatchOption, IsTrue};
-ghost use Rattle.mb_model.specs.Layers.{is_upper};
 ghost use Rattle.mb_model.specs.Texts.{IsHex};
 ghost use Rattle.mb_model.specs.Script.{IsName, FitsMessage, tear_of};
 ghost use Rattle.mb_words.specs.Words.{Finds};

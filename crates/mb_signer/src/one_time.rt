@@ -1,6 +1,6 @@
 //! The one-time keys of the leaves: private values, chains and public keys (RFC 8554, section 4 and appendix A).
 
-ghost use Rattle.std.specs.Prelude.{◌≡◌, ℕ, ◌+◌, ◌≤◌, ◌<◌, ◌∷◌, ◌++◌, List};
+ghost use Rattle.std.specs.Prelude.{◌≡◌, ℕ, ◌+◌, ◌<◌, ◌++◌, List};
 ghost use Rattle.std.specs.Int.{w16, w32, to_be_bytes};
 ghost use Rattle.mb_model.specs.Winternitz.{chain_step, steps as taken, message_hash};
 ghost use Rattle.mb_model.specs.Signing.{private_value, randomizer_of, public_ends, one_time_public};

@@ -1,7 +1,7 @@
 //! The two areas of a slot, and the selector between them.
 
-ghost use Rattle.std.specs.Prelude.{◌≡◌, ◌≢◌, ℕ, ◌≤◌, ◌+◌, ◌%◌, ◌==◌, ◌⊎◌, ◌↔◌, length, IsTrue, OnOk, Ok, slice_index};
-ghost use Rattle.mb_model.specs.Memory.{slots, IsBlank, selector_of, current, other};
+ghost use Rattle.std.specs.Prelude.{◌≡◌, ◌≢◌, ℕ, ◌≤◌, ◌%◌, ◌==◌, ◌⊎◌, ◌↔◌, length, IsTrue, OnOk, Ok};
+ghost use Rattle.mb_model.specs.Memory.{IsBlank, current, other};
 ghost use Rattle.mb_model.specs.Board.{IsLoaded};
 ghost use Rattle.mb_board.specs.Calls.{power_of, level_of, IsMetered};
 ghost use Rattle.mb_storing.specs.InForce.{AgreeBesides};

@@ -1,6 +1,6 @@
 //! How a command ends, when it is not done.
 
-ghost use Rattle.std.specs.Prelude.{◌≡◌, ◌≤◌, ◌++◌, length, codes, decimal};
+ghost use Rattle.std.specs.Prelude.{◌≡◌, ◌≤◌, ◌++◌, length, decimal};
 ghost use Rattle.mb_model.specs.Texts.{ended};
 ghost use Rattle.mb_model.specs.Commands.{role_word, place_words};
 ghost use Rattle.mb_top.specs.Ending.{after_space, refusal_line, end_line, end_status};

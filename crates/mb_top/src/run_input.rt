@@ -1,6 +1,6 @@
 //! The inputs of `run`: an image, a script, and the noise of the script's commands.
 
-ghost use Rattle.std.specs.Prelude.{◌≡◌, ◌≤◌, length, All, IfOk, IfErr};
+ghost use Rattle.std.specs.Prelude.{◌≤◌, length, All, IfOk, IfErr};
 ghost use Rattle.mb_model.specs.Meaning.{IsWellFormed};
 ghost use Rattle.mb_model.specs.Valid.{Valid};
 ghost use Rattle.mb_model.specs.Script.{IsScriptEvent};

@@ -4,8 +4,8 @@ ghost use Rattle.std.specs.Prelude.{◌≡◌, ◌≤◌, IfOk, IsTrue, string_b
 ghost use Rattle.mb_model.specs.declared.tools.Keyfile.{Keyfile};
 ghost use Rattle.mb_model.specs.Layers.{is_upper};
 ghost use Rattle.mb_model.specs.OrderFormat.{order_format};
-ghost use Rattle.mb_model.specs.SignedOrders.{used_once, signed_order};
-ghost use Rattle.mb_model.specs.Sign.{sign, sign_by, sign_draft, countersign, countersign_order, countersign_by, use_index, index_text};
+ghost use Rattle.mb_model.specs.SignedOrders.{used_once};
+ghost use Rattle.mb_model.specs.Sign.{sign, sign_draft, countersign, countersign_order, use_index, index_text};
 ghost use Rattle.mb_top.specs.Words.{sign_files, countersign_files};
 ghost use Rattle.mb_top.specs.Ending.{CarriesOut};
 ghost use Rattle.mb_top.specs.Signing.{end_of};

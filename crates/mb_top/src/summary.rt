@@ -5,7 +5,7 @@ ghost use Rattle.arrayvec.specs.ArrayVec.{array_vec_len};
 ghost use Rattle.mb_model.specs.declared.reply.Reply.TheVariants as reply;
 ghost use Rattle.mb_model.specs.Texts.{ended};
 ghost use Rattle.mb_model.specs.Lines.{text_of};
-ghost use Rattle.mb_model.specs.Listing.{summary, number_line, replies_that, is_done, is_signed, is_refused};
+ghost use Rattle.mb_model.specs.Listing.{summary, replies_that, is_done, is_signed, is_refused};
 ghost use Rattle.mb_top.specs.Summaries.{hash_line};
 
 use arrayvec::ArrayVec;

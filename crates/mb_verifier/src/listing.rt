@@ -1,7 +1,6 @@
 //! The listing of a report.
 
-ghost use Rattle.std.specs.Prelude.{◌≡◌, ◌∷◌, [], ◌++◌, IfOk, OnOk, codes, flat_map};
-ghost use Rattle.std.specs.Fmt.{decimal};
+ghost use Rattle.std.specs.Prelude.{◌≡◌, [], ◌++◌, IfOk, OnOk, flat_map};
 ghost use Rattle.std.specs.String.{string_bytes};
 ghost use Rattle.mb_model.specs.Texts.{ended};
 ghost use Rattle.mb_model.specs.Lines.{hex_word, spaced, text_of};

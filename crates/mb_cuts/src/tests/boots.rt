@@ -1,6 +1,6 @@
 //! A device that comes up, stopped at each of its writes.
 
-ghost use Rattle.std.specs.Prelude.{◌≡◌, ◌<◌, ◌≤◌, length};
+ghost use Rattle.std.specs.Prelude.{◌≡◌, ◌<◌};
 ghost use Rattle.mb_cuts.specs.Staged.{IsLive};
 
 use super::calls::{After, Call, stopped};

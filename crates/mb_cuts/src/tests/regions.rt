@@ -1,6 +1,6 @@
 //! Calls that replace a region, stopped at each of their writes.
 
-ghost use Rattle.std.specs.Prelude.{◌≡◌, ◌<◌, ◌≤◌, length};
+ghost use Rattle.std.specs.Prelude.{◌≡◌, ◌<◌};
 ghost use Rattle.mb_cuts.specs.Staged.{IsLive};
 
 use super::boots::{FILLS, MANY, comes_up_at_last};

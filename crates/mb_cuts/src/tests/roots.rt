@@ -1,6 +1,6 @@
 //! A root that is put in force, where the selector held zero.
 
-ghost use Rattle.std.specs.Prelude.{◌≡◌, ◌<◌, ◌≤◌, length};
+ghost use Rattle.std.specs.Prelude.{◌≡◌, ◌<◌, ◌≤◌};
 
 use super::boots::{FILLS, comes_up_at_last};
 use super::calls::{Call, stopped};
