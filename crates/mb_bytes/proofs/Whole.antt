@@ -1,15 +1,12 @@
 -- A reader of whole bytes needs no more of them than its format can reach, and fails no further on.
-use Rattle.std.proofs.Common.{◌≡◌, ℕ, ◌-◌, ◌<◌, ◌≤◌, List, take, drop, Option, Some, None, Result, Ok, Err, refl, sym, ◌∙◌, take-append-drop, arith}
+use Rattle.std.proofs.Common.{◌≡◌, ℕ, ◌-◌, ◌<◌, ◌≤◌, List, take, Option, Some, None, Result, Ok, Err, refl, sym, ◌∙◌, arith}
 use Rattle.std.specs.Prelude.{IfErr, IfSome}
 use Rattle.std.specs.List.{slice_range}
 use Rattle.mb_format.specs.Format.{Format, IsBytes, FailsWhole}
 use Rattle.mb_format.specs.Reading.{IsExact, IsLocal, IsExactWhole}
-use Rattle.mb_format.proofs.Exact.{IsBytes-spelled}
+use Rattle.mb_format.proofs.Exact.{IsBytes-take}
 use Rattle.mb_format.proofs.Whole.{IsExactWhole-from_exact, reads_whole-cut, reads_whole-near}
 use Rattle.mb_bytes.specs.Reads.{ReadsWholeAs, FailsWholeAt}
-
-IsBytes-take : (m : ℕ) (bytes : List ℕ) → IsBytes bytes → IsBytes (take m bytes)
-IsBytes-take m bytes h = IsBytes-spelled bytes (take m bytes) (drop m bytes) h (sym (take-append-drop m bytes))
 
 fails_cut : {A : Type 0} {f : Format A} {n : ℕ} → IsExact f → IsLocal f n → (bytes : List ℕ) (m : ℕ) → IsBytes bytes → n < m → (at : Option ℕ) → FailsWholeAt f (take m bytes) at → FailsWholeAt f bytes at
 fails_cut {f} exact is bytes m h lt (Some at) fails =

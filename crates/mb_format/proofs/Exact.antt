@@ -1,5 +1,5 @@
 -- Formats that are read exactly are clear, and what is spelled at an offset is spelled part by part.
-use Rattle.std.proofs.Common.{◌≡◌, ℕ, ◌+◌, ◌⊎◌, inl, inr, List, ◌++◌, length, drop, Result, Ok, Err, refl, sym, ap, ◌∙◌, arith}
+use Rattle.std.proofs.Common.{◌≡◌, ℕ, ◌+◌, ◌⊎◌, inl, inr, List, ◌++◌, length, take, drop, Result, Ok, Err, refl, sym, ap, ◌∙◌, take-append-drop, arith}
 use Rattle.std.proofs.lemmas.Bool.{cases_lt}
 use Rattle.std.proofs.lemmas.List.{get_or_append_left, get_or-drop, get_or_past}
 use Rattle.mb_format.specs.Format.{IsBytes, IsOffset, SpelledAt, Format, IsClear, SpellsSome, FailsSomewhere}
@@ -24,6 +24,9 @@ IsBytes-spelled bytes text rest h e i =
       | inl lt ↦ rw (sym (get_or_append_left text rest 0 i lt), ← e) (h i)
       | inr le ↦ rw (get_or_past text i 0 le) (omega arith)
     ]
+
+pub IsBytes-take : (n : ℕ) (bytes : List ℕ) → IsBytes bytes → IsBytes (take n bytes)
+IsBytes-take n bytes are = IsBytes-spelled bytes (take n bytes) (drop n bytes) are (sym (take-append-drop n bytes))
 
 -- ---- clarity
 

@@ -1,13 +1,12 @@
 -- A memory stands for one state only.
-use Rattle.std.proofs.Common.{◌≡◌, ◌≤◌, ℕ, ◌+◌, ◌*◌, List, [], ◌∷◌, ◌++◌, inl, inr, length, map, take, drop, Option, Some, true, false, refl, sym, ap, subst, ◌∙◌, arith, lit<, ◌<◌, append_assoc, length-append}
+use Rattle.std.proofs.Common.{◌≡◌, ◌≤◌, ℕ, ◌+◌, ◌*◌, List, [], ◌∷◌, ◌++◌, inl, inr, length, map, drop, Option, Some, true, false, refl, sym, ap, subst, ◌∙◌, arith, lit<, ◌<◌, append_assoc, length-append}
 use Rattle.std.specs.Prelude.{◌%◌, ◌==◌, unwrap_or, if◌then◌else◌}
 use Rattle.std.specs.Int.{Width, w16, w32, to_be_bytes}
-use Rattle.std.proofs.lemmas.List.{take-append-drop}
 use Rattle.std.proofs.Math.Seq.{drop-append_seam}
 use Rattle.mb_format.specs.Format.{Format, IsBytes, SpelledAt, Spells}
 use Rattle.mb_format.specs.Reading.{IsExact}
 use Rattle.mb_format.specs.Combinators.{limit, number_bytes, between, sized}
-use Rattle.mb_format.proofs.Exact.{IsBytes-drop, IsBytes-spelled, IsClear-from_exact}
+use Rattle.mb_format.proofs.Exact.{IsBytes-drop, IsBytes-spelled, IsClear-from_exact, IsBytes-take}
 use Rattle.mb_format.proofs.Whole.{IsClearWhole-from_exact}
 use Rattle.mb_format.proofs.Fields.{IsWide, wide16, wide32, between_exact}
 use Rattle.mb_format.proofs.Compositions.{sized_exact}
@@ -55,9 +54,6 @@ one_in w most wide less area a b r s are short_a short_b whole_a whole_b =
     (clear.one_value area 0 a b _ _ (record { are_bytes = are; within = omega arith }) (after_length w most area a r short_a whole_a) (after_length w most area b s short_b whole_b)).0
 
 -- ---- the parts of a memory are bytes
-
-IsBytes-take : (n : ℕ) (bytes : List ℕ) → IsBytes bytes → IsBytes (take n bytes)
-IsBytes-take n bytes are = IsBytes-spelled bytes (take n bytes) (drop n bytes) are (sym (take-append-drop n bytes))
 
 IsBytes-part : (at n : ℕ) (memory : List ℕ) → IsBytes memory → IsBytes (part at n memory)
 IsBytes-part at n memory are = IsBytes-take n (drop at memory) (IsBytes-drop at memory are)
