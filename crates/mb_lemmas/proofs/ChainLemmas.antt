@@ -4,7 +4,6 @@ use Rattle.std.specs.Prelude.{◌⊎◌, Any, Contains, get_or, zero, suc}
 use Rattle.std.specs.Option.{option_or}
 use Rattle.std.proofs.Math.Seq.{append_snoc}
 use Rattle.std.proofs.lemmas.List.{append-nil, map-append, get_or_append_left}
-use Rattle.std.proofs.lemmas.List.Kept.{Any-cons}
 use Rattle.mb_format.specs.Format.{IsBytes, Spells, FailsWhole, IsClearWhole}
 use Rattle.mb_format.proofs.Whole.{IsClearWhole-from_exact}
 use Rattle.mb_model.specs.declared.key.PublicKey.{PublicKey}
@@ -345,6 +344,9 @@ contains_split (y ∷ xs) (suc k) x inside is =
     let found = contains_split xs k x (omega (arith, inside)) is in
     (y ∷ found.0, found.1, ap (λ t. y ∷ t) found.2)
 
+any_cons : {X : Type 0} (P : X → Type 0) (x : X) (xs : List X) → Any P xs → Any P (x ∷ xs)
+any_cons P x xs any = (suc any.0, any.1, omega (arith, any.2), any.3, any.4)
+
 any_left : {X : Type 0} (P : X → Type 0) (xs ys : List X) → Any P xs → Any P (xs ++ ys)
 any_left P xs ys any =
     let long = length-append xs ys in
@@ -362,7 +364,7 @@ unfolding last_of
 named_somewhere named [] x is = absurd (none_is_some None x refl is)
 named_somewhere named (first ∷ rest) x is =
     elim (named_last named first rest x (last_of named rest) refl is) [
-      | inl remaining ↦ Any-cons (λ entry. named entry ≡ Some x) first rest (named_somewhere named rest x remaining)
+      | inl remaining ↦ any_cons (λ entry. named entry ≡ Some x) first rest (named_somewhere named rest x remaining)
       | inr here ↦ (0, first, omega arith, refl, here)
     ]
 
