@@ -4,8 +4,7 @@
 //! text and attached to a chain, and whether a key signed an entry. How chains and statements are spelled, and which
 //! entries stand beside a statement, is defined in `mb_model` (`ChainFormat`, `OrderLines`, `Attach`). It stands on that
 //! crate, on `mb_format`, on `mb_bytes` and `mb_layout`, by which fields and entries are read and written, on `mb_words`,
-//! which reads lines and hexadecimal words, on the lemmas on such lines in `mb_lemmas`, on `mb_lms`, which verifies, and
-//! on `sha2` and `hex`.
+//! which reads lines and hexadecimal words, on the lemmas on such lines in `mb_lemmas`, and on `mb_lms`, which verifies.
 #![tactic(auto)]
 
 mod attached;

@@ -20,7 +20,8 @@ pub trait Record: Drop {
 
     ghost points: { Self.End → Option ℕ };
 
-    /// The record at the cursor's offset; after an error the cursor may stand anywhere.
+    /// The record at the cursor's offset; after an error the cursor may stand anywhere. Where reading takes memory, an
+    /// allocation may fail, of which no clause says when.
     fn read_at(needs: Self::Needs, cursor: &mut Cursor<'_>) -> Result<Self, Self::End>
         ensures { Reads points format cursor.old result cursor.new };
 
