@@ -126,6 +126,18 @@ fn go_on(
     Ok(())
 }
 
+/// The parts go as their steps say, one after another.
+fn go_through(
+    rt: &(impl Abort + AllocGlobal),
+    host: &mut MemoryHost,
+    parts: &[&[Step]],
+) -> Result<(), Fail> {
+    for steps in parts {
+        go_on(rt, host, steps)?;
+    }
+    Ok(())
+}
+
 fn take(rt: &(impl Abort + AllocGlobal), host: &mut MemoryHost, step: &Step) -> Result<(), Fail> {
     match step {
         Step::Ends(words, status, lines) => ends(rt, host, words, *status, lines),

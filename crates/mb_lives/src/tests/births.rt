@@ -3,7 +3,7 @@
 
 use super::devices::{IMAGE, MAKER, OWNER, SERIAL};
 use super::keys::{ZEROS_KEY, ZEROS_PUBLIC};
-use super::{Content, Given, Part, Step, go_on, host_with};
+use super::{Content, Given, Part, Step, go_on, go_through, host_with};
 use mb_host::MemoryHost;
 use std::process::Abort;
 use std::test::Fail;
@@ -232,7 +232,7 @@ const LAYERS_ARE_GIVEN: &[Step] = &[
 ];
 
 /// A host on which the device and its first orders are made.
-pub fn born(rt: &(impl Abort + AllocGlobal)) -> Result<MemoryHost, Fail> {
+fn born(rt: &(impl Abort + AllocGlobal)) -> Result<MemoryHost, Fail> {
     let mut host = host_with(rt.alloc(), FILES, &[])?;
     go_on(rt, &mut host, MADE)?;
     go_on(rt, &mut host, FIRST_ORDERS)?;
@@ -245,4 +245,20 @@ pub fn owned(rt: &(impl Abort + AllocGlobal)) -> Result<MemoryHost, Fail> {
     go_on(rt, &mut host, ORDERS_OF_A_LIFE)?;
     go_on(rt, &mut host, LAYERS_ARE_GIVEN)?;
     Ok(host)
+}
+
+/// A new device goes through the parts.
+pub fn new_device_goes_through(
+    rt: &(impl Abort + AllocGlobal),
+    parts: &[&[Step]],
+) -> Result<(), Fail> {
+    go_through(rt, &mut born(rt)?, parts)
+}
+
+/// A device whose layers all have owners and code goes through the parts.
+pub fn owned_device_goes_through(
+    rt: &(impl Abort + AllocGlobal),
+    parts: &[&[Step]],
+) -> Result<(), Fail> {
+    go_through(rt, &mut owned(rt)?, parts)
 }

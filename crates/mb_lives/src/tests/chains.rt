@@ -1,9 +1,10 @@
 //! The chains of devices: handed out, verified, cut and changed, attached to and audited, by values of an independent
 //! program.
 
-use super::births::owned;
-use super::{Part, Step, ends, file_of, go_on, store};
+use super::births::{owned, owned_device_goes_through};
+use super::{Part, Step, ends, file_of, go_on, go_through, store};
 use mb_host::MemoryHost;
+use std::alloc::Global;
 use std::process::Abort;
 use std::test::Fail;
 
@@ -370,44 +371,61 @@ fn entry_is_turned(
     turned: &Turned,
 ) -> Result<(), Fail> {
     for at in turned.unsigned {
-        let line = format!(in rt.alloc(); "refused 21 {}\n", turned.entry)?;
-        is_turned(rt, host, *at, &line)?;
+        is_refused(rt, host, *at, 21, turned.entry)?;
     }
-    for (at, told) in turned.formless {
-        let line = format!(in rt.alloc(); "refused 20 {told}\n")?;
-        is_turned(rt, host, *at, &line)?;
+    has_no_form(rt, host, turned.formless)
+}
+
+/// The form fails at the second of each two offsets where the byte at the first is turned.
+fn has_no_form(
+    rt: &(impl Abort + AllocGlobal),
+    host: &mut MemoryHost,
+    offsets: &[(usize, u32)],
+) -> Result<(), Fail> {
+    for (at, told) in offsets {
+        is_refused(rt, host, *at, 20, *told)?;
     }
     Ok(())
 }
 
-/// The chain whose byte at this offset has its last bit turned is refused with this line.
-fn is_turned(
+/// The chain whose byte at this offset has its last bit turned is refused with this number, which tells of this place.
+fn is_refused(
     rt: &(impl Abort + AllocGlobal),
     host: &mut MemoryHost,
     at: usize,
-    line: &str,
+    number: u8,
+    told: u32,
 ) -> Result<(), Fail> {
-    let mut bytes = Vec::from_slice(rt.alloc(), file_of(host, "chain")?)?;
+    turn(rt.alloc(), host, at)?;
+    let line = format!(in rt.alloc(); "refused {number} {told}\n")?;
+    ends(rt, host, "verify public0 turned 1", 7, &line)
+}
+
+/// Writes the chain with the last bit of the byte at this offset turned.
+fn turn(alloc: Global, host: &mut MemoryHost, at: usize) -> Result<(), Fail> {
+    let mut bytes = Vec::from_slice(alloc, file_of(host, "chain")?)?;
     let byte = bytes.get_mut(at).ok_or("no such byte")?;
     *byte ^= 1;
-    store(host, "turned", &bytes)?;
-    ends(rt, host, "verify public0 turned 1", 7, line)
+    store(host, "turned", &bytes)
 }
+
+/// What is done before the chain is turned.
+const BEFORE_TURNING: &[&[Step]] = &[
+    A_WHOLE_LIFE,
+    A_STATEMENT_IS_ATTACHED,
+    A_CHAIN_IS_CHANGED,
+    INPUTS_ARE_REFUSED,
+];
 
 #[test]
 fn chains_tell_of_their_device(rt: HostRuntime) -> Result<(), Fail> {
     let mut host = owned(&rt)?;
-    go_on(&rt, &mut host, A_WHOLE_LIFE)?;
-    go_on(&rt, &mut host, A_STATEMENT_IS_ATTACHED)?;
-    go_on(&rt, &mut host, A_CHAIN_IS_CHANGED)?;
-    go_on(&rt, &mut host, INPUTS_ARE_REFUSED)?;
+    go_through(&rt, &mut host, BEFORE_TURNING)?;
     entries_are_turned(&rt, &mut host)?;
     go_on(&rt, &mut host, ANOTHER_DEVICE)
 }
 
 #[test]
 fn keys_end_and_devices_die(rt: HostRuntime) -> Result<(), Fail> {
-    let mut host = owned(&rt)?;
-    go_on(&rt, &mut host, A_KEY_OF_A_CONFIGURATION)?;
-    go_on(&rt, &mut host, THE_CASE_IS_OPENED)
+    owned_device_goes_through(&rt, &[A_KEY_OF_A_CONFIGURATION, THE_CASE_IS_OPENED])
 }

@@ -1,7 +1,7 @@
 //! Lives of a device whose three layers have owners, by the replies that its rules give.
 
-use super::births::owned;
-use super::{Cut, Part, Step, go_on};
+use super::births::owned_device_goes_through;
+use super::{Cut, Part, Step};
 use std::test::Fail;
 
 /// Secrets are put and a message is signed. What runs goes on across loads that are countersigned.
@@ -299,26 +299,32 @@ const KEYS_ARE_FULL: &[Step] = &[
 
 #[test]
 fn a_life_is_lived(rt: HostRuntime) -> Result<(), Fail> {
-    let mut host = owned(&rt)?;
-    go_on(&rt, &mut host, A_LIFE)?;
-    go_on(&rt, &mut host, LAYER_THREE_AGREES)?;
-    go_on(&rt, &mut host, A_COUNTERSIGNATURE_IS_WRONG)?;
-    go_on(&rt, &mut host, ANOTHER_OWNER)
+    owned_device_goes_through(
+        &rt,
+        &[
+            A_LIFE,
+            LAYER_THREE_AGREES,
+            A_COUNTERSIGNATURE_IS_WRONG,
+            ANOTHER_OWNER,
+        ],
+    )
 }
 
 #[test]
 fn a_load_is_cut_at_each_write(rt: HostRuntime) -> Result<(), Fail> {
-    let mut host = owned(&rt)?;
-    go_on(&rt, &mut host, A_LIFE_WITHOUT_KEYS)?;
-    go_on(&rt, &mut host, A_LOAD_IS_CUT)
+    owned_device_goes_through(&rt, &[A_LIFE_WITHOUT_KEYS, A_LOAD_IS_CUT])
 }
 
 #[test]
 fn layers_keep_and_sign(rt: HostRuntime) -> Result<(), Fail> {
-    let mut host = owned(&rt)?;
-    go_on(&rt, &mut host, SECRETS_ARE_KEPT)?;
-    go_on(&rt, &mut host, A_KEY_IS_SPENT)?;
-    go_on(&rt, &mut host, INDICES_ARE_USED_ONCE)?;
-    go_on(&rt, &mut host, A_KEY_ENDS)?;
-    go_on(&rt, &mut host, KEYS_ARE_FULL)
+    owned_device_goes_through(
+        &rt,
+        &[
+            SECRETS_ARE_KEPT,
+            A_KEY_IS_SPENT,
+            INDICES_ARE_USED_ONCE,
+            A_KEY_ENDS,
+            KEYS_ARE_FULL,
+        ],
+    )
 }

@@ -1,7 +1,7 @@
 //! The first orders of a device, and power losses while it obeys them, by the replies that its rules give.
 
-use super::births::born;
-use super::{Part, Step, go_on};
+use super::births::new_device_goes_through;
+use super::{Part, Step};
 use mb_model::BBRAM_LENGTH;
 use std::test::Fail;
 
@@ -221,12 +221,16 @@ const THE_CASE_IS_OPENED: &[Step] = &[
 
 #[test]
 fn first_orders_are_obeyed(rt: HostRuntime) -> Result<(), Fail> {
-    let mut host = born(&rt)?;
-    go_on(&rt, &mut host, THE_FIRST_ORDER)?;
-    go_on(&rt, &mut host, TARGETS_COME_FIRST)?;
-    go_on(&rt, &mut host, EMERGENCY_COMES_FIRST)?;
-    go_on(&rt, &mut host, POWER_IS_LOST_EARLY)?;
-    go_on(&rt, &mut host, A_SELECTOR_IS_TORN)?;
-    go_on(&rt, &mut host, POWER_IS_LOST_LATE)?;
-    go_on(&rt, &mut host, THE_CASE_IS_OPENED)
+    new_device_goes_through(
+        &rt,
+        &[
+            THE_FIRST_ORDER,
+            TARGETS_COME_FIRST,
+            EMERGENCY_COMES_FIRST,
+            POWER_IS_LOST_EARLY,
+            A_SELECTOR_IS_TORN,
+            POWER_IS_LOST_LATE,
+            THE_CASE_IS_OPENED,
+        ],
+    )
 }

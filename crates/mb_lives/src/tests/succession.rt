@@ -1,7 +1,7 @@
 //! A device whose keys are spent and whose log is filled, by the replies that its rules give.
 
-use super::births::born;
-use super::{Part, Step, go_on};
+use super::births::new_device_goes_through;
+use super::{Part, Step};
 use std::test::Fail;
 
 /// Layer 2 has its owner.
@@ -126,8 +126,5 @@ const THE_LOG_IS_FULL: &[Step] = &[
 
 #[test]
 fn keys_of_a_device_succeed(rt: HostRuntime) -> Result<(), Fail> {
-    let mut host = born(&rt)?;
-    go_on(&rt, &mut host, OWNED)?;
-    go_on(&rt, &mut host, KEYS_SUCCEED)?;
-    go_on(&rt, &mut host, THE_LOG_IS_FULL)
+    new_device_goes_through(&rt, &[OWNED, KEYS_SUCCEED, THE_LOG_IS_FULL])
 }
