@@ -37,22 +37,22 @@ fn sign_entry<L: Ledger>(
 }
 
 /// Signs the one unsigned entry of the record.
-fn sign_last<L: Ledger>(key: &KeySeed, index: u32, record: &mut Vec<u8>, steps: &mut Steps<L>)
+fn sign_last<L: Ledger>(key: &KeySeed, index: u32, bytes: &mut Vec<u8>, steps: &mut Steps<L>)
     requires index { index ≤ 31 }
-    requires room { vec_len record.old + 2348 ≤ vec_capacity record.old }
-    requires short { vec_len record.old ≤ 4194304 }
-    ensures signed { LastIsSigned key.now index record.old record.new }
+    requires room { vec_len bytes.old + 2348 ≤ vec_capacity bytes.old }
+    requires short { vec_len bytes.old ≤ 4194304 }
+    ensures signed { LastIsSigned key.now index bytes.old bytes.new }
     ensures cost { steps.new ≤ steps.old + 35473 }
 {
     let mut signatures = [[0; SIGNATURE_LENGTH]];
     sign_entry(
         key,
         index,
-        unsigned_entry(record.as_slice()),
+        unsigned_entry(bytes.as_slice()),
         &mut signatures[0],
         steps,
     );
-    complete_record(record, &signatures);
+    complete_record(bytes, &signatures);
 }
 
 /// Signs the two unsigned entries of the record: the first by the outgoing key at the index, the second by the device key
@@ -61,45 +61,45 @@ fn sign_last_two<L: Ledger>(
     outgoing: &KeySeed,
     index: u32,
     device: &KeySeed,
-    record: &mut Vec<u8>,
+    bytes: &mut Vec<u8>,
     steps: &mut Steps<L>,
 )
     requires index { index ≤ 31 }
-    requires room { vec_len record.old + 4696 ≤ vec_capacity record.old }
-    requires short { vec_len record.old ≤ 4194304 }
-    ensures signed { LastTwoAreSigned outgoing.now index device.now record.old record.new }
+    requires room { vec_len bytes.old + 4696 ≤ vec_capacity bytes.old }
+    requires short { vec_len bytes.old ≤ 4194304 }
+    ensures signed { LastTwoAreSigned outgoing.now index device.now bytes.old bytes.new }
     ensures cost { steps.new ≤ steps.old + 70946 }
 {
     let mut signatures = [[0; SIGNATURE_LENGTH]; 2];
-    let (first, second) = two_unsigned_entries(record.as_slice());
+    let (first, second) = two_unsigned_entries(bytes.as_slice());
     sign_entry(outgoing, index, first, &mut signatures[0], steps);
     sign_entry(device, 0, second, &mut signatures[1], steps);
-    complete_record(record, &signatures);
+    complete_record(bytes, &signatures);
 }
 
 /// Completes the public record in place: each entry that the root leaves unsigned is signed once, by the key and at the
 /// index that the root names, in at most 70,946 steps. Nothing is said where the bytes are no public record with as many
 /// unsigned entries as the root says. There is room for the signatures.
-pub fn sign_pending<L: Ledger>(root: &Root, record: &mut Vec<u8>, steps: &mut Steps<L>)
+pub fn sign_pending<L: Ledger>(root: &Root, bytes: &mut Vec<u8>, steps: &mut Steps<L>)
     requires uses { root.now.uses ≤ 32 }
     requires outgoing { IfSome (outgoing_of root.now.pending) (λ outgoing. outgoing.uses ≤ 32) }
     requires few { unsigned_by root.now.pending ≤ 2 }
-    requires room { vec_len record.old + 4696 ≤ vec_capacity record.old }
-    requires short { vec_len record.old ≤ 4194304 }
-    ensures signed { PendingIsSigned root.now record.old record.new }
+    requires room { vec_len bytes.old + 4696 ≤ vec_capacity bytes.old }
+    requires short { vec_len bytes.old ≤ 4194304 }
+    ensures signed { PendingIsSigned root.now bytes.old bytes.new }
     ensures cost { steps.new ≤ steps.old + 70946 }
 {
     let Some(pending) = &root.pending else {
         return;
     };
     match (&pending.outgoing, pending.unsigned) {
-        (None, _) => sign_last(&root.device, last_of(root.uses), record, steps),
-        (Some(outgoing), 1) => sign_last(&outgoing.seed, last_of(outgoing.uses), record, steps),
+        (None, _) => sign_last(&root.device, last_of(root.uses), bytes, steps),
+        (Some(outgoing), 1) => sign_last(&outgoing.seed, last_of(outgoing.uses), bytes, steps),
         (Some(outgoing), 2) => sign_last_two(
             &outgoing.seed,
             last_of(outgoing.uses),
             &root.device,
-            record,
+            bytes,
             steps,
         ),
         _ => {}

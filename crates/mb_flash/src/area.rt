@@ -34,12 +34,12 @@ fn fill_first(count: u32, head: &[u8], piece: &mut [u8])
 /// any. Where power fails, the other area is as it was. There are at most two write calls for each sector that the record
 /// needs, and none for a sector that holds its bytes already.
 #[tactic(auto, using(crate::proofs::Areas::begins, crate::proofs::Areas::other_kept))]
-pub fn write_area<B: Board>(b: &mut B, area: u16, record: &[u8]) -> Result<(), Stopped>
+pub fn write_area<B: Board>(b: &mut B, area: u16, bytes: &[u8]) -> Result<(), Stopped>
     requires on { B.power b.old ≡ true }
     requires loaded { IsLoaded (B.memory b.old) }
     requires area { area ≤ 1 }
-    requires short { length record.now ≤ 470000 }
-    ensures written { OnOk result (BeginsArea (flash_area (B.memory b.new).flash area) record.now) }
+    requires short { length bytes.now ≤ 470000 }
+    ensures written { OnOk result (BeginsArea (flash_area (B.memory b.new).flash area) bytes.now) }
     ensures other { flash_area (B.memory b.new).flash (1 - area) ≡ flash_area (B.memory b.old).flash (1 - area) }
     ensures same { IsSameOutside (524288 * area) 524288 (B.memory b.old).flash (B.memory b.new).flash }
     ensures sized { IsLoaded (B.memory b.new) }
@@ -47,43 +47,43 @@ pub fn write_area<B: Board>(b: &mut B, area: u16, record: &[u8]) -> Result<(), S
     ensures power { B.power b.new ≡ power_of result }
     ensures level { B.level b.new ≡ level_of result (B.level b.old) }
     ensures ledger { B.ledger b.new ≡ B.ledger b.old }
-    ensures meter { IsMetered (2 * sectors_for (4 + length record.now)) result (B.meter b.old) (B.meter b.new) }
+    ensures meter { IsMetered (2 * sectors_for (4 + length bytes.now)) result (B.meter b.old) (B.meter b.new) }
 {
-    write_lengthened(b, area, record)
+    write_lengthened(b, area, bytes)
 }
 
 /// Writes the length of the record and the record at the start of the area.
-fn write_lengthened<B: Board>(b: &mut B, area: u16, record: &[u8]) -> Result<(), Stopped>
+fn write_lengthened<B: Board>(b: &mut B, area: u16, bytes: &[u8]) -> Result<(), Stopped>
     requires on { B.power b.old ≡ true }
     requires loaded { IsLoaded (B.memory b.old) }
     requires area { area ≤ 1 }
-    requires short { length record.now ≤ 470000 }
-    ensures stored { OnOk result (part (524288 * area) (4 + length record.now) (B.memory b.new).flash
-        ≡ to_be_bytes w32 (length record.now) ++ record.now) }
+    requires short { length bytes.now ≤ 470000 }
+    ensures stored { OnOk result (part (524288 * area) (4 + length bytes.now) (B.memory b.new).flash
+        ≡ to_be_bytes w32 (length bytes.now) ++ bytes.now) }
     ensures same { IsSameOutside (524288 * area) 524288 (B.memory b.old).flash (B.memory b.new).flash }
     ensures sized { IsLoaded (B.memory b.new) }
     ensures bbram { (B.memory b.new).bbram ≡ (B.memory b.old).bbram }
     ensures power { B.power b.new ≡ power_of result }
     ensures level { B.level b.new ≡ level_of result (B.level b.old) }
     ensures ledger { B.ledger b.new ≡ B.ledger b.old }
-    ensures meter { IsMetered (2 * sectors_for (4 + length record.now)) result (B.meter b.old) (B.meter b.new) }
+    ensures meter { IsMetered (2 * sectors_for (4 + length bytes.now)) result (B.meter b.old) (B.meter b.new) }
 {
-    let (head, rest) = split_head(record);
+    let (head, rest) = split_head(bytes);
     let mut piece = [0; SECTOR_LENGTH];
-    fill_first(record.len() as u32, head, &mut piece);
+    fill_first(bytes.len() as u32, head, &mut piece);
     let first = AREA_SECTORS * area;
     write_sector(b, first, &piece[..PREFIX + head.len()])?;
     write_sectors(b, first + 1, rest)
 }
 
 /// The bytes of a record that stand in the first sector after its length, and the rest.
-fn split_head(record: &[u8]) -> (&[u8], &[u8])
-    ensures whole { record.now ≡ result.0.now ++ result.1.now }
+fn split_head(bytes: &[u8]) -> (&[u8], &[u8])
+    ensures whole { bytes.now ≡ result.0.now ++ result.1.now }
     ensures most { length result.0.now ≤ 4092 }
     ensures full { (length result.0.now ≡ 4092) ⊎ (length result.1.now ≡ 0) }
 {
-    if record.len() <= SECTOR_LENGTH - PREFIX {
-        return (record, &[]);
+    if bytes.len() <= SECTOR_LENGTH - PREFIX {
+        return (bytes, &[]);
     }
-    record.split_at(SECTOR_LENGTH - PREFIX)
+    bytes.split_at(SECTOR_LENGTH - PREFIX)
 }

@@ -27,14 +27,14 @@ sign_pending-requires-clause-short g c =
 
 pub returns-clause-signed : goal.returns-clause-signed
 returns-clause-signed g c =
-    signed_here (g.B.Board.memory c.args.b.now) c.args.root.now c.read_public.new.room.public c.sign_pending.new.record c.requires.root c.read_public.ensures.read c.sign_pending.ensures.signed
+    signed_here (g.B.Board.memory c.args.b.now) c.args.root.now c.read_public.new.room.public c.sign_pending.new.bytes c.requires.root c.read_public.ensures.read c.sign_pending.ensures.signed
 
 pub returns-clause-short : goal.returns-clause-short
 returns-clause-short g c =
-    record_is_short (g.B.Board.memory c.args.b.now) c.sign_pending.new.record.items c.requires.live
-    (signed_here (g.B.Board.memory c.args.b.now) c.args.root.now c.read_public.new.room.public c.sign_pending.new.record c.requires.root c.read_public.ensures.read c.sign_pending.ensures.signed)
+    record_is_short (g.B.Board.memory c.args.b.now) c.sign_pending.new.bytes.items c.requires.live
+    (signed_here (g.B.Board.memory c.args.b.now) c.args.root.now c.read_public.new.room.public c.sign_pending.new.bytes c.requires.root c.read_public.ensures.read c.sign_pending.ensures.signed)
 
 pub returns-clause-room : goal.returns-clause-room
 returns-clause-room g c =
-    let roomy = still_roomy (g.B.Board.memory c.args.b.now) c.args.root.now c.read_public.new.room.public c.sign_pending.new.record c.requires.live c.requires.root c.read_public.ensures.read c.sign_pending.ensures.signed in
+    let roomy = still_roomy (g.B.Board.memory c.args.b.now) c.args.root.now c.read_public.new.room.public c.sign_pending.new.bytes c.requires.live c.requires.root c.read_public.ensures.read c.sign_pending.ensures.signed in
     record { public = omega (arith, roomy, c.read_public.ensures.room.public); area = c.read_public.ensures.room.area; other = c.read_public.ensures.room.other }
