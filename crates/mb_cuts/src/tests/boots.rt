@@ -1,23 +1,20 @@
 //! A device that comes up, stopped at each of its writes.
 
-ghost use Rattle.std.specs.Prelude.{◌≡◌, ◌<◌};
+ghost use Rattle.std.specs.Prelude.{◌≤◌};
 ghost use Rattle.mb_cuts.specs.Staged.{IsLive};
 
 use super::calls::{After, Call, stopped};
-use super::images::{BORN, ENTRY, Left, NEW_KEY, RENEWAL, SUCCESSION, image_of};
-use super::states::{is_clean, is_same, state_of};
+use super::images::{BORN, ENTRY, Left, NEW_KEY, RENEWAL, SUCCESSION, device_of};
+use super::states::{Device, is_same};
 use hex::FromHex;
-use mb_lms::Steps;
 use mb_model::State;
 use sha2::{Digest, Sha256};
 use std::alloc::Global;
-use std::marker::Brand;
 use std::process::Abort;
-use std::sync::ledger::{Blank, Ledger};
 use std::test::Fail;
 
 /// With what the bytes of a write are filled in which power fails.
-pub const FILLS: [u8; 4] = [0, 0xff, 0x7e, 1];
+pub const FILLS: &[u8] = &[0, 0xff, 0x7e, 1];
 
 /// No call has as many writes.
 pub const MANY: u32 = 300;
@@ -48,129 +45,86 @@ fn expect_state(rt: &impl Abort, state: &State, left: &Left) -> Result<(), Fail>
     Ok(())
 }
 
+/// Whether a boot left this state, and a clean memory where power did not fail in it.
+fn keeps(after: &After, like: &State) -> bool {
+    (after.stopped || after.is_clean) && is_same(&after.device.state, like)
+}
+
+fn is_up(after: &After, like: &State) -> bool {
+    !after.stopped && keeps(after, like)
+}
+
 /// The device comes up with its memory clean, and has this state.
-fn comes_up<L: Ledger>(
-    rt: &impl Abort,
-    alloc: Global,
-    image: &[u8],
-    like: &State,
-    steps: &mut Steps<L>,
-) -> Result<(), Fail>
+fn comes_up(rt: &impl Abort, alloc: Global, image: &[u8], like: &State) -> Result<(), Fail>
     requires { IsLive image.now }
 {
-    let after = stopped(alloc, image, Call::Boot, MANY, 0, steps)?;
-    assert!(rt; !after.stopped);
-    assert!(rt; is_clean(&after.image));
-    assert!(rt; is_same(&state_of(alloc, &after.image, steps)?, like));
+    let after = stopped(alloc, image, Call::Boot, MANY, 0)?;
+    assert!(rt; is_up(&after, like));
     Ok(())
 }
 
-/// The device has this state wherever power fails as it comes up, and has it once it is up. How many writes there are.
-pub fn comes_up_at_last<L: Ledger>(
+/// The device has its state after power failed in the write of this number as it comes up, and has it once it is up then.
+/// Whether power failed.
+fn fails_coming_up(
     rt: &impl Abort,
     alloc: Global,
-    image: &[u8],
-    like: &State,
+    device: &Device,
+    count: u32,
     fill: u8,
-    steps: &mut Steps<L>,
+) -> Result<bool, Fail>
+    requires live { IsLive device.now.image.items }
+    requires least { 1 ≤ count }
+    requires most { count ≤ 100000 }
+{
+    let after = stopped(alloc, &device.image, Call::Boot, count, fill)?;
+    assert!(rt; keeps(&after, &device.state));
+    if after.stopped {
+        comes_up(rt, alloc, &after.device.image, &device.state)?;
+    }
+    Ok(after.stopped)
+}
+
+/// The device has its state wherever power fails as it comes up, and has it once it is up. How many writes there are.
+pub fn comes_up_at_last(
+    rt: &impl Abort,
+    alloc: Global,
+    device: &Device,
+    fill: u8,
 ) -> Result<u32, Fail>
-    requires { IsLive image.now }
+    requires { IsLive device.now.image.items }
 {
     for count in 1..MANY {
-        let after = stopped(alloc, image, Call::Boot, count, fill, steps)?;
-        let state = state_of(alloc, &after.image, steps)?;
-        assert!(rt; is_same(&state, like));
-        if !after.stopped {
-            assert!(rt; is_clean(&after.image));
+        if !fails_coming_up(rt, alloc, device, count, fill)? {
             return Ok(count - 1);
         }
-        comes_up(rt, alloc, &after.image, like, steps)?;
     }
     panic!(rt; "the writes do not end");
+}
+
+fn expect_writes(
+    rt: &impl Abort,
+    alloc: Global,
+    device: &Device,
+    fill: u8,
+    writes: u32,
+) -> Result<(), Fail>
+    requires { IsLive device.now.image.items }
+{
+    let found = comes_up_at_last(rt, alloc, device, fill)?;
+    assert_eq!(rt; found, writes);
+    Ok(())
 }
 
 /// The device has the state that the other program tells wherever power fails as it comes up, and once it is up. There are
 /// two writes for each sector of the public record, two for each region that something is to be done to, two for the root,
 /// and one for each area that is left with old bytes.
-fn expect_boots<L: Ledger>(
-    rt: &impl Abort,
-    alloc: Global,
-    left: &Left,
-    writes: u32,
-    steps: &mut Steps<L>,
-) -> Result<(), Fail> {
-    let image = image_of(alloc, left, steps)?;
-    let state = state_of(alloc, &image, steps)?;
-    expect_state(rt, &state, left)?;
+fn expect(rt: &impl Abort, alloc: Global, left: &Left, writes: u32) -> Result<(), Fail> {
+    let device = device_of(alloc, left, false)?;
+    expect_state(rt, &device.state, left)?;
     for fill in FILLS {
-        let found = comes_up_at_last(rt, alloc, &image, &state, fill, steps)?;
-        assert_eq!(rt; found, writes);
+        expect_writes(rt, alloc, &device, *fill, writes)?;
     }
     Ok(())
-}
-
-/// The device has the state that the other program tells wherever power fails as it comes up, and wherever it fails again
-/// as it comes up after that.
-fn expect_second_boots<L: Ledger>(
-    rt: &impl Abort,
-    alloc: Global,
-    left: &Left,
-    steps: &mut Steps<L>,
-) -> Result<(), Fail> {
-    let image = image_of(alloc, left, steps)?;
-    let state = state_of(alloc, &image, steps)?;
-    for count in 1..MANY {
-        let after = stopped(alloc, &image, Call::Boot, count, 0xff, steps)?;
-        let _state = state_of(alloc, &after.image, steps)?;
-        comes_up_at_last(rt, alloc, &after.image, &state, 0xff, steps)?;
-        if !after.stopped {
-            return Ok(());
-        }
-    }
-    panic!(rt; "the writes do not end");
-}
-
-fn second_counted<L: Ledger>(
-    rt: &impl Abort,
-    alloc: Global,
-    left: &Left,
-    blank: Blank,
-) -> Result<(), Fail>
-    requires name { blank.name ≡ L.name }
-    requires parts { blank.parts ≡ L.parts }
-    requires some { 0 < blank.parts }
-{
-    expect_second_boots(rt, alloc, left, &mut Steps::<L>::begin(alloc, blank))
-}
-
-/// The same, on a count of its own.
-fn expect_second(rt: &impl Abort, alloc: Global, left: &Left) -> Result<(), Fail> {
-    second_counted::<Brand>(rt, alloc, left, Blank::new(1))
-}
-
-fn expect_counted<L: Ledger>(
-    rt: &impl Abort,
-    alloc: Global,
-    left: &Left,
-    writes: u32,
-    blank: Blank,
-) -> Result<(), Fail>
-    requires name { blank.name ≡ L.name }
-    requires parts { blank.parts ≡ L.parts }
-    requires some { 0 < blank.parts }
-{
-    expect_boots(
-        rt,
-        alloc,
-        left,
-        writes,
-        &mut Steps::<L>::begin(alloc, blank),
-    )
-}
-
-/// The same, on a count of its own.
-fn expect(rt: &impl Abort, alloc: Global, left: &Left, writes: u32) -> Result<(), Fail> {
-    expect_counted::<Brand>(rt, alloc, left, writes, Blank::new(1))
 }
 
 #[test]
@@ -181,11 +135,6 @@ fn new_device_writes_nothing(rt: HostRuntime) -> Result<(), Fail> {
 #[test]
 fn one_entry_is_signed(rt: HostRuntime) -> Result<(), Fail> {
     expect(&rt, rt.alloc(), &ENTRY, 16)
-}
-
-#[test]
-fn boot_after_a_stop_is_stopped_too(rt: HostRuntime) -> Result<(), Fail> {
-    expect_second(&rt, rt.alloc(), &ENTRY)
 }
 
 #[test]

@@ -1,6 +1,6 @@
 //! The calls that are stopped.
 
-ghost use Rattle.std.specs.Prelude.{◌≡◌, ◌≤◌, length, IfOk, false};
+ghost use Rattle.std.specs.Prelude.{◌≡◌, ◌<◌, ◌≤◌, length, IfOk, false};
 ghost use Rattle.mb_model.specs.Board.{IsLoaded};
 ghost use Rattle.mb_model.specs.Memory.{current};
 ghost use Rattle.mb_model.specs.RootFormat.{root_format};
@@ -10,6 +10,7 @@ ghost use Rattle.mb_boot.specs.Booting.{StandsForValid};
 ghost use Rattle.mb_cuts.specs.Staged.{IsLive, IsReady};
 
 use super::board::{armed_board, wake};
+use super::states::{Device, is_clean, read};
 use mb_area::commit_root;
 use mb_board::{Board, SimBoard};
 use mb_boot::{BootEnd, boot};
@@ -21,7 +22,8 @@ use mb_ratchet::{Off, One, R1, Reaches, Register, Three, Two, Up};
 use mb_region::{Named, commit_region, read_stored, wipe_region};
 use mb_signer::sign;
 use std::alloc::Global;
-use std::sync::ledger::Ledger;
+use std::marker::Brand;
+use std::sync::ledger::{Blank, Ledger};
 use std::test::Fail;
 
 /// A call that writes. Records are in hexadecimal.
@@ -44,7 +46,8 @@ pub enum Call {
 pub struct After {
     /// Whether power failed in it.
     pub stopped: bool,
-    pub image: Vec<u8>,
+    pub is_clean: bool,
+    pub device: Box<Device>,
 }
 
 /// The region for which a record stands.
@@ -176,24 +179,61 @@ fn make<L: Ledger>(
     }
 }
 
-/// What a call leaves of an image, in whose write of this number power fails, so that all bytes of it are `fill`.
+/// Makes the call on a board with this image, in whose write of this number power fails; whether power failed.
 #[tactic(auto, using(crate::proofs::Staging::live_length))]
-pub fn stopped<L: Ledger>(
+fn make_on<L: Ledger>(
+    alloc: Global,
+    image: &mut [u8],
+    call: Call,
+    count: u32,
+    fill: u8,
+    steps: &mut Steps<L>,
+) -> Result<bool, Fail>
+    requires live { IsLive image.old }
+    requires least { 1 ≤ count }
+    requires most { count ≤ 100000 }
+{
+    let mut board = armed_board(alloc, image, count, fill)?;
+    let stopped = make(alloc, call, &mut board, steps)?;
+    board.copy_image(image);
+    Ok(stopped)
+}
+
+#[tactic(auto, using(crate::proofs::Staging::live_length))]
+fn stopped_counted<L: Ledger>(
     alloc: Global,
     image: &[u8],
     call: Call,
     count: u32,
     fill: u8,
-    steps: &mut Steps<L>,
+    blank: Blank,
 ) -> Result<After, Fail>
+    requires name { blank.name ≡ L.name }
+    requires parts { blank.parts ≡ L.parts }
+    requires some { 0 < blank.parts }
     requires live { IsLive image.now }
     requires least { 1 ≤ count }
     requires most { count ≤ 100000 }
-    ensures { IfOk result (λ after. length after.image.items ≡ 1077248) }
+    ensures { IfOk result (λ after. IsLive after.device.value.image.items) }
 {
-    let mut board = armed_board(alloc, image, count, fill)?;
-    let stopped = make(alloc, call, &mut board, steps)?;
+    let mut steps = Steps::<L>::begin(alloc, blank);
     let mut image = Vec::from_slice(alloc, image)?;
-    board.copy_image(&mut image);
-    Ok(After { stopped, image })
+    let stopped = make_on(alloc, &mut image, call, count, fill, &mut steps)?;
+    let device = read(alloc, image, &mut steps)?;
+    let is_clean = is_clean(&device.image);
+    Ok(After {
+        stopped,
+        is_clean,
+        device,
+    })
+}
+
+/// What a call leaves of an image, in whose write of this number power fails, so that all bytes of it are `fill`.
+pub fn stopped(alloc: Global, image: &[u8], call: Call, count: u32, fill: u8) -> Result<After, Fail>
+    requires live { IsLive image.now }
+    requires least { 1 ≤ count }
+    requires most { count ≤ 100000 }
+    ensures { IfOk result (λ after. IsLive after.device.value.image.items) }
+{
+    stopped_counted::<Brand>(alloc, image, call, count, fill, Blank::new(1))
 }

@@ -1,11 +1,16 @@
 //! Images as orders leave them, and that of a new device, written by another program.
 
+ghost use Rattle.std.specs.Prelude.{◌≡◌, ◌<◌, IfOk};
+ghost use Rattle.mb_cuts.specs.Staged.{IsLive};
+
+use super::states::{Device, read};
 use hex::FromHex;
 use mb_lms::Steps;
 use mb_model::{FLASH_LENGTH, IMAGE_LENGTH, KeySeed};
 use mb_signer::{OneUse, Uses, sign, take_index};
 use std::alloc::Global;
-use std::sync::ledger::Ledger;
+use std::marker::Brand;
+use std::sync::ledger::{Blank, Ledger};
 use std::test::Fail;
 
 /// What an order has left, and what it stands for. Bytes are in hexadecimal.
@@ -353,70 +358,161 @@ pub const BORN: Left = Left {
     signatures: "6375e911546068bfae125746efe9903ae70edaddccb0e0838381759e3d99381e",
 };
 
-/// The right to sign at the next index.
-fn next_right(uses: &mut Uses) -> Result<OneUse, Fail> {
-    Ok(take_index(uses).ok_or("no index is left")?)
-}
+/// Where the second area of the flash begins.
+const SECOND_AREA: usize = 524_288;
 
-/// The public record, of which the last entries are not signed. The birth is signed by zeros.
-fn record_of<L: Ledger>(alloc: Global, left: &Left, steps: &mut Steps<L>) -> Result<Vec<u8>, Fail> {
-    let key = KeySeed {
+/// Where the signature of the birth stands in its area, and what the other record has there.
+const SIGNATURE: usize = 201;
+
+pub const OTHER: u8 = 0x11;
+
+/// Where that signature ends, with which the record ends too.
+const RECORD_END: usize = SIGNATURE + 2348;
+
+fn key_of(left: &Left) -> Result<KeySeed, Fail> {
+    Ok(KeySeed {
         identifier: <[u8; 16] as FromHex>::from_hex(left.identifier)?,
         seed: <[u8; 32] as FromHex>::from_hex(left.seed)?,
-    };
-    let mut uses = Uses::stored(0);
+    })
+}
+
+/// The right by which the entry of this number is signed, from 1.
+fn right_at(number: usize) -> Result<OneUse, Fail> {
+    let before = u32::try_from(number)?.saturating_sub(1);
+    if before > 32 {
+        return Err("no index is left")?;
+    }
+    Ok(take_index(&mut Uses::stored(before)).ok_or("no index is left")?)
+}
+
+/// Puts that the entry of this number is signed, and its signature. The birth, which has number 0, is signed by zeros.
+fn put_signature<L: Ledger>(
+    record: &mut Vec<u8>,
+    left: &Left,
+    number: usize,
+    entry: &[u8],
+    steps: &mut Steps<L>,
+) -> Result<(), Fail> {
+    let mut signature = [0; 2348];
+    if number > 0 {
+        let key = key_of(left)?;
+        let right = right_at(number)?;
+        sign(right, &key, &[3], entry, &mut signature, steps);
+    }
+    record.push(1)?;
+    record.extend_from_slice(&signature)?;
+    Ok(())
+}
+
+fn put_entry<L: Ledger>(
+    alloc: Global,
+    record: &mut Vec<u8>,
+    left: &Left,
+    number: usize,
+    steps: &mut Steps<L>,
+) -> Result<(), Fail> {
+    let text = left.entries.get(number).ok_or("no entry")?;
+    let entry = hex::decode(alloc, text)?;
+    record.extend_from_slice(&entry)?;
+    if number >= left.entries.len().saturating_sub(left.unsigned) {
+        record.push(0)?;
+        return Ok(());
+    }
+    put_signature(record, left, number, &entry, steps)
+}
+
+/// The public record, of which the last entries are not signed.
+fn record_of<L: Ledger>(alloc: Global, left: &Left, steps: &mut Steps<L>) -> Result<Vec<u8>, Fail> {
     let mut record = hex::decode(alloc, left.codes)?;
-    record.push(0)?;
-    record.push(u8::try_from(left.entries.len())?)?;
-    let signed = left.entries.len().saturating_sub(left.unsigned);
-    for (i, entry) in left.entries.iter().enumerate() {
-        let entry = hex::decode(alloc, entry)?;
-        record.extend_from_slice(&entry)?;
-        if i >= signed {
-            record.push(0)?;
-        } else {
-            let mut signature = [0; 2348];
-            if i > 0 {
-                sign(
-                    next_right(&mut uses)?,
-                    &key,
-                    &[3],
-                    &entry,
-                    &mut signature,
-                    steps,
-                );
-            }
-            record.push(1)?;
-            record.extend_from_slice(&signature)?;
-        }
+    let count = u16::try_from(left.entries.len())?;
+    record.extend_from_slice(&count.to_be_bytes())?;
+    for number in 0..left.entries.len() {
+        put_entry(alloc, &mut record, left, number, steps)?;
     }
     Ok(record)
+}
+
+/// Puts the length of a record and the record into the image, and fills it up to this end.
+fn put(
+    image: &mut Vec<u8>,
+    length: &[u8],
+    record: &[u8],
+    end: usize,
+    fill: u8,
+) -> Result<(), Fail> {
+    image.extend_from_slice(length)?;
+    image.extend_from_slice(record)?;
+    image.resize(end, fill)?;
+    Ok(())
 }
 
 /// Puts a record into the next two areas, of which the first is in force, up to this end.
 fn put_areas(alloc: Global, image: &mut Vec<u8>, record: &str, end: usize) -> Result<(), Fail> {
     let record = hex::decode(alloc, record)?;
-    image.extend_from_slice(&u16::try_from(record.len())?.to_be_bytes())?;
-    image.extend_from_slice(&record)?;
-    image.resize(end, 0)?;
-    Ok(())
+    let length = u16::try_from(record.len())?;
+    put(image, &length.to_be_bytes(), &record, end, 0)
+}
+
+/// Puts the flash with the public record.
+fn put_flash<L: Ledger>(
+    alloc: Global,
+    image: &mut Vec<u8>,
+    left: &Left,
+    steps: &mut Steps<L>,
+) -> Result<(), Fail> {
+    let record = record_of(alloc, left, steps)?;
+    let length = u32::try_from(record.len())?;
+    put(image, &length.to_be_bytes(), &record, FLASH_LENGTH, 0xff)
 }
 
 /// The image, with the first of two areas in force everywhere.
-pub fn image_of<L: Ledger>(
-    alloc: Global,
-    left: &Left,
-    steps: &mut Steps<L>,
-) -> Result<Vec<u8>, Fail> {
-    let record = record_of(alloc, left, steps)?;
+fn image_of<L: Ledger>(alloc: Global, left: &Left, steps: &mut Steps<L>) -> Result<Vec<u8>, Fail> {
     let mut image = Vec::new(alloc);
-    image.extend_from_slice(&u32::try_from(record.len())?.to_be_bytes())?;
-    image.extend_from_slice(&record)?;
-    image.resize(FLASH_LENGTH, 0xff)?;
-    image.push(0xa5)?;
-    image.resize(FLASH_LENGTH + 4096, 0)?;
+    put_flash(alloc, &mut image, left, steps)?;
+    put(&mut image, &[], &[0xa5], FLASH_LENGTH + 4096, 0)?;
     put_areas(alloc, &mut image, left.root, FLASH_LENGTH + 12288)?;
     put_areas(alloc, &mut image, left.two, FLASH_LENGTH + 20480)?;
     put_areas(alloc, &mut image, left.three, IMAGE_LENGTH)?;
     Ok(image)
+}
+
+/// The image of a new device whose flash has the same record in both areas, but for the signature of the birth.
+fn with_two_records(alloc: Global, image: &[u8]) -> Result<Vec<u8>, Fail> {
+    let area = image.get(..SECOND_AREA).ok_or("the image is short")?;
+    let front = image.get(..SIGNATURE).ok_or("the image is short")?;
+    let rest = image
+        .get(SECOND_AREA + RECORD_END..)
+        .ok_or("the image is short")?;
+    let mut both = Vec::new(alloc);
+    both.extend_from_slice(area)?;
+    both.extend_from_slice(front)?;
+    both.resize(SECOND_AREA + RECORD_END, OTHER)?;
+    both.extend_from_slice(rest)?;
+    Ok(both)
+}
+
+fn device_counted<L: Ledger>(
+    alloc: Global,
+    left: &Left,
+    is_copied: bool,
+    blank: Blank,
+) -> Result<Box<Device>, Fail>
+    requires name { blank.name ≡ L.name }
+    requires parts { blank.parts ≡ L.parts }
+    requires some { 0 < blank.parts }
+    ensures { IfOk result (λ device. IsLive device.value.image.items) }
+{
+    let mut steps = Steps::<L>::begin(alloc, blank);
+    let mut image = image_of(alloc, left, &mut steps)?;
+    if is_copied {
+        image = with_two_records(alloc, &image)?;
+    }
+    read(alloc, image, &mut steps)
+}
+
+/// The device that an order left; its flash may have another such record in its second area.
+pub fn device_of(alloc: Global, left: &Left, is_copied: bool) -> Result<Box<Device>, Fail>
+    ensures { IfOk result (λ device. IsLive device.value.image.items) }
+{
+    device_counted::<Brand>(alloc, left, is_copied, Blank::new(1))
 }

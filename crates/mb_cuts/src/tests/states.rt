@@ -11,13 +11,24 @@ use std::alloc::Global;
 use std::sync::ledger::Ledger;
 use std::test::Fail;
 
-/// The state for which an image stands.
+/// An image, and the state for which it stands.
+#[derive(Drop)]
+pub struct Device {
+    pub image: Vec<u8>,
+    pub state: State,
+}
+
+/// The device whose image this is.
 #[tactic(auto, using(crate::proofs::Staging::is_live))]
-pub fn state_of<L: Ledger>(alloc: Global, image: &[u8], steps: &mut Steps<L>) -> Result<State, Fail>
-    ensures { IfOk result (λ _. IsLive image.now) }
+pub fn read<L: Ledger>(
+    alloc: Global,
+    image: Vec<u8>,
+    steps: &mut Steps<L>,
+) -> Result<Box<Device>, Fail>
+    ensures { IfOk result (λ device. IsLive device.value.image.items) }
 {
-    match stand_for(alloc, image, steps) {
-        Ok(Some(state)) => Ok(state),
+    match stand_for(alloc, &image, steps) {
+        Ok(Some(state)) => Ok(Box::new(alloc, Device { image, state })?),
         _ => Err("the image stands for no state")?,
     }
 }
