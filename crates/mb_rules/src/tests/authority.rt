@@ -2,6 +2,7 @@
 
 use mb_authority::{after, condition, kept_regions, layer_of, may_cosign};
 use mb_model::{Chains, ChangeKind, CodeName, Layer, Layers, Pair, PublicKey, Tree, Trust};
+use std::process::Abort;
 
 /// A layer with an owner, which trusts so.
 fn owned(trust: Trust) -> Layer {
@@ -36,16 +37,33 @@ fn all_owned() -> Layers {
     }
 }
 
+/// A change, or a new key where there is none, its layer, and whether these layers admit it.
+const ORDERS: &[(Option<ChangeKind>, u8, bool)] = &[
+    (Some(ChangeKind::Establish), 2, false),
+    (Some(ChangeKind::Surrender), 3, true),
+    (Some(ChangeKind::Surrender), 1, false),
+    (Some(ChangeKind::Load), 1, true),
+    (Some(ChangeKind::Emergency), 1, false),
+    (None, 3, true),
+    (None, 4, false),
+];
+
+/// The layers admit this change or new key as expected.
+fn is_admitted(rt: &impl Abort, kind: Option<ChangeKind>, layer: u8, expected: bool) {
+    assert!(rt; condition(&all_owned(), kind, layer) == expected);
+}
+
 #[test]
 fn orders_have_their_layers(rt: HostRuntime) {
-    let layers = all_owned();
-    assert!(rt; !condition(&layers, Some(ChangeKind::Establish), 2));
-    assert!(rt; condition(&layers, Some(ChangeKind::Surrender), 3));
-    assert!(rt; !condition(&layers, Some(ChangeKind::Surrender), 1));
-    assert!(rt; condition(&layers, Some(ChangeKind::Load), 1));
-    assert!(rt; !condition(&layers, Some(ChangeKind::Emergency), 1));
-    assert!(rt; condition(&layers, None, 3));
-    assert!(rt; !condition(&layers, None, 4));
+    for (kind, layer, expected) in ORDERS {
+        is_admitted(&rt, *kind, *layer, *expected);
+    }
+}
+
+/// The region of layer 3 alone is kept.
+fn three_is_kept(rt: &impl Abort, kind: ChangeKind, layer: u8) {
+    let kept = kept_regions(&all_owned(), kind, layer, THREE);
+    assert!(rt; !kept.two && kept.three);
 }
 
 #[test]
@@ -53,19 +71,15 @@ fn a_load_beneath_is_admitted_by_trust(rt: HostRuntime) {
     let layers = all_owned();
     let new = layer_of(&layers, 1);
     let left = after(&layers, ChangeKind::Load, 1, THREE, &new);
-    assert!(rt; !left.two.reliable);
-    assert!(rt; left.three.reliable);
-    let kept = kept_regions(&layers, ChangeKind::Load, 1, THREE);
-    assert!(rt; !kept.two);
-    assert!(rt; kept.three);
+    assert!(rt; !left.two.reliable && left.three.reliable);
+    three_is_kept(&rt, ChangeKind::Load, 1);
 }
 
 #[test]
 fn an_emergency_load_is_admitted_by_no_own_trust(rt: HostRuntime) {
+    three_is_kept(&rt, ChangeKind::Emergency, 2);
     let layers = all_owned();
-    let kept = kept_regions(&layers, ChangeKind::Emergency, 2, THREE);
-    assert!(rt; !kept.two);
-    assert!(rt; kept.three);
-    assert!(rt; may_cosign(&layers, ChangeKind::Emergency, 2, 3));
-    assert!(rt; !may_cosign(&layers, ChangeKind::Emergency, 2, 2));
+    let by_three = may_cosign(&layers, ChangeKind::Emergency, 2, 3);
+    let by_two = may_cosign(&layers, ChangeKind::Emergency, 2, 2);
+    assert!(rt; by_three && !by_two);
 }

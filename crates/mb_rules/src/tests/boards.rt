@@ -11,6 +11,7 @@ use mb_board::{Board, SimBoard, Stopped};
 use mb_model::{Event, Events, FLASH_LENGTH, IMAGE_LENGTH, NoMemory, Reply, Tear};
 use mb_ratchet::Register;
 use std::alloc::Global;
+use std::process::Abort;
 use std::test::Fail;
 
 // So many of the same byte.
@@ -41,10 +42,9 @@ fn armed_board(alloc: Global, keep: u32) -> Result<SimBoard, NoMemory>
     requires { keep ≤ 1048576 }
     ensures { IfOk result (λ board. (board.power ≡ false) × IsLoaded board.memory) }
 {
-    let fill = [0xAA, 0xBB, 0, 0, 0, 0, 0, 0, 0, 0, 0, 0, 0, 0, 0, 0];
     let tear = Tear {
         keep,
-        fill,
+        fill: [0xAA, 0xBB, 0, 0, 0, 0, 0, 0, 0, 0, 0, 0, 0, 0, 0, 0],
         fill_length: 2,
     };
     let image = filled(alloc, 0, IMAGE_LENGTH)?;
@@ -94,48 +94,79 @@ fn read(board: &mut SimBoard, kind: Kind) -> [u8; 6]
 }
 
 // What the third of these calls leaves, if it is stopped and no other is.
-fn third(
-    alloc: Global,
-    keep: u32,
-    first: Kind,
-    second: Kind,
-    third: Kind,
-) -> Result<Option<[u8; 6]>, NoMemory>
-    requires { keep ≤ 1048576 }
+fn third(board: &mut SimBoard, kinds: [Kind; 3]) -> Option<[u8; 6]>
+    requires off { board.old.power ≡ false }
+    requires loaded { IsLoaded board.old.memory }
 {
-    let mut board = armed_board(alloc, keep)?;
     board.power_on();
     board.raise();
-    if call(&mut board, first).is_err() || call(&mut board, second).is_err() {
-        return Ok(None);
+    if call(board, kinds[0]).is_err() || call(board, kinds[1]).is_err() {
+        return None;
     }
-    match call(&mut board, third) {
-        Ok(()) => Ok(None),
-        Err(Stopped) => Ok(Some(read(&mut board, third))),
+    match call(board, kinds[2]) {
+        Ok(()) => None,
+        Err(Stopped) => Some(read(board, kinds[2])),
     }
+}
+
+// How many bytes of the third call are kept, the three calls, and the bytes at the end of its range and after it.
+const STOPPED: &[(u16, Kind, Kind, Kind, [u8; 6])] = &[
+    (
+        2,
+        Kind::Erase,
+        Kind::Program,
+        Kind::Write,
+        [1, 2, 0xAA, 0xBB, 0xAA, 0],
+    ),
+    (
+        4,
+        Kind::Write,
+        Kind::Erase,
+        Kind::Program,
+        [1, 2, 3, 4, 0xAA, 0xFF],
+    ),
+    (
+        4095,
+        Kind::Program,
+        Kind::Write,
+        Kind::Erase,
+        [0xFF, 0xFF, 0xFF, 0xAA, 0, 0],
+    ),
+    // The whole range is kept.
+    (
+        5,
+        Kind::Erase,
+        Kind::Erase,
+        Kind::Program,
+        [1, 2, 3, 4, 5, 0xFF],
+    ),
+];
+
+// The third of these calls is stopped, and leaves these bytes.
+fn leaves(
+    rt: &impl Abort,
+    alloc: Global,
+    keep: u16,
+    kinds: [Kind; 3],
+    bytes: [u8; 6],
+) -> Result<(), Fail> {
+    let mut board = armed_board(alloc, u32::from(keep))?;
+    assert_eq!(rt; third(&mut board, kinds), Some(bytes));
+    Ok(())
 }
 
 #[test]
 fn third_call_is_stopped(rt: HostRuntime) -> Result<(), Fail> {
-    let alloc = rt.alloc();
-    let left = third(alloc, 2, Kind::Erase, Kind::Program, Kind::Write)?;
-    assert_eq!(rt; left, Some([1, 2, 0xAA, 0xBB, 0xAA, 0]));
-    let left = third(alloc, 4, Kind::Write, Kind::Erase, Kind::Program)?;
-    assert_eq!(rt; left, Some([1, 2, 3, 4, 0xAA, 0xFF]));
-    let left = third(alloc, 4095, Kind::Program, Kind::Write, Kind::Erase)?;
-    assert_eq!(rt; left, Some([0xFF, 0xFF, 0xFF, 0xAA, 0, 0]));
+    for (keep, first, second, third, bytes) in STOPPED {
+        let kinds = [*first, *second, *third];
+        leaves(&rt, rt.alloc(), *keep, kinds, *bytes)?;
+    }
     Ok(())
 }
 
-#[test]
-fn whole_range_is_kept(rt: HostRuntime) -> Result<(), Fail> {
-    let left = third(rt.alloc(), 5, Kind::Erase, Kind::Erase, Kind::Program)?;
-    assert_eq!(rt; left, Some([1, 2, 3, 4, 5, 0xFF]));
-    Ok(())
-}
-
-// Copies the image, if the board hands out that it was opened.
-fn copy_tampered(board: &mut SimBoard, out: &mut [u8]) -> bool
+// Copies the image, if the board hands out that it was opened: the last byte of the flash, and the first and the last
+// byte after it.
+fn copy_tampered(board: &mut SimBoard, out: &mut [u8]) -> Option<[u8; 3]>
     requires out { board.old.ledger.out ≡ None }
     requires loaded { IsLoaded board.old.memory }
     requires room { length out.old ≡ 1077248 }
@@ -143,9 +174,13 @@ fn copy_tampered(board: &mut SimBoard, out: &mut [u8]) -> bool
     match board.take() {
         Some(Event::Tamper) => {
             board.copy_image(out);
-            true
+            Some([
+                out[FLASH_LENGTH - 1],
+                out[FLASH_LENGTH],
+                out[IMAGE_LENGTH - 1],
+            ])
         }
-        _ => false,
+        _ => None,
     }
 }
 
@@ -154,17 +189,12 @@ fn tampering_clears_the_bbram(rt: HostRuntime) -> Result<(), Fail> {
     let alloc = rt.alloc();
     let mut image = filled(alloc, 7, IMAGE_LENGTH)?;
     let mut board = loaded_board(alloc, &image, Event::Tamper)?;
-    assert!(rt; copy_tampered(&mut board, &mut image));
-    let ends = [
-        image[FLASH_LENGTH - 1],
-        image[FLASH_LENGTH],
-        image[IMAGE_LENGTH - 1],
-    ];
-    assert_eq!(rt; ends, [7, 0, 0]);
+    assert!(rt; copy_tampered(&mut board, &mut image) == Some([7, 0, 0]));
     Ok(())
 }
 
-// Answers that power is off, if that is handed out, on a board whose device is dead.
+// Answers that power is off, if that is handed out, on a board whose device is dead. That is the one answer, and no
+// event is left.
 fn answer_off(board: &mut SimBoard) -> bool
     requires off { board.old.power ≡ false }
     requires loaded { IsLoaded board.old.memory }
@@ -175,7 +205,7 @@ fn answer_off(board: &mut SimBoard) -> bool
     match board.take() {
         Some(event) => {
             board.answer(event, Reply::Off);
-            true
+            board.answered().len() == 1 && board.events_left() == 0
         }
         None => false,
     }
@@ -187,7 +217,5 @@ fn takes_an_answer(rt: HostRuntime) -> Result<(), Fail> {
     let image = filled(alloc, 0, IMAGE_LENGTH)?;
     let mut board = loaded_board(alloc, &image, Event::Off)?;
     assert!(rt; answer_off(&mut board));
-    assert_eq!(rt; board.answered().len(), 1);
-    assert_eq!(rt; board.events_left(), 0);
     Ok(())
 }

@@ -3,8 +3,8 @@
 
 ghost use Rattle.std.specs.Prelude.{◌≤◌, vec_len, IfOk};
 
+use super::{joined, public_key};
 use hex::FromHex;
-use mb_lms::parse_key;
 use mb_model::{Bytes, CodeName, Configuration, KeyKind, Layer, Layers, Lives, Report, Trust};
 use mb_verifier::{ChainRefusal, verify, write_listing};
 use std::alloc::Global;
@@ -85,11 +85,7 @@ cdfb7c6f9fc531cab957f755e6a2d2bc";
 fn changed(alloc: Global, at: usize, byte: u8) -> Result<Vec<u8>, Fail>
     ensures { IfOk result (λ bytes. vec_len bytes ≤ 4000) }
 {
-    let mut bytes = Vec::new(alloc);
-    bytes.extend_from_slice(&hex::decode(alloc, HEAD)?)?;
-    bytes.extend_from_slice(&hex::decode(alloc, BIRTH)?)?;
-    bytes.extend_from_slice(&hex::decode(alloc, SIGNATURE)?)?;
-    bytes.push(0)?;
+    let mut bytes = joined(alloc, &[HEAD, BIRTH, SIGNATURE, "00"])?;
     if at < bytes.len() {
         bytes[at] = byte;
     } else {
@@ -99,13 +95,19 @@ fn changed(alloc: Global, at: usize, byte: u8) -> Result<Vec<u8>, Fail>
     Ok(bytes)
 }
 
-/// Why the changed chain is not accepted under the maker's key.
-fn refusal(alloc: Global, maker: &str, at: usize, byte: u8) -> Result<Option<ChainRefusal>, Fail> {
-    let Some(root) = parse_key(&<[u8; 56] as FromHex>::from_hex(maker)?) else {
-        return Ok(None);
-    };
+/// The changed chain is not accepted under the maker's key, for this reason.
+fn is_refused(
+    rt: &impl Abort,
+    alloc: Global,
+    maker: &str,
+    at: usize,
+    byte: u8,
+    why: ChainRefusal,
+) -> Result<(), Fail> {
+    let root = public_key(maker)?;
     let bytes = changed(alloc, at, byte)?;
-    Ok(verify(alloc, &root, &bytes, 1).err())
+    assert!(rt; verify(alloc, &root, &bytes, 1).err() == Some(why));
+    Ok(())
 }
 
 /// A byte of the chain, its new value, and the refusal.
@@ -126,11 +128,10 @@ const CHANGES: &[(usize, u8, ChainRefusal)] = &[
 #[test]
 fn chains_of_one_entry(rt: HostRuntime) -> Result<(), Fail> {
     for (at, byte, why) in CHANGES {
-        assert!(rt; refusal(rt.alloc(), MAKER, *at, *byte)? == Some(*why));
+        is_refused(&rt, rt.alloc(), MAKER, *at, *byte, *why)?;
     }
-    let why = refusal(rt.alloc(), OTHER, 0, 0x4d)?;
-    assert!(rt; why == Some(ChainRefusal::Signature { entry: 0 }));
-    Ok(())
+    let why = ChainRefusal::Signature { entry: 0 };
+    is_refused(&rt, rt.alloc(), OTHER, 0, 0x4d, why)
 }
 
 /// The owners of three layers, and the hash of the code of each.
@@ -149,7 +150,7 @@ const CODES: [&str; 3] = [
 /// A layer with this owner and the first version of this code.
 fn loaded(owner: &str, code: &str, trust: Trust) -> Result<Layer, Fail> {
     Ok(Layer {
-        owner: parse_key(&<[u8; 56] as FromHex>::from_hex(owner)?),
+        owner: Some(public_key(owner)?),
         code: Some(CodeName {
             hash: <[u8; 32] as FromHex>::from_hex(code)?,
             version: 1,
@@ -159,30 +160,16 @@ fn loaded(owner: &str, code: &str, trust: Trust) -> Result<Layer, Fail> {
     })
 }
 
-/// The report on a key of layer 3 that lives and has stated hello.
-fn stated(alloc: Global) -> Result<Report, Fail> {
-    let layers = Layers {
+/// Three layers with these owners and codes.
+fn stated() -> Result<Layers, Fail> {
+    Ok(Layers {
         one: loaded(OWNERS[0], CODES[0], Trust::Always)?,
         two: loaded(OWNERS[1], CODES[1], Trust::Countersigned)?,
         three: loaded(OWNERS[2], CODES[2], Trust::Countersigned)?,
-    };
-    let mut lives = Lives::new(alloc);
-    lives.push(Configuration {
-        number: 4,
-        upto: 3,
-        layers,
-    })?;
-    Ok(Report {
-        layer: 3,
-        kind: KeyKind::Epoch,
-        alive: true,
-        lives,
-        entries: 6,
-        message: Some(Bytes::copy(alloc, b"hello")?),
     })
 }
 
-/// Its listing.
+/// The listing of a report on a key of layer 3 over these layers, which lives and has stated hello.
 const STATED: &str = "key 1 epoch layer 3 alive\n\
 configuration 4\n\
 layer 1 a40bf9d678da59a9e050d292356cbcb44ba41a7e2df7a4cc8f77c8f3acf75b0f f191e625176e7514249870c60bc24622131b04927a418001d1969c9cecd260f1 1 reliable always\n\
@@ -190,47 +177,74 @@ layer 2 68cd35f6dc5234d9a7e9df889d48ec8302912dee6f7c9fe17efeffa7bf970b63 ba7816b
 layer 3 b3cee4b09ec5e77e7b1285231704c0e8fcdcd7b721946b5bac2437e157b6bae1 cb8379ac2098aa165029e3938a51da0bcecfc008fd6795f401178647f96c5b34 1 reliable countersigned\n\
 statement 68656c6c6f\n";
 
-/// The report on a key of layer 2 that has ended, over layers with little to list. It stated the empty message.
-fn ended(alloc: Global) -> Result<Report, Fail> {
-    let bare = Layer {
-        owner: None,
-        code: None,
-        reliable: false,
-        trust: Trust::Never,
-    };
-    let mut lives = Lives::new(alloc);
-    lives.push(Configuration {
-        number: 3,
-        upto: 2,
-        layers: Layers {
-            one: bare,
-            two: bare,
-            three: bare,
-        },
-    })?;
-    Ok(Report {
-        layer: 2,
-        kind: KeyKind::Configuration,
-        alive: false,
-        lives,
-        entries: 6,
-        message: Some(Bytes::copy(alloc, b"")?),
-    })
-}
+/// A layer with little to list.
+const BARE: Layer = Layer {
+    owner: None,
+    code: None,
+    reliable: false,
+    trust: Trust::Never,
+};
 
-/// Its listing.
+/// Three such layers.
+const ALL_BARE: Layers = Layers {
+    one: BARE,
+    two: BARE,
+    three: BARE,
+};
+
+/// The listing of a report on a key of layer 2 over such layers, which has ended and stated the empty message.
 const ENDED: &str = "key 20 configuration layer 2 ended\n\
 configuration 3\n\
 layer 1 - - - unreliable never\n\
 layer 2 - - - unreliable never\n\
 statement -\n";
 
+/// The report on the key with this number, which lived in this configuration alone and stated this message, is listed
+/// so. An epoch key lives, and another has ended.
+fn is_listed(
+    rt: &impl Abort,
+    alloc: Global,
+    number: u32,
+    kind: KeyKind,
+    life: Configuration,
+    message: &[u8],
+    listing: &str,
+) -> Result<(), Fail> {
+    let mut lives = Lives::new(alloc);
+    lives.push(life)?;
+    let report = Report {
+        layer: life.upto,
+        kind,
+        alive: kind == KeyKind::Epoch,
+        lives,
+        entries: 6,
+        message: Some(Bytes::copy(alloc, message)?),
+    };
+    let text = write_listing(alloc, number, &report)?;
+    assert!(rt; text.as_slice() == listing.as_bytes());
+    Ok(())
+}
+
 #[test]
 fn reports_are_listed(rt: HostRuntime) -> Result<(), Fail> {
-    let alloc = rt.alloc();
-    let text = write_listing(alloc, 1, &stated(alloc)?)?;
-    assert!(rt; text.as_slice() == STATED.as_bytes());
-    let text = write_listing(alloc, 20, &ended(alloc)?)?;
-    assert!(rt; text.as_slice() == ENDED.as_bytes());
-    Ok(())
+    let life = Configuration {
+        number: 4,
+        upto: 3,
+        layers: stated()?,
+    };
+    is_listed(&rt, rt.alloc(), 1, KeyKind::Epoch, life, b"hello", STATED)?;
+    let life = Configuration {
+        number: 3,
+        upto: 2,
+        layers: ALL_BARE,
+    };
+    is_listed(
+        &rt,
+        rt.alloc(),
+        20,
+        KeyKind::Configuration,
+        life,
+        b"",
+        ENDED,
+    )
 }

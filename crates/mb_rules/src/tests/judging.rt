@@ -7,9 +7,9 @@ use super::signed::{
     ESTABLISH_AT_SEVEN, LOAD_ONE, LOAD_ONE_BY_ONE, LOAD_ONE_BY_THREE, LOAD_TWO, LOAD_TWO_BY_TWO,
     NEW_KEY, NEW_KEY_BY_THREE, ONE, THREE, TWO,
 };
-use hex::FromHex;
+use super::{joined, public_key};
 use mb_command::read_order;
-use mb_lms::{Steps, parse_key};
+use mb_lms::Steps;
 use mb_model::{CodeName, Fate, KeySeed, Layer, Layers, Order, Trust, View};
 use mb_orders::{JudgeEnd, Plan, judge};
 use std::alloc::Global;
@@ -32,9 +32,8 @@ const LOAD_AT_SEVEN: &str = "0301010200000007000000020000000003616263";
 
 /// A layer with this owner, reliable, that trusts always.
 fn layer(owner: &str) -> Result<Layer, Fail> {
-    let owner = parse_key(&<[u8; 56] as FromHex>::from_hex(owner)?).ok_or("no public key")?;
     Ok(Layer {
-        owner: Some(owner),
+        owner: Some(public_key(owner)?),
         code: Some(CodeName {
             hash: [7; 32],
             version: 1,
@@ -44,13 +43,22 @@ fn layer(owner: &str) -> Result<Layer, Fail> {
     })
 }
 
-/// Three such layers.
-fn all_layers() -> Result<Layers, Fail> {
-    Ok(Layers {
+/// Three such layers. By this number layer 1 or 2 is not reliable, layer 3 has no owner, or layer 3 trusts where its
+/// owner countersigned.
+fn layers_but(number: u8) -> Result<Layers, Fail> {
+    let mut layers = Layers {
         one: layer(ONE)?,
         two: layer(TWO)?,
         three: layer(THREE)?,
-    })
+    };
+    match number {
+        1 => layers.one.reliable = false,
+        2 => layers.two.reliable = false,
+        3 => layers.three.owner = None,
+        4 => layers.three.trust = Trust::Countersigned,
+        _ => (),
+    }
+    Ok(layers)
 }
 
 /// The figures of a device with these layers, so many entries, and so many indices of the device key used. Region 3 has
@@ -80,10 +88,7 @@ fn view(layers: Layers, length: u32, uses: u32) -> View
 fn order_of(alloc: Global, parts: [&str; 3]) -> Result<Order, Fail>
     ensures { IfOk result (λ order. order_format.Allowed order) }
 {
-    let mut bytes = hex::decode(alloc, parts[0])?;
-    bytes.extend_from_slice(&hex::decode(alloc, parts[1])?)?;
-    bytes.extend_from_slice(&hex::decode(alloc, parts[2])?)?;
-    Ok(read_order(alloc, &bytes)?)
+    Ok(read_order(alloc, &joined(alloc, &parts)?)?)
 }
 
 fn judge_counted<L: Ledger>(
@@ -104,131 +109,212 @@ fn judge_counted<L: Ledger>(
     judge(alloc, view, order, &[8; 32], &mut steps)
 }
 
+/// What is seen of a plan.
+#[derive(Clone, Copy, PartialEq, Eq)]
+struct Seen {
+    entries: usize,
+    uses: u32,
+    /// Code goes out.
+    outgoing: bool,
+    /// Region 2 loses its configuration keys.
+    two_loses: bool,
+    /// Region 3 loses its configuration keys.
+    three_loses: bool,
+    /// Region 3 becomes empty.
+    three_empties: bool,
+    /// Layer 3 is left reliable.
+    reliable: bool,
+}
+
+fn seen_of(plan: &Plan) -> Seen {
+    Seen {
+        entries: plan.bodies.entries.as_slice().len(),
+        uses: plan.bodies.uses,
+        outgoing: plan.bodies.outgoing.is_some(),
+        two_loses: plan.two == Fate::DropConfiguration,
+        three_loses: plan.three == Fate::DropConfiguration,
+        three_empties: plan.three == Fate::Empty,
+        reliable: plan.layers.three.reliable,
+    }
+}
+
 /// What the order of these parts comes to.
-fn judged(alloc: Global, view: &View, parts: [&str; 3]) -> Result<Result<Plan, JudgeEnd>, Fail>
+fn judged(alloc: Global, view: &View, parts: [&str; 3]) -> Result<Result<Seen, JudgeEnd>, Fail>
     requires uses { view.now.uses ≤ 31 }
     requires number { view.now.number ≤ 128 }
     requires keys_made { view.now.keys_made ≤ 128 }
 {
     let order = order_of(alloc, parts)?;
-    Ok(judge_counted::<Brand>(alloc, view, &order, Blank::new(1)))
+    match judge_counted::<Brand>(alloc, view, &order, Blank::new(1)) {
+        Ok(plan) => Ok(Ok(seen_of(&plan))),
+        Err(end) => Ok(Err(end)),
+    }
 }
 
-/// The order of these parts is refused so.
-fn refuses(
+/// An order: what it shows, in what the layers differ, the entries, the indices used, which are less than 32, its parts,
+/// and what it comes to.
+const ORDERS: &[(&str, u8, u32, u8, [&str; 3], Result<Seen, JudgeEnd>)] = &[
+    (
+        "a target comes first",
+        0,
+        1,
+        1,
+        [ESTABLISH_AT_SEVEN, UNSIGNED, ALONE],
+        Err(JudgeEnd::Target(0)),
+    ),
+    (
+        "a target before all",
+        1,
+        128,
+        31,
+        [LOAD_AT_SEVEN, UNSIGNED, WRONG],
+        Err(JudgeEnd::Target(0)),
+    ),
+    (
+        "the layers come next",
+        2,
+        128,
+        31,
+        [LOAD_TWO, UNSIGNED, ALONE],
+        Err(JudgeEnd::State),
+    ),
+    (
+        "then the signature",
+        0,
+        128,
+        31,
+        [LOAD_ONE, UNSIGNED, WRONG],
+        Err(JudgeEnd::Signature),
+    ),
+    (
+        "then countersignatures",
+        0,
+        128,
+        31,
+        [LOAD_ONE, LOAD_ONE_BY_ONE, WRONG],
+        Err(JudgeEnd::Countersignature(2)),
+    ),
+    (
+        "nobody countersigns for a layer without an owner",
+        3,
+        2,
+        1,
+        [LOAD_ONE, LOAD_ONE_BY_ONE, LOAD_ONE_BY_THREE],
+        Err(JudgeEnd::Countersignature(3)),
+    ),
+    (
+        "then the log, without room for two",
+        0,
+        127,
+        31,
+        [LOAD_TWO, LOAD_TWO_BY_TWO, ALONE],
+        Err(JudgeEnd::LogFull),
+    ),
+    (
+        "then the log, without room for one",
+        0,
+        128,
+        1,
+        [NEW_KEY, NEW_KEY_BY_THREE, ALONE],
+        Err(JudgeEnd::LogFull),
+    ),
+    (
+        "the keys come last",
+        0,
+        100,
+        1,
+        [NEW_KEY, NEW_KEY_BY_THREE, ALONE],
+        Err(JudgeEnd::KeysFull),
+    ),
+    (
+        "a load of layer 1 needs no succession",
+        0,
+        127,
+        31,
+        [LOAD_ONE, LOAD_ONE_BY_ONE, ALONE],
+        Ok(Seen {
+            entries: 1,
+            uses: 0,
+            outgoing: true,
+            two_loses: true,
+            three_loses: true,
+            three_empties: false,
+            reliable: true,
+        }),
+    ),
+    (
+        "a load of layer 2 needs a succession",
+        0,
+        100,
+        31,
+        [LOAD_TWO, LOAD_TWO_BY_TWO, ALONE],
+        Ok(Seen {
+            entries: 2,
+            uses: 1,
+            outgoing: true,
+            two_loses: true,
+            three_loses: true,
+            three_empties: false,
+            reliable: true,
+        }),
+    ),
+    (
+        "a region is lost where its owner did not countersign",
+        4,
+        2,
+        1,
+        [LOAD_ONE, LOAD_ONE_BY_ONE, ALONE],
+        Ok(Seen {
+            entries: 1,
+            uses: 0,
+            outgoing: true,
+            two_loses: true,
+            three_loses: false,
+            three_empties: true,
+            reliable: false,
+        }),
+    ),
+    (
+        "a region is kept where its owner countersigned",
+        4,
+        2,
+        1,
+        [LOAD_ONE, LOAD_ONE_BY_ONE, LOAD_ONE_BY_THREE],
+        Ok(Seen {
+            entries: 1,
+            uses: 0,
+            outgoing: true,
+            two_loses: true,
+            three_loses: true,
+            three_empties: false,
+            reliable: true,
+        }),
+    ),
+];
+
+/// The order of these parts comes to this, on a device with these figures.
+fn comes_to(
     rt: &impl Abort,
     alloc: Global,
+    shown: &str,
     view: &View,
     parts: [&str; 3],
-    end: JudgeEnd,
+    expected: Result<Seen, JudgeEnd>,
 ) -> Result<(), Fail>
     requires uses { view.now.uses ≤ 31 }
     requires number { view.now.number ≤ 128 }
     requires keys_made { view.now.keys_made ≤ 128 }
 {
-    let found = match judged(alloc, view, parts)? {
-        Ok(_) => None,
-        Err(found) => Some(found),
-    };
-    assert_eq!(rt; found, Some(end));
+    let is_right = judged(alloc, view, parts)? == expected;
+    assert!(rt; is_right, "{shown}");
     Ok(())
 }
 
 #[test]
-fn targets_come_first(rt: HostRuntime) -> Result<(), Fail> {
-    let alloc = rt.alloc();
-    let new = view(all_layers()?, 1, 1);
-    let parts = [ESTABLISH_AT_SEVEN, UNSIGNED, ALONE];
-    refuses(&rt, alloc, &new, parts, JudgeEnd::Target(0))?;
-    let mut layers = all_layers()?;
-    layers.one.reliable = false;
-    let full = view(layers, 128, 31);
-    let parts = [LOAD_AT_SEVEN, UNSIGNED, WRONG];
-    refuses(&rt, alloc, &full, parts, JudgeEnd::Target(0))
-}
-
-#[test]
-fn the_layers_come_next(rt: HostRuntime) -> Result<(), Fail> {
-    let mut layers = all_layers()?;
-    layers.two.reliable = false;
-    let view = view(layers, 128, 31);
-    let parts = [LOAD_TWO, UNSIGNED, ALONE];
-    refuses(&rt, rt.alloc(), &view, parts, JudgeEnd::State)
-}
-
-#[test]
-fn the_signature_comes_next(rt: HostRuntime) -> Result<(), Fail> {
-    let view = view(all_layers()?, 128, 31);
-    let parts = [LOAD_ONE, UNSIGNED, WRONG];
-    refuses(&rt, rt.alloc(), &view, parts, JudgeEnd::Signature)
-}
-
-#[test]
-fn countersignatures_come_next(rt: HostRuntime) -> Result<(), Fail> {
-    let view = view(all_layers()?, 128, 31);
-    let parts = [LOAD_ONE, LOAD_ONE_BY_ONE, WRONG];
-    refuses(&rt, rt.alloc(), &view, parts, JudgeEnd::Countersignature(2))
-}
-
-#[test]
-fn nobody_countersigns_for_a_layer_without_an_owner(rt: HostRuntime) -> Result<(), Fail> {
-    let mut layers = all_layers()?;
-    layers.three.owner = None;
-    let view = view(layers, 2, 1);
-    let parts = [LOAD_ONE, LOAD_ONE_BY_ONE, LOAD_ONE_BY_THREE];
-    refuses(&rt, rt.alloc(), &view, parts, JudgeEnd::Countersignature(3))
-}
-
-#[test]
-fn the_log_comes_next(rt: HostRuntime) -> Result<(), Fail> {
-    let alloc = rt.alloc();
-    let last = view(all_layers()?, 127, 31);
-    let parts = [LOAD_TWO, LOAD_TWO_BY_TWO, ALONE];
-    refuses(&rt, alloc, &last, parts, JudgeEnd::LogFull)?;
-    let full = view(all_layers()?, 128, 1);
-    let parts = [NEW_KEY, NEW_KEY_BY_THREE, ALONE];
-    refuses(&rt, alloc, &full, parts, JudgeEnd::LogFull)
-}
-
-#[test]
-fn the_keys_come_last(rt: HostRuntime) -> Result<(), Fail> {
-    let view = view(all_layers()?, 100, 1);
-    let parts = [NEW_KEY, NEW_KEY_BY_THREE, ALONE];
-    refuses(&rt, rt.alloc(), &view, parts, JudgeEnd::KeysFull)
-}
-
-#[test]
-fn a_load_of_layer_one_needs_no_succession(rt: HostRuntime) -> Result<(), Fail> {
-    let view = view(all_layers()?, 127, 31);
-    let parts = [LOAD_ONE, LOAD_ONE_BY_ONE, ALONE];
-    let plan = judged(rt.alloc(), &view, parts)??;
-    assert_eq!(rt; plan.bodies.entries.as_slice().len(), 1);
-    assert!(rt; plan.bodies.outgoing.is_some());
-    Ok(())
-}
-
-#[test]
-fn a_load_of_layer_two_needs_a_succession(rt: HostRuntime) -> Result<(), Fail> {
-    let view = view(all_layers()?, 100, 31);
-    let parts = [LOAD_TWO, LOAD_TWO_BY_TWO, ALONE];
-    let plan = judged(rt.alloc(), &view, parts)??;
-    assert_eq!(rt; plan.bodies.entries.as_slice().len(), 2);
-    assert_eq!(rt; plan.bodies.uses, 1);
-    Ok(())
-}
-
-#[test]
-fn a_region_is_kept_where_its_owner_countersigned(rt: HostRuntime) -> Result<(), Fail> {
-    let mut layers = all_layers()?;
-    layers.three.trust = Trust::Countersigned;
-    let view = view(layers, 2, 1);
-    let alone = judged(rt.alloc(), &view, [LOAD_ONE, LOAD_ONE_BY_ONE, ALONE])??;
-    assert!(rt; alone.two == Fate::DropConfiguration);
-    assert!(rt; alone.three == Fate::Empty);
-    assert!(rt; !alone.layers.three.reliable);
-    let parts = [LOAD_ONE, LOAD_ONE_BY_ONE, LOAD_ONE_BY_THREE];
-    let cosigned = judged(rt.alloc(), &view, parts)??;
-    assert!(rt; cosigned.three == Fate::DropConfiguration);
-    assert!(rt; cosigned.layers.three.reliable);
+fn orders_are_judged(rt: HostRuntime) -> Result<(), Fail> {
+    for (shown, number, length, uses, parts, expected) in ORDERS {
+        let view = view(layers_but(*number)?, *length, u32::from(*uses % 32));
+        comes_to(&rt, rt.alloc(), shown, &view, *parts, *expected)?;
+    }
     Ok(())
 }

@@ -2,12 +2,11 @@
 
 ghost use Rattle.std.specs.Prelude.{◌≡◌, ◌<◌};
 
-use hex::FromHex;
 use mb_lms::Steps;
 use mb_log::{Figures, Life, bodies, follows, lives};
 use mb_model::{
-    Bodies, Chains, ChangeKind, CodeName, Entry, Fact, Follow, KeyKind, KeySeed, Layer, Layers,
-    NoMemory, Pair, PublicKey, SignedEntry, Tree, Trust, View,
+    Bodies, Chains, ChangeKind, CodeName, Configuration, Entry, Fact, Follow, KeyKind, KeySeed,
+    Layer, Layers, NoMemory, Pair, PublicKey, SignedEntry, Tree, Trust, View,
 };
 use std::alloc::Global;
 use std::marker::Brand;
@@ -15,38 +14,63 @@ use std::process::Abort;
 use std::sync::ledger::{Blank, Ledger};
 use std::test::Fail;
 
-const SERIAL: &str = "c10b471ceff881272aa5ed819fd9a0e0";
+const SERIAL: [u8; 16] = [
+    0xc1, 0x0b, 0x47, 0x1c, 0xef, 0xf8, 0x81, 0x27, 0x2a, 0xa5, 0xed, 0x81, 0x9f, 0xd9, 0xa0, 0xe0,
+];
 
-const DRAW: &str = "67d84c2e9f44b415aaed06982d746d93985ecaf0095ac280c445bc05ad58a247";
+const DRAW: [u8; 32] = [
+    0x67, 0xd8, 0x4c, 0x2e, 0x9f, 0x44, 0xb4, 0x15, 0xaa, 0xed, 0x06, 0x98, 0x2d, 0x74, 0x6d, 0x93,
+    0x98, 0x5e, 0xca, 0xf0, 0x09, 0x5a, 0xc2, 0x80, 0xc4, 0x45, 0xbc, 0x05, 0xad, 0x58, 0xa2, 0x47,
+];
 
 /// The device's keys 1 and 2, where both are made of the draw.
-const KEY_ONE: [&str; 3] = [
-    "7c2b6abbe0fd7afc4b8182b61fdcc6b0",
-    "066d84da55849127d57f0e0d31cd68b365ef962d1d17847db115a158c9199e1f",
-    "3602424abd1f85f2f760806007362d5fdff4752c0c819462d30b4c75900861f7",
+const IDENTIFIER_ONE: [u8; 16] = [
+    0x7c, 0x2b, 0x6a, 0xbb, 0xe0, 0xfd, 0x7a, 0xfc, 0x4b, 0x81, 0x82, 0xb6, 0x1f, 0xdc, 0xc6, 0xb0,
 ];
 
-const KEY_TWO: [&str; 3] = [
-    "7ce14a98baeb83d50900ee90b227d453",
-    "1869c5ffffb6e1b394e7889bf321b7d25400526eb4d4c9b88568839f976f9134",
-    "aaa4ea767221993d3b2088e3e3dcabdecbd0288d3c77f360e6d1d308004326e7",
+const SEED_ONE: KeySeed = KeySeed {
+    identifier: IDENTIFIER_ONE,
+    seed: [
+        0x06, 0x6d, 0x84, 0xda, 0x55, 0x84, 0x91, 0x27, 0xd5, 0x7f, 0x0e, 0x0d, 0x31, 0xcd, 0x68,
+        0xb3, 0x65, 0xef, 0x96, 0x2d, 0x1d, 0x17, 0x84, 0x7d, 0xb1, 0x15, 0xa1, 0x58, 0xc9, 0x19,
+        0x9e, 0x1f,
+    ],
+};
+
+const KEY_ONE: PublicKey = PublicKey {
+    tree: Tree::H5,
+    chains: Chains::W4,
+    identifier: IDENTIFIER_ONE,
+    root: [
+        0x36, 0x02, 0x42, 0x4a, 0xbd, 0x1f, 0x85, 0xf2, 0xf7, 0x60, 0x80, 0x60, 0x07, 0x36, 0x2d,
+        0x5f, 0xdf, 0xf4, 0x75, 0x2c, 0x0c, 0x81, 0x94, 0x62, 0xd3, 0x0b, 0x4c, 0x75, 0x90, 0x08,
+        0x61, 0xf7,
+    ],
+};
+
+const IDENTIFIER_TWO: [u8; 16] = [
+    0x7c, 0xe1, 0x4a, 0x98, 0xba, 0xeb, 0x83, 0xd5, 0x09, 0x00, 0xee, 0x90, 0xb2, 0x27, 0xd4, 0x53,
 ];
 
-fn seed_of(key: [&str; 3]) -> Result<KeySeed, Fail> {
-    Ok(KeySeed {
-        identifier: <[u8; 16] as FromHex>::from_hex(key[0])?,
-        seed: <[u8; 32] as FromHex>::from_hex(key[1])?,
-    })
-}
+const SEED_TWO: KeySeed = KeySeed {
+    identifier: IDENTIFIER_TWO,
+    seed: [
+        0x18, 0x69, 0xc5, 0xff, 0xff, 0xb6, 0xe1, 0xb3, 0x94, 0xe7, 0x88, 0x9b, 0xf3, 0x21, 0xb7,
+        0xd2, 0x54, 0x00, 0x52, 0x6e, 0xb4, 0xd4, 0xc9, 0xb8, 0x85, 0x68, 0x83, 0x9f, 0x97, 0x6f,
+        0x91, 0x34,
+    ],
+};
 
-fn public_of(key: [&str; 3]) -> Result<PublicKey, Fail> {
-    Ok(PublicKey {
-        tree: Tree::H5,
-        chains: Chains::W4,
-        identifier: <[u8; 16] as FromHex>::from_hex(key[0])?,
-        root: <[u8; 32] as FromHex>::from_hex(key[2])?,
-    })
-}
+const KEY_TWO: PublicKey = PublicKey {
+    tree: Tree::H5,
+    chains: Chains::W4,
+    identifier: IDENTIFIER_TWO,
+    root: [
+        0xaa, 0xa4, 0xea, 0x76, 0x72, 0x21, 0x99, 0x3d, 0x3b, 0x20, 0x88, 0xe3, 0xe3, 0xdc, 0xab,
+        0xde, 0xcb, 0xd0, 0x28, 0x8d, 0x3c, 0x77, 0xf3, 0x60, 0xe6, 0xd1, 0xd3, 0x08, 0x00, 0x43,
+        0x26, 0xe7,
+    ],
+};
 
 /// A public key that is told from others by one byte.
 fn key(byte: u8) -> PublicKey {
@@ -178,37 +202,41 @@ fn signed(alloc: Global, entries: &[Entry]) -> Result<Vec<SignedEntry>, NoMemory
     Ok(log)
 }
 
+/// The configurations have these numbers.
+fn has_numbers(lives: &[Configuration], numbers: &[u32]) -> bool {
+    for (life, number) in lives.iter().zip(numbers) {
+        if life.number != *number {
+            return false;
+        }
+    }
+    lives.len() == numbers.len()
+}
+
 /// Key 1 of the log lived in the configurations with these numbers.
 fn lived(rt: &impl Abort, alloc: Global, entries: &[Entry], numbers: &[u32]) -> Result<(), Fail> {
     let log = signed(alloc, entries)?;
     assert!(rt; log.len() <= 128);
     let lives = lives(alloc, log.as_slice(), 1)?;
-    assert_eq!(rt; lives.as_slice().len(), numbers.len());
-    for (life, number) in lives.as_slice().iter().zip(numbers) {
-        assert_eq!(rt; life.number, *number);
-    }
+    assert!(rt; has_numbers(lives.as_slice(), numbers));
     Ok(())
 }
 
-/// The life of key 1 by the entries.
-fn life_of(alloc: Global, entries: &[Entry]) -> Result<Life, NoMemory> {
+/// Whether key 1 lives after the entries, and in how many configurations it lived.
+fn life_of(alloc: Global, entries: &[Entry]) -> Result<(bool, usize), NoMemory> {
     let mut figures = Figures::none();
     let mut life = Life::begin(alloc, 1);
     for entry in entries {
         life.add(&figures, entry)?;
         figures.add(entry);
     }
-    Ok(life)
+    Ok((life.alive, life.lives.as_slice().len()))
 }
 
 #[test]
-fn an_epoch_key_lives_on(rt: HostRuntime) -> Result<(), Fail> {
-    lived(&rt, rt.alloc(), &life(3, KeyKind::Epoch), &[4, 5, 6])
-}
-
-#[test]
-fn a_key_that_no_entry_makes(rt: HostRuntime) -> Result<(), Fail> {
-    lived(&rt, rt.alloc(), &life(3, KeyKind::Epoch)[..5], &[])
+fn an_epoch_key_lives_on_once_it_is_made(rt: HostRuntime) -> Result<(), Fail> {
+    let entries = life(3, KeyKind::Epoch);
+    lived(&rt, rt.alloc(), &entries[..5], &[])?;
+    lived(&rt, rt.alloc(), &entries, &[4, 5, 6])
 }
 
 /// A configuration key of layer 2 outlives a load of layer 3, which opens no configuration for it, and no load of
@@ -216,31 +244,15 @@ fn a_key_that_no_entry_makes(rt: HostRuntime) -> Result<(), Fail> {
 #[test]
 fn a_configuration_key(rt: HostRuntime) -> Result<(), Fail> {
     let entries = life(2, KeyKind::Configuration);
-    let mut above = life(2, KeyKind::Configuration);
+    let mut above = entries;
     above[6] = above[7];
-    let before = life_of(rt.alloc(), &above[..7])?;
-    assert!(rt; before.alive);
-    assert_eq!(rt; before.lives.as_slice().len(), 1);
-    let after = life_of(rt.alloc(), &entries)?;
-    assert!(rt; !after.alive);
+    assert!(rt; life_of(rt.alloc(), &above[..7])? == (true, 1));
+    let (alive, _) = life_of(rt.alloc(), &entries)?;
+    assert!(rt; !alive);
     lived(&rt, rt.alloc(), &entries, &[4])
 }
 
-/// The answer on entry `at` of the entries, whose signature has this index.
-fn answer(
-    alloc: Global,
-    entries: &[Entry],
-    at: usize,
-    index: u32,
-) -> Result<Option<Follow>, NoMemory> {
-    let log = signed(alloc, entries)?;
-    if at >= log.len() || at > 128 {
-        return Ok(None);
-    }
-    Ok(Some(follows(&log.as_slice()[..at], &log[at].entry, index)))
-}
-
-/// The answer on entry `at`, whose signature has this index, is the expected one.
+/// The answer on entry `at` of the entries, whose signature has this index, is the expected one.
 fn expect(
     rt: &impl Abort,
     alloc: Global,
@@ -249,46 +261,64 @@ fn expect(
     index: u32,
     expected: Follow,
 ) -> Result<(), Fail> {
-    assert!(rt; answer(alloc, entries, at, index)? == Some(expected));
+    let log = signed(alloc, entries)?;
+    assert!(rt; at < log.len() && at <= 128);
+    assert!(rt; follows(&log.as_slice()[..at], &log[at].entry, index) == expected);
     Ok(())
 }
 
-#[test]
-fn each_entry_of_a_life_follows(rt: HostRuntime) -> Result<(), Fail> {
-    let entries = life(3, KeyKind::Epoch);
-    for (at, index) in [7, 0, 1, 2, 3, 4, 5, 0].into_iter().enumerate() {
-        expect(&rt, rt.alloc(), &entries, at, index, Follow::Yes)?;
-    }
-    Ok(())
-}
-
-/// Entries 1 and 2 change places, an index is passed over, and a change keeps a region that it does not.
-#[test]
-fn entries_that_do_not_follow(rt: HostRuntime) -> Result<(), Fail> {
+/// A life. By this number entries 1 and 2 change places, or a change keeps a region that it does not.
+fn changed(number: u8) -> [Entry; 8] {
     let mut entries = life(3, KeyKind::Epoch);
-    entries.swap(1, 2);
-    expect(&rt, rt.alloc(), &entries, 1, 0, Follow::Order)?;
-    entries.swap(1, 2);
-    expect(&rt, rt.alloc(), &entries, 1, 1, Follow::Order)?;
-    if let Entry::Change { kept, .. } = &mut entries[3] {
-        *kept = BOTH;
+    match number {
+        1 => entries.swap(1, 2),
+        2 => {
+            if let Entry::Change { kept, .. } = &mut entries[3] {
+                *kept = BOTH;
+            }
+        }
+        _ => (),
     }
-    expect(&rt, rt.alloc(), &entries, 3, 2, Follow::Rules)
+    entries
+}
+
+/// How a life is changed, an entry, the index of its signature, and the answer.
+const FOLLOWS: &[(u8, usize, u32, Follow)] = &[
+    (0, 0, 7, Follow::Yes),
+    (0, 1, 0, Follow::Yes),
+    (0, 2, 1, Follow::Yes),
+    (0, 3, 2, Follow::Yes),
+    (0, 4, 3, Follow::Yes),
+    (0, 5, 4, Follow::Yes),
+    (0, 6, 5, Follow::Yes),
+    (0, 7, 0, Follow::Yes),
+    // Two entries change places, an index is passed over, and a region is kept.
+    (1, 1, 0, Follow::Order),
+    (0, 1, 1, Follow::Order),
+    (2, 3, 2, Follow::Rules),
+];
+
+#[test]
+fn entries_follow_by_the_rules(rt: HostRuntime) -> Result<(), Fail> {
+    for (number, at, index, expected) in FOLLOWS {
+        expect(&rt, rt.alloc(), &changed(*number), *at, *index, *expected)?;
+    }
+    Ok(())
 }
 
 /// What a new key of layer 2 adds to a device whose log has 32 entries, and whose device key has one index left.
-fn added<L: Ledger>(alloc: Global, blank: Blank) -> Result<Bodies, Fail>
+fn added<L: Ledger>(alloc: Global, blank: Blank) -> Result<Bodies, NoMemory>
     requires name { blank.name ≡ L.name }
     requires parts { blank.parts ≡ L.parts }
     requires some { 0 < blank.parts }
 {
     let view = View {
-        serial: <[u8; 16] as FromHex>::from_hex(SERIAL)?,
+        serial: SERIAL,
         layers: layers_of([layer(1, Some(1)), layer(2, Some(30)), UNOWNED]),
         length: 32,
         number: 31,
         keys_made: 1,
-        device: seed_of(KEY_TWO)?,
+        device: SEED_TWO,
         uses: 31,
         keys_two: 0,
         keys_three: 0,
@@ -297,35 +327,32 @@ fn added<L: Ledger>(alloc: Global, blank: Blank) -> Result<Bodies, Fail>
         layer: 2,
         kind: KeyKind::Epoch,
     };
-    let draw = <[u8; 32] as FromHex>::from_hex(DRAW)?;
     let mut steps = Steps::<L>::begin(alloc, blank);
-    Ok(bodies(alloc, &view, &fact, &draw, &mut steps)?)
+    bodies(alloc, &view, &fact, &DRAW, &mut steps)
+}
+
+/// The entries of the succession and of the new key.
+fn new_entries() -> [Entry; 2] {
+    [
+        Entry::Succession {
+            position: 32,
+            key: KEY_ONE,
+        },
+        Entry::NewKey {
+            position: 33,
+            number: 31,
+            key_number: 2,
+            layer: 2,
+            kind: KeyKind::Epoch,
+            key: KEY_TWO,
+        },
+    ]
 }
 
 #[test]
 fn a_key_after_a_succession(rt: HostRuntime) -> Result<(), Fail> {
     let added = added::<Brand>(rt.alloc(), Blank::new(1))?;
-    let (one, two) = (public_of(KEY_ONE)?, public_of(KEY_TWO)?);
-    assert_eq!(rt; added.entries.as_slice().len(), 2);
-    assert!(rt;
-        added.entries.as_slice()[0]
-            == Entry::Succession {
-                position: 32,
-                key: one
-            }
-    );
-    assert!(rt;
-        added.entries.as_slice()[1]
-            == Entry::NewKey {
-                position: 33,
-                number: 31,
-                key_number: 2,
-                layer: 2,
-                kind: KeyKind::Epoch,
-                key: two,
-            }
-    );
-    assert!(rt; added.device == seed_of(KEY_ONE)?);
-    assert_eq!(rt; added.uses, 1);
+    assert!(rt; added.entries.as_slice() == new_entries().as_slice());
+    assert!(rt; added.device == SEED_ONE && added.uses == 1);
     Ok(())
 }
