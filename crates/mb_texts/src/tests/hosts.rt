@@ -6,23 +6,18 @@ use std::alloc::Global;
 use std::test::Fail;
 use std::{env, fs, process};
 
-// A host with these two files of one name, at which the calls of these numbers fail.
-fn host_of(
-    alloc: Global,
-    first: &[u8],
-    second: &[u8],
-    failing: &[u64],
-) -> Result<MemoryHost, NoMemory> {
+// A host with this file and another of the same name, at which the calls of these numbers fail.
+fn host_of(alloc: Global, bytes: &[u8], failing: &[u64]) -> Result<MemoryHost, NoMemory> {
     let mut files = Files::new(alloc);
-    files.push(file_of(alloc, first)?)?;
-    files.push(file_of(alloc, second)?)?;
+    push_file(alloc, &mut files, bytes)?;
+    push_file(alloc, &mut files, b"second")?;
     let failing = Calls::from_vec(Vec::from_slice(alloc, failing)?);
     MemoryHost::new(alloc, files, failing)
 }
 
-// The file that the tests read.
-fn file_of(alloc: Global, bytes: &[u8]) -> Result<File, NoMemory> {
-    Ok(File {
+// Appends a file of the name that the tests read.
+fn push_file(alloc: Global, files: &mut Files, bytes: &[u8]) -> Result<(), NoMemory> {
+    files.push(File {
         name: Bytes::copy(alloc, b"name")?,
         bytes: Bytes::copy(alloc, bytes)?,
     })
@@ -41,85 +36,98 @@ fn keeps<H: Host>(host: &mut H, alloc: Global, name: &str, bytes: &[u8]) -> bool
     host.write(name, bytes).is_ok() && reads(host, alloc, name, bytes)
 }
 
-// Whether a read, a write and a print in turn fail.
-fn failures(host: &mut MemoryHost, alloc: Global) -> [bool; 3] {
-    [
-        host.read(alloc, "name").is_err(),
-        host.write("other", b"new").is_err(),
-        host.print(b"line").is_err(),
-    ]
+// Whether there is no file of this name.
+fn lacks<H: Host>(host: &mut H, alloc: Global, name: &str) -> bool {
+    host.read(alloc, name).err() == Some(HostEnd::Failed)
 }
 
-// How the first file is read where it has this length.
-fn end_of(alloc: Global, length: usize) -> Result<Option<HostEnd>, NoMemory> {
+// Whether a read, a write and a print in turn fail where that is said, and there alone.
+fn fails(host: &mut MemoryHost, alloc: Global, read: bool, write: bool, print: bool) -> bool {
+    host.read(alloc, "name").is_err() == read
+        && host.write("other", b"new").is_err() == write
+        && host.print(b"line").is_err() == print
+}
+
+// Whether what is printed is held.
+fn prints(host: &mut MemoryHost) -> bool {
+    host.print(b"a line\n").is_ok()
+        && host.print(b"more").is_ok()
+        && host.printed() == b"a line\nmore".as_slice()
+}
+
+// Whether files are read, written and read again, and what is printed is held.
+fn reads_and_writes(alloc: Global) -> Result<bool, NoMemory> {
+    let mut host = host_of(alloc, b"first", &[])?;
+    Ok(
+        reads(&mut host, alloc, "name", b"first")
+            && keeps(&mut host, alloc, "name", b"changed")
+            && keeps(&mut host, alloc, "other", b"")
+            && host.file("name") == Some(b"changed".as_slice())
+            && lacks(&mut host, alloc, "third")
+            && prints(&mut host),
+    )
+}
+
+// Whether the calls of these numbers fail, and no others.
+fn fails_by_number(alloc: Global) -> Result<bool, NoMemory> {
+    let mut host = host_of(alloc, b"first", &[1, 3, 5])?;
+    Ok(fails(&mut host, alloc, false, true, false) && fails(&mut host, alloc, true, false, true))
+}
+
+#[test]
+fn files_are_read_and_written(rt: HostRuntime) {
+    assert!(rt; reads_and_writes(rt.alloc()) == Ok(true));
+}
+
+#[test]
+fn calls_fail_by_number(rt: HostRuntime) {
+    assert!(rt; fails_by_number(rt.alloc()) == Ok(true));
+}
+
+// Whether the first file is read and these bytes are kept and printed, or neither where the read has this end.
+fn is_kept(host: &mut MemoryHost, alloc: Global, bytes: &[u8], end: Option<HostEnd>) -> bool {
+    let found = host.read(alloc, "name").err();
+    let kept = keeps(host, alloc, "name", bytes)
+        && keeps(host, alloc, "other", bytes)
+        && host.print(bytes).is_ok()
+        && host.printed() == bytes;
+    found == end && kept == end.is_none()
+}
+
+// Whether a first file of this length is read and such a one is kept, or neither where the read has this end.
+fn is_long_file(alloc: Global, length: usize, end: Option<HostEnd>) -> Result<bool, NoMemory> {
     let bytes = vec![in alloc; 7; length]?;
-    let mut host = host_of(alloc, &bytes, b"", &[])?;
-    Ok(host.read(alloc, "name").err())
+    let mut host = host_of(alloc, &bytes, &[])?;
+    Ok(is_kept(&mut host, alloc, &bytes, end))
 }
 
 #[test]
-fn files_are_read_and_written(rt: HostRuntime) -> Result<(), Fail> {
-    let alloc = rt.alloc();
-    let mut host = host_of(alloc, b"first", b"second", &[])?;
-    assert!(rt; reads(&mut host, alloc, "name", b"first"));
-    assert!(rt; keeps(&mut host, alloc, "name", b"changed"));
-    assert!(rt; keeps(&mut host, alloc, "other", b""));
-    assert_eq!(rt; host.file("name"), Some(b"changed".as_slice()));
-    assert_eq!(rt; host.read(alloc, "third").err(), Some(HostEnd::Failed));
-    assert!(rt; host.print(b"a line\n").is_ok() && host.print(b"more").is_ok());
-    assert_eq!(rt; host.printed(), b"a line\nmore".as_slice());
-    Ok(())
+fn long_files_are_read_and_longer_ones_are_not(rt: HostRuntime) {
+    assert!(rt; is_long_file(rt.alloc(), 1_077_248, None) == Ok(true));
+    assert!(rt; is_long_file(rt.alloc(), 4_194_304, None) == Ok(true));
+    assert!(rt; is_long_file(rt.alloc(), 4_194_305, Some(HostEnd::TooLong)) == Ok(true));
 }
 
-#[test]
-fn calls_fail_by_number(rt: HostRuntime) -> Result<(), Fail> {
-    let alloc = rt.alloc();
-    let mut host = host_of(alloc, b"first", b"second", &[1, 3, 5])?;
-    assert_eq!(rt; failures(&mut host, alloc), [false, true, false]);
-    assert_eq!(rt; failures(&mut host, alloc), [true, false, true]);
-    Ok(())
+// The name of a file of this process.
+fn own_name(rt: &HostRuntime) -> Result<String, Fail> {
+    let folder = env::temp_dir(rt)?;
+    let number = process::id(rt.process());
+    Ok(format!(in rt.alloc(); "{}/mb_host-{number}", folder.display())?)
 }
 
-#[test]
-fn long_files_are_not_read(rt: HostRuntime) -> Result<(), Fail> {
-    assert_eq!(rt; end_of(rt.alloc(), 4_194_304)?, None);
-    assert_eq!(rt; end_of(rt.alloc(), 4_194_305)?, Some(HostEnd::TooLong));
-    Ok(())
-}
-
-// Whether so many bytes are written, read again and printed.
-fn keeps_long(alloc: Global, length: usize) -> Result<bool, NoMemory> {
-    let bytes = vec![in alloc; 7; length]?;
-    let mut host = host_of(alloc, b"first", b"second", &[])?;
-    let kept = keeps(&mut host, alloc, "name", &bytes) && keeps(&mut host, alloc, "other", &bytes);
-    Ok(kept && host.print(&bytes).is_ok() && host.printed() == bytes.as_slice())
-}
-
-#[test]
-fn long_files_are_written(rt: HostRuntime) -> Result<(), Fail> {
-    assert!(rt; keeps_long(rt.alloc(), 1_077_248)?);
-    assert!(rt; keeps_long(rt.alloc(), 4_194_304)?);
-    Ok(())
+// Whether a long file and a short one in its place are kept, and no file is reached that is removed or has no name.
+fn reaches(rt: &HostRuntime, alloc: Global, name: &str) -> bool {
+    let mut host = RealHost::new(rt);
+    keeps(&mut host, alloc, name, &[7; 200_000])
+        && keeps(&mut host, alloc, name, b"short")
+        && fs::remove_file(rt, name).is_ok()
+        && lacks(&mut host, alloc, name)
+        && host.write("", b"nowhere") == Err(HostFailed)
 }
 
 #[test]
 fn system_files_are_reached(rt: HostRuntime) -> Result<(), Fail> {
-    let alloc = rt.alloc();
-    let folder = env::temp_dir(&rt)?;
-    let name = format!(in alloc;
-        "{}/mb_host-{}",
-        folder.display(),
-        process::id(rt.process())
-    )?;
-    let long = vec![in alloc; 7; 200_000]?;
-    let mut host = RealHost::new(&rt);
-    assert!(rt; keeps(&mut host, alloc, name.as_str(), &long));
-    assert!(rt; keeps(&mut host, alloc, name.as_str(), b"short"));
-    fs::remove_file(&rt, name.as_str())?;
-    assert_eq!(rt;
-        host.read(alloc, name.as_str()).err(),
-        Some(HostEnd::Failed)
-    );
-    assert_eq!(rt; host.write("", b"nowhere"), Err(HostFailed));
+    let name = own_name(&rt)?;
+    assert!(rt; reaches(&rt, rt.alloc(), name.as_str()));
     Ok(())
 }

@@ -3,27 +3,30 @@
 use hex::FromHex;
 use mb_officer::{BadRecord, make_key, read_keyfile, write_keyfile};
 use std::process::Abort;
-use std::test::Fail;
+
+/// Whether the key that is made from the noise has this file, and is read from it again.
+fn has_file(noise: &[u8; 32], file: &[u8; 56]) -> bool {
+    let key = make_key(noise);
+    key.next == 0 && write_keyfile(&key) == *file && read_keyfile(file) == Ok(key)
+}
 
 /// The key that is made from the noise has this file, and is read from it again.
-fn makes(rt: &impl Abort, noise: &str, file: &str) -> Result<(), Fail> {
-    let noise = <[u8; 32] as FromHex>::from_hex(noise)?;
-    let file = <[u8; 56] as FromHex>::from_hex(file)?;
-    let key = make_key(&noise);
-    assert_eq!(rt; key.next, 0);
-    assert_eq!(rt; write_keyfile(&key), file);
-    assert!(rt; read_keyfile(&file) == Ok(key));
-    Ok(())
+fn makes(rt: &impl Abort, noise: &str, file: &str) {
+    let made = match (FromHex::from_hex(noise), FromHex::from_hex(file)) {
+        (Ok(noise), Ok(file)) => has_file(&noise, &file),
+        _ => false,
+    };
+    assert!(rt; made);
 }
 
 #[test]
-fn a_key_of_zeros(rt: HostRuntime) -> Result<(), Fail> {
+fn a_key_of_zeros(rt: HostRuntime) {
     makes(
         &rt,
         "0000000000000000000000000000000000000000000000000000000000000000",
         "4d424b31415f9f8fc3e618dd8524180f3db6a7c9eb495b20b522240648df79d22ec304c592f6d73c19b49bf70f19f34f7288\
         8b1a00000000",
-    )
+    );
 }
 
 /// How many bytes are read of the file of a key with this next index, and the place that is wrong.
@@ -37,18 +40,17 @@ const BROKEN: &[(usize, u8, u32)] = &[
     (56, 33, 52),
 ];
 
-/// So many bytes of the file of a key with this next index, and a byte more, are wrong at this place.
-fn is_wrong(rt: &impl Abort, length: usize, next: u8, at: u32) {
+/// Whether so many bytes of the file of a key with this next index, and a byte more, are wrong at this place.
+fn is_wrong(length: usize, next: u8, at: u32) -> bool {
     let mut file = [0; 57];
     file[..56].copy_from_slice(&write_keyfile(&make_key(&[0; 32])));
     file[55] = next;
-    assert!(rt; length <= 57);
-    assert_eq!(rt; read_keyfile(&file[..length]).err(), Some(BadRecord { at }));
+    length <= 57 && read_keyfile(&file[..length]) == Err(BadRecord { at })
 }
 
 #[test]
 fn broken_files_are_refused(rt: HostRuntime) {
     for (length, next, at) in BROKEN {
-        is_wrong(&rt, *length, *next, *at);
+        assert!(rt; is_wrong(*length, *next, *at), "{length} {next} {at}");
     }
 }

@@ -1,11 +1,15 @@
 //! Long texts, made of pieces.
 
 use mb_model::NoMemory;
+use std::alloc::Global;
 
-/// Appends the piece so many times.
-pub fn append(out: &mut Vec<u8>, piece: &[u8], times: usize) -> Result<(), NoMemory> {
-    for _i in 0..times {
-        out.extend_from_slice(piece)?;
+/// The text of these pieces, each so many times.
+pub fn text_of(alloc: Global, pieces: &[(&str, usize)]) -> Result<Vec<u8>, NoMemory> {
+    let mut text = Vec::new(alloc);
+    for (piece, times) in pieces {
+        for _i in 0..*times {
+            text.extend_from_slice(piece.as_bytes())?;
+        }
     }
-    Ok(())
+    Ok(text)
 }

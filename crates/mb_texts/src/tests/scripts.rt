@@ -1,72 +1,19 @@
 //! Scripts, draws and replies, by texts and bytes that are written out.
 
-use mb_model::{Bytes, Event, Events, NoMemory, Reply, Standing, Tear};
+use mb_model::{Bytes, Event, Events, Reply, Standing, Tear};
 use mb_script::{ScriptEnd, place_draws, read_script, write_reply};
 use std::alloc::Global;
 use std::process::Abort;
-use std::test::Fail;
 
-/// The number of the first line that is wrong, or 0 where the text is a script.
-fn bad_line(alloc: Global, text: &[u8]) -> u32 {
+/// How many events a script has, or the number of the first line that is wrong.
+pub fn count_events(alloc: Global, text: &[u8]) -> Result<usize, u32> {
     if text.len() > 4_194_304 {
-        return u32::MAX;
+        return Err(u32::MAX);
     }
     match read_script(alloc, text) {
-        Ok(_) => 0,
-        Err(ScriptEnd::BadLine { line }) => line,
-        Err(ScriptEnd::NoMemory) => u32::MAX,
-    }
-}
-
-/// The one event of a script.
-fn only_event(alloc: Global, text: &[u8]) -> Option<Event> {
-    if text.len() > 4_194_304 {
-        return None;
-    }
-    let events = read_script(alloc, text).ok()?;
-    if events.as_slice().len() != 1 {
-        return None;
-    }
-    events.into_vec().pop()
-}
-
-fn is_cut(alloc: Global, text: &[u8], count: u32, tear: Tear) -> bool {
-    match only_event(alloc, text) {
-        Some(Event::Cut { count: c, tear: t }) => c == count && t == tear,
-        _ => false,
-    }
-}
-
-fn is_command(alloc: Global, line: &[u8], text: &[u8]) -> bool {
-    match only_event(alloc, line) {
-        Some(Event::Command { text: t, draw }) => t.as_slice() == text && draw == [0; 32],
-        _ => false,
-    }
-}
-
-fn is_put(alloc: Global, line: &[u8], region: u8, name: &[u8], value: &[u8]) -> bool {
-    match only_event(alloc, line) {
-        Some(
-            Event::Put {
-                region: r,
-                name: n,
-                value: v,
-            },
-        ) => r == region && n.as_slice() == name && v.as_slice() == value,
-        _ => false,
-    }
-}
-
-fn is_sign(alloc: Global, line: &[u8], region: u8, key: u32, message: &[u8]) -> bool {
-    match only_event(alloc, line) {
-        Some(
-            Event::Sign {
-                region: r,
-                key: k,
-                message: m,
-            },
-        ) => r == region && k == key && m.as_slice() == message,
-        _ => false,
+        Ok(events) => Ok(events.as_slice().len()),
+        Err(ScriptEnd::BadLine { line }) => Err(line),
+        Err(ScriptEnd::NoMemory) => Err(u32::MAX),
     }
 }
 
@@ -95,48 +42,94 @@ const SCRIPTS: &[(&str, u32)] = &[
 #[test]
 fn first_bad_lines_are_named(rt: HostRuntime) {
     for (text, line) in SCRIPTS {
-        is_bad_at(&rt, rt.alloc(), text, *line);
+        let found = count_events(rt.alloc(), text.as_bytes()).err();
+        assert!(rt; found.unwrap_or(0) == *line, "{text}");
     }
 }
 
-fn is_bad_at(rt: &impl Abort, alloc: Global, text: &str, line: u32) {
-    assert_eq!(rt; bad_line(alloc, text.as_bytes()), line, "{text}");
+/// What the line of an event says.
+#[derive(Drop)]
+pub enum Said {
+    Boot,
+    Cut(u32, Tear),
+    Command(&'static [u8]),
+    /// A command of so many bytes.
+    Long(usize),
+    Put(u8, &'static [u8], &'static [u8]),
+    Sign(u8, u32, &'static [u8]),
+}
+
+/// Lines, and what they say.
+const LINES: &[(&str, Said)] = &[
+    ("boot", Said::Boot),
+    ("command 0aFF", Said::Command(b"\x0A\xFF")),
+    ("put 2 pin 31323334", Said::Put(2, b"pin", b"1234")),
+    ("sign 3 1 68656c6c6f", Said::Sign(3, 1, b"hello")),
+    (
+        "cut 3 keep 5 fill fF",
+        Said::Cut(
+            3,
+            Tear {
+                keep: 5,
+                fill: [0xFF, 0, 0, 0, 0, 0, 0, 0, 0, 0, 0, 0, 0, 0, 0, 0],
+                fill_length: 1,
+            },
+        ),
+    ),
+];
+
+/// Whether the event is what is said.
+fn is_event(event: &Event, said: &Said) -> bool {
+    match event {
+        Event::Boot => matches!(said, Said::Boot),
+        Event::Cut { count, tear } => match said {
+            Said::Cut(c, t) => count == c && tear == t,
+            _ => false,
+        },
+        Event::Command { text, draw } => match said {
+            Said::Command(t) => text.as_slice() == *t && *draw == [0; 32],
+            Said::Long(length) => text.as_slice().len() == *length,
+            _ => false,
+        },
+        Event::Put {
+            region,
+            name,
+            value,
+        } => match said {
+            Said::Put(r, n, v) => region == r && name.as_slice() == *n && value.as_slice() == *v,
+            _ => false,
+        },
+        Event::Sign {
+            region,
+            key,
+            message,
+        } => match said {
+            Said::Sign(r, k, m) => region == r && key == k && message.as_slice() == *m,
+            _ => false,
+        },
+        _ => false,
+    }
+}
+
+/// Whether the text says this event and nothing else.
+pub fn says(alloc: Global, text: &[u8], said: &Said) -> bool {
+    if text.len() > 4_194_304 {
+        return false;
+    }
+    match read_script(alloc, text) {
+        Ok(events) => match events.as_slice() {
+            [event] => is_event(event, said),
+            _ => false,
+        },
+        Err(_) => false,
+    }
 }
 
 #[test]
 fn lines_say_events(rt: HostRuntime) {
-    assert!(rt; matches!(only_event(rt.alloc(), b"boot"), Some(Event::Boot)));
-    assert!(rt; is_command(rt.alloc(), b"command 0aFF", b"\x0A\xFF"));
-    assert!(rt; is_put(rt.alloc(), b"put 2 pin 31323334", 2, b"pin", b"1234"));
-    assert!(rt; is_sign(rt.alloc(), b"sign 3 1 68656c6c6f", 3, 1, b"hello"));
-    let mut fill = [0; 16];
-    fill[0] = 0xFF;
-    let tear = Tear {
-        keep: 5,
-        fill,
-        fill_length: 1,
-    };
-    assert!(rt; is_cut(rt.alloc(), b"cut 3 keep 5 fill fF", 3, tear));
-}
-
-/// Two commands, and a boot between them.
-fn two_commands(alloc: Global) -> Result<Events, NoMemory> {
-    let mut events = Events::new(alloc);
-    events.push(Event::Command {
-        text: Bytes::from_vec(Vec::new(alloc)),
-        draw: [0; 32],
-    })?;
-    events.push(Event::Boot)?;
-    events.push(Event::Command {
-        text: Bytes::from_vec(Vec::new(alloc)),
-        draw: [0; 32],
-    })?;
-    Ok(events)
-}
-
-/// Whether the noise is enough for three events or fewer.
-fn places(events: &mut Events, noise: &[u8]) -> bool {
-    events.as_slice().len() <= 3 && place_draws(events, noise).is_ok()
+    for (line, said) in LINES {
+        assert!(rt; says(rt.alloc(), line.as_bytes(), said), "{line}");
+    }
 }
 
 /// Whether the event at the place is a command with this draw.
@@ -147,58 +140,62 @@ fn has_draw(events: &Events, at: usize, draw: [u8; 32]) -> bool {
     }
 }
 
+/// Whether the noise is enough, or not, for two commands with a boot between them, which have these draws afterwards.
+fn draws(alloc: Global, noise: &[u8], enough: bool, one: u8, two: u8) -> bool {
+    match read_script(alloc, b"command 00\nboot\ncommand 00\n") {
+        Ok(mut events) => {
+            events.as_slice().len() == 3
+                && place_draws(&mut events, noise).is_ok() == enough
+                && has_draw(&events, 0, [one; 32])
+                && has_draw(&events, 2, [two; 32])
+        }
+        Err(_) => false,
+    }
+}
+
 #[test]
-fn commands_get_their_draws(rt: HostRuntime) -> Result<(), Fail> {
+fn commands_get_their_draws_of_enough_noise_alone(rt: HostRuntime) {
     let noise = b"aaaaaaaaaaaaaaaaaaaaaaaaaaaaaaaabbbbbbbbbbbbbbbbbbbbbbbbbbbbbbbbc";
-    let mut events = two_commands(rt.alloc())?;
-    assert!(rt; places(&mut events, noise));
-    assert!(rt; has_draw(&events, 0, [b'a'; 32]) && has_draw(&events, 2, [b'b'; 32]));
-    Ok(())
+    assert!(rt; draws(rt.alloc(), noise, true, b'a', b'b'));
+    let short = b"aaaaaaaaaaaaaaaaaaaaaaaaaaaaaaaabbbbbbbbbbbbbbbbbbbbbbbbbbbbbbb";
+    assert!(rt; draws(rt.alloc(), short, false, 0, 0));
 }
 
-#[test]
-fn short_noise_gives_no_draws(rt: HostRuntime) -> Result<(), Fail> {
-    let noise = b"aaaaaaaaaaaaaaaaaaaaaaaaaaaaaaaabbbbbbbbbbbbbbbbbbbbbbbbbbbbbbb";
-    let mut events = two_commands(rt.alloc())?;
-    assert!(rt; !places(&mut events, noise));
-    assert!(rt; has_draw(&events, 0, [0; 32]) && has_draw(&events, 2, [0; 32]));
-    Ok(())
-}
-
-/// Whether this is what is written of the reply.
-pub fn is_written(alloc: Global, reply: &Reply, line: &[u8]) -> bool {
+/// The reply has this line.
+fn is_written(rt: &impl Abort, alloc: Global, reply: Reply, line: &[u8]) {
     let mut out = Vec::new(alloc);
-    write_reply(reply, &mut out).is_ok() && out.as_slice() == line
+    assert!(rt;
+        write_reply(&reply, &mut out).is_ok() && out.as_slice() == line,
+        "{line:?}"
+    );
 }
 
 #[test]
-fn replies_are_written(rt: HostRuntime) -> Result<(), Fail> {
-    let value = Reply::Value(Bytes::copy(rt.alloc(), b"1234")?);
-    assert!(rt; is_written(rt.alloc(), &value, b"value 31323334\n"));
-    let none = Reply::Value(Bytes::copy(rt.alloc(), b"")?);
-    assert!(rt; is_written(rt.alloc(), &none, b"value -\n"));
-    let signed = Reply::Signed {
-        key: 1,
-        index: 0,
-        statement: Bytes::copy(rt.alloc(), b"\xAB")?,
-    };
-    assert!(rt; is_written(rt.alloc(), &signed, b"signed 1 0 ab\n"));
+fn plain_replies_are_written(rt: HostRuntime) {
+    let alloc = rt.alloc();
+    is_written(&rt, alloc, Reply::Booted, b"booted\n");
+    is_written(&rt, alloc, Reply::Off, b"off\n");
+    is_written(&rt, alloc, Reply::Tampered, b"tampered\n");
+    is_written(&rt, alloc, Reply::Armed, b"armed\n");
+    is_written(&rt, alloc, Reply::Kept, b"kept\n");
+    is_written(&rt, alloc, Reply::Dropped, b"dropped\n");
+    is_written(&rt, alloc, Reply::Absent, b"absent\n");
+    is_written(&rt, alloc, Reply::Stopped, b"stopped\n");
+    is_written(&rt, alloc, Reply::NoMemory, b"no memory\n");
+}
+
+#[test]
+fn replies_with_numbers_are_written(rt: HostRuntime) {
+    let alloc = rt.alloc();
+    is_written(&rt, alloc, Reply::At(2), b"at 2\n");
+    is_written(&rt, alloc, Reply::Refused(15), b"refused 15 log full\n");
     let done = Reply::Done {
         number: 31,
         length: 128,
     };
-    assert!(rt; is_written(rt.alloc(), &done, b"done 31 128\n"));
-    assert!(rt; is_written(rt.alloc(), &Reply::At(2), b"at 2\n"));
-    assert!(rt; is_written(rt.alloc(), &Reply::Refused(15), b"refused 15 log full\n"));
-    assert!(rt; is_written(rt.alloc(), &Reply::NoMemory, b"no memory\n"));
-    Ok(())
-}
-
-#[test]
-fn a_status_is_written(rt: HostRuntime) -> Result<(), Fail> {
-    let serial = [7; 16];
+    is_written(&rt, alloc, done, b"done 31 128\n");
     let status = Reply::Status {
-        serial,
+        serial: [7; 16],
         number: 1,
         length: 2,
         one: Standing::Runnable,
@@ -206,6 +203,33 @@ fn a_status_is_written(rt: HostRuntime) -> Result<(), Fail> {
         three: Standing::Unowned,
     };
     let line = b"status 07070707070707070707070707070707 1 2 runnable unreliable unowned\n";
-    assert!(rt; is_written(rt.alloc(), &status, line));
-    Ok(())
+    is_written(&rt, alloc, status, line);
+}
+
+/// A value of these bytes has this line.
+fn is_value(rt: &impl Abort, alloc: Global, value: &[u8], line: &[u8]) {
+    match Bytes::copy(alloc, value) {
+        Ok(value) => is_written(rt, alloc, Reply::Value(value), line),
+        Err(_) => panic!(rt; "no memory"),
+    }
+}
+
+/// A signed statement of these bytes has this line.
+pub fn is_statement(rt: &impl Abort, alloc: Global, statement: &[u8], line: &[u8]) {
+    let signed = match Bytes::copy(alloc, statement) {
+        Ok(statement) => Reply::Signed {
+            key: 1,
+            index: 0,
+            statement,
+        },
+        Err(_) => panic!(rt; "no memory"),
+    };
+    is_written(rt, alloc, signed, line);
+}
+
+#[test]
+fn replies_with_bytes_are_written(rt: HostRuntime) {
+    is_value(&rt, rt.alloc(), b"1234", b"value 31323334\n");
+    is_value(&rt, rt.alloc(), b"", b"value -\n");
+    is_statement(&rt, rt.alloc(), b"\xAB", b"signed 1 0 ab\n");
 }
