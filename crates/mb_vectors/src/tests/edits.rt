@@ -1,11 +1,10 @@
 //! Stored bytes that are edited.
 
-ghost use Rattle.std.specs.Prelude.{◌≤◌, length, vec_len, IfOk};
-
 use super::spelled::bytes_of;
-use super::values::key_nine;
+use super::values::KEY_NINE;
 use super::vectors;
 use mb_layout::{Fate, NotUsed, fate_record, use_in_record};
+use mb_model::RegionKey;
 use std::alloc::Global;
 use std::process::Abort;
 use std::test::Fail;
@@ -13,31 +12,20 @@ use std::test::Fail;
 /// The longest record of a region.
 const RECORD: usize = 3_091;
 
-/// A region becomes this one by its fate, and stays it when the fate comes again.
-fn becomes(
+/// The record after its fate is this one.
+fn fate_gives(
     rt: &impl Abort,
     alloc: Global,
     text: &str,
     fate: &Fate,
     expected: &str,
 ) -> Result<(), Fail> {
+    let bytes = bytes_of(alloc, text)?;
     let wanted = bytes_of(alloc, expected)?;
-    let once = fated(alloc, bytes_of(alloc, text)?.as_slice(), fate)?;
-    let twice = fated(alloc, once.as_slice(), fate)?;
-    assert!(rt; once.as_slice() == wanted.as_slice());
-    assert!(rt; twice.as_slice() == wanted.as_slice());
-    Ok(())
-}
-
-/// The record after its fate.
-fn fated(alloc: Global, record: &[u8], fate: &Fate) -> Result<Vec<u8>, Fail>
-    requires { length record.now ≤ 4000 }
-    ensures { IfOk result (λ bytes. vec_len bytes ≤ 4000) }
-{
     let mut out = Vec::with_capacity(alloc, RECORD)?;
-    fate_record(record, fate, &mut out);
-    out.truncate(RECORD);
-    Ok(out)
+    fate_record(bytes.as_slice(), fate, &mut out);
+    assert!(rt; out.as_slice() == wanted.as_slice());
+    Ok(())
 }
 
 /// The region of the vectors without its configuration key.
@@ -45,52 +33,63 @@ const EPOCH_ALONE: &str = "01020370696e04313233340000010201740000000003010000000
     005757575757575757575757575757575758585858585858585858585858585858585858585858585858\
     5858585858585820";
 
+/// Regions, their fates, and what they become.
+const FATES: &[(&str, Fate, &str)] = &[
+    (vectors::REGION, Fate::Keep, vectors::REGION),
+    (vectors::REGION, Fate::Empty, ""),
+    (vectors::REGION, Fate::DropConfiguration, EPOCH_ALONE),
+    (vectors::LONE_KEY, Fate::DropConfiguration, ""),
+    (EPOCH_ALONE, Fate::AddKey(KEY_NINE), vectors::REGION),
+    (vectors::REGION, Fate::AddKey(UNUSED), vectors::REGION),
+    ("", Fate::AddKey(KEY_NINE), vectors::LONE_KEY),
+];
+
+/// Key 9 before its first use.
+const UNUSED: RegionKey = RegionKey {
+    uses: 0,
+    ..KEY_NINE
+};
+
+/// Each region becomes what its fate makes of it, and stays so when the fate comes again.
 #[test]
 fn regions_take_their_fates(rt: HostRuntime) -> Result<(), Fail> {
-    let alloc = rt.alloc();
-    let nine = Fate::AddKey(key_nine(3));
-    becomes(&rt, alloc, vectors::REGION, &Fate::Keep, vectors::REGION)?;
-    becomes(&rt, alloc, vectors::REGION, &Fate::Empty, "")?;
-    let drop = Fate::DropConfiguration;
-    becomes(&rt, alloc, vectors::REGION, &drop, EPOCH_ALONE)?;
-    becomes(&rt, alloc, vectors::LONE_KEY, &drop, "")?;
-    becomes(&rt, alloc, EPOCH_ALONE, &nine, vectors::REGION)?;
-    let unused = Fate::AddKey(key_nine(0));
-    becomes(&rt, alloc, vectors::REGION, &unused, vectors::REGION)?;
-    becomes(&rt, alloc, "", &nine, vectors::LONE_KEY)
-}
-
-/// Using a key of a region answers this key, and the record afterwards ends with this byte.
-fn is_used(rt: &impl Abort, alloc: Global, text: &str, last: u8) -> Result<(), Fail> {
-    let bytes = bytes_of(alloc, text)?;
-    let mut out = Vec::with_capacity(alloc, RECORD)?;
-    let used = use_in_record(bytes.as_slice(), 9, &mut out);
-    assert!(rt; used == Ok(key_nine(3)));
-    assert_eq!(rt; out.as_slice().last().copied(), Some(last));
+    for (text, fate, expected) in FATES {
+        fate_gives(&rt, rt.alloc(), text, fate, expected)?;
+        fate_gives(&rt, rt.alloc(), expected, fate, expected)?;
+    }
     Ok(())
 }
 
-/// Using the key of this number is refused so.
-fn is_refused(
+/// Using the key of this number answers so, and the record afterwards ends with this byte, or is empty.
+fn using_gives(
     rt: &impl Abort,
     alloc: Global,
     text: &str,
     number: u32,
-    end: NotUsed,
+    expected: Result<RegionKey, NotUsed>,
+    last: &[u8],
 ) -> Result<(), Fail> {
     let bytes = bytes_of(alloc, text)?;
     let mut out = Vec::with_capacity(alloc, RECORD)?;
     let used = use_in_record(bytes.as_slice(), number, &mut out);
-    assert!(rt; used == Err(end));
+    assert!(rt; used == expected);
+    assert!(rt; out.as_slice().ends_with(last) && out.is_empty() == last.is_empty());
     Ok(())
 }
 
+/// Regions, the number of a key, what using it answers, and the last byte of the record afterwards.
+const USES: &[(&str, u32, Result<RegionKey, NotUsed>, &[u8])] = &[
+    (vectors::REGION, 9, Ok(KEY_NINE), &[4]),
+    (vectors::LONE_KEY, 9, Ok(KEY_NINE), &[4]),
+    (vectors::REGION, 2, Err(NotUsed::Spent), &[]),
+    (vectors::REGION, 3, Err(NotUsed::NoKey), &[]),
+    ("", 9, Err(NotUsed::NoKey), &[]),
+];
+
 #[test]
 fn a_key_is_used(rt: HostRuntime) -> Result<(), Fail> {
-    let alloc = rt.alloc();
-    is_used(&rt, alloc, vectors::REGION, 4)?;
-    is_used(&rt, alloc, vectors::LONE_KEY, 4)?;
-    is_refused(&rt, alloc, vectors::REGION, 2, NotUsed::Spent)?;
-    is_refused(&rt, alloc, vectors::REGION, 3, NotUsed::NoKey)?;
-    is_refused(&rt, alloc, "", 9, NotUsed::NoKey)
+    for (text, number, expected, last) in USES {
+        using_gives(&rt, rt.alloc(), text, *number, *expected, last)?;
+    }
+    Ok(())
 }

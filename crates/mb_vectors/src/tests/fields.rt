@@ -7,7 +7,7 @@ use mb_bytes::{
     put_key_kind, put_key_seed, put_public_key, put_slice, put_trust, put_u8, put_u16, put_u32,
     trust_at, u8_between, u16_between, u32_between,
 };
-use mb_model::{BadRecord, Chains, Items, KeyKind, Tree, Trust};
+use mb_model::{BadRecord, Chains, Items, KeyKind, KeySeed, NoMemory, PublicKey, Tree, Trust};
 use std::test::Fail;
 
 const FIELDS: [u8; 12] = [7, 1, 2, 0xDE, 0xAD, 0xBE, 0xEF, b'a', b'b', 9, 8, 7];
@@ -17,28 +17,11 @@ const EXAMPLE: [u8; 11] = *b"\0\0\0\x01name\x01\x0A\x0B";
 #[test]
 fn fields_are_read(rt: HostRuntime) -> Result<(), Fail> {
     let mut cursor = Cursor::new(FIELDS.as_slice());
-    assert!(rt; cursor.take_u8() == Ok(7));
-    assert!(rt; cursor.take_u16() == Ok(0x0102));
-    assert!(rt; cursor.take_u32() == Ok(0xDEAD_BEEF));
-    assert!(rt; cursor.take_array() == Ok(*b"ab"));
+    assert!(rt; cursor.take_u8() == Ok(7) && cursor.take_u16() == Ok(0x0102));
+    assert!(rt; cursor.take_u32() == Ok(0xDEAD_BEEF) && cursor.take_array() == Ok(*b"ab"));
     assert!(rt; cursor.take_u32() == Err(Short { at: 9 }));
     assert!(rt; cursor.offset() == 9 && cursor.left() == 3);
-    match cursor.take_slice(3) {
-        Ok(rest) => assert_eq!(rt; rest, [9, 8, 7].as_slice()),
-        Err(_) => assert!(rt; false),
-    }
-    assert!(rt; cursor.left() == 0);
-    Ok(())
-}
-
-#[test]
-fn fields_are_written(rt: HostRuntime) -> Result<(), Fail> {
-    let mut out = Vec::new(rt.alloc());
-    put_u8(&mut out, 7)?;
-    put_u16(&mut out, 0x0102)?;
-    put_u32(&mut out, 0xDEAD_BEEF)?;
-    put_slice(&mut out, b"ab\x09\x08\x07")?;
-    assert_eq!(rt; out.as_slice(), FIELDS.as_slice());
+    assert!(rt; cursor.take_slice(3) == Ok([9, 8, 7].as_slice()) && cursor.left() == 0);
     Ok(())
 }
 
@@ -53,7 +36,7 @@ fn an_example_is_written(rt: HostRuntime) -> Result<(), Fail> {
     };
     let mut out = Vec::new(rt.alloc());
     write_example(&mut out, &example)?;
-    assert_eq!(rt; out.as_slice(), EXAMPLE.as_slice());
+    assert!(rt; out.as_slice() == EXAMPLE.as_slice());
     Ok(())
 }
 
@@ -85,58 +68,107 @@ fn bounds_are_kept(rt: HostRuntime) -> Result<(), Fail> {
     Ok(())
 }
 
-const SIZED: [u8; 14] = *b"\x02ab\0\x02cd\0\0\0\x01e\x01\0";
-
 #[test]
-fn sized_bytes_go_both_ways(rt: HostRuntime) -> Result<(), Fail> {
-    let mut cursor = Cursor::new(SIZED.as_slice());
-    let one = bytes_after_u8(&mut cursor, 0, 2)?;
-    let two = bytes_after_u16(&mut cursor, 0, 2)?;
-    let four = bytes_after_u32(&mut cursor, 0, 1)?;
-    let mut out = Vec::new(rt.alloc());
-    if one.len() < 3 && two.len() < 3 && four.len() < 2 {
-        put_after_u8(&mut out, one)?;
-        put_after_u16(&mut out, two)?;
-        put_after_u32(&mut out, four)?;
-    }
-    put_flag(&mut out, flag_at(&mut cursor)?)?;
-    put_flag(&mut out, flag_at(&mut cursor)?)?;
-    assert_eq!(rt; out.as_slice(), SIZED.as_slice());
-    Ok(())
-}
-
-/// A key of types 5 and 3.
-const KEY: [u8; 56] = *b"\0\0\0\x05\0\0\0\x03an identifier 16the root of a tree with 32 bytes";
-
-#[test]
-fn keys_go_both_ways(rt: HostRuntime) -> Result<(), Fail> {
-    let key = public_key_at(&mut Cursor::new(KEY.as_slice()))?;
-    assert!(rt; key.tree == Tree::H5 && key.chains == Chains::W4);
-    assert!(rt; key.identifier == *b"an identifier 16");
-    let mut out = Vec::new(rt.alloc());
-    put_public_key(&mut out, &key)?;
-    assert_eq!(rt; out.as_slice(), KEY.as_slice());
-    let seed = key_seed_at(&mut Cursor::new(&KEY[8..]))?;
-    assert!(rt; seed.identifier == key.identifier && seed.seed == key.root);
-    let mut out = Vec::new(rt.alloc());
-    put_key_seed(&mut out, &seed)?;
-    assert_eq!(rt; out.as_slice(), &KEY[8..]);
+fn wrong_choices_are_refused(rt: HostRuntime) {
+    let mut cursor = Cursor::new(b"\x02\x01\x03");
+    assert!(rt; cursor.take_u16() == Ok(0x0201));
+    assert!(rt; trust_at(&mut cursor) == Err(BadRecord { at: 2 }));
     let swapped = b"\0\0\0\x05\0\0\0\x05";
     assert!(rt; public_key_at(&mut Cursor::new(swapped)) == Err(BadRecord { at: 4 }));
-    Ok(())
 }
 
+/// A field that is read and written.
+enum Field {
+    U8(u8),
+    U16(u16),
+    U32(u32),
+    Five([u8; 5]),
+    AfterU8([u8; 2]),
+    AfterU16([u8; 2]),
+    AfterU32([u8; 1]),
+    Flag(bool),
+    Key(PublicKey),
+    Seed(KeySeed),
+    Trust(Trust),
+    Kind(KeyKind),
+}
+
+/// Whether the field is read at the cursor.
+fn is_next(cursor: &mut Cursor, field: &Field) -> bool {
+    match field {
+        Field::U8(value) => cursor.take_u8() == Ok(*value),
+        Field::U16(value) => cursor.take_u16() == Ok(*value),
+        Field::U32(value) => cursor.take_u32() == Ok(*value),
+        Field::Five(bytes) => cursor.take_slice(5) == Ok(bytes.as_slice()),
+        Field::AfterU8(bytes) => bytes_after_u8(cursor, 0, 2) == Ok(bytes.as_slice()),
+        Field::AfterU16(bytes) => bytes_after_u16(cursor, 0, 2) == Ok(bytes.as_slice()),
+        Field::AfterU32(bytes) => bytes_after_u32(cursor, 0, 1) == Ok(bytes.as_slice()),
+        Field::Flag(value) => flag_at(cursor) == Ok(*value),
+        Field::Key(key) => public_key_at(cursor) == Ok(*key),
+        Field::Seed(seed) => key_seed_at(cursor) == Ok(*seed),
+        Field::Trust(trust) => trust_at(cursor) == Ok(*trust),
+        Field::Kind(kind) => key_kind_at(cursor) == Ok(*kind),
+    }
+}
+
+/// Appends the field.
+fn put(out: &mut Vec<u8>, field: &Field) -> Result<(), NoMemory> {
+    match field {
+        Field::U8(value) => put_u8(out, *value),
+        Field::U16(value) => put_u16(out, *value),
+        Field::U32(value) => put_u32(out, *value),
+        Field::Five(bytes) => put_slice(out, bytes),
+        Field::AfterU8(bytes) => put_after_u8(out, bytes),
+        Field::AfterU16(bytes) => put_after_u16(out, bytes),
+        Field::AfterU32(bytes) => put_after_u32(out, bytes),
+        Field::Flag(value) => put_flag(out, *value),
+        Field::Key(key) => put_public_key(out, key),
+        Field::Seed(seed) => put_key_seed(out, seed),
+        Field::Trust(trust) => put_trust(out, *trust),
+        Field::Kind(kind) => put_key_kind(out, *kind),
+    }
+}
+
+/// The fields that are spelled below.
+const WRITTEN: &[Field] = &[
+    Field::U8(7),
+    Field::U16(0x0102),
+    Field::U32(0xDEAD_BEEF),
+    Field::Five(*b"ab\x09\x08\x07"),
+    Field::AfterU8(*b"ab"),
+    Field::AfterU16(*b"cd"),
+    Field::AfterU32(*b"e"),
+    Field::Flag(true),
+    Field::Flag(false),
+    Field::Key(PublicKey {
+        tree: Tree::H5,
+        chains: Chains::W4,
+        identifier: *b"an identifier 16",
+        root: *b"the root of a tree with 32 bytes",
+    }),
+    Field::Seed(KeySeed {
+        identifier: *b"an identifier 16",
+        seed: *b"the root of a tree with 32 bytes",
+    }),
+    Field::Trust(Trust::Countersigned),
+    Field::Kind(KeyKind::Configuration),
+];
+
+/// Numbers and bytes, bytes after their lengths, a key of types 5 and 3, a seed, and choices.
+const SPELLED: &[u8] = b"\x07\x01\x02\xDE\xAD\xBE\xEFab\x09\x08\x07\
+    \x02ab\0\x02cd\0\0\0\x01e\x01\0\
+    \0\0\0\x05\0\0\0\x03an identifier 16the root of a tree with 32 bytes\
+    an identifier 16the root of a tree with 32 bytes\x02\x01";
+
 #[test]
-fn choices_go_both_ways(rt: HostRuntime) -> Result<(), Fail> {
-    let mut cursor = Cursor::new(b"\x02\x01\x03");
-    let trust = trust_at(&mut cursor)?;
-    let kind = key_kind_at(&mut cursor)?;
-    assert!(rt; trust == Trust::Countersigned && kind == KeyKind::Configuration);
-    assert!(rt; trust_at(&mut cursor) == Err(BadRecord { at: 2 }));
+fn fields_go_both_ways(rt: HostRuntime) -> Result<(), Fail> {
+    let mut cursor = Cursor::new(SPELLED);
     let mut out = Vec::new(rt.alloc());
-    put_trust(&mut out, trust)?;
-    put_key_kind(&mut out, kind)?;
-    assert_eq!(rt; out.as_slice(), b"\x02\x01".as_slice());
+    for field in WRITTEN {
+        assert!(rt; is_next(&mut cursor, field));
+        put(&mut out, field)?;
+    }
+    assert!(rt; cursor.left() == 0 && out.as_slice() == SPELLED);
     Ok(())
 }
 

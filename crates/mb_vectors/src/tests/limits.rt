@@ -1,73 +1,71 @@
 //! The limits: where there is memory, the largest order is read and written, the longest bytes are copied, and lists
 //! grow to their limits.
 
-use super::spelled::append;
-use mb_command::{body_length, read_order, write_order};
+use super::orders::is_written;
+use super::spelled::joined;
+use mb_command::read_order;
 use mb_model::{
-    Bytes, Chains, Entry, Items, KeyKind, KeySeed, NoMemory, PublicKey, RegionKey, Secret,
+    Bytes, Chains, Entry, Items, KeyKind, KeySeed, NoMemory, Order, PublicKey, RegionKey, Secret,
     SignedEntry, Tree,
 };
 use std::alloc::Global;
+use std::process::Abort;
 use std::test::Fail;
 
-/// The body of a load of layer 1 with eight targets and 32,768 bytes of code.
-fn longest_body(alloc: Global) -> Result<Vec<u8>, Fail> {
-    let mut out = Vec::new(alloc);
-    append(&mut out, alloc, "030108", 1)?;
-    append(&mut out, alloc, "0301", 1)?;
-    append(&mut out, alloc, "11", 32)?;
-    append(&mut out, alloc, "0200000007", 7)?;
-    append(&mut out, alloc, "000000020200008000", 1)?;
-    append(&mut out, alloc, "ab", 32_768)?;
-    Ok(out)
-}
+/// The body of a load of layer 1 with eight targets and 32,768 bytes of code, and its signature and the countersignatures
+/// of layers 2 and 3, each of 9,324 bytes after their length.
+const LARGEST_ORDER: &[(&str, usize)] = &[
+    ("030108", 1),
+    ("0301", 1),
+    ("11", 32),
+    ("0200000007", 7),
+    ("000000020200008000", 1),
+    ("ab", 32_768),
+    ("246c", 1),
+    ("c1", 9_324),
+    ("0202", 1),
+    ("246c", 1),
+    ("c2", 9_324),
+    ("03", 1),
+    ("246c", 1),
+    ("c3", 9_324),
+];
 
-/// Appends a signature of 9,324 bytes, after its length.
-fn append_signature(out: &mut Vec<u8>, alloc: Global, byte: &str) -> Result<(), Fail> {
-    append(out, alloc, "246c", 1)?;
-    append(out, alloc, byte, 9_324)
-}
+/// How many of those bytes are the body.
+const BODY: usize = 32_849;
 
-/// And its signature, and the countersignatures of layers 2 and 3.
-fn append_signatures(out: &mut Vec<u8>, alloc: Global) -> Result<(), Fail> {
-    append_signature(out, alloc, "c1")?;
-    append(out, alloc, "0202", 1)?;
-    append_signature(out, alloc, "c2")?;
-    append(out, alloc, "03", 1)?;
-    append_signature(out, alloc, "c3")
+/// The lengths of the lists of an order, and of its signature.
+fn lengths(order: &Order) -> (usize, usize, usize) {
+    (
+        order.targets.as_slice().len(),
+        order.signature.as_slice().len(),
+        order.countersignatures.as_slice().len(),
+    )
 }
 
 #[test]
 fn the_largest_order_goes_both_ways(rt: HostRuntime) -> Result<(), Fail> {
     let alloc = rt.alloc();
-    let mut bytes = longest_body(alloc)?;
-    let signed = bytes.len();
-    append_signatures(&mut bytes, alloc)?;
+    let bytes = joined(alloc, LARGEST_ORDER)?;
     let order = read_order(alloc, bytes.as_slice())?;
-    assert_eq!(rt; order.targets.as_slice().len(), 8);
-    assert_eq!(rt; order.signature.as_slice().len(), 9_324);
-    assert_eq!(rt; order.countersignatures.as_slice().len(), 2);
-    assert_eq!(rt; body_length(&order) as usize, signed);
-    let mut out = Vec::new(alloc);
-    write_order(&order, &mut out)?;
-    assert!(rt; out.as_slice() == bytes.as_slice());
+    assert!(rt; lengths(&order) == (8, 9_324, 2));
+    assert!(rt; is_written(alloc, &order, bytes.as_slice(), BODY) == Ok(true));
     Ok(())
 }
 
-/// Whether so many bytes are copied.
-fn copies(alloc: Global, count: usize) -> Result<bool, Fail> {
+/// So many bytes are copied.
+fn copies(rt: &impl Abort, alloc: Global, count: usize) -> Result<(), Fail> {
     let bytes = vec![in alloc; 7; count]?;
     let copy = Bytes::copy(alloc, bytes.as_slice())?;
-    Ok(copy.as_slice() == bytes.as_slice())
+    assert!(rt; copy.as_slice() == bytes.as_slice());
+    Ok(())
 }
 
 #[test]
 fn long_bytes_are_copied(rt: HostRuntime) -> Result<(), Fail> {
-    let alloc = rt.alloc();
-    assert!(rt; copies(alloc, 9_324)?);
-    assert!(rt; copies(alloc, 32_768)?);
-    assert!(rt; copies(alloc, 4_194_304)?);
-    Ok(())
+    copies(&rt, rt.alloc(), 9_324)?;
+    copies(&rt, rt.alloc(), 32_768)?;
+    copies(&rt, rt.alloc(), 4_194_304)
 }
 
 /// The length of a list to which the item is added so many times.
@@ -95,38 +93,36 @@ fn secrets(alloc: Global, times: usize) -> Result<usize, NoMemory> {
 }
 
 /// An entry of a log.
-fn entry() -> SignedEntry {
-    let key = PublicKey {
-        tree: Tree::H5,
-        chains: Chains::W8,
-        identifier: [1; 16],
-        root: [2; 32],
-    };
-    SignedEntry {
-        entry: Entry::Succession { position: 1, key },
-        signature: [3; 2348],
-    }
-}
+const ENTRY: SignedEntry = SignedEntry {
+    entry: Entry::Succession {
+        position: 1,
+        key: PublicKey {
+            tree: Tree::H5,
+            chains: Chains::W8,
+            identifier: [1; 16],
+            root: [2; 32],
+        },
+    },
+    signature: [3; 2348],
+};
 
 /// A key of a region.
-fn key() -> RegionKey {
-    RegionKey {
-        number: 1,
-        kind: KeyKind::Epoch,
-        seed: KeySeed {
-            identifier: [1; 16],
-            seed: [2; 32],
-        },
-        uses: 0,
-    }
-}
+const KEY: RegionKey = RegionKey {
+    number: 1,
+    kind: KeyKind::Epoch,
+    seed: KeySeed {
+        identifier: [1; 16],
+        seed: [2; 32],
+    },
+    uses: 0,
+};
 
 #[test]
 fn lists_grow_to_their_limits(rt: HostRuntime) -> Result<(), Fail> {
     let alloc = rt.alloc();
-    assert_eq!(rt; filled(alloc, entry(), 128)?, 128);
-    assert_eq!(rt; filled(alloc, key(), 8)?, 8);
-    assert_eq!(rt; secrets(alloc, 16)?, 16);
-    assert_eq!(rt; filled(alloc, 7u64, 65_536)?, 65_536);
+    assert!(rt; filled(alloc, ENTRY, 128)? == 128);
+    assert!(rt; filled(alloc, KEY, 8)? == 8);
+    assert!(rt; secrets(alloc, 16)? == 16);
+    assert!(rt; filled(alloc, 7u64, 65_536)? == 65_536);
     Ok(())
 }

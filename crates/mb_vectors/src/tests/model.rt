@@ -3,29 +3,35 @@
 use mb_model::{Bytes, Event, Items};
 use std::test::Fail;
 
+/// Whether the event is the command of the test.
+fn is_pin(event: &Event) -> bool {
+    match event {
+        Event::Command { text, draw } => text.as_slice() == b"pin".as_slice() && draw[0] == 7,
+        _ => false,
+    }
+}
+
 #[test]
 fn copies_are_the_same(rt: HostRuntime) -> Result<(), Fail> {
-    let bytes = Bytes::copy(rt.alloc(), b"pin")?;
-    assert_eq!(rt; bytes.as_slice(), b"pin".as_slice());
+    let text = Bytes::copy(rt.alloc(), b"pin")?;
+    assert!(rt; text.as_slice() == b"pin".as_slice());
     let event = Event::Command {
-        text: bytes,
+        text,
         draw: [7; 32],
     };
     let copied = event.copy(rt.alloc())?;
-    let is_same = match &copied {
-        Event::Command { text, draw } => text.as_slice() == b"pin".as_slice() && draw[0] == 7,
-        _ => false,
-    };
-    assert!(rt; is_same);
+    assert!(rt; is_pin(&copied));
     Ok(())
 }
+
+const ITEMS: &[u64] = &[10, 20, 30];
 
 #[test]
 fn lists_are_edited(rt: HostRuntime) -> Result<(), Fail> {
     let mut items = Items::new(rt.alloc());
-    for item in [10u64, 20, 30] {
-        items.push(item)?;
+    for item in ITEMS {
+        items.push(*item)?;
     }
-    assert_eq!(rt; items.as_slice(), [10, 20, 30].as_slice());
+    assert!(rt; items.as_slice() == ITEMS);
     Ok(())
 }

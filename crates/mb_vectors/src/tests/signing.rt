@@ -100,10 +100,7 @@ fn expect_public(
     key: &str,
 ) -> Result<(), Fail> {
     let seed = seed_of(identifier, seed)?;
-    assert_eq!(rt;
-        key_bytes(&key_of(alloc, &seed)),
-        <[u8; 56] as FromHex>::from_hex(key)?
-    );
+    assert!(rt; key_bytes(&key_of(alloc, &seed)) == <[u8; 56] as FromHex>::from_hex(key)?);
     Ok(())
 }
 
@@ -111,19 +108,19 @@ fn expect_public(
 fn expect_signature(
     rt: &impl Abort,
     alloc: Global,
+    seed: &KeySeed,
+    key: &PublicKey,
     index: u32,
     text: &str,
     expected: &str,
-) -> Result<(), Fail>
-    requires { index < 32 }
-{
-    let seed = seed_of(IDENTIFIER, SEED)?;
+) -> Result<(), Fail> {
+    assert!(rt; index < 32);
     let expected = <[u8; 32] as FromHex>::from_hex(expected)?;
     let text = hex::decode(alloc, text)?;
     let (head, body) = text.split_at(text.len() / 2);
-    let signature = signature_of(alloc, index, &seed, head, body);
-    assert_eq!(rt; hash_of(alloc, &signature), expected);
-    assert!(rt; verify(&key_of(alloc, &seed), head, body, &signature));
+    let signature = signature_of(alloc, index, seed, head, body);
+    assert!(rt; hash_of(alloc, &signature) == expected);
+    assert!(rt; verify(key, head, body, &signature));
     Ok(())
 }
 
@@ -156,158 +153,152 @@ fn expect_kept<L: Ledger>(rt: &impl Abort, alloc: Global, blank: Blank) -> Resul
             &mut anew,
             &mut steps,
         );
-        assert_eq!(rt; kept, anew);
+        assert!(rt; kept == anew);
     }
     Ok(())
 }
 
-#[test]
-fn public_keys(rt: HostRuntime) -> Result<(), Fail> {
-    expect_public(
-        &rt,
-        rt.alloc(),
+/// Identifiers and seeds, and the public key of each.
+const KEYS: &[(&str, &str, &str)] = &[
+    (
         "415f9f8fc3e618dd8524180f3db6a7c9",
         "eb495b20b522240648df79d22ec304c592f6d73c19b49bf70f19f34f72888b1a",
         "0000000500000003415f9f8fc3e618dd8524180f3db6a7c9a7881c4ccb3521694cbdd14fd42b0822cdfb7c6f9fc531cab957f755e6a2d2bc",
-    )?;
-    expect_public(
-        &rt,
-        rt.alloc(),
+    ),
+    (
         "f5d541e6c1f5736fac8d67703916a7e4",
         "b7b94ea512bd312bfcd9eedbebef91090a23420ddbc50323fc7193e510217f8c",
         "0000000500000003f5d541e6c1f5736fac8d67703916a7e43b6ec035344e351fe5527a7c1f6b590c34bc0a1eca4c29075b6155648ccc2b87",
-    )?;
-    expect_public(
-        &rt,
-        rt.alloc(),
+    ),
+    (
         "45e47fb59aa5a55f0f83d81c6d9de2ea",
         "ffbfddc10c0c223395dda0609b99feeda3baded74bf09ba9881a083b49fe63e4",
         "000000050000000345e47fb59aa5a55f0f83d81c6d9de2ea40811d1aa53e467789ef706d859ed038b16e8bee901fca5c6f44384e54216c13",
-    )?;
+    ),
+];
+
+#[test]
+fn public_keys(rt: HostRuntime) -> Result<(), Fail> {
+    for (identifier, seed, key) in KEYS {
+        expect_public(&rt, rt.alloc(), identifier, seed, key)?;
+    }
     Ok(())
 }
 
-#[test]
-fn signatures_of_no_text(rt: HostRuntime) -> Result<(), Fail> {
-    let alloc = rt.alloc();
-    expect_signature(
-        &rt,
-        alloc,
+/// Each row has an index, a text and the hash of its signature.
+fn expect_signatures(
+    rt: &impl Abort,
+    alloc: Global,
+    rows: &[(u32, &str, &str)],
+) -> Result<(), Fail> {
+    let seed = seed_of(IDENTIFIER, SEED)?;
+    let key = key_of(alloc, &seed);
+    for (index, text, expected) in rows {
+        expect_signature(rt, alloc, &seed, &key, *index, text, expected)?;
+    }
+    Ok(())
+}
+
+/// The signatures of no text.
+const OF_NO_TEXT: &[(u32, &str, &str)] = &[
+    (
         0,
         "",
         "13e0938ccd22b084d874c3744c6395ead6eb2660041b949906bae4f640908654",
-    )?;
-    expect_signature(
-        &rt,
-        alloc,
+    ),
+    (
         1,
         "",
         "6de6f475b9a6952dc27e2cf89c628a6bf398e5b80d82bc12effb1227d2e3b3c3",
-    )?;
-    expect_signature(
-        &rt,
-        alloc,
+    ),
+    (
         15,
         "",
         "54bfb5ea4a0714788b3dc256a9fdaae038c2299cbe35ed8d9e1ec1644281137d",
-    )?;
-    expect_signature(
-        &rt,
-        alloc,
+    ),
+    (
         16,
         "",
         "d2c7616c14e830d0d6f93ff39e5fe76de29e71185e842d72b476e79e55b5b42b",
-    )?;
-    expect_signature(
-        &rt,
-        alloc,
+    ),
+    (
         31,
         "",
         "f2180b692061d6f2c400566e14dc5c02026c109510b006562c19e461c7cff0d9",
-    )?;
-    Ok(())
-}
+    ),
+];
 
 #[test]
-fn signatures_of_one_byte(rt: HostRuntime) -> Result<(), Fail> {
-    let alloc = rt.alloc();
-    expect_signature(
-        &rt,
-        alloc,
+fn signatures_of_no_text(rt: HostRuntime) -> Result<(), Fail> {
+    expect_signatures(&rt, rt.alloc(), OF_NO_TEXT)
+}
+
+/// The signatures of one byte.
+const OF_ONE_BYTE: &[(u32, &str, &str)] = &[
+    (
         0,
         "61",
         "3d8a0c2e747cb4afdb3c89983029d091650e033b6a330fadee831d736c09fb57",
-    )?;
-    expect_signature(
-        &rt,
-        alloc,
+    ),
+    (
         1,
         "61",
         "97d82028171595d9f3d1a0b32b6d3c77ee5b70d4967024c3d2f1bf3155259836",
-    )?;
-    expect_signature(
-        &rt,
-        alloc,
+    ),
+    (
         15,
         "61",
         "563e65d791b83bbb3cada7986b949879c857438049289a76c2bcef4836a85608",
-    )?;
-    expect_signature(
-        &rt,
-        alloc,
+    ),
+    (
         16,
         "61",
         "bd22dbf2874a5dc7995513d7523f1a5fcca22e97ed736745ad7873f8789a902b",
-    )?;
-    expect_signature(
-        &rt,
-        alloc,
+    ),
+    (
         31,
         "61",
         "8440bed289ddb508e642e80d560e6d3b7bc583ac597ed1301aafbf0e846798a7",
-    )?;
-    Ok(())
-}
+    ),
+];
 
 #[test]
-fn signatures_of_longer_texts(rt: HostRuntime) -> Result<(), Fail> {
-    let alloc = rt.alloc();
-    expect_signature(
-        &rt,
-        alloc,
+fn signatures_of_one_byte(rt: HostRuntime) -> Result<(), Fail> {
+    expect_signatures(&rt, rt.alloc(), OF_ONE_BYTE)
+}
+
+/// The signatures of texts of 64 bytes.
+const OF_LONGER_TEXTS: &[(u32, &str, &str)] = &[
+    (
         0,
         "7dbb80edfa073bf605b4a8f69cb16df1042d89807a850da0e63a8d88174f0ab0baab012084e81df99e5188e7b1e49f1d4c91e9a442f2978f81ee1e9e07c2ca6e",
         "eefe0fe6796882f760995656222b798c4832c794e9c6680635982375bfbfd76b",
-    )?;
-    expect_signature(
-        &rt,
-        alloc,
+    ),
+    (
         1,
         "0f571f2c96c3f0d227ceae2f2588f94c281b91bc408f625e19debafa91c64fa0b58b55bc4440592c9adf3441954f6f7580998458451cb12cac116b6731538bdf",
         "08a11bd1e7eaf4cf8b52f50a48c2962904985f165085f1d1def9a45601439d30",
-    )?;
-    expect_signature(
-        &rt,
-        alloc,
+    ),
+    (
         15,
         "6abc2b7c46d191e2ca84ce609073c26c213ee7075ba7d5614ecef0192a08d29db2ccda2b2f0bc33df5e9f47676716ffce5556ccf02e4d6b5c526d6d0fa9b28a3",
         "452c8c123a8f2708ae85d58a5685662b8de95a93a9b9fdcee83a898f8c2f39e9",
-    )?;
-    expect_signature(
-        &rt,
-        alloc,
+    ),
+    (
         16,
         "aca6bba5594c41a7718923834bd3cb6191d8bf9f0814c244a242f43e47bd7cfc18e261764fa0e5833e0a1e4956e0bbf771b179ca80576a9287d680230884b512",
         "7b9eee7091aab9d2e8ed20ab59a41871d795b74323f729d7540d0cb2de3d75d9",
-    )?;
-    expect_signature(
-        &rt,
-        alloc,
+    ),
+    (
         31,
         "bb7b510ae921fd172f784c40ce09093065fb77cb8cfecd1e4e1c69534a4924a747e36a61e5e115d5c77bfd25257ab866bc9fb4351bf026617312cffb6e204aa3",
         "680d6918dbc5ae8d852f9598490488d872b45cf85a6744007ca6b9e012154bf2",
-    )?;
-    Ok(())
+    ),
+];
+
+#[test]
+fn signatures_of_longer_texts(rt: HostRuntime) -> Result<(), Fail> {
+    expect_signatures(&rt, rt.alloc(), OF_LONGER_TEXTS)
 }
 
 #[test]

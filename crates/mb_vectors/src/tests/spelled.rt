@@ -1,23 +1,19 @@
 //! Bytes that are spelled in hexadecimal.
 
 ghost use Rattle.std.specs.Prelude.{◌≤◌, vec_len, IfOk};
+ghost use Rattle.mb_model.specs.EntryFormat.{entry_format};
 
+use mb_bytes::Cursor;
+use mb_layout::read_entry;
+use mb_model::Entry;
 use std::alloc::Global;
 use std::test::Fail;
 
 /// Appends what the text spells, so many times.
-pub fn append(out: &mut Vec<u8>, alloc: Global, text: &str, times: usize) -> Result<(), Fail> {
+fn append(out: &mut Vec<u8>, alloc: Global, text: &str, times: usize) -> Result<(), Fail> {
     let piece = hex::decode(alloc, text)?;
     for _i in 0..times {
         out.extend_from_slice(piece.as_slice())?;
-    }
-    Ok(())
-}
-
-/// Appends each piece in turn.
-pub fn append_all(out: &mut Vec<u8>, alloc: Global, pieces: &[(&str, usize)]) -> Result<(), Fail> {
-    for (text, times) in pieces {
-        append(out, alloc, text, *times)?;
     }
     Ok(())
 }
@@ -33,10 +29,20 @@ pub fn bytes_of(alloc: Global, text: &str) -> Result<Vec<u8>, Fail>
 
 /// What the pieces spell, each so many times.
 pub fn joined(alloc: Global, pieces: &[(&str, usize)]) -> Result<Vec<u8>, Fail>
-    ensures { IfOk result (λ bytes. vec_len bytes ≤ 20000) }
+    ensures { IfOk result (λ bytes. vec_len bytes ≤ 100000) }
 {
     let mut bytes = Vec::new(alloc);
-    append_all(&mut bytes, alloc, pieces)?;
-    bytes.truncate(20_000);
+    for (text, times) in pieces {
+        append(&mut bytes, alloc, text, *times)?;
+    }
+    bytes.truncate(100_000);
     Ok(bytes)
+}
+
+/// The entry that the text spells.
+pub fn entry_of(alloc: Global, text: &str) -> Result<Entry, Fail>
+    ensures { IfOk result (λ entry. entry_format.Allowed entry) }
+{
+    let bytes = bytes_of(alloc, text)?;
+    Ok(read_entry(&mut Cursor::new(bytes.as_slice()))?)
 }

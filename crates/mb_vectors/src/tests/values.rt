@@ -6,194 +6,233 @@ use mb_model::{
     Pending, PublicKey, RegionKey, Root, Tree, Trust,
 };
 
-pub fn key(byte: u8) -> PublicKey {
-    PublicKey {
-        tree: Tree::H5,
-        chains: Chains::W4,
-        identifier: [byte; 16],
-        root: [byte.wrapping_add(1); 32],
-    }
-}
+/// Key 11.
+const KEY_11: PublicKey = PublicKey {
+    tree: Tree::H5,
+    chains: Chains::W4,
+    identifier: [0x11; 16],
+    root: [0x12; 32],
+};
 
-pub fn seed(byte: u8) -> KeySeed {
-    KeySeed {
-        identifier: [byte; 16],
-        seed: [byte.wrapping_add(1); 32],
-    }
-}
+/// Key 21.
+const KEY_21: PublicKey = PublicKey {
+    tree: Tree::H5,
+    chains: Chains::W4,
+    identifier: [0x21; 16],
+    root: [0x22; 32],
+};
 
-fn name(byte: u8, version: u32) -> CodeName {
-    CodeName {
-        hash: [byte; 32],
-        version,
-    }
-}
+/// Key 31.
+const KEY_31: PublicKey = PublicKey {
+    tree: Tree::H5,
+    chains: Chains::W4,
+    identifier: [0x31; 16],
+    root: [0x32; 32],
+};
 
-pub fn reliable() -> Layer {
-    Layer {
-        owner: Some(key(0x11)),
-        code: Some(name(0x13, 258)),
-        reliable: true,
-        trust: Trust::Always,
-    }
-}
+/// Key 43.
+pub const KEY_43: PublicKey = PublicKey {
+    tree: Tree::H5,
+    chains: Chains::W4,
+    identifier: [0x43; 16],
+    root: [0x44; 32],
+};
 
-pub fn loaded() -> Layer {
-    Layer {
-        owner: Some(key(0x21)),
-        code: Some(name(0x23, 7)),
-        reliable: false,
-        trust: Trust::Countersigned,
-    }
-}
+/// Key 45.
+const KEY_45: PublicKey = PublicKey {
+    tree: Tree::H5,
+    chains: Chains::W4,
+    identifier: [0x45; 16],
+    root: [0x46; 32],
+};
 
-pub fn owned() -> Layer {
-    Layer {
-        owner: Some(key(0x31)),
-        code: None,
-        reliable: false,
-        trust: Trust::Always,
-    }
-}
+/// Key 47.
+const KEY_47: PublicKey = PublicKey {
+    tree: Tree::H5,
+    chains: Chains::W4,
+    identifier: [0x47; 16],
+    root: [0x48; 32],
+};
 
-pub fn unowned() -> Layer {
-    Layer {
-        owner: None,
-        code: None,
-        reliable: false,
-        trust: Trust::Never,
-    }
-}
+/// Key 49.
+const KEY_49: PublicKey = PublicKey {
+    tree: Tree::H5,
+    chains: Chains::W4,
+    identifier: [0x49; 16],
+    root: [0x4A; 32],
+};
 
-fn three() -> Layers {
-    Layers {
-        one: reliable(),
-        two: loaded(),
-        three: owned(),
-    }
-}
+/// Seed 51.
+const SEED_51: KeySeed = KeySeed {
+    identifier: [0x51; 16],
+    seed: [0x52; 32],
+};
 
-pub fn birth() -> Entry {
-    Entry::Birth {
-        serial: [0x41; 16],
-        key: key(0x43),
-        layers: Layers {
-            one: reliable(),
-            two: unowned(),
-            three: unowned(),
-        },
-    }
-}
+/// Seed 53.
+const SEED_53: KeySeed = KeySeed {
+    identifier: [0x53; 16],
+    seed: [0x54; 32],
+};
 
-pub fn change() -> Entry {
-    Entry::Change {
-        position: 5,
-        number: 4,
-        kind: ChangeKind::Load,
-        layer: 1,
-        cosigned: Pair {
-            two: false,
-            three: true,
-        },
-        layers: three(),
-        kept: Pair {
-            two: true,
-            three: false,
-        },
-        next: Some(key(0x45)),
-    }
-}
+/// Seed 55.
+const SEED_55: KeySeed = KeySeed {
+    identifier: [0x55; 16],
+    seed: [0x56; 32],
+};
 
-pub fn emergency() -> Entry {
-    Entry::Change {
-        position: 6,
-        number: 5,
-        kind: ChangeKind::Emergency,
-        layer: 2,
-        cosigned: Pair {
-            two: false,
-            three: true,
-        },
-        layers: three(),
-        kept: Pair {
-            two: true,
-            three: true,
-        },
-        next: None,
-    }
-}
+/// Seed 57.
+const SEED_57: KeySeed = KeySeed {
+    identifier: [0x57; 16],
+    seed: [0x58; 32],
+};
 
-pub fn new_key() -> Entry {
-    Entry::NewKey {
-        position: 7,
-        number: 5,
-        key_number: 9,
-        layer: 3,
-        kind: KeyKind::Configuration,
-        key: key(0x47),
-    }
-}
+pub const RELIABLE: Layer = Layer {
+    owner: Some(KEY_11),
+    code: Some(CodeName {
+        hash: [0x13; 32],
+        version: 258,
+    }),
+    reliable: true,
+    trust: Trust::Always,
+};
 
-pub fn succession() -> Entry {
-    Entry::Succession {
-        position: 8,
-        key: key(0x49),
-    }
-}
+pub const LOADED: Layer = Layer {
+    owner: Some(KEY_21),
+    code: Some(CodeName {
+        hash: [0x23; 32],
+        version: 7,
+    }),
+    reliable: false,
+    trust: Trust::Countersigned,
+};
 
-/// Key 9, configuration, with so many uses.
-pub fn key_nine(uses: u32) -> RegionKey {
-    RegionKey {
-        number: 9,
-        kind: KeyKind::Configuration,
-        seed: seed(0x51),
-        uses,
-    }
-}
+pub const OWNED: Layer = Layer {
+    owner: Some(KEY_31),
+    code: None,
+    reliable: false,
+    trust: Trust::Always,
+};
+
+pub const UNOWNED: Layer = Layer {
+    owner: None,
+    code: None,
+    reliable: false,
+    trust: Trust::Never,
+};
+
+const THREE: Layers = Layers {
+    one: RELIABLE,
+    two: LOADED,
+    three: OWNED,
+};
+
+pub const BIRTH: Entry = Entry::Birth {
+    serial: [0x41; 16],
+    key: KEY_43,
+    layers: Layers {
+        one: RELIABLE,
+        two: UNOWNED,
+        three: UNOWNED,
+    },
+};
+
+pub const CHANGE: Entry = Entry::Change {
+    position: 5,
+    number: 4,
+    kind: ChangeKind::Load,
+    layer: 1,
+    cosigned: Pair {
+        two: false,
+        three: true,
+    },
+    layers: THREE,
+    kept: Pair {
+        two: true,
+        three: false,
+    },
+    next: Some(KEY_45),
+};
+
+pub const EMERGENCY: Entry = Entry::Change {
+    position: 6,
+    number: 5,
+    kind: ChangeKind::Emergency,
+    layer: 2,
+    cosigned: Pair {
+        two: false,
+        three: true,
+    },
+    layers: THREE,
+    kept: Pair {
+        two: true,
+        three: true,
+    },
+    next: None,
+};
+
+pub const NEW_KEY: Entry = Entry::NewKey {
+    position: 7,
+    number: 5,
+    key_number: 9,
+    layer: 3,
+    kind: KeyKind::Configuration,
+    key: KEY_47,
+};
+
+pub const SUCCESSION: Entry = Entry::Succession {
+    position: 8,
+    key: KEY_49,
+};
+
+/// Key 9, configuration, with 3 uses.
+pub const KEY_NINE: RegionKey = RegionKey {
+    number: 9,
+    kind: KeyKind::Configuration,
+    seed: SEED_51,
+    uses: 3,
+};
 
 /// Key 2, epoch, whose indices are all used.
-pub fn key_two() -> RegionKey {
-    RegionKey {
-        number: 2,
-        kind: KeyKind::Epoch,
-        seed: seed(0x57),
-        uses: 32,
-    }
-}
+pub const KEY_TWO: RegionKey = RegionKey {
+    number: 2,
+    kind: KeyKind::Epoch,
+    seed: SEED_57,
+    uses: 32,
+};
 
-fn root(area: u8, uses: u32, pending: Option<Pending>) -> Root {
-    Root {
-        area,
-        serial: [0x41; 16],
-        device: seed(0x55),
-        uses,
-        pending,
-    }
-}
+pub const SETTLED: Root = Root {
+    area: 1,
+    serial: [0x41; 16],
+    device: SEED_55,
+    uses: 17,
+    pending: None,
+};
 
-pub fn settled() -> Root {
-    root(1, 17, None)
-}
-
-pub fn pending() -> Root {
-    let work = Pending {
+pub const PENDING: Root = Root {
+    area: 0,
+    serial: [0x41; 16],
+    device: SEED_55,
+    uses: 1,
+    pending: Some(Pending {
         unsigned: 2,
         outgoing: Some(Outgoing {
-            seed: seed(0x53),
+            seed: SEED_53,
             uses: 31,
         }),
         two: Fate::DropConfiguration,
-        three: Fate::AddKey(key_nine(3)),
-    };
-    root(0, 1, Some(work))
-}
+        three: Fate::AddKey(KEY_NINE),
+    }),
+};
 
-pub fn emptying() -> Root {
-    let work = Pending {
+pub const EMPTYING: Root = Root {
+    area: 0,
+    serial: [0x41; 16],
+    device: SEED_55,
+    uses: 6,
+    pending: Some(Pending {
         unsigned: 1,
         outgoing: None,
         two: Fate::Keep,
         three: Fate::Empty,
-    };
-    root(0, 6, Some(work))
-}
+    }),
+};

@@ -1,0 +1,161 @@
+//! Bytes that spell nothing, and the place at which each fails.
+
+ghost use Rattle.std.specs.Prelude.{◌≤◌, length};
+
+use super::spelled::joined;
+use super::statements::FIRST;
+use super::vectors;
+use mb_bytes::Cursor;
+use mb_cert::{ChainEnd, read_chain, read_statement};
+use mb_command::{OrderEnd, read_order};
+use mb_layout::{BadRecord, LayoutEnd, read_entry, region_of_bytes, root_of_bytes};
+use std::alloc::Global;
+use std::process::Abort;
+use std::test::Fail;
+
+/// What bytes are read as.
+#[derive(Clone, Copy)]
+enum Form {
+    Entry,
+    Root,
+    Region,
+    Order,
+    Chain,
+    Statement,
+}
+
+/// The place at which the bytes fail, where they are not of the form.
+fn failing_place(alloc: Global, form: Form, bytes: &[u8]) -> Option<u32>
+    requires { length bytes.now ≤ 100000 }
+{
+    match form {
+        Form::Entry => match read_entry(&mut Cursor::new(bytes)) {
+            Err(BadRecord { at }) => Some(at),
+            Ok(_) => None,
+        },
+        Form::Root => match root_of_bytes(bytes) {
+            Err(BadRecord { at }) => Some(at),
+            Ok(_) => None,
+        },
+        Form::Region => match region_of_bytes(alloc, bytes) {
+            Err(LayoutEnd::Bad(BadRecord { at })) => Some(at),
+            _ => None,
+        },
+        Form::Order => match read_order(alloc, bytes) {
+            Err(OrderEnd::BadText { at }) => Some(at),
+            _ => None,
+        },
+        Form::Chain => match read_chain(alloc, bytes) {
+            Err(ChainEnd::BadChain { at }) => Some(at),
+            _ => None,
+        },
+        Form::Statement => match read_statement(alloc, bytes) {
+            Err(ChainEnd::BadChain { at }) => Some(at),
+            _ => None,
+        },
+    }
+}
+
+/// The bytes of the pieces fail at the place.
+fn fails(
+    rt: &impl Abort,
+    alloc: Global,
+    form: Form,
+    pieces: &[(&str, usize)],
+    at: u32,
+) -> Result<(), Fail> {
+    let bytes = joined(alloc, pieces)?;
+    assert_eq!(rt; failing_place(alloc, form, &bytes), Some(at));
+    Ok(())
+}
+
+/// The word of a chain, and the number of one entry.
+const ONE: (&str, usize) = ("4d4243310001", 1);
+
+/// A birth, and its signature.
+const BIRTH: (&str, usize) = (vectors::BIRTH, 1);
+
+const SIGNATURE: (&str, usize) = ("61", 2_348);
+
+/// Pieces of bytes that are not of the form, and the place at which they fail.
+const WRONG: &[(Form, &[(&str, usize)], u32)] = &[
+    (Form::Entry, &[(vectors::LAYER_TRUST_MISSING, 1)], 170),
+    (Form::Entry, &[(vectors::NO_SUCH_ENTRY, 1)], 0),
+    (Form::Entry, &[(vectors::NO_SUCH_CHANGE, 1)], 9),
+    (Form::Entry, &[(vectors::CODE_WITHOUT_OWNER, 1)], 13),
+    (Form::Root, &[(vectors::NO_SUCH_AREA, 1)], 1),
+    (Form::Root, &[(vectors::USES_BEYOND_32, 1)], 66),
+    (Form::Root, &[(vectors::THREE_UNSIGNED, 1)], 68),
+    (Form::Root, &[(vectors::KEY_CUT_SHORT, 1)], 174),
+    (Form::Region, &[(vectors::NEITHER_SECRET_NOR_KEY, 1)], 2),
+    (Form::Region, &[(vectors::NAME_WITH_A_SPACE, 1)], 3),
+    (Form::Region, &[(vectors::NO_SUCH_VERSION, 1)], 0),
+    (Form::Region, &[(vectors::BYTE_LEFT_OVER, 1)], 131),
+    // a surrender has no countersignatures
+    (Form::Order, &[("0202010200000007000001", 1)], 10),
+    // no field is left, and a byte is
+    (Form::Order, &[("0202010200000007000000ff", 1)], 11),
+    // a field lacks bytes
+    (Form::Order, &[("", 1)], 0),
+    (Form::Order, &[("02020102000000", 1)], 4),
+    (Form::Order, &[("02020102000000070002aa", 1)], 10),
+    // no such kind, layer, number of targets, tag, kind of key
+    (Form::Order, &[("0602", 1)], 0),
+    (Form::Order, &[("0201", 1)], 1),
+    (Form::Order, &[("020209", 1)], 2),
+    (Form::Order, &[("02020105", 1)], 3),
+    (Form::Order, &[("05030002", 1)], 3),
+    // two countersignatures for layer 1 are of 2 and of 3
+    (
+        Form::Order,
+        &[("030100000000000000000000000002030000", 1)],
+        15,
+    ),
+    (
+        Form::Order,
+        &[("030100000000000000000000000002020000020000", 1)],
+        18,
+    ),
+    // three are too many
+    (Form::Order, &[("030100000000000000000000000003", 1)], 14),
+    // the order's own layer
+    (
+        Form::Order,
+        &[("030200000000000000000000000001020000", 1)],
+        15,
+    ),
+    // none stands above layer 3
+    (Form::Order, &[("030300000000000000000000000001", 1)], 14),
+    (Form::Chain, &[("4d4243", 1)], 0),
+    (Form::Chain, &[("4d42434b0001", 1)], 0),
+    (Form::Chain, &[("4d42433100", 1)], 4),
+    (Form::Chain, &[("4d4243310000", 1)], 4),
+    (Form::Chain, &[("4d4243310081", 1)], 4),
+    (Form::Chain, &[ONE, ("04", 1)], 6),
+    (Form::Chain, &[ONE, BIRTH, ("61", 2_347)], 177),
+    (Form::Chain, &[ONE, BIRTH, SIGNATURE], 2_525),
+    (Form::Chain, &[ONE, BIRTH, SIGNATURE, ("02", 1)], 2_525),
+    (
+        Form::Chain,
+        &[ONE, BIRTH, SIGNATURE, ("01", 1), FIRST],
+        2_536,
+    ),
+    (Form::Chain, &[ONE, BIRTH, SIGNATURE, ("0000", 1)], 2_526),
+    (
+        Form::Chain,
+        &[("4d4243310002", 1), BIRTH, SIGNATURE, ("04", 1)],
+        2_525,
+    ),
+    (Form::Statement, &[("000000", 1)], 0),
+    (Form::Statement, &[("0000000581", 1)], 4),
+    (Form::Statement, &[FIRST], 10),
+    (Form::Statement, &[FIRST, ("63", 2_349)], 2_358),
+];
+
+#[test]
+fn failing_places_are_named(rt: HostRuntime) -> Result<(), Fail> {
+    for (form, pieces, at) in WRONG {
+        fails(&rt, rt.alloc(), *form, pieces, *at)?;
+    }
+    Ok(())
+}
