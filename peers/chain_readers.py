@@ -269,13 +269,15 @@ def compare_turned(source, world):
 def chains_tests(source):
     """The tables in the order of the tests, each test over a world of its own."""
     steps, start = tables(source, {}), born(source)
+    lists = dict(re.findall(r"const (\w+): &\[&\[Step\]\] = &\[([\w\s,]*)\]", source.text))
     for test in source.text.split("#[test]")[1:]:
         world = copy.deepcopy(start)
-        for name, turned in re.findall(r"go_on\(&rt, &mut host, ([A-Z_]+)\)|(entries_are_turned)\(", test):
-            if turned:
+        for word in re.findall(r"[A-Z_]{3,}|entries_are_turned", test):
+            if word == "entries_are_turned":
                 compare_turned(source, world)
-            for step in steps.get(name, ()):
-                follow(source, world, step)
+            for name in re.findall(r"\w+", lists.get(word, word)):
+                for step in steps.get(name, ()):
+                    follow(source, world, step)
 
 
 def sample_signatures(source):

@@ -25,16 +25,16 @@ def lms_signatures(source):
 
 
 def lms_keys(source):
-    for key, owner in source.rows(rf"\(\s*{HEX},\s*{HEX},?\s*\)"):
+    for key, owner in source.rows(rf"expect_key\(\s*&rt,\s*{HEX},\s*{HEX}"):
         source.compare("hash of a public key", sha256(*unhex(key)).hex(), owner)
 
 
 def signer(source):
-    for identifier, seed, key in source.rows(rf"expect_public\([^()]*\(\),\s*{HEX},\s*{HEX},\s*{HEX}"):
+    for identifier, seed, key in source.rows(rf"\(\s*{HEX},\s*{HEX},\s*{HEX},?\s*\)"):
         source.compare("public key", PrivateKey(*unhex(identifier, seed)).public().hex(), key)
     ((identifier, seed),) = source.rows(rf"IDENTIFIER: &str = {HEX};.*?SEED: &str = {HEX};")
     key = PrivateKey(*unhex(identifier, seed))
-    for index, text, wanted in source.rows(rf"expect_signature\(\s*&rt,\s*alloc,\s*(\d+),\s*{HEX},\s*{HEX}"):
+    for index, text, wanted in source.rows(rf"\(\s*(\d+),\s*{HEX},\s*{HEX},?\s*\)"):
         found = sha256(key.sign(int(index), *unhex(text))).hex()
         source.compare(f"signature {index} of {len(text) // 2} bytes", found, wanted)
 

@@ -43,20 +43,33 @@ fn layer(owner: &str) -> Result<Layer, Fail> {
     })
 }
 
-/// Three such layers. By this number layer 1 or 2 is not reliable, layer 3 has no owner, or layer 3 trusts where its
-/// owner countersigned.
-fn layers_but(number: u8) -> Result<Layers, Fail> {
+/// In what three such layers differ.
+#[derive(Clone, Copy)]
+enum But {
+    /// In nothing.
+    Nothing,
+    /// Layer 1 is not reliable.
+    OneUnreliable,
+    /// Layer 2 is not reliable.
+    TwoUnreliable,
+    /// Layer 3 has no owner.
+    ThreeUnowned,
+    /// Layer 3 trusts where its owner countersigned.
+    ThreeCountersigned,
+}
+
+fn layers_but(but: But) -> Result<Layers, Fail> {
     let mut layers = Layers {
         one: layer(ONE)?,
         two: layer(TWO)?,
         three: layer(THREE)?,
     };
-    match number {
-        1 => layers.one.reliable = false,
-        2 => layers.two.reliable = false,
-        3 => layers.three.owner = None,
-        4 => layers.three.trust = Trust::Countersigned,
-        _ => (),
+    match but {
+        But::Nothing => (),
+        But::OneUnreliable => layers.one.reliable = false,
+        But::TwoUnreliable => layers.two.reliable = false,
+        But::ThreeUnowned => layers.three.owner = None,
+        But::ThreeCountersigned => layers.three.trust = Trust::Countersigned,
     }
     Ok(layers)
 }
@@ -114,7 +127,7 @@ fn judge_counted<L: Ledger>(
 struct Seen {
     entries: usize,
     uses: u32,
-    /// Code goes out.
+    /// The device key gives way to the next one.
     outgoing: bool,
     /// Region 2 loses its configuration keys.
     two_loses: bool,
@@ -151,12 +164,12 @@ fn judged(alloc: Global, view: &View, parts: [&str; 3]) -> Result<Result<Seen, J
     }
 }
 
-/// An order: what it shows, in what the layers differ, the entries, the indices used, which are less than 32, its parts,
-/// and what it comes to.
-const ORDERS: &[(&str, u8, u32, u8, [&str; 3], Result<Seen, JudgeEnd>)] = &[
+/// Orders: what each shows, in what the layers differ, how many entries there are and indices used, which are less than
+/// 32, the parts of the order, and what it comes to.
+const ORDERS: &[(&str, But, u32, u8, [&str; 3], Result<Seen, JudgeEnd>)] = &[
     (
         "a target comes first",
-        0,
+        But::Nothing,
         1,
         1,
         [ESTABLISH_AT_SEVEN, UNSIGNED, ALONE],
@@ -164,7 +177,7 @@ const ORDERS: &[(&str, u8, u32, u8, [&str; 3], Result<Seen, JudgeEnd>)] = &[
     ),
     (
         "a target before all",
-        1,
+        But::OneUnreliable,
         128,
         31,
         [LOAD_AT_SEVEN, UNSIGNED, WRONG],
@@ -172,7 +185,7 @@ const ORDERS: &[(&str, u8, u32, u8, [&str; 3], Result<Seen, JudgeEnd>)] = &[
     ),
     (
         "the layers come next",
-        2,
+        But::TwoUnreliable,
         128,
         31,
         [LOAD_TWO, UNSIGNED, ALONE],
@@ -180,7 +193,7 @@ const ORDERS: &[(&str, u8, u32, u8, [&str; 3], Result<Seen, JudgeEnd>)] = &[
     ),
     (
         "then the signature",
-        0,
+        But::Nothing,
         128,
         31,
         [LOAD_ONE, UNSIGNED, WRONG],
@@ -188,7 +201,7 @@ const ORDERS: &[(&str, u8, u32, u8, [&str; 3], Result<Seen, JudgeEnd>)] = &[
     ),
     (
         "then countersignatures",
-        0,
+        But::Nothing,
         128,
         31,
         [LOAD_ONE, LOAD_ONE_BY_ONE, WRONG],
@@ -196,7 +209,7 @@ const ORDERS: &[(&str, u8, u32, u8, [&str; 3], Result<Seen, JudgeEnd>)] = &[
     ),
     (
         "nobody countersigns for a layer without an owner",
-        3,
+        But::ThreeUnowned,
         2,
         1,
         [LOAD_ONE, LOAD_ONE_BY_ONE, LOAD_ONE_BY_THREE],
@@ -204,7 +217,7 @@ const ORDERS: &[(&str, u8, u32, u8, [&str; 3], Result<Seen, JudgeEnd>)] = &[
     ),
     (
         "then the log, without room for two",
-        0,
+        But::Nothing,
         127,
         31,
         [LOAD_TWO, LOAD_TWO_BY_TWO, ALONE],
@@ -212,7 +225,7 @@ const ORDERS: &[(&str, u8, u32, u8, [&str; 3], Result<Seen, JudgeEnd>)] = &[
     ),
     (
         "then the log, without room for one",
-        0,
+        But::Nothing,
         128,
         1,
         [NEW_KEY, NEW_KEY_BY_THREE, ALONE],
@@ -220,7 +233,7 @@ const ORDERS: &[(&str, u8, u32, u8, [&str; 3], Result<Seen, JudgeEnd>)] = &[
     ),
     (
         "the keys come last",
-        0,
+        But::Nothing,
         100,
         1,
         [NEW_KEY, NEW_KEY_BY_THREE, ALONE],
@@ -228,7 +241,7 @@ const ORDERS: &[(&str, u8, u32, u8, [&str; 3], Result<Seen, JudgeEnd>)] = &[
     ),
     (
         "a load of layer 1 needs no succession",
-        0,
+        But::Nothing,
         127,
         31,
         [LOAD_ONE, LOAD_ONE_BY_ONE, ALONE],
@@ -244,7 +257,7 @@ const ORDERS: &[(&str, u8, u32, u8, [&str; 3], Result<Seen, JudgeEnd>)] = &[
     ),
     (
         "a load of layer 2 needs a succession",
-        0,
+        But::Nothing,
         100,
         31,
         [LOAD_TWO, LOAD_TWO_BY_TWO, ALONE],
@@ -260,7 +273,7 @@ const ORDERS: &[(&str, u8, u32, u8, [&str; 3], Result<Seen, JudgeEnd>)] = &[
     ),
     (
         "a region is lost where its owner did not countersign",
-        4,
+        But::ThreeCountersigned,
         2,
         1,
         [LOAD_ONE, LOAD_ONE_BY_ONE, ALONE],
@@ -276,7 +289,7 @@ const ORDERS: &[(&str, u8, u32, u8, [&str; 3], Result<Seen, JudgeEnd>)] = &[
     ),
     (
         "a region is kept where its owner countersigned",
-        4,
+        But::ThreeCountersigned,
         2,
         1,
         [LOAD_ONE, LOAD_ONE_BY_ONE, LOAD_ONE_BY_THREE],
@@ -312,8 +325,8 @@ fn comes_to(
 
 #[test]
 fn orders_are_judged(rt: HostRuntime) -> Result<(), Fail> {
-    for (shown, number, length, uses, parts, expected) in ORDERS {
-        let view = view(layers_but(*number)?, *length, u32::from(*uses % 32));
+    for (shown, but, length, uses, parts, expected) in ORDERS {
+        let view = view(layers_but(*but)?, *length, u32::from(*uses % 32));
         comes_to(&rt, rt.alloc(), shown, &view, *parts, *expected)?;
     }
     Ok(())

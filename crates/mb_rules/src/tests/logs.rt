@@ -267,41 +267,52 @@ fn expect(
     Ok(())
 }
 
-/// A life. By this number entries 1 and 2 change places, or a change keeps a region that it does not.
-fn changed(number: u8) -> [Entry; 8] {
+/// How a life is changed.
+#[derive(Clone, Copy)]
+enum Changed {
+    /// Not at all.
+    Nothing,
+    /// Entries 1 and 2 change places.
+    Swapped,
+    /// Entry 3 keeps a region that it does not.
+    Kept,
+}
+
+/// A life that is changed so.
+fn changed_life(how: Changed) -> [Entry; 8] {
     let mut entries = life(3, KeyKind::Epoch);
-    match number {
-        1 => entries.swap(1, 2),
-        2 => {
+    match how {
+        Changed::Nothing => (),
+        Changed::Swapped => entries.swap(1, 2),
+        Changed::Kept => {
             if let Entry::Change { kept, .. } = &mut entries[3] {
                 *kept = BOTH;
             }
         }
-        _ => (),
     }
     entries
 }
 
 /// How a life is changed, an entry, the index of its signature, and the answer.
-const FOLLOWS: &[(u8, usize, u32, Follow)] = &[
-    (0, 0, 7, Follow::Yes),
-    (0, 1, 0, Follow::Yes),
-    (0, 2, 1, Follow::Yes),
-    (0, 3, 2, Follow::Yes),
-    (0, 4, 3, Follow::Yes),
-    (0, 5, 4, Follow::Yes),
-    (0, 6, 5, Follow::Yes),
-    (0, 7, 0, Follow::Yes),
+const FOLLOWS: &[(Changed, usize, u32, Follow)] = &[
+    (Changed::Nothing, 0, 7, Follow::Yes),
+    (Changed::Nothing, 1, 0, Follow::Yes),
+    (Changed::Nothing, 2, 1, Follow::Yes),
+    (Changed::Nothing, 3, 2, Follow::Yes),
+    (Changed::Nothing, 4, 3, Follow::Yes),
+    (Changed::Nothing, 5, 4, Follow::Yes),
+    (Changed::Nothing, 6, 5, Follow::Yes),
+    (Changed::Nothing, 7, 0, Follow::Yes),
     // Two entries change places, an index is passed over, and a region is kept.
-    (1, 1, 0, Follow::Order),
-    (0, 1, 1, Follow::Order),
-    (2, 3, 2, Follow::Rules),
+    (Changed::Swapped, 1, 0, Follow::Order),
+    (Changed::Nothing, 1, 1, Follow::Order),
+    (Changed::Kept, 3, 2, Follow::Rules),
 ];
 
 #[test]
 fn entries_follow_by_the_rules(rt: HostRuntime) -> Result<(), Fail> {
-    for (number, at, index, expected) in FOLLOWS {
-        expect(&rt, rt.alloc(), &changed(*number), *at, *index, *expected)?;
+    for (how, at, index, expected) in FOLLOWS {
+        expect(&rt, rt.alloc(), &changed_life(*how), *at, *index, *expected)?;
     }
     Ok(())
 }
