@@ -46,114 +46,113 @@ fn new_device(alloc: Global) -> Result<Vec<u8>, Fail> {
     Ok(image)
 }
 
-/// Whether the state, if there is one, has what the records of the new device say.
-fn is_new(state: &Option<State>) -> Option<bool> {
-    match state {
-        Some(state) => Some(
-            state.serial == [0, 1, 2, 3, 4, 5, 6, 7, 8, 9, 10, 11, 12, 13, 14, 15]
-                && state.uses == 0
-                && state.log.as_slice().len() == 1
-                && state.layers.one.reliable,
-        ),
-        None => None,
+/// How the image of a new device is changed.
+#[derive(Clone, Copy)]
+enum Change {
+    Nothing,
+    /// The last byte is missing.
+    Shorter,
+    /// The battery-backed memory is all zeros.
+    Dead,
+    /// The byte at this offset is this one.
+    Byte(usize, u8),
+}
+
+fn apply(image: &mut Vec<u8>, change: Change) -> Result<(), Fail> {
+    match change {
+        Change::Nothing => {}
+        Change::Shorter => image.truncate(IMAGE_LENGTH - 1),
+        Change::Dead => {
+            image.truncate(FLASH_LENGTH);
+            image.resize(IMAGE_LENGTH, 0)?;
+        }
+        Change::Byte(at, byte) => {
+            let place = image.get_mut(at).ok_or("no such byte")?;
+            *place = byte;
+        }
     }
+    Ok(())
 }
 
-/// Whether the state for which the image stands is that of the new device, on a count of its own.
-fn answer(alloc: Global, image: &[u8]) -> Result<Option<bool>, ImageEnd> {
-    answer_counted::<Brand>(alloc, image, Blank::new(1))
+/// What an image stands for.
+#[derive(Clone, Copy, PartialEq, Eq)]
+enum Answer {
+    /// The state of the new device.
+    New,
+    /// Another state.
+    Other,
+    /// A dead device.
+    Dead,
+    /// Nothing, for this reason.
+    Fault(ImageEnd),
 }
 
-fn answer_counted<L: Ledger>(
-    alloc: Global,
-    image: &[u8],
-    blank: Blank,
-) -> Result<Option<bool>, ImageEnd>
+/// Whether the state has what the records of the new device say.
+fn is_new(state: &State) -> bool {
+    state.serial == [0, 1, 2, 3, 4, 5, 6, 7, 8, 9, 10, 11, 12, 13, 14, 15]
+        && state.uses == 0
+        && state.log.as_slice().len() == 1
+        && state.layers.one.reliable
+}
+
+fn answer_counted<L: Ledger>(alloc: Global, image: &[u8], blank: Blank) -> Answer
     requires name { blank.name ≡ L.name }
     requires parts { blank.parts ≡ L.parts }
     requires some { 0 < blank.parts }
 {
-    let state = stand_for(alloc, image, &mut Steps::<L>::begin(alloc, blank))?;
-    Ok(is_new(&state))
+    match stand_for(alloc, image, &mut Steps::<L>::begin(alloc, blank)) {
+        Ok(Some(state)) if is_new(&state) => Answer::New,
+        Ok(Some(_)) => Answer::Other,
+        Ok(None) => Answer::Dead,
+        Err(end) => Answer::Fault(end),
+    }
 }
 
-/// The image of a new device has this answer, where so many of its bytes are kept, zeros follow up to this length, and
-/// this byte is at an offset.
-fn answers(
-    rt: &impl Abort,
-    alloc: Global,
-    kept: usize,
-    length: usize,
-    at: usize,
-    byte: u8,
-    expected: Result<Option<bool>, ImageEnd>,
-) -> Result<(), Fail> {
+/// The image stands for this, on a count of its own.
+fn stands_for(alloc: Global, image: &[u8]) -> Answer {
+    answer_counted::<Brand>(alloc, image, Blank::new(1))
+}
+
+/// The image of a new device that is changed so stands for this.
+fn expect(rt: &impl Abort, alloc: Global, change: Change, expected: Answer) -> Result<(), Fail> {
     let mut image = new_device(alloc)?;
-    image.truncate(kept);
-    image.resize(length, 0)?;
-    if let Some(place) = image.get_mut(at) {
-        *place = byte;
-    }
-    assert!(rt; answer(alloc, &image) == expected);
+    apply(&mut image, change)?;
+    assert!(rt; stands_for(alloc, &image) == expected);
     Ok(())
 }
 
-/// How many bytes are kept, the length, an offset and its byte, and the answer. The first byte of the image is 0.
-const IMAGES: &[(usize, usize, usize, u8, Result<Option<bool>, ImageEnd>)] = &[
-    // A new device, a shorter image, and a dead device.
-    (IMAGE_LENGTH, IMAGE_LENGTH, 0, 0, Ok(Some(true))),
+const IMAGES: &[(Change, Answer)] = &[
+    (Change::Nothing, Answer::New),
+    (Change::Shorter, Answer::Fault(ImageEnd::Length)),
+    (Change::Dead, Answer::Dead),
     (
-        IMAGE_LENGTH - 1,
-        IMAGE_LENGTH - 1,
-        0,
-        0,
-        Err(ImageEnd::Length),
-    ),
-    (FLASH_LENGTH, IMAGE_LENGTH, 0, 0, Ok(None)),
-    // Faults of one byte.
-    (
-        IMAGE_LENGTH,
-        IMAGE_LENGTH,
-        FLASH_LENGTH,
-        0xa4,
-        Err(ImageEnd::Root),
+        Change::Byte(FLASH_LENGTH, 0xa4),
+        Answer::Fault(ImageEnd::Root),
     ),
     (
-        IMAGE_LENGTH,
-        IMAGE_LENGTH,
-        FLASH_LENGTH + 4,
-        1,
-        Err(ImageEnd::Root),
+        Change::Byte(FLASH_LENGTH + 4, 1),
+        Answer::Fault(ImageEnd::Root),
     ),
     (
-        IMAGE_LENGTH,
-        IMAGE_LENGTH,
-        FIRST_AREA + 2,
-        2,
-        Err(ImageEnd::Root),
+        Change::Byte(FIRST_AREA + 2, 2),
+        Answer::Fault(ImageEnd::Root),
     ),
-    (IMAGE_LENGTH, IMAGE_LENGTH, 4, 2, Err(ImageEnd::Public)),
+    (Change::Byte(4, 2), Answer::Fault(ImageEnd::Public)),
     (
-        IMAGE_LENGTH,
-        IMAGE_LENGTH,
-        FLASH_LENGTH + 12288,
-        0xff,
-        Err(ImageEnd::RegionTwo),
+        Change::Byte(FLASH_LENGTH + 12288, 0xff),
+        Answer::Fault(ImageEnd::RegionTwo),
     ),
     (
-        IMAGE_LENGTH,
-        IMAGE_LENGTH,
-        FLASH_LENGTH + 20480,
-        0xff,
-        Err(ImageEnd::RegionThree),
+        Change::Byte(FLASH_LENGTH + 20480, 0xff),
+        Answer::Fault(ImageEnd::RegionThree),
     ),
-    (IMAGE_LENGTH, IMAGE_LENGTH, 12, 0x64, Err(ImageEnd::State)),
+    (Change::Byte(12, 0x64), Answer::Fault(ImageEnd::State)),
 ];
 
 #[test]
 fn images_of_new_dead_and_faulty_devices(rt: HostRuntime) -> Result<(), Fail> {
-    for (kept, length, at, byte, expected) in IMAGES {
-        answers(&rt, rt.alloc(), *kept, *length, *at, *byte, *expected)?;
+    for (change, expected) in IMAGES {
+        expect(&rt, rt.alloc(), *change, *expected)?;
     }
     Ok(())
 }
