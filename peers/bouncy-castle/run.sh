@@ -1,8 +1,9 @@
 #!/usr/bin/env bash
-# Compares the built program's keys and signed orders with the LMS of Bouncy Castle, verifies each signature of a chain with
-# it, and has the program serve an order that Bouncy Castle signed: run.sh [PROGRAM]. With no PROGRAM it takes the one that is built, and proves and builds it
-# first where there is none. It skips with a message where Java or the library (Debian's libbcprov-java) is missing; JAR
-# may name the library. It is no part of the gate, and writes in a temporary folder alone, which it removes.
+# Compares the built program's keys and signed orders with the LMS of Bouncy Castle, verifies each signature of a chain
+# with it, and has the program serve an order that Bouncy Castle signed: run.sh [PROGRAM]. With no PROGRAM it takes the
+# one that is built, and proves and builds it first where there is none. It skips with a message where Java or the
+# library (Debian's libbcprov-java) is missing; JAR may name the library. It is no part of the gate, and writes in a
+# temporary folder alone, which it removes.
 set -euo pipefail
 export LC_ALL=C
 
