@@ -29,6 +29,12 @@ role_word role.Public = codes "public"
 role_word role.Draft = codes "draft"
 role_word role.Order = codes "order"
 role_word role.Out = codes "out"
+role_word role.Endorsement = codes "endorsement"
+role_word role.Policy = codes "policy"
+role_word role.Input = codes "input"
+role_word role.Text = codes "text"
+role_word role.Register = codes "register"
+role_word role.Items = codes "items"
 
 -- the words for the place where an input is at fault
 abbrev pub place_words : Place → List ℕ

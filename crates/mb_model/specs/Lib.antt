@@ -16,7 +16,6 @@ pub mod VerifyCommand
 pub mod ChainCommands
 pub mod AuditCommand
 pub mod GenerateCommand
-pub mod Top
 pub mod Layers
 pub mod Rules
 pub mod Log

@@ -16,6 +16,12 @@ pub enum Role {
     Draft,
     Order,
     Out,
+    Endorsement,
+    Policy,
+    Input,
+    Text,
+    Register,
+    Items,
 }
 
 /// Where an input is not in its form.

@@ -8,7 +8,7 @@ use Rattle.mb_model.specs.Lines.{number_limit}
 use Rattle.mb_model.specs.Outside.{Outside}
 use Rattle.mb_model.specs.Board.{Held}
 use Rattle.mb_model.specs.Commands.{Ended, CommandEnds, HasInputsFor, IsFaultless, at_first}
-use Rattle.mb_model.specs.Top.{Request, runs, makes_key, signs, countersigns, makes_device, verifies, audits, shows_chain, attaches, generates, IsRequest, command_of, Ends, no_command, did}
+use Rattle.mb_top.specs.Top.{Request, runs, makes_key, signs, countersigns, makes_device, verifies, audits, shows_chain, attaches, generates, IsRequest, command_of, Ends, no_command, did}
 use Rattle.mb_top.specs.declared.end.End.{End}
 use Rattle.mb_top.specs.declared.end.End.TheVariants as end
 use Rattle.mb_top.specs.Ending.{CarriesOutRest, CarriesOut, CarriesOutWords}

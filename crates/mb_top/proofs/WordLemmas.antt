@@ -14,7 +14,7 @@ use Rattle.mb_model.specs.VerifyCommand.{VerifyNames}
 use Rattle.mb_model.specs.AuditCommand.{AuditNames}
 use Rattle.mb_model.specs.ChainCommands.{ChainNames, AttachNames}
 use Rattle.mb_model.specs.GenerateCommand.{GenerateNames}
-use Rattle.mb_model.specs.Top.{Request, runs, makes_key, signs, countersigns, makes_device, verifies, audits, shows_chain, attaches, generates, IsRequest}
+use Rattle.mb_top.specs.Top.{Request, runs, makes_key, signs, countersigns, makes_device, verifies, audits, shows_chain, attaches, generates, IsRequest}
 use Rattle.mb_lemmas.proofs.WordLemmas.{upper_cases}
 use Rattle.mb_top.specs.Words.{IsCalled, IsLayerWord, IsRoundsWord}
 

@@ -9,7 +9,7 @@ use Rattle.mb_model.specs.Outside.{Outside, HoldsTooMuch, read_once, FailsToRead
 use Rattle.mb_model.specs.Board.{Held}
 use Rattle.mb_model.specs.Commands.{Input, Command, Past, Ended, SaysLine, HasRead, CommandEnds, at_first, input_line}
 use Rattle.mb_model.specs.Commands.{role_word, place_words}
-use Rattle.mb_model.specs.Top.{Ends}
+use Rattle.mb_top.specs.Top.{Ends}
 use Rattle.mb_top.specs.declared.end.End.{End}
 use Rattle.mb_top.specs.declared.end.End.TheVariants as end
 use Rattle.mb_top.specs.declared.end.Refusal.{Refusal}

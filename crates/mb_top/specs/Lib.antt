@@ -1,3 +1,4 @@
+pub mod Top
 pub mod Words
 pub mod Ending
 pub mod Outputs

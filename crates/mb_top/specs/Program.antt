@@ -2,7 +2,7 @@
 -- words for which nothing is said?
 use Rattle.std.specs.Prelude.{◌≡◌, ℕ, List, [], ◌∷◌, codes}
 use Rattle.mb_model.specs.Commands.{Ended, PrintEnds, at_first}
-use Rattle.mb_model.specs.Top.{Ends}
+use Rattle.mb_top.specs.Top.{Ends}
 use Rattle.mb_top.specs.declared.end.End.{End}
 use Rattle.mb_top.specs.declared.end.End.TheVariants as end
 use Rattle.mb_top.specs.declared.line.NoWords.{NoWords}

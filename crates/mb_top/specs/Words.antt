@@ -9,9 +9,9 @@ use Rattle.mb_model.specs.FactoryCommand.{FactoryNames as FactoryFiles}
 use Rattle.mb_model.specs.VerifyCommand.{VerifyNames as VerifyFiles}
 use Rattle.mb_model.specs.AuditCommand.{AuditNames as AuditFiles}
 use Rattle.mb_model.specs.ChainCommands.{ChainNames as ChainFiles, AttachNames as AttachFiles}
-use Rattle.mb_model.specs.Top.{Request as Asked, runs, makes_key, signs, countersigns, makes_device}
+use Rattle.mb_top.specs.Top.{Request as Asked, runs, makes_key, signs, countersigns, makes_device}
 use Rattle.mb_model.specs.GenerateCommand.{GenerateNames as GenerateFiles}
-use Rattle.mb_model.specs.Top.{verifies, audits, shows_chain, attaches, generates}
+use Rattle.mb_top.specs.Top.{verifies, audits, shows_chain, attaches, generates}
 use Rattle.mb_top.specs.declared.words.RunNames.{RunNames}
 use Rattle.mb_top.specs.declared.words.KeygenNames.{KeygenNames}
 use Rattle.mb_top.specs.declared.words.SignNames.{SignNames}

@@ -2,7 +2,7 @@
 
 ghost use Rattle.std.specs.Prelude.{◌≡◌, ◌<◌, ◌⊎◌, ℕ, List, Option, [], map, None, Some, false, string_bytes};
 ghost use Rattle.mb_model.specs.Commands.{HasInputsFor, ComesToRefusal, IsFaultless};
-ghost use Rattle.mb_model.specs.Top.{Request as Asked, IsRequest, command_of, Ends};
+ghost use Rattle.mb_top.specs.Top.{Request as Asked, IsRequest, command_of, Ends};
 ghost use Rattle.mb_board.specs.Calls.{held_by};
 ghost use Rattle.mb_top.specs.Ending.{CarriesOutWords};
 

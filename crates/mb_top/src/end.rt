@@ -138,6 +138,12 @@ fn role_word(role: Role) -> &'static str
         Role::Draft => "draft",
         Role::Order => "order",
         Role::Out => "out",
+        Role::Endorsement => "endorsement",
+        Role::Policy => "policy",
+        Role::Input => "input",
+        Role::Text => "text",
+        Role::Register => "register",
+        Role::Items => "items",
     }
 }
 

@@ -2,8 +2,8 @@
 
 ghost use Rattle.std.specs.Prelude.{◌≡◌, ◌≢◌, ◌↔◌, ◌∷◌, ℕ, All, IsTrue, List, [], map, MatchOption, string_bytes};
 ghost use Rattle.mb_model.specs.Lines.{IsNumber, number_limit};
-ghost use Rattle.mb_model.specs.Top.{Request as Asked, runs, makes_key, signs, countersigns, makes_device, IsRequest};
-ghost use Rattle.mb_model.specs.Top.{verifies, audits, shows_chain, attaches, generates};
+ghost use Rattle.mb_top.specs.Top.{Request as Asked, runs, makes_key, signs, countersigns, makes_device, IsRequest};
+ghost use Rattle.mb_top.specs.Top.{verifies, audits, shows_chain, attaches, generates};
 ghost use Rattle.mb_model.specs.RunCommand.{RunNames as RunFiles};
 ghost use Rattle.mb_model.specs.Keygen.{KeygenNames as KeygenFiles};
 ghost use Rattle.mb_model.specs.Sign.{SignNames as SignFiles, CountersignNames as CountersignFiles};

@@ -1,5 +1,5 @@
 use Rattle.std.proofs.Common.{map, string_bytes, subst}
-use Rattle.mb_model.specs.Top.{IsRequest}
+use Rattle.mb_top.specs.Top.{IsRequest}
 use Rattle.mb_top.specs.Words.{asked_by}
 use Rattle.mb_top.proofs.Requests.{request_carried_out, alone_carried_out}
 use Rattle.mb_top.proofs.commands.counted_command.Goals as goal

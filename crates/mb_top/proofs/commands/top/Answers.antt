@@ -1,5 +1,5 @@
 use Rattle.std.proofs.Common.{map, string_bytes, sym, subst}
-use Rattle.mb_model.specs.Top.{Ends}
+use Rattle.mb_top.specs.Top.{Ends}
 use Rattle.mb_board.specs.Calls.{held_by}
 use Rattle.mb_top.specs.Ending.{ended_at}
 use Rattle.mb_top.proofs.Requests.{request_completes}
