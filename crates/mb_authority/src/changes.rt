@@ -1,11 +1,12 @@
 //! Which changes a layer admits, and what a change leaves.
 
 ghost use Rattle.std.specs.Prelude.{◌≡◌};
+ghost use Rattle.mb_model.specs.Layers.{trust_for};
 ghost use Rattle.mb_model.specs.Rules.{trusts, admits, is_kept, kept_regions, may_cosign, loaded_layer, placed, layer_after, after};
 
 use crate::kinds::{is_load, is_own_load};
 use crate::layers::{is_in, is_owned, layer_of};
-use mb_model::{Act, ChangeKind, CodeName, Layer, Layers, Pair, Payload, Trust};
+use mb_model::{Act, ChangeKind, CodeName, Layer, Layers, Pair, Payload, Trust, Trusts};
 use sha2::{Digest, Sha256};
 
 /// Whether a layer with this trust goes along with a load beneath it, which its owner has or has not countersigned.
@@ -19,6 +20,17 @@ fn trusts(trust: Trust, cosigned: bool) -> bool
     }
 }
 
+/// The trust of a layer in changes of layer `k`, a layer beneath it: 1 or 2.
+fn trust_for(layer: &Layer, k: u8) -> Trust
+    ensures { result ≡ trust_for layer.now k }
+{
+    if k == 1 {
+        layer.trust.one
+    } else {
+        layer.trust.two
+    }
+}
+
 /// Whether layer `m` admits a change of the kind at `layer`, which is `m` or stands beneath it: its own ordinary load,
 /// and each load beneath it that it trusts. The layers are those before the change.
 pub fn admits(layers: &Layers, kind: ChangeKind, layer: u8, cosigned: Pair, m: u8) -> bool
@@ -27,7 +39,7 @@ pub fn admits(layers: &Layers, kind: ChangeKind, layer: u8, cosigned: Pair, m: u
     if m == layer {
         is_own_load(kind)
     } else {
-        is_load(kind) && trusts(layer_of(layers, m).trust, is_in(m, cosigned))
+        is_load(kind) && trusts(trust_for(&layer_of(layers, m), layer), is_in(m, cosigned))
     }
 }
 
@@ -56,7 +68,7 @@ pub fn may_cosign(layers: &Layers, kind: ChangeKind, layer: u8, m: u8) -> bool
     is_load(kind) && layer < m && is_owned(layers, m)
 }
 
-/// The layer with the code and the trust of a load, whose code is hashed; its owner stays.
+/// The layer with the code and the trusts of a load, whose code is hashed; its owner stays.
 fn loaded_layer(old: &Layer, payload: &Payload) -> Layer
     ensures { result ≡ loaded_layer old.now payload.now }
 {
@@ -87,7 +99,7 @@ pub fn placed(old: &Layer, act: &Act) -> Layer
             owner: None,
             code: None,
             reliable: false,
-            trust: Trust::Never,
+            trust: Trusts::equal(Trust::Never),
         },
         Act::Load(payload) | Act::Emergency(payload) => loaded_layer(old, payload),
         Act::NewKey { .. } => *old,

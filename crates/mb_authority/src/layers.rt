@@ -3,7 +3,7 @@
 ghost use Rattle.std.specs.Prelude.{◌≡◌};
 ghost use Rattle.mb_model.specs.Layers.{layer_of, is_owned, is_upper, is_in, is_runnable};
 
-use mb_model::{Layer, Layers, Pair, Trust};
+use mb_model::{Layer, Layers, Pair, Trust, Trusts};
 
 /// The layer with this number, 1 to 3. Any other is as good as a layer without an owner.
 pub fn layer_of(layers: &Layers, layer: u8) -> Layer
@@ -17,7 +17,7 @@ pub fn layer_of(layers: &Layers, layer: u8) -> Layer
             owner: None,
             code: None,
             reliable: false,
-            trust: Trust::Never,
+            trust: Trusts::equal(Trust::Never),
         },
     }
 }

@@ -228,7 +228,7 @@ pub bounded : (bbram : List ℕ) (root : Root) → IsOnlyRoot bbram root → IsB
 bounded bbram root only = bounded_by root only.holds.holds.spelled.allowed
 
 -- the record that was read leaves room for its signatures
-pub leaves_room : (memory : Memory) (root : Root) (read : List ℕ) → IsLive memory → IsOnlyRoot memory.bbram root → ((bytes : List ℕ) → BeginsArea (flash_area memory.flash root.area) bytes → read ≡ bytes) → length read ≤ 444434
+pub leaves_room : (memory : Memory) (root : Root) (read : List ℕ) → IsLive memory → IsOnlyRoot memory.bbram root → ((bytes : List ℕ) → BeginsArea (flash_area memory.flash root.area) bytes → read ≡ bytes) → length read ≤ 444818
 leaves_room memory root read live only reads =
     let held = live_contents memory.flash memory.bbram live.state live.means in
     let public = held.holds.public.begins in

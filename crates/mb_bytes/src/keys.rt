@@ -5,13 +5,13 @@ ghost use Rattle.std.specs.Int.{w32};
 ghost use Rattle.mb_format.specs.Combinators.{table};
 ghost use Rattle.mb_model.specs.Key.{tree_type, chains_type};
 ghost use Rattle.mb_model.specs.KeyFormat.{tree_rows, chains_rows, public_key_format, key_seed_format};
-ghost use Rattle.mb_model.specs.LayerFormat.{trust_byte, trust_format};
+ghost use Rattle.mb_model.specs.LayerFormat.{trust_byte, trust_format, one_trust};
 ghost use Rattle.mb_model.specs.EntryFormat.{key_kind_byte, key_kind_format};
 ghost use Rattle.mb_bytes.specs.Reads.{bad_at, Reads};
 ghost use Rattle.mb_bytes.specs.Puts.{Puts};
 
 use crate::{Cursor, put_slice, put_u8, put_u32};
-use mb_model::{BadRecord, Chains, KeyKind, KeySeed, NoMemory, PublicKey, Tree, Trust};
+use mb_model::{BadRecord, Chains, KeyKind, KeySeed, NoMemory, PublicKey, Tree, Trust, Trusts};
 
 fn tree_at(cursor: &mut Cursor) -> Result<Tree, BadRecord>
     ensures { Reads bad_at (table w32 tree_rows tree_type) cursor.old result cursor.new }
@@ -67,7 +67,7 @@ pub fn key_seed_at(cursor: &mut Cursor) -> Result<KeySeed, BadRecord>
     Ok(KeySeed { identifier, seed })
 }
 
-/// What a layer trusts, in a byte.
+/// A trust, in a byte.
 #[tactic(auto, unfolding(mb_model::specs::LayerFormat::trust_format))]
 pub fn trust_at(cursor: &mut Cursor) -> Result<Trust, BadRecord>
     ensures { Reads bad_at trust_format cursor.old result cursor.new }
@@ -79,6 +79,13 @@ pub fn trust_at(cursor: &mut Cursor) -> Result<Trust, BadRecord>
         2 => Ok(Trust::Countersigned),
         _ => Err(BadRecord { at }),
     }
+}
+
+/// Two equal trusts, in one byte.
+pub fn one_trust_at(cursor: &mut Cursor) -> Result<Trusts, BadRecord>
+    ensures { Reads bad_at (one_trust trust_format) cursor.old result cursor.new }
+{
+    Ok(Trusts::equal(trust_at(cursor)?))
 }
 
 /// The kind of a region's key, in a byte.
@@ -149,7 +156,7 @@ fn trust_number(trust: Trust) -> u8
     }
 }
 
-/// Appends the byte of what a layer trusts.
+/// Appends the byte of a trust.
 #[tactic(auto, unfolding(mb_model::specs::LayerFormat::trust_format))]
 pub fn put_trust(out: &mut Vec<u8>, trust: Trust) -> Result<(), NoMemory>
     ensures { Puts (trust_format.spelling trust) out.old result out.new }

@@ -20,7 +20,7 @@ pub use fields::{
     put_after_u32, put_flag, u8_between, u16_between, u32_between,
 };
 pub use keys::{
-    chains_type, key_kind_at, key_seed_at, public_key_at, put_key_kind, put_key_seed,
+    chains_type, key_kind_at, key_seed_at, one_trust_at, public_key_at, put_key_kind, put_key_seed,
     put_public_key, put_trust, tree_type, trust_at,
 };
 pub use puts::{put_at, put_slice, put_u8, put_u16, put_u32};

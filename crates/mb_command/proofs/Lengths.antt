@@ -1,6 +1,7 @@
 -- How many bytes the parts of an order have.
-use Rattle.std.proofs.Common.{◌≡◌, ◌⊎◌, inl, inr, ℕ, zero, suc, ◌+◌, ◌<◌, ◌≤◌, List, [], ◌∷◌, ◌++◌, length, get_or, drop, flat_map, refl, sym, ap, arith, length-append, take}
+use Rattle.std.proofs.Common.{◌≡◌, ◌⊎◌, inl, inr, ℕ, zero, suc, ◌+◌, ◌<◌, ◌≤◌, Bool, true, false, not, List, [], ◌∷◌, ◌++◌, length, get_or, drop, flat_map, refl, sym, ap, ◌∙◌, arith, length-append, take}
 use Rattle.std.proofs.lemmas.List.{take_at, drop_all}
+use Rattle.std.specs.Prelude.{if◌then◌else◌}
 use Rattle.std.specs.List.{AllByRecursion}
 use Rattle.std.specs.Int.{Width, byte_len, w8, w32}
 use Rattle.mb_format.specs.Format.{Format}
@@ -9,6 +10,7 @@ use Rattle.mb_format.proofs.Fields.{IsWide, wide8, wide32}
 use Rattle.mb_format.proofs.Compositions.{items_all, times_spelling}
 use Rattle.mb_model.specs.declared.key.PublicKey.{PublicKey}
 use Rattle.mb_model.specs.declared.key.Trust.{Trust}
+use Rattle.mb_model.specs.declared.layer.Trusts.{Trusts}
 use Rattle.mb_model.specs.declared.order.KeyKind.{KeyKind}
 use Rattle.mb_model.specs.declared.order.Target.{Target}
 use Rattle.mb_model.specs.declared.order.Target.TheVariants.{Serial, Length, Owner, Code}
@@ -21,7 +23,8 @@ use Rattle.mb_model.specs.Key.{tree_type, chains_type}
 use Rattle.mb_model.specs.KeyFormat.{public_key_format}
 use Rattle.mb_model.specs.LayerFormat.{trust_byte, trust_format}
 use Rattle.mb_model.specs.EntryFormat.{key_kind_byte, key_kind_format}
-use Rattle.mb_model.specs.OrderFormat.{target_format, order_byte, payload_format, act_by, body_format, order_body, order_format}
+use Rattle.mb_model.specs.Layers.{are_equal}
+use Rattle.mb_model.specs.OrderFormat.{target_format, form_byte, form_of, given_trusts, differs_in, payload_format, act_by, body_format, order_body, order_format}
 
 length-number : {w : Width} → IsWide w → (n : ℕ) → length (number_bytes w n) ≡ byte_len w
 unfolding number_bytes
@@ -101,43 +104,61 @@ length-trust : (trust : Trust) → length (trust_format.spelling trust) ≡ 1
 unfolding trust_format
 length-trust trust = length-number wide8 (trust_byte trust)
 
+pub length-given : (differs : Bool) (trusts : Trusts) → length ((given_trusts differs).spelling trusts) ≡ (if differs then 2 else 1)
+length-given true trusts =
+    let first = length-trust trusts.one in
+    let second : length (number_bytes w8 (trust_byte trusts.two)) ≡ 1 = length-number wide8 (trust_byte trusts.two) in
+    omega (arith, first, second, length-append (trust_format.spelling trusts.one) (number_bytes w8 (trust_byte trusts.two)))
+length-given false trusts = omega (arith, length-trust trusts.one, length-append (trust_format.spelling trusts.one) [])
+
+given_by : (equal : Bool) (trusts : Trusts) → length ((given_trusts (not equal)).spelling trusts) ≡ (if equal then 1 else 2)
+given_by true trusts = length-given false trusts
+given_by false trusts = length-given true trusts
+
+pub one_given : (trusts : Trusts) → are_equal trusts ≡ true → 1 ≡ length ((given_trusts (not (are_equal trusts))).spelling trusts)
+one_given trusts is = sym (given_by (are_equal trusts) trusts ∙ ap (λ (b : Bool). if b then 1 else 2) is)
+
+pub two_given : (trusts : Trusts) → are_equal trusts ≡ false → 2 ≡ length ((given_trusts (not (are_equal trusts))).spelling trusts)
+two_given trusts is = sym (given_by (are_equal trusts) trusts ∙ ap (λ (b : Bool). if b then 1 else 2) is)
+
 length-key_kind : (kind : KeyKind) → length (key_kind_format.spelling kind) ≡ 1
 unfolding key_kind_format
 length-key_kind kind = length-number wide8 (key_kind_byte kind)
 
-length-payload : (payload : Payload) → 9 + length payload.code ≡ length (payload_format.spelling payload)
+length-payload : (differs : Bool) (payload : Payload) → 8 + length ((given_trusts differs).spelling payload.trust) + length payload.code ≡ length ((payload_format differs).spelling payload)
 unfolding payload_format
-length-payload payload =
+length-payload differs payload =
+    let trusts : List ℕ = (given_trusts differs).spelling payload.trust in
     let four : length (number_bytes w32 payload.version) ≡ 4 = length-number wide32 payload.version in
-    let one = length-trust payload.trust in
     let code : List ℕ = payload.code in
     let size : length (number_bytes w32 (length code)) ≡ 4 = length-number wide32 (length code) in
-    omega (arith, four, one, size, length-append (number_bytes w32 payload.version) (trust_format.spelling payload.trust ++ (number_bytes w32 (length code) ++ code)), length-append (trust_format.spelling payload.trust) (number_bytes w32 (length code) ++ code), length-append (number_bytes w32 (length code)) code)
+    omega (arith, four, size, length-append (number_bytes w32 payload.version) (trusts ++ (number_bytes w32 (length code) ++ code)), length-append (trusts) (number_bytes w32 (length code) ++ code), length-append (number_bytes w32 (length code)) code)
 
-pub length-establish : (owner : PublicKey) (trust : Trust) → (act_by (kind_of (Establish owner trust))).Allowed (Establish owner trust) → 57 ≡ length ((act_by (kind_of (Establish owner trust))).spelling (Establish owner trust))
+pub length-establish : (owner : PublicKey) (trust : Trusts) → (act_by (kind_of (Establish owner trust)) (differs_in (Establish owner trust))).Allowed (Establish owner trust)
+    → 56 + length ((given_trusts (not (are_equal trust))).spelling trust) ≡ length ((act_by (kind_of (Establish owner trust)) (differs_in (Establish owner trust))).spelling (Establish owner trust))
 length-establish owner trust h =
     let key = length-public_key owner h.0 in
-    let one = length-trust trust in
-    omega (arith, key, one, length-append (public_key_format.spelling owner) (trust_format.spelling trust))
+    omega (arith, key, length-append (public_key_format.spelling owner) ((given_trusts (not (are_equal trust))).spelling trust))
 
-pub length-new_key : (kind : KeyKind) → 1 ≡ length ((act_by (kind_of (NewKey kind))).spelling (NewKey kind))
+pub length-new_key : (kind : KeyKind) → 1 ≡ length ((act_by (kind_of (NewKey kind)) false).spelling (NewKey kind))
 length-new_key kind = sym (length-key_kind kind)
 
 -- a load of either kind
-pub length-loaded : (act : Act) (payload : Payload) → (act ≡ Load payload) ⊎ (act ≡ Emergency payload) → 9 + length payload.code ≡ length ((act_by (kind_of act)).spelling act)
-length-loaded act payload (inl load) = rw load (length-payload payload)
-length-loaded act payload (inr load) = rw load (length-payload payload)
+pub length-loaded : (act : Act) (payload : Payload) → (act ≡ Load payload) ⊎ (act ≡ Emergency payload)
+    → 8 + length ((given_trusts (not (are_equal payload.trust))).spelling payload.trust) + length payload.code ≡ length ((act_by (kind_of act) (differs_in act)).spelling act)
+length-loaded act payload (inl load) = rw load (length-payload (not (are_equal payload.trust)) payload)
+length-loaded act payload (inr load) = rw load (length-payload (not (are_equal payload.trust)) payload)
 
 -- ---- the signed part
 
-pub length-body : (order : Order) → 2 + length ((counted (between w8 0 8) target_format).spelling order.targets) + length ((act_by (kind_of order.act)).spelling order.act) ≡ length (order_body order)
+pub length-body : (order : Order) → 2 + length ((counted (between w8 0 8) target_format).spelling order.targets) + length ((act_by (kind_of order.act) (differs_in order.act)).spelling order.act) ≡ length (order_body order)
 unfolding body_format
 length-body order =
-    let one : length (number_bytes w8 (order_byte (kind_of order.act))) ≡ 1 = length-number wide8 (order_byte (kind_of order.act)) in
+    let one : length (number_bytes w8 (form_byte (form_of order.act))) ≡ 1 = length-number wide8 (form_byte (form_of order.act)) in
     let two : length (number_bytes w8 order.layer) ≡ 1 = length-number wide8 order.layer in
     let targets = (counted (between w8 0 8) target_format).spelling order.targets in
-    let act = (act_by (kind_of order.act)).spelling order.act in
-    omega (arith, one, two, length-append (number_bytes w8 (order_byte (kind_of order.act))) (number_bytes w8 order.layer ++ (targets ++ act)), length-append (number_bytes w8 order.layer) (targets ++ act), length-append targets act)
+    let act = (act_by (kind_of order.act) (differs_in order.act)).spelling order.act in
+    omega (arith, one, two, length-append (number_bytes w8 (form_byte (form_of order.act))) (number_bytes w8 order.layer ++ (targets ++ act)), length-append (number_bytes w8 order.layer) (targets ++ act), length-append targets act)
 
 -- an order's spelling begins with its signed part
 pub body_first : (order : Order) (n : ℕ) → n ≡ length (order_body order) → take n (order_format.spelling order) ≡ order_body order

@@ -5,12 +5,12 @@ use Rattle.mb_model.specs.declared.order.Act.{Act}
 use Rattle.mb_model.specs.declared.order.Act.TheVariants.{Establish, Surrender, Load, Emergency, NewKey}
 use Rattle.mb_model.specs.declared.order.Countersignature.{Countersignature}
 use Rattle.mb_model.specs.declared.order.Order.{Order}
-use Rattle.mb_model.specs.OrderFormat.{payload_format, act_by, body_of, body_format, sized_signature_format, Climb, countersignature_format, climbed, countersignatures_format, order_format}
+use Rattle.mb_model.specs.OrderFormat.{differs_in, payload_format, act_by, body_of, body_format, sized_signature_format, Climb, countersignature_format, climbed, countersignatures_format, order_format}
 use Rattle.mb_model.specs.Rules.{kind_of}
 use Rattle.mb_model.proofs.FormatBounds.{most_two}
 use Rattle.mb_command.specs.Writing.{HasShortCode, HasShortSignature, IsSized}
 
-pub short_code : (act : Act) → (act_by (kind_of act)).Allowed act → HasShortCode act
+pub short_code : (act : Act) → (act_by (kind_of act) (differs_in act)).Allowed act → HasShortCode act
 unfolding payload_format
 short_code (Establish owner trust) h = tt
 short_code Surrender h = tt

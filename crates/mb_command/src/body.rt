@@ -10,10 +10,10 @@ ghost use Rattle.mb_command.specs.Writing.{HasShortCode};
 
 use crate::act::{act_at, act_length, put_act};
 use crate::end::OrderEnd;
-use crate::kind::{kind_at, kind_number, kind_of, least_layer};
+use crate::kind::{form_at, form_number, form_of, least_layer};
 use crate::targets::{put_targets, targets_at, targets_length};
 use mb_bytes::{Cursor, put_u8, u8_between};
-use mb_model::{Act, NoMemory, Order, OrderKind, Targets};
+use mb_model::{Act, NoMemory, Order, OrderForm, Targets};
 use std::alloc::Global;
 
 /// The part of an order that its owner signs.
@@ -25,17 +25,17 @@ pub struct SignedPart {
     pub act: Act,
 }
 
-fn after_kind_at(
+fn after_form_at(
     alloc: Global,
     cursor: &mut Cursor,
-    kind: OrderKind,
+    form: OrderForm,
 ) -> Result<SignedPart, OrderEnd>
-    ensures reads { ReadsAs body_in text_at (body_by kind) cursor.old result cursor.new }
+    ensures reads { ReadsAs body_in text_at (body_by form) cursor.old result cursor.new }
     ensures layer { IfOk result HasLayer }
 {
-    let layer = u8_between(cursor, least_layer(kind), 3)?;
+    let layer = u8_between(cursor, least_layer(form.kind), 3)?;
     let targets = targets_at(alloc, cursor)?;
-    let act = act_at(alloc, cursor, kind)?;
+    let act = act_at(alloc, cursor, form)?;
     Ok(SignedPart {
         layer,
         targets,
@@ -49,8 +49,8 @@ pub fn body_at(alloc: Global, cursor: &mut Cursor) -> Result<SignedPart, OrderEn
     ensures reads { ReadsAs body_in text_at body_format cursor.old result cursor.new }
     ensures layer { IfOk result HasLayer }
 {
-    let kind = kind_at(cursor)?;
-    after_kind_at(alloc, cursor, kind)
+    let form = form_at(cursor)?;
+    after_form_at(alloc, cursor, form)
 }
 
 /// Appends the signed part of an order.
@@ -60,7 +60,7 @@ pub fn put_body(out: &mut Vec<u8>, order: &Order) -> Result<(), NoMemory>
     requires code { HasShortCode order.now.act }
     ensures { Puts (body_format.spelling (body_of order.now)) out.old result out.new }
 {
-    put_u8(out, kind_number(kind_of(&order.act)))?;
+    put_u8(out, form_number(form_of(&order.act)))?;
     put_u8(out, order.layer)?;
     put_targets(out, &order.targets)?;
     put_act(out, &order.act)

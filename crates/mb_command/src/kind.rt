@@ -1,28 +1,56 @@
-//! The kinds of orders, and the byte that stands for each.
+//! The kinds and forms of orders, and the byte of each form.
 
 ghost use Rattle.std.specs.Prelude.{◌≡◌, ◌≤◌};
 ghost use Rattle.std.specs.Int.{w8};
-ghost use Rattle.mb_format.specs.Combinators.{table};
+ghost use Rattle.mb_format.specs.Combinators.{listed};
 ghost use Rattle.mb_model.specs.Rules.{kind_of, least_layer};
-ghost use Rattle.mb_model.specs.OrderFormat.{order_rows, order_byte, most_countersigned};
+ghost use Rattle.mb_model.specs.OrderFormat.{order_byte, form_byte, form, form_rows, differs_in, form_of, most_countersigned};
 ghost use Rattle.mb_bytes.specs.Reads.{bad_at, Reads};
 
 use mb_bytes::Cursor;
-use mb_model::{Act, BadRecord, OrderKind};
+use mb_model::{Act, BadRecord, OrderForm, OrderKind};
 
-/// The kind of an order, in a byte.
-pub fn kind_at(cursor: &mut Cursor) -> Result<OrderKind, BadRecord>
-    ensures { Reads bad_at (table w8 order_rows order_byte) cursor.old result cursor.new }
+/// The form of orders of this kind.
+fn form(kind: OrderKind, differs: bool) -> OrderForm
+    ensures { result ≡ form kind differs }
+{
+    OrderForm { kind, differs }
+}
+
+/// The form of an order, in a byte.
+pub fn form_at(cursor: &mut Cursor) -> Result<OrderForm, BadRecord>
+    ensures { Reads bad_at (listed w8 form_rows form_byte) cursor.old result cursor.new }
 {
     let at = cursor.offset();
     match cursor.take_u8()? {
-        1 => Ok(OrderKind::Establish),
-        2 => Ok(OrderKind::Surrender),
-        3 => Ok(OrderKind::Load),
-        4 => Ok(OrderKind::Emergency),
-        5 => Ok(OrderKind::NewKey),
+        1 => Ok(form(OrderKind::Establish, false)),
+        2 => Ok(form(OrderKind::Surrender, false)),
+        3 => Ok(form(OrderKind::Load, false)),
+        4 => Ok(form(OrderKind::Emergency, false)),
+        5 => Ok(form(OrderKind::NewKey, false)),
+        17 => Ok(form(OrderKind::Establish, true)),
+        19 => Ok(form(OrderKind::Load, true)),
+        20 => Ok(form(OrderKind::Emergency, true)),
         _ => Err(BadRecord { at }),
     }
+}
+
+/// Whether the act gives its layer two trusts that differ.
+fn differs_in(act: &Act) -> bool
+    ensures { result ≡ differs_in act.now }
+{
+    match act {
+        Act::Establish { trust, .. } => !trust.are_equal(),
+        Act::Load(payload) | Act::Emergency(payload) => !payload.trust.are_equal(),
+        Act::Surrender | Act::NewKey { .. } => false,
+    }
+}
+
+/// The form of an order with this act.
+pub fn form_of(act: &Act) -> OrderForm
+    ensures { result ≡ form_of act.now }
+{
+    form(kind_of(act), differs_in(act))
 }
 
 /// The kind of what an order does.
@@ -38,9 +66,21 @@ pub fn kind_of(act: &Act) -> OrderKind
     }
 }
 
-/// The byte that stands for a kind.
-pub fn kind_number(kind: OrderKind) -> u8
-    ensures { result ≡ order_byte kind }
+/// The byte of a form.
+pub fn form_number(form: OrderForm) -> u8
+    ensures { result ≡ form_byte form }
+{
+    if form.differs {
+        16 + kind_number(form.kind)
+    } else {
+        kind_number(form.kind)
+    }
+}
+
+/// The byte of a kind, in orders that do not give two trusts.
+fn kind_number(kind: OrderKind) -> u8
+    ensures number { result ≡ order_byte kind }
+    ensures most { result ≤ 5 }
 {
     match kind {
         OrderKind::Establish => 1,

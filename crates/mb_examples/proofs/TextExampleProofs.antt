@@ -1,4 +1,5 @@
 -- The examples of texts, computed.
+use Rattle.mb_model.specs.Layers.{equal_trusts}
 use Rattle.std.proofs.Common.{◌≡◌, ℕ, ◌≤◌, inl, inr, List, [], ◌∷◌, ◌++◌, length, replicate, refl, sym, ap, ◌∙◌, arith, true, Bool, not, ◌&&◌, eq-eqb, lit≤}
 use Rattle.std.specs.Prelude.{All, codes, ◌==◌, filter, Ok}
 use Rattle.std.specs.List.{AllZip}
@@ -187,13 +188,15 @@ replies = record {
 
 -- ---- drafts
 
-load_lines : AreLoadLines (codes "version 258" ∷ codes "trust never" ∷ codes "code 616263" ∷ []) (record { version = 258; trust = Never; code = codes "abc" })
+load_lines : AreLoadLines (codes "version 258" ∷ codes "trust never" ∷ codes "code 616263" ∷ []) (record { version = 258; trust = equal_trusts Never; code = codes "abc" })
 unfolding digits decode_pairs
 load_lines = record {
   code_line = codes "code 616263";
   coded = (codes "616263", hex (codes "616263") 54 (codes "16263") (codes "abc") refl refl, refl);
   code_fits = lit≤ tt;
   version_fits = lit≤ tt;
+  line_of_trusts = codes "trust never";
+  trusted = inr (refl, refl);
   spelled = refl;
 }
 

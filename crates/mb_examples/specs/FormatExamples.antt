@@ -1,4 +1,5 @@
 -- The formats at work on short bytes; the checker computes each line. Do the formats say what their tables say?
+use Rattle.mb_model.specs.Layers.{equal_trusts}
 use Rattle.std.specs.Prelude.{◌≡◌, ℕ, List, [], ◌∷◌, ◌++◌}
 use Rattle.mb_format.specs.Format.{FailsWhole}
 use Rattle.mb_model.specs.declared.key.Tree.TheVariants.{H5}
@@ -30,7 +31,7 @@ pub record SpellingExamples : Type 0 where
   pub load : body_format.spelling (record {
     layer = 3;
     targets = [];
-    act = act.Load (record { version = 258; trust = Never; code = 0x61 ∷ 0x62 ∷ 0x63 ∷ [] });
+    act = act.Load (record { version = 258; trust = equal_trusts Never; code = 0x61 ∷ 0x62 ∷ 0x63 ∷ [] });
   })
       ≡ 3 ∷ 3 ∷ 0 ∷ 0 ∷ 0 ∷ 1 ∷ 2 ∷ 1 ∷ 0 ∷ 0 ∷ 0 ∷ 3 ∷ 0x61 ∷ 0x62 ∷ 0x63 ∷ []
 

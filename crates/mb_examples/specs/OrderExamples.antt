@@ -19,7 +19,7 @@ use Rattle.mb_model.specs.declared.entry.Entry.{Entry}
 use Rattle.mb_model.specs.declared.entry.Entry.TheVariants.{Birth, Change}
 use Rattle.mb_model.specs.declared.reply.Reply.TheVariants as reply
 use Rattle.mb_model.specs.declared.state.State.{State}
-use Rattle.mb_model.specs.Layers.{unowned}
+use Rattle.mb_model.specs.Layers.{equal_trusts, unowned}
 use Rattle.mb_model.specs.Refusals.{wrong_target, wrong_countersignature, log_full, keys_full}
 use Rattle.mb_model.specs.Regions.{empty_region}
 use Rattle.mb_model.specs.OrderFormat.{order_format}
@@ -40,7 +40,7 @@ surrender_two = plain 2 act.Surrender []
 
 -- for layer 2, which has an owner
 abbrev pub establish_two : Order
-establish_two = plain 2 (act.Establish (officer 4) Never) []
+establish_two = plain 2 (act.Establish (officer 4) (equal_trusts Never)) []
 
 -- each with two targets, of which the first holds of the device and the second does not
 abbrev pub elsewhere : Order → Order
@@ -157,18 +157,18 @@ two_run = layers_with (running 1 Always) (running 2 Always) unowned
 -- birth, and layer 2 gets an owner and code
 abbrev pub beginning : List Entry
 beginning =
-    Birth (replicate 16 9) (officer 10) at_birth
-    ∷ Change 1 1 changes.Establish 2 nobody (layers_with (running 1 Always) (bare 2 Always) unowned) nobody None
-    ∷ Change 2 2 changes.Emergency 2 nobody two_run nobody None
+    Birth 2 (replicate 16 9) (officer 10) at_birth
+    ∷ Change 2 1 1 changes.Establish 2 nobody (layers_with (running 1 Always) (bare 2 Always) unowned) nobody None
+    ∷ Change 2 2 2 changes.Emergency 2 nobody two_run nobody None
     ∷ []
 
 -- loads of layer 2, and loads of layer 1, each of which makes a device key
 abbrev pub loads_of_two : ℕ → ℕ → List Entry
-loads_of_two position n = in_turn (λ at. Change at at changes.Load 2 nobody two_run by_two None) position n
+loads_of_two position n = in_turn (λ at. Change 2 at at changes.Load 2 nobody two_run by_two None) position n
 
 abbrev pub loads_of_one : ℕ → ℕ → List Entry
 loads_of_one position n =
-    in_turn (λ at. Change at at changes.Load 1 nobody two_run by_two (Some (officer 12))) position n
+    in_turn (λ at. Change 2 at at changes.Load 1 nobody two_run by_two (Some (officer 12))) position n
 
 -- a birth and 31 entries: the device key has one index left; and one entry less
 abbrev pub key_nearly_used : List Entry

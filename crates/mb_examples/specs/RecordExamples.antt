@@ -28,6 +28,12 @@ use Rattle.mb_examples.specs.RecordValues.{stored, stored_bytes}
 use Rattle.mb_examples.specs.RecordValues.{noise_digits, officer_file, officer_file_digits, officer_public}
 use Rattle.mb_examples.specs.RecordValues.{officer_public_digits, surrender_body, new_key_body, load_three_body}
 use Rattle.mb_examples.specs.RecordValues.{load_one_body, load_one_body_digits, emergency_body, emergency_body_digits}
+use Rattle.mb_examples.specs.RecordValues.{split_layer, split_layer_digits, wary_layer, wary_layer_digits}
+use Rattle.mb_examples.specs.RecordValues.{birth_of_version_two, birth_of_version_two_digits}
+use Rattle.mb_examples.specs.RecordValues.{load_of_version_two, load_of_version_two_digits}
+use Rattle.mb_examples.specs.RecordValues.{split_load_body, split_load_body_digits, split_establish_body}
+use Rattle.mb_examples.specs.RecordValues.{split_establish_body_digits, split_emergency_body}
+use Rattle.mb_examples.specs.RecordValues.{split_emergency_body_digits}
 
 -- ---- values and their bytes: of long ones the program gave the length, the first bytes and the hash
 
@@ -39,10 +45,15 @@ pub record KeyRecords : Type 0 where
       ≡ bytes_of (codes "4f6e9ff38c1bc427d7e117d76edf284a97cc41938a0dc9375856a06c06f87f9b")
 
 pub record LayerRecords : Type 0 where
-  pub reliable : Spells layer_format (bytes_of reliable_layer_digits) reliable_layer
-  pub doubted : Spells layer_format (bytes_of doubted_layer_digits) doubted_layer
-  pub bare : Spells layer_format (bytes_of bare_layer_digits) bare_layer
-  pub unowned_layer : Spells layer_format (0 ∷ 1 ∷ []) unowned
+  pub reliable : Spells (layer_format 1) (bytes_of reliable_layer_digits) reliable_layer
+  pub doubted : Spells (layer_format 1) (bytes_of doubted_layer_digits) doubted_layer
+  pub bare : Spells (layer_format 1) (bytes_of bare_layer_digits) bare_layer
+  pub unowned_layer : Spells (layer_format 1) (0 ∷ 1 ∷ []) unowned
+  pub split : Spells (layer_format 2) (bytes_of split_layer_digits) split_layer
+  pub wary : Spells (layer_format 2) (bytes_of wary_layer_digits) wary_layer
+  pub unowned_in_version_two : Spells (layer_format 2) (0 ∷ 1 ∷ 1 ∷ []) unowned
+  -- version 1 has one trust for a layer
+  pub no_split_in_version_one : Spells (layer_format 1) (bytes_of split_layer_digits) split_layer → ⊥
 
 pub record EntryRecords : Type 0 where
   pub of_birth : Spells entry_format (bytes_of birth_digits) birth
@@ -50,6 +61,8 @@ pub record EntryRecords : Type 0 where
   pub of_emergency : Spells entry_format (bytes_of emergency_of_two_digits) emergency_of_two
   pub of_new_key : Spells entry_format (bytes_of new_key_digits) new_key
   pub of_succession : Spells entry_format (bytes_of succession_digits) succession
+  pub of_birth_of_version_two : Spells entry_format (bytes_of birth_of_version_two_digits) birth_of_version_two
+  pub of_load_of_version_two : Spells entry_format (bytes_of load_of_version_two_digits) load_of_version_two
 
 pub record RootRecords : Type 0 where
   pub settled : Spells root_format (bytes_of settled_root_digits) settled_root
@@ -94,6 +107,9 @@ pub record BodyRecords : Type 0 where
   pub load_three : Spells body_format (bytes_of (codes "030300000001020100000003616263")) load_three_body
   pub load_one : Spells body_format (bytes_of load_one_body_digits) load_one_body
   pub emergency : Spells body_format (bytes_of emergency_body_digits) emergency_body
+  pub split_load : Spells body_format (bytes_of split_load_body_digits) split_load_body
+  pub split_establish : Spells body_format (bytes_of split_establish_body_digits) split_establish_body
+  pub split_emergency : Spells body_format (bytes_of split_emergency_body_digits) split_emergency_body
 
 -- ---- bytes that are no record
 
@@ -106,8 +122,18 @@ pub record FailingRecords : Type 0 where
   pub short_birth : FailsWhole entry_format (take 170 (bytes_of birth_digits)) 170
   -- no entry has the tag 4, no change the kind 5, and no layer has code without an owner
   pub entry_tag : FailsWhole entry_format (with_byte 0 4 (bytes_of birth_digits)) 0
+  pub entry_tag_of_no_version : FailsWhole entry_format (with_byte 0 18 (bytes_of load_of_version_two_digits)) 0
   pub change_kind : FailsWhole entry_format (with_byte 9 5 (bytes_of load_of_one_digits)) 9
   pub layer_has : FailsWhole entry_format (with_byte 13 2 (bytes_of load_of_one_digits)) 13
+  -- both trusts of an unowned layer are never
+  pub unowned_trusts_always : FailsWhole (layer_format 2) (0 ∷ 1 ∷ 0 ∷ []) 2
+  -- of two trusts in an order the second is not the first, and surrender gives none
+  pub equal_trusts_in_load : FailsWhole body_format (with_byte 8 0 (bytes_of split_load_body_digits)) 8
+  pub equal_trusts_in_establish : FailsWhole body_format (with_byte 60 0 (bytes_of split_establish_body_digits)) 60
+  pub equal_trusts_in_emergency : FailsWhole body_format (with_byte 13 2 (bytes_of split_emergency_body_digits)) 13
+  pub third_trust : FailsWhole body_format (with_byte 8 3 (bytes_of split_load_body_digits)) 8
+  pub surrender_with_trusts : FailsWhole body_format (18 ∷ 2 ∷ 0 ∷ []) 0
+  pub kind_of_no_form : FailsWhole body_format (21 ∷ 3 ∷ 0 ∷ 1 ∷ []) 0
   -- there is no area 2, no key with 33 uses, and no three entries are unsigned
   pub area : FailsWhole root_format (with_byte 1 2 (bytes_of busy_root_digits)) 1
   pub uses : FailsWhole root_format (with_byte 66 33 (bytes_of busy_root_digits)) 66

@@ -25,7 +25,7 @@ use Rattle.mb_model.specs.declared.tools.Keyfile.{Keyfile}
 use Rattle.mb_model.specs.declared.order.Act.TheVariants as act
 use Rattle.mb_model.specs.declared.order.Target.TheVariants.{Serial, Length, Owner, Code}
 use Rattle.mb_model.specs.OrderFormat.{Body}
-use Rattle.mb_model.specs.Layers.{unowned}
+use Rattle.mb_model.specs.Layers.{equal_trusts, unowned}
 use Rattle.mb_examples.specs.RuleExamples.{layers_with, by_two, by_three, by_both}
 
 -- the bytes that hexadecimal digits say
@@ -86,7 +86,7 @@ reliable_layer =
       owner = Some (key_named 0x11);
       code = Some (record { hash = replicate 32 0x13; version = 258 });
       reliable = true;
-      trust = Always;
+      trust = equal_trusts Always;
     }
 
 abbrev pub reliable_layer_digits : List ℕ
@@ -101,7 +101,7 @@ doubted_layer =
       owner = Some (key_named 0x21);
       code = Some (record { hash = replicate 32 0x23; version = 7 });
       reliable = false;
-      trust = Countersigned;
+      trust = equal_trusts Countersigned;
     }
 
 abbrev pub doubted_layer_digits : List ℕ
@@ -112,7 +112,7 @@ doubted_layer_digits =
 
 abbrev pub bare_layer : Layer
 bare_layer =
-    record { owner = Some (key_named 0x31); code = None; reliable = false; trust = Always }
+    record { owner = Some (key_named 0x31); code = None; reliable = false; trust = equal_trusts Always }
 
 abbrev pub bare_layer_digits : List ℕ
 bare_layer_digits =
@@ -125,7 +125,7 @@ three_layers = layers_with reliable_layer doubted_layer bare_layer
 -- ---- entries
 
 abbrev pub birth : Entry
-birth = Birth (replicate 16 0x41) (key_named 0x43) (layers_with reliable_layer unowned unowned)
+birth = Birth 1 (replicate 16 0x41) (key_named 0x43) (layers_with reliable_layer unowned unowned)
 
 abbrev pub birth_digits : List ℕ
 birth_digits =
@@ -136,7 +136,7 @@ birth_digits =
 
 -- position 5, number 4; layer 3 countersigned, and region 2 is kept
 abbrev pub load_of_one : Entry
-load_of_one = Change 5 4 Load 1 by_three three_layers by_two (Some (key_named 0x45))
+load_of_one = Change 1 5 4 Load 1 by_three three_layers by_two (Some (key_named 0x45))
 
 abbrev pub load_of_one_digits : List ℕ
 load_of_one_digits =
@@ -151,7 +151,7 @@ load_of_one_digits =
 
 -- position 6, number 5; layer 3 countersigned, and both regions are kept
 abbrev pub emergency_of_two : Entry
-emergency_of_two = Change 6 5 Emergency 2 by_three three_layers by_both None
+emergency_of_two = Change 1 6 5 Emergency 2 by_three three_layers by_both None
 
 abbrev pub emergency_of_two_digits : List ℕ
 emergency_of_two_digits =
@@ -179,6 +179,58 @@ abbrev pub succession_digits : List ℕ
 succession_digits =
     codes "0300000008000000050000000349494949494949494949494949494949"
     ++ codes "4a4a4a4a4a4a4a4a4a4a4a4a4a4a4a4a4a4a4a4a4a4a4a4a4a4a4a4a4a4a4a4a"
+
+-- ---- layers and entries of version 2
+
+-- a layer that trusts loads of layer 1 always and loads of layer 2 never
+abbrev pub split_layer : Layer
+split_layer =
+    record {
+      owner = Some (key_named 0x21);
+      code = Some (record { hash = replicate 32 0x23; version = 7 });
+      reliable = false;
+      trust = record { one = Always; two = Never };
+    }
+
+abbrev pub split_layer_digits : List ℕ
+split_layer_digits =
+    codes "0300010000000500000003212121212121212121212121212121212222222222222222222222222222222222222222"
+    ++ codes "2222222222222222222222222323232323232323232323232323232323232323232323232323232323232323000000"
+    ++ codes "07"
+
+abbrev pub wary_layer : Layer
+wary_layer =
+    record { owner = Some (key_named 0x31); code = None; reliable = false; trust = equal_trusts Countersigned }
+
+abbrev pub wary_layer_digits : List ℕ
+wary_layer_digits =
+    codes "0102020000000500000003313131313131313131313131313131313232323232323232323232323232323232323232"
+    ++ codes "323232323232323232323232"
+
+abbrev pub birth_of_version_two : Entry
+birth_of_version_two = Birth 2 (replicate 16 0x41) (key_named 0x43) (layers_with reliable_layer unowned unowned)
+
+abbrev pub birth_of_version_two_digits : List ℕ
+birth_of_version_two_digits =
+    codes "1041414141414141414141414141414141000000050000000343434343434343434343434343434343444444444444"
+    ++ codes "4444444444444444444444444444444444444444444444444444070000000000050000000311111111111111111111"
+    ++ codes "1111111111111212121212121212121212121212121212121212121212121212121212121212131313131313131313"
+    ++ codes "131313131313131313131313131313131313131313131300000102000101000101"
+
+-- position 5, number 4; layer 3 countersigned, and region 2 is kept
+abbrev pub load_of_version_two : Entry
+load_of_version_two =
+    Change 2 5 4 Load 1 by_three (layers_with reliable_layer split_layer wary_layer) by_two (Some (key_named 0x45))
+
+abbrev pub load_of_version_two_digits : List ℕ
+load_of_version_two_digits =
+    codes "1100000005000000040301020107000000000005000000031111111111111111111111111111111112121212121212"
+    ++ codes "1212121212121212121212121212121212121212121212121213131313131313131313131313131313131313131313"
+    ++ codes "1313131313131313131300000102030001000000050000000321212121212121212121212121212121222222222222"
+    ++ codes "2222222222222222222222222222222222222222222222222222232323232323232323232323232323232323232323"
+    ++ codes "2323232323232323232323000000070102020000000500000003313131313131313131313131313131313232323232"
+    ++ codes "3232323232323232323232323232323232323232323232323232320100000005000000034545454545454545454545"
+    ++ codes "45454545454646464646464646464646464646464646464646464646464646464646464646"
 
 -- ---- root records
 
@@ -330,7 +382,7 @@ load_three_body =
     record {
       layer = 3;
       targets = [];
-      act = act.Load (record { version = 258; trust = Never; code = codes "abc" });
+      act = act.Load (record { version = 258; trust = equal_trusts Never; code = codes "abc" });
     }
 
 abbrev pub load_one_body : Body
@@ -338,7 +390,7 @@ load_one_body =
     record {
       layer = 1;
       targets = Length 5 ∷ Serial (bytes_of (codes "000102030405060708090a0b0c0d0e0f")) ∷ [];
-      act = act.Load (record { version = 2; trust = Countersigned; code = [] });
+      act = act.Load (record { version = 2; trust = equal_trusts Countersigned; code = [] });
     }
 
 abbrev pub load_one_body_digits : List ℕ
@@ -349,8 +401,44 @@ emergency_body =
     record {
       layer = 2;
       targets = Owner 1 (replicate 32 0x11) ∷ Code 3 (replicate 32 0x22) ∷ [];
-      act = act.Emergency (record { version = 4294967295; trust = Always; code = 0 ∷ 0xFF ∷ [] });
+      act = act.Emergency (record { version = 4294967295; trust = equal_trusts Always; code = 0 ∷ 0xFF ∷ [] });
     }
+
+-- a load that gives two trusts which differ
+abbrev pub split_load_body : Body
+split_load_body =
+    record {
+      layer = 3;
+      targets = [];
+      act = act.Load (record { version = 258; trust = record { one = Always; two = Never }; code = codes "abc" });
+    }
+
+abbrev pub split_load_body_digits : List ℕ
+split_load_body_digits = codes "13030000000102000100000003616263"
+
+abbrev pub split_establish_body : Body
+split_establish_body =
+    record {
+      layer = 3;
+      targets = [];
+      act = act.Establish (key_named 0x31) (record { one = Always; two = Never });
+    }
+
+abbrev pub split_establish_body_digits : List ℕ
+split_establish_body_digits =
+    codes "110300000000050000000331313131313131313131313131313131"
+    ++ codes "32323232323232323232323232323232323232323232323232323232323232320001"
+
+abbrev pub split_emergency_body : Body
+split_emergency_body =
+    record {
+      layer = 2;
+      targets = Length 7 ∷ [];
+      act = act.Emergency (record { version = 1; trust = record { one = Countersigned; two = Always }; code = [] });
+    }
+
+abbrev pub split_emergency_body_digits : List ℕ
+split_emergency_body_digits = codes "140201020000000700000001020000000000"
 
 abbrev pub emergency_body_digits : List ℕ
 emergency_body_digits =

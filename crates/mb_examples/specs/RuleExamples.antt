@@ -18,7 +18,7 @@ use Rattle.mb_model.specs.declared.entry.Entry.TheVariants.{Birth, Change, NewKe
 use Rattle.mb_model.specs.declared.order.Target.TheVariants as target
 use Rattle.mb_model.specs.declared.reply.Standing.TheVariants as stands
 use Rattle.mb_model.specs.Key.{key_bytes}
-use Rattle.mb_model.specs.Layers.{unowned, standing}
+use Rattle.mb_model.specs.Layers.{equal_trusts, unowned, standing}
 use Rattle.mb_model.specs.Log.{number_of, layers_of, device_of, used, made}
 use Rattle.mb_model.specs.Lives.{lives_of}
 use Rattle.mb_model.specs.Rules.{authority, condition, TargetHolds, admits, after, placed}
@@ -28,7 +28,7 @@ officer n = record { tree = H5; chains = W4; identifier = replicate 16 n; root =
 
 -- a layer with an owner and no code
 abbrev pub bare : ℕ → Trust → Layer
-bare n trust = record { owner = Some (officer n); code = None; reliable = false; trust = trust }
+bare n trust = record { owner = Some (officer n); code = None; reliable = false; trust = equal_trusts trust }
 
 -- a layer with an owner and reliable code
 abbrev pub running : ℕ → Trust → Layer
@@ -37,7 +37,7 @@ running n trust =
       owner = Some (officer n);
       code = Some (record { hash = replicate 32 n; version = 1 });
       reliable = true;
-      trust = trust;
+      trust = equal_trusts trust;
     }
 
 -- the layers after a load of this code into layer n by its owner, or from beneath
@@ -47,7 +47,7 @@ loaded_with n trust code =
       owner = Some (officer n);
       code = Some (record { hash = sha256 code; version = 7 });
       reliable = true;
-      trust = trust;
+      trust = equal_trusts trust;
     }
 
 -- code of layer n that is no longer to be relied on
@@ -73,7 +73,13 @@ by_two = record { two = true; three = false }
 abbrev pub by_three : Pair
 by_three = record { two = false; three = true }
 
--- which changes layer 2 admits, by its trust and by who countersigned
+-- all layers run, and layer 3 has these trusts in layers 1 and 2
+abbrev trusts_apart : Trust → Trust → Layers
+trusts_apart one two = record (all_run Always) {
+  three = record (running 3 Always) { trust = record { one = one; two = two } };
+}
+
+-- which changes layers 2 and 3 admit, by their trusts and by who countersigned
 pub record AdmissionExamples : Type 0 where
   pub always : admits (all_run Always) Load 1 nobody 2 ≡ true
   pub never : admits (all_run Never) Load 1 by_two 2 ≡ false
@@ -82,6 +88,12 @@ pub record AdmissionExamples : Type 0 where
   pub countersigned_by_another : admits (all_run Countersigned) Load 1 by_three 2 ≡ false
   -- the emergency load of layer 2, as layer 3 sees it
   pub emergency_beneath : admits (all_run Never) Emergency 2 by_three 3 ≡ true
+  -- layer 3 trusts loads of layer 1 always and loads of layer 2 never
+  pub trusts_one : admits (trusts_apart Always Never) Load 1 nobody 3 ≡ true
+  pub distrusts_two : admits (trusts_apart Always Never) Load 2 by_three 3 ≡ false
+  -- and the other way round
+  pub distrusts_one : admits (trusts_apart Never Always) Load 1 by_three 3 ≡ false
+  pub trusts_two : admits (trusts_apart Never Always) Emergency 2 nobody 3 ≡ true
   -- at its own layer, whatever it trusts
   pub own_load : admits (all_run Never) Load 2 nobody 2 ≡ true
   pub own_emergency : admits (all_run Always) Emergency 2 by_two 2 ≡ false
@@ -138,11 +150,12 @@ pub record StandingExamples : Type 0 where
 
 -- a load of version 7
 abbrev pub seven : Trust → List ℕ → Payload
-seven trust code = record { version = 7; trust = trust; code = code }
+seven trust code = record { version = 7; trust = equal_trusts trust; code = code }
 
 -- what each kind of change leaves
 pub record AfterExamples : Type 0 where
-  pub establish : after newborn Establish 2 nobody (placed unowned (act.Establish (officer 2) Never)) ≡ established
+  pub establish : after newborn Establish 2 nobody (placed unowned (act.Establish (officer 2) (equal_trusts Never)))
+      ≡ established
   -- layer 3 keeps its owner and its code, and is reliable no more
   pub surrender : after (all_run Always) Surrender 2 nobody (placed (running 2 Always) act.Surrender)
       ≡ record { one = running 1 Always; two = unowned; three = doubted 3 Countersigned }
@@ -172,7 +185,7 @@ renewed n trust =
       owner = Some (officer n);
       code = Some (record { hash = replicate 32 n; version = 2 });
       reliable = true;
-      trust = trust;
+      trust = equal_trusts trust;
     }
 
 -- the layers of a device's life, in turn
@@ -197,18 +210,19 @@ one_renewed = layers_with (renewed 1 Always) (running 2 Countersigned) (running 
 abbrev pub three_renewed : Layers
 three_renewed = layers_with (renewed 1 Always) (running 2 Countersigned) (renewed 3 Countersigned)
 
--- A life: layers 2 and 3 get owners and code, layer 3 gets a key, layer 1 is loaded as 2 and 3 countersign, and layer 3
--- is loaded. The keys are numbered 0 (the first device key), 1 (the key of layer 3) and 2 (the next device key).
+-- A life that began in version 1 and goes on in version 2: layers 2 and 3 get owners and code, layer 3 gets a key,
+-- layer 1 is loaded as 2 and 3 countersign, and layer 3 is loaded. The keys are numbered 0 (the first device key), 1
+-- (the key of layer 3) and 2 (the next device key).
 abbrev pub life : List Entry
 life =
-    Birth (replicate 16 9) (officer 10) at_birth
-    ∷ Change 1 1 Establish 2 nobody with_two nobody None
-    ∷ Change 2 2 Establish 3 nobody with_three by_two None
-    ∷ Change 3 3 Emergency 2 nobody two_runs nobody None
-    ∷ Change 4 4 Emergency 3 nobody three_runs by_two None
+    Birth 1 (replicate 16 9) (officer 10) at_birth
+    ∷ Change 2 1 1 Establish 2 nobody with_two nobody None
+    ∷ Change 2 2 2 Establish 3 nobody with_three by_two None
+    ∷ Change 2 3 3 Emergency 2 nobody two_runs nobody None
+    ∷ Change 2 4 4 Emergency 3 nobody three_runs by_two None
     ∷ NewKey 5 4 1 3 kinds.Epoch (officer 11)
-    ∷ Change 6 5 Load 1 by_both one_renewed by_both (Some (officer 12))
-    ∷ Change 7 6 Load 3 nobody three_renewed by_both None
+    ∷ Change 2 6 5 Load 1 by_both one_renewed by_both (Some (officer 12))
+    ∷ Change 2 7 6 Load 3 nobody three_renewed by_both None
     ∷ []
 
 -- what its entries say together
@@ -224,7 +238,7 @@ pub record LogExamples : Type 0 where
 abbrev pub longer_life : List Entry
 longer_life =
     life ++ NewKey 8 6 3 2 kinds.Configuration (officer 13)
-    ∷ Change 9 7 Load 3 nobody three_renewed by_both None
+    ∷ Change 2 9 7 Load 3 nobody three_renewed by_both None
     ∷ []
 
 -- the numbers of the configurations in which a key lived
@@ -244,7 +258,7 @@ pub record LifeExamples : Type 0 where
   pub configuration_key : lives_of longer_life 3 ≡
       record { number = 6; upto = 2; layers = layers_with (renewed 1 Always) (running 2 Countersigned) unowned } ∷ []
   -- a load of layer 2 ends the configuration key; the epoch key of layer 3, which did not trust it, ends too
-  pub configuration_key_ended : numbers_of (longer_life ++ Change 10 8 Load 2 nobody three_renewed by_two None ∷ []) 3
+  pub configuration_key_ended : numbers_of (longer_life ++ Change 2 10 8 Load 2 nobody three_renewed by_two None ∷ []) 3
       ≡ 6 ∷ []
-  pub epoch_key_ended : numbers_of (longer_life ++ Change 10 8 Load 2 nobody three_renewed by_two None ∷ []) 1
+  pub epoch_key_ended : numbers_of (longer_life ++ Change 2 10 8 Load 2 nobody three_renewed by_two None ∷ []) 1
       ≡ 4 ∷ 5 ∷ 6 ∷ 7 ∷ []

@@ -1,5 +1,6 @@
 -- An order with its signature, as an independent program made them; the checker verifies it. Is an order obeyed that
 -- the owner signed, and is one refused of which a bit of the signature is flipped?
+use Rattle.mb_model.specs.Layers.{equal_trusts}
 use Rattle.std.specs.Prelude.{ℕ, List, [], ◌∷◌, ◌++◌, codes, None, Some}
 use Rattle.mb_model.specs.declared.key.PublicKey.{PublicKey}
 use Rattle.mb_model.specs.declared.key.Tree.TheVariants.{H5}
@@ -105,7 +106,7 @@ establish_order signature =
     record {
       layer = 2;
       targets = [];
-      act = act.Establish owner_two Countersigned;
+      act = act.Establish owner_two (equal_trusts Countersigned);
       signature = signature;
       countersignatures = [];
     }
@@ -131,7 +132,7 @@ newborn signature = record {
   serial = serial;
   layers = first_layers;
   codes = record { one = None; two = None; three = None };
-  log = signed_with signature (Birth serial (officer 10) first_layers ∷ []);
+  log = signed_with signature (Birth 2 serial (officer 10) first_layers ∷ []);
   device = seed_of 10;
   uses = 0;
   two = empty_region;

@@ -7,7 +7,7 @@ use Rattle.mb_model.specs.declared.event.Event.{Event}
 use Rattle.mb_model.specs.declared.event.Event.TheVariants as event
 use Rattle.mb_model.specs.declared.reply.Reply.TheVariants as reply
 use Rattle.mb_model.specs.declared.reply.Standing.TheVariants as stands
-use Rattle.mb_model.specs.Layers.{unowned}
+use Rattle.mb_model.specs.Layers.{equal_trusts, unowned}
 use Rattle.mb_model.specs.Lines.{HasLines, FailsAtLine, Reads, TextFailsAtLine}
 use Rattle.mb_model.specs.Script.{IsScript, drawn_events}
 use Rattle.mb_model.specs.Replies.{reply_line}
@@ -80,7 +80,7 @@ load =
     record {
       layer = 3;
       targets = [];
-      act = act.Load (record { version = 258; trust = Never; code = codes "abc" });
+      act = act.Load (record { version = 258; trust = equal_trusts Never; code = codes "abc" });
       signature = [];
       countersignatures = [];
     }

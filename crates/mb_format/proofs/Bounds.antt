@@ -171,6 +171,9 @@ between_local w least most = decoded_local {f = number w} (λ n. (least ≤ n) �
 pub table_local : {A : Type 0} (w : Width) (rows : List (ℕ × A)) (code : A → ℕ) → IsLocal (table w rows code) (byte_len w)
 table_local {A} w rows code = decoded_local {f = number w} (λ (a : A). Unit {0}) (row_of rows) code (number_local w)
 
+pub listed_local : {A : Type 0} (w : Width) (rows : List (ℕ × A)) (code : A → ℕ) → IsLocal (listed w rows code) (byte_len w)
+listed_local {A} w rows code = decoded_local {f = number w} (λ (a : A). row_of rows (code a) ≡ Some a) (row_of rows) code (number_local w)
+
 pub nothing_local : {A : Type 0} {a : A} → IsLocal (nothing a) 0
 nothing_local = record { same = λ bytes at m p h. refl; near = λ bytes at p. omega arith }
 

@@ -9,6 +9,7 @@ use Rattle.mb_model.specs.declared.order.Act.{Act}
 use Rattle.mb_model.specs.declared.order.Act.TheVariants as act
 use Rattle.mb_model.specs.declared.order.Order.{Order}
 use Rattle.mb_model.specs.declared.tools.Keyfile.{Keyfile}
+use Rattle.mb_model.specs.Layers.{equal_trusts}
 use Rattle.mb_model.specs.Signing.{public_of}
 use Rattle.mb_model.specs.SignedOrders.{used_once, signed_order}
 use Rattle.mb_model.specs.Texts.{ended}
@@ -31,7 +32,7 @@ line_by k order = ended (order_line (signed_order k order))
 
 -- what gives a layer the officer n as its owner
 abbrev pub gives : Draws → ℕ → Act
-gives draws n = act.Establish (public_of (key_of_officer draws n)) Countersigned
+gives draws n = act.Establish (public_of (key_of_officer draws n)) (equal_trusts Countersigned)
 
 first_text : (draws : Draws) → first_orders_text draws
     ≡ line_by (keyfile_after draws [] 1) (targeted 2 1 (gives draws 2))
@@ -50,15 +51,15 @@ five_put old s1 s2 s3 s4 s5 a b c d e t1 t2 t3 t4 t5 = grind (arith, common_step
 -- the orders before the rounds are written
 pub first_put : (draws : Draws) (old s1 s2 s3 s4 s5 : List ℕ) (one two three once twice : Keyfile) (o1 o2 o3 o4 o5 : Order)
     → one ≡ keyfile_after draws [] 1 → two ≡ keyfile_after draws [] 2 → three ≡ keyfile_after draws [] 3 → once ≡ used_once one → twice ≡ used_once two
-    → o1 ≡ targeted 2 1 (act.Establish (public_of two.seed) Countersigned) → o2 ≡ targeted 3 2 (act.Establish (public_of three.seed) Countersigned)
+    → o1 ≡ targeted 2 1 (act.Establish (public_of two.seed) (equal_trusts Countersigned)) → o2 ≡ targeted 3 2 (act.Establish (public_of three.seed) (equal_trusts Countersigned))
     → o3 ≡ targeted 2 3 (act.Emergency (plan_payload 1 draws.code_two)) → o4 ≡ targeted 3 4 (act.Emergency (plan_payload 1 draws.code_three)) → o5 ≡ targeted 3 5 (act.NewKey kinds.Epoch)
     → s1 ≡ old ++ line_by one o1 → s2 ≡ s1 ++ line_by two o2 → s3 ≡ s2 ++ line_by once o3 → s4 ≡ s3 ++ line_by twice o4 → s5 ≡ s4 ++ line_by three o5
     → s5 ≡ old ++ first_orders_text draws
 first_put draws old s1 s2 s3 s4 s5 one two three once twice o1 o2 o3 o4 o5 is_one is_two is_three is_once is_twice e1 e2 e3 e4 e5 t1 t2 t3 t4 t5 =
     let l1 : line_by one o1 ≡ line_by (keyfile_after draws [] 1) (targeted 2 1 (gives draws 2)) =
-    λ i. line_by (is_one i) ((e1 ∙ ap (λ (k : Keyfile). targeted 2 1 (act.Establish (public_of k.seed) Countersigned)) is_two) i) in
+    λ i. line_by (is_one i) ((e1 ∙ ap (λ (k : Keyfile). targeted 2 1 (act.Establish (public_of k.seed) (equal_trusts Countersigned))) is_two) i) in
     let l2 : line_by two o2 ≡ line_by (keyfile_after draws [] 2) (targeted 3 2 (gives draws 3)) =
-    λ i. line_by (is_two i) ((e2 ∙ ap (λ (k : Keyfile). targeted 3 2 (act.Establish (public_of k.seed) Countersigned)) is_three) i) in
+    λ i. line_by (is_two i) ((e2 ∙ ap (λ (k : Keyfile). targeted 3 2 (act.Establish (public_of k.seed) (equal_trusts Countersigned))) is_three) i) in
     let l3 : line_by once o3 ≡ line_by (used_once (keyfile_after draws [] 1)) (targeted 2 3 (act.Emergency (plan_payload 1 draws.code_two))) =
     λ i. line_by ((is_once ∙ ap used_once is_one) i) (e3 i) in
     let l4 : line_by twice o4 ≡ line_by (used_once (keyfile_after draws [] 2)) (targeted 3 4 (act.Emergency (plan_payload 1 draws.code_three))) =

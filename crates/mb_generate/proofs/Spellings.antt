@@ -20,10 +20,11 @@ use Rattle.mb_model.specs.Merkle.{leaf_node, inner_node}
 use Rattle.mb_model.specs.Signing.{private_value, randomizer_of, node_above, node_of, public_of, signed_values, path_from, signature_of}
 use Rattle.mb_model.specs.Born.{officer_key}
 use Rattle.mb_model.specs.KeyFormat.{public_key_format}
+use Rattle.mb_model.specs.Layers.{equal_trusts}
 use Rattle.mb_model.specs.LayerFormat.{trust_format}
 use Rattle.mb_model.specs.EntryFormat.{key_kind_format}
 use Rattle.mb_model.specs.Rules.{kind_of}
-use Rattle.mb_model.specs.OrderFormat.{order_byte, target_format, payload_format, act_by, body_format, order_body, sized_signature_format, Climb, countersignature_format, climbed, countersignatures_format, order_format}
+use Rattle.mb_model.specs.OrderFormat.{form_byte, form_of, differs_in, target_format, payload_format, act_by, body_format, order_body, sized_signature_format, Climb, countersignature_format, climbed, countersignatures_format, order_format}
 use Rattle.mb_model.specs.Script.{with_before}
 use Rattle.mb_model.specs.Workload.{DrawnBytes, DrawnCode, DrawnValue, DrawnRound, RoundDraws, Draws, Plan, plan, plan_payload, key_of_officer, first_plans, round_plan, plans, unsigned_order, countersignature_by, signed, signed_orders}
 use Rattle.mb_generate.specs.Drawing.{AreDraws}
@@ -128,13 +129,13 @@ public_spelled key is = joined (numbered w32 5) (joined (numbered w32 3) (joined
 
 -- ---- orders
 
-body_spelled : (layer n : ℕ) (what : Act) → BytesUpTo 32777 ((act_by (kind_of what)).spelling what)
+body_spelled : (layer n : ℕ) (what : Act) → BytesUpTo 32778 ((act_by (kind_of what) (differs_in what)).spelling what)
     → BytesUpTo 33000 (body_format.spelling (record { layer = layer; targets = target.Length n ∷ []; act = what }))
 unfolding body_format target_format items number_bytes
 body_spelled layer n what done =
     let demanded = joined (numbered w8 1) (joined (joined (numbered w8 2) (numbered w32 n)) none) in
     let remaining = joined (numbered w8 layer) (joined demanded done) in
-    wider (joined (numbered w8 (order_byte (kind_of what))) remaining) (omega arith)
+    wider (joined (numbered w8 (form_byte (form_of what))) remaining) (omega arith)
 
 sized_spelled : (signature : List ℕ) → BytesUpTo 2348 signature → BytesUpTo 2350 (sized_signature_format.spelling signature)
 unfolding sized_signature_format number_bytes
@@ -151,7 +152,7 @@ countersignatures_spelled climb (c ∷ list) all =
 
 -- what a planned order does is spelled in bytes, and at most two officers countersign it
 record CanBeSigned (planned : Plan) : Type 0 where
-  done : BytesUpTo 32777 ((act_by (kind_of planned.act)).spelling planned.act)
+  done : BytesUpTo 32778 ((act_by (kind_of planned.act) (differs_in planned.act)).spelling planned.act)
   few : length planned.countersigners ≤ 2
 
 -- an order is spelled in bytes, and in fewer than 65,536 of them
@@ -173,17 +174,17 @@ order_spelled draws before planned can =
 
 -- ---- what the orders do
 
-establishes : (draws : Draws) (n : ℕ) → BytesUpTo 32777 ((act_by kind.Establish).spelling (act.Establish (public_of (key_of_officer draws n)) Countersigned))
+establishes : (draws : Draws) (n : ℕ) → BytesUpTo 32778 ((act_by kind.Establish false).spelling (act.Establish (public_of (key_of_officer draws n)) (equal_trusts Countersigned)))
 unfolding trust_format number_bytes
 establishes draws n = wider (joined (public_spelled (key_of_officer draws n) (identifier_bytes _)) (numbered w8 2)) (omega arith)
 
-makes_key : BytesUpTo 32777 ((act_by kind.NewKey).spelling (act.NewKey kinds.Epoch))
+makes_key : BytesUpTo 32778 ((act_by kind.NewKey false).spelling (act.NewKey kinds.Epoch))
 unfolding key_kind_format number_bytes
 makes_key = wider (numbered w8 0) (omega arith)
 
-carries : (version : ℕ) (code : List ℕ) → BytesUpTo 32768 code → BytesUpTo 32777 (payload_format.spelling (plan_payload version code))
+carries : (version : ℕ) (code : List ℕ) → BytesUpTo 32768 code → BytesUpTo 32778 ((payload_format false).spelling (plan_payload version code))
 unfolding payload_format trust_format number_bytes
-carries version code is = joined (numbered w32 version) (joined (numbered w8 2) (joined (numbered w32 (length code)) is))
+carries version code is = wider (joined (numbered w32 version) (joined (numbered w8 2) (joined (numbered w32 (length code)) is))) (omega arith)
 
 round_can : (first second : Bool) (i : ℕ) (code : List ℕ) → BytesUpTo 32768 code
     → CanBeSigned (

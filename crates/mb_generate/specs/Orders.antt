@@ -6,7 +6,7 @@ use Rattle.mb_model.specs.declared.order.Target.TheVariants as target
 use Rattle.mb_model.specs.declared.order.Order.{Order}
 use Rattle.mb_model.specs.declared.tools.Keyfile.{Keyfile}
 use Rattle.mb_model.specs.Rules.{kind_of, MayBeFor}
-use Rattle.mb_model.specs.OrderFormat.{act_by}
+use Rattle.mb_model.specs.OrderFormat.{differs_in, act_by}
 use Rattle.mb_model.specs.Workload.{RoundDraws, Draws, Plan, key_of_officer, signatures_by, signed}
 use Rattle.mb_generate.specs.declared.officers.Officers.{Officers}
 
@@ -43,7 +43,7 @@ targeted layer count what = record {
 -- what an order does can be spelled, and is for this layer
 pub record CanBeOrdered (layer : ℕ) (what : Act) : Type 0 where
   pub layered : MayBeFor (kind_of what) layer
-  pub spelled : (act_by (kind_of what)).Allowed what
+  pub spelled : (act_by (kind_of what) (differs_in what)).Allowed what
 
 -- The order is the one that is planned, after others that leave the log one entry shorter than `count`.
 abbrev pub SignsPlan : {E : Type 0} → ℕ → Plan → Officers → Result Order E → Officers → Type 0

@@ -2,6 +2,7 @@
 
 ghost use Rattle.std.specs.Prelude.{◌≡◌, ◌+◌, ◌-◌, ◌<◌, ◌≤◌, ◌∷◌, [], length, IsTrue, IfOk, OnOk};
 ghost use Rattle.mb_model.specs.declared.key.Trust.TheVariants.{Countersigned};
+ghost use Rattle.mb_model.specs.Layers.{equal_trusts};
 ghost use Rattle.mb_model.specs.declared.order.Act.TheVariants as act;
 ghost use Rattle.mb_model.specs.Layers.{is_upper};
 ghost use Rattle.mb_model.specs.OrderFormat.{order_format};
@@ -11,7 +12,7 @@ ghost use Rattle.mb_generate.specs.Orders.{HaveUsed, targeted, CanBeOrdered, Sig
 
 use mb_lms::Steps;
 use mb_model::{
-    Act, Bytes, Countersignatures, Items, Keyfile, NoMemory, Order, Payload, Target, Trust,
+    Act, Bytes, Countersignatures, Items, Keyfile, NoMemory, Order, Payload, Target, Trust, Trusts,
 };
 use mb_officer::{SignEnd, countersign, sign_order};
 use std::alloc::Global;
@@ -55,7 +56,7 @@ pub(crate) fn load_of(alloc: Global, version: u32, code: &[u8]) -> Result<Payloa
 {
     Ok(Payload {
         version,
-        trust: Trust::Countersigned,
+        trust: Trusts::equal(Trust::Countersigned),
         code: Bytes::copy(alloc, code)?,
     })
 }

@@ -3,6 +3,7 @@
 ghost use Rattle.std.specs.Prelude.{◌≡◌, ◌+◌, ◌-◌, ◌*◌, ◌≤◌, ◌<◌, ◌++◌, [], length, IfOk, OnOk};
 ghost use Rattle.std.specs.String.{string_bytes};
 ghost use Rattle.mb_model.specs.declared.key.Trust.TheVariants.{Countersigned};
+ghost use Rattle.mb_model.specs.Layers.{equal_trusts};
 ghost use Rattle.mb_model.specs.declared.order.Act.TheVariants as act;
 ghost use Rattle.mb_model.specs.Signing.{public_of};
 ghost use Rattle.mb_model.specs.Texts.{ended};
@@ -18,7 +19,7 @@ ghost use Rattle.mb_generate.specs.Scripts.{puts_text, first_orders_text, sign_l
 use crate::draws::{Drawn, RoundDrawn};
 use crate::officers::{Officers, load_of, round_order, sign, targeted};
 use mb_lms::Steps;
-use mb_model::{Act, Bytes, KeyKind, Keyfile, NoMemory, Order, Trust};
+use mb_model::{Act, Bytes, KeyKind, Keyfile, NoMemory, Order, Trust, Trusts};
 use mb_officer::write_order_line;
 use mb_signer::public;
 use std::alloc::Global;
@@ -100,12 +101,12 @@ fn put_first_orders<L: Ledger>(
 
 /// What gives a layer this officer as its owner, and lets it trust what is countersigned.
 fn establish_of<L: Ledger>(officer: &Keyfile, steps: &mut Steps<L>) -> Act
-    ensures act { result ≡ act.Establish (public_of officer.now.seed) Countersigned }
+    ensures act { result ≡ act.Establish (public_of officer.now.seed) (equal_trusts Countersigned) }
     ensures cost { steps.new ≡ steps.old + 34399 }
 {
     Act::Establish {
         owner: public(&officer.seed, steps),
-        trust: Trust::Countersigned,
+        trust: Trusts::equal(Trust::Countersigned),
     }
 }
 

@@ -24,11 +24,11 @@ use Rattle.mb_lemmas.proofs.ValidRegions.{kept_at}
 use Rattle.mb_image.specs.Losses.{loss}
 
 -- the region that an entry keeps is the one that its layer admits
-kept_is : (log before later : List Entry) (position number : ℕ) (kind : ChangeKind) (k : ℕ) (cosigned : Pair) (layers : Layers) (kept : Pair) (next : Option PublicKey) (L : ℕ)
-    → IsTrue (is_upper L) → RuledLog log → log ≡ before ++ Change position number kind k cosigned layers kept next ∷ later
+kept_is : (log before later : List Entry) (version position number : ℕ) (kind : ChangeKind) (k : ℕ) (cosigned : Pair) (layers : Layers) (kept : Pair) (next : Option PublicKey) (L : ℕ)
+    → IsTrue (is_upper L) → RuledLog log → log ≡ before ++ Change version position number kind k cosigned layers kept next ∷ later
     → is_in L kept ≡ (nat_lt L k || admits (layers_of before) kind k cosigned L)
-kept_is log before later position number kind k cosigned layers kept next L upper ruled split =
-    ap (is_in L) (ruled before (Change position number kind k cosigned layers kept next) later split).1.regions
+kept_is log before later version position number kind k cosigned layers kept next L upper ruled split =
+    ap (is_in L) (ruled before (Change version position number kind k cosigned layers kept next) later split).1.regions
     ∙ kept_at (layers_of before) kind k cosigned L upper
 
 either : (beneath agrees kept : Bool) → kept ≡ (beneath || agrees) → beneath ≡ false → kept ≡ true → agrees ≡ true
@@ -48,11 +48,11 @@ not_above k L off = grind (arith, off)
 -- a secret that was put after the last loss was kept rightly
 pub admitted_after : (log : List Entry) (c L : ℕ) → IsTrue (is_upper L) → RuledLog log → All (λ entry. loss L entry ≤ c) log → AdmittedSince log c L
 admitted_after log c L upper ruled lost =
-    λ before later position number kind k cosigned layers kept next split above beneath.
-    let entry : Entry = Change position number kind k cosigned layers kept next in
+    λ before later version position number kind k cosigned layers kept next split above beneath.
+    let entry : Entry = Change version position number kind k cosigned layers kept next in
     let small : (if is_in L kept then 0 else number) ≤ c = All-split (λ (e : Entry). loss L e ≤ c) before entry later (subst (All (λ (e : Entry). loss L e ≤ c)) split lost) in
     either (nat_lt L k) (admits (layers_of before) kind k cosigned L) (is_in L kept)
-    (kept_is log before later position number kind k cosigned layers kept next L upper ruled split)
+    (kept_is log before later version position number kind k cosigned layers kept next L upper ruled split)
     (le-ltb L k beneath)
     (loss_of (is_in L kept) number c small above)
 
@@ -64,12 +64,12 @@ loss_by false number c never =
 
 loss_at : (log before later : List Entry) (entry : Entry) (c L : ℕ) → IsTrue (is_upper L) → RuledLog log → AdmittedSince log c L
     → log ≡ before ++ entry ∷ later → loss L entry ≤ c
-loss_at log before later (Birth serial key layers) c L upper ruled since split = omega arith
-loss_at log before later (Change position number kind k cosigned layers kept next) c L upper ruled since split =
+loss_at log before later (Birth version serial key layers) c L upper ruled since split = omega arith
+loss_at log before later (Change version position number kind k cosigned layers kept next) c L upper ruled since split =
     loss_by (is_in L kept) number c
     (λ lost above.
-    let parts = neither (nat_lt L k) (admits (layers_of before) kind k cosigned L) (is_in L kept) (kept_is log before later position number kind k cosigned layers kept next L upper ruled split) lost in
-    let on : admits (layers_of before) kind k cosigned L ≡ true = since before later position number kind k cosigned layers kept next split above (not_above k L parts.0) in
+    let parts = neither (nat_lt L k) (admits (layers_of before) kind k cosigned L) (is_in L kept) (kept_is log before later version position number kind k cosigned layers kept next L upper ruled split) lost in
+    let on : admits (layers_of before) kind k cosigned L ≡ true = since before later version position number kind k cosigned layers kept next split above (not_above k L parts.0) in
     true≢false (sym on ∙ parts.1))
 loss_at log before later (NewKey position number key_number layer kind key) c L upper ruled since split = omega arith
 loss_at log before later (Succession position key) c L upper ruled since split = omega arith
@@ -87,13 +87,13 @@ number_of-none = refl
 
 -- a change with a greater number than a key's entry stands after it
 stands_after : (log before later before' later' : List Entry) (position number n L : ℕ) (key_kind : KeyKind) (key : PublicKey)
-    → (position' number' : ℕ) (kind : ChangeKind) (k : ℕ) (cosigned : Pair) (layers : Layers) (kept : Pair) (next : Option PublicKey)
+    → (version' position' number' : ℕ) (kind : ChangeKind) (k : ℕ) (cosigned : Pair) (layers : Layers) (kept : Pair) (next : Option PublicKey)
     → RuledLog log → log ≡ before ++ NewKey position number n L key_kind key ∷ later
-    → log ≡ before' ++ Change position' number' kind k cosigned layers kept next ∷ later' → number < number'
-    → (more : List Entry) × (later ≡ more ++ Change position' number' kind k cosigned layers kept next ∷ later')
-stands_after log before later before' later' position number n L key_kind key position' number' kind k cosigned layers kept next ruled split split' above =
+    → log ≡ before' ++ Change version' position' number' kind k cosigned layers kept next ∷ later' → number < number'
+    → (more : List Entry) × (later ≡ more ++ Change version' position' number' kind k cosigned layers kept next ∷ later')
+stands_after log before later before' later' position number n L key_kind key version' position' number' kind k cosigned layers kept next ruled split split' above =
     let mine : Entry = NewKey position number n L key_kind key in
-    let change : Entry = Change position' number' kind k cosigned layers kept next in
+    let change : Entry = Change version' position' number' kind k cosigned layers kept next in
     let own : number ≡ number_of before = (ruled before mine later split).1.counted in
     let other : number' ≡ number_of before' + 1 = (ruled before' change later' split').1.counted in
     elim (two_splits before before' mine change later later' (sym split ∙ split')) [
@@ -113,14 +113,14 @@ stands_after log before later before' later' position number n L key_kind key po
         rest_of xs x more later y rest tails
 
 -- a change that does not end a key is one that its layer admits
-goes_along : (key_kind : KeyKind) (L : ℕ) (position number : ℕ) (kind : ChangeKind) (k : ℕ) (cosigned : Pair) (layers : Layers) (kept : Pair) (next : Option PublicKey)
-    → ends key_kind L (Change position number kind k cosigned layers kept next) ≡ false → k ≤ L → is_in L kept ≡ true
-goes_along kinds.Epoch L position number kind k cosigned layers kept next lasts beneath = not_false (is_in L kept) lasts
+goes_along : (key_kind : KeyKind) (L : ℕ) (version position number : ℕ) (kind : ChangeKind) (k : ℕ) (cosigned : Pair) (layers : Layers) (kept : Pair) (next : Option PublicKey)
+    → ends key_kind L (Change version position number kind k cosigned layers kept next) ≡ false → k ≤ L → is_in L kept ≡ true
+goes_along kinds.Epoch L version position number kind k cosigned layers kept next lasts beneath = not_false (is_in L kept) lasts
   where
     not_false : (b : Bool) → not b ≡ false → b ≡ true
     not_false true e = refl
     not_false false e = absurd (true≢false e)
-goes_along kinds.Configuration L position number kind k cosigned layers kept next lasts beneath = absurd (grind (arith, lasts, beneath))
+goes_along kinds.Configuration L version position number kind k cosigned layers kept next lasts beneath = absurd (grind (arith, lasts, beneath))
 
 -- a key that is alive was admitted
 pub alive_is_admitted : (log : List Entry) (n L : ℕ) (key_kind : KeyKind) (key : PublicKey) → IsTrue (is_upper L) → RuledLog log → Alive log n L key_kind key → KeyAdmitted log L n
@@ -132,14 +132,14 @@ alive_is_admitted log n L key_kind key upper ruled alive = record {
   key = key;
   later = alive.later;
   split = alive.split;
-  admitted = λ before later position number kind k cosigned layers kept next split above beneath.
-      let change : Entry = Change position number kind k cosigned layers kept next in
-      let after = stands_after log alive.before alive.later before later alive.position alive.number n L key_kind key position number kind k cosigned layers kept next ruled alive.split split above in
+  admitted = λ before later version position number kind k cosigned layers kept next split above beneath.
+      let change : Entry = Change version position number kind k cosigned layers kept next in
+      let after = stands_after log alive.before alive.later before later alive.position alive.number n L key_kind key version position number kind k cosigned layers kept next ruled alive.split split above in
       let lasts : ends key_kind L change ≡ false = All-split (λ (e : Entry). ends key_kind L e ≡ false) after.0 change later (subst (All (λ (e : Entry). ends key_kind L e ≡ false)) after.1 alive.lasts) in
       either (nat_lt L k) (admits (layers_of before) kind k cosigned L) (is_in L kept)
-      (kept_is log before later position number kind k cosigned layers kept next L upper ruled split)
+      (kept_is log before later version position number kind k cosigned layers kept next L upper ruled split)
       (le-ltb L k beneath)
-      (goes_along key_kind L position number kind k cosigned layers kept next lasts beneath);
+      (goes_along key_kind L version position number kind k cosigned layers kept next lasts beneath);
 }
 
 contained : (keys : List RegionKey) (i : ℕ) (d : RegionKey) → i < length keys → Contains (map as_made keys) (as_made (get_or keys i d))

@@ -1,5 +1,5 @@
 -- One more entry of a log.
-use Rattle.std.proofs.Common.{◌≡◌, ◌<◌, ◌+◌, ℕ, List, [], ◌++◌, length, take, get_or, refl, sym, ap, ◌∙◌}
+use Rattle.std.proofs.Common.{◌≡◌, ◌<◌, ◌+◌, ℕ, List, ◌++◌, length, take, get_or, sym, ap, ◌∙◌}
 use Rattle.std.specs.Prelude.{filter}
 use Rattle.mb_lemmas.proofs.LogLemmas.{entries_more}
 use Rattle.mb_model.specs.declared.entry.Entry.{Entry}

@@ -6,7 +6,7 @@ use Rattle.mb_model.specs.Layers.{is_in}
 
 -- the number of the change by which region L lost its secrets; 0 for each other entry
 abbrev pub loss : ℕ → Entry → ℕ
-loss L (Birth serial key layers) = 0
-loss L (Change position number kind layer cosigned layers kept next) = if is_in L kept then 0 else number
+loss L (Birth version serial key layers) = 0
+loss L (Change version position number kind layer cosigned layers kept next) = if is_in L kept then 0 else number
 loss L (NewKey position number key_number layer kind key) = 0
 loss L (Succession position key) = 0

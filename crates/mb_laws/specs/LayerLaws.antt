@@ -77,10 +77,10 @@ UsedAfterTheLast =
 -- what a change leaves of a region was kept rightly, where it was before
 abbrev pub ChangesKeepRightly : Type 0
 ChangesKeepRightly =
-    (log : List Entry) (position number : ℕ) (kind : ChangeKind) (k : ℕ) (cosigned : Pair)
+    (log : List Entry) (version position number : ℕ) (kind : ChangeKind) (k : ℕ) (cosigned : Pair)
     → (layers : Layers) (kept : Pair) (next : Option PublicKey) (L : ℕ) (region : Region)
     → RegionKeptRightly log L region
-    → RegionKeptRightly (log ++ Change position number kind k cosigned layers kept next ∷ []) L
+    → RegionKeptRightly (log ++ Change version position number kind k cosigned layers kept next ∷ []) L
     (region_after (layers_of log) kind k cosigned L region)
 
 -- and so with a new key

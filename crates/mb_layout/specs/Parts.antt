@@ -16,16 +16,16 @@ use Rattle.mb_model.specs.EntryFormat.{change_byte, pair_format, key_kind_format
 use Rattle.mb_model.specs.RootFormat.{pending_format}
 use Rattle.mb_model.specs.Flash.{public_entry_format}
 
--- the regions kept, the layers and the next key of a change
-abbrev pub kept_bytes : Pair → Layers → Option PublicKey → List ℕ
-kept_bytes kept layers next =
-    pair_format.spelling kept ++ (layers_format.spelling layers ++ (optional public_key_format).spelling next)
+-- the regions kept, the layers and the next key of a change, in a version
+abbrev pub kept_bytes : ℕ → Pair → Layers → Option PublicKey → List ℕ
+kept_bytes version kept layers next =
+    pair_format.spelling kept ++ ((layers_format version).spelling layers ++ (optional public_key_format).spelling next)
 
--- all of a change after its numbers
-abbrev pub changed_bytes : ChangeKind → ℕ → Pair → Pair → Layers → Option PublicKey → List ℕ
-changed_bytes kind layer cosigned kept layers next =
+-- all of a change after its numbers, in a version
+abbrev pub changed_bytes : ℕ → ChangeKind → ℕ → Pair → Pair → Layers → Option PublicKey → List ℕ
+changed_bytes version kind layer cosigned kept layers next =
     (number w8).spelling (change_byte kind)
-    ++ ((number w8).spelling layer ++ (pair_format.spelling cosigned ++ kept_bytes kept layers next))
+    ++ ((number w8).spelling layer ++ (pair_format.spelling cosigned ++ kept_bytes version kept layers next))
 
 -- all of a new key after its numbers
 abbrev pub made_key_bytes : ℕ → ℕ → KeyKind → PublicKey → List ℕ

@@ -4,7 +4,7 @@ ghost use Rattle.std.specs.Prelude.{◌≡◌};
 ghost use Rattle.std.specs.Int.{w8};
 ghost use Rattle.mb_format.specs.Combinators.{table, optional};
 ghost use Rattle.mb_model.specs.KeyFormat.{public_key_format};
-ghost use Rattle.mb_model.specs.EntryFormat.{change_rows, change_byte, pair_byte, pair_format, birth_format, change_format, new_key_format, succession_format, entry_format};
+ghost use Rattle.mb_model.specs.EntryFormat.{change_rows, change_byte, birth_tag, change_tag, entry_byte, pair_byte, pair_format, birth_format, change_format, new_key_format, succession_format, entry_format};
 ghost use Rattle.mb_bytes.specs.Reads.{bad_at, Reads, ReadsExactly};
 ghost use Rattle.mb_bytes.specs.Puts.{Puts, Writes};
 ghost use Rattle.mb_layout.specs.Parts.{kept_bytes, changed_bytes, made_key_bytes};
@@ -67,13 +67,14 @@ fn next_key_at(cursor: &mut Cursor<'_>) -> Result<Option<PublicKey>, BadRecord>
 }
 
 #[tactic(auto, unfolding(mb_model::specs::EntryFormat::birth_format))]
-fn birth_at(cursor: &mut Cursor<'_>) -> Result<Entry, BadRecord>
-    ensures { Reads bad_at birth_format cursor.old result cursor.new }
+fn birth_at(cursor: &mut Cursor<'_>, version: u8) -> Result<Entry, BadRecord>
+    ensures { Reads bad_at (birth_format version) cursor.old result cursor.new }
 {
     let serial = cursor.take_array()?;
     let key = public_key_at(cursor)?;
-    let layers = layers_at(cursor)?;
+    let layers = layers_at(cursor, version)?;
     Ok(Entry::Birth {
+        version,
         serial,
         key,
         layers,
@@ -81,8 +82,8 @@ fn birth_at(cursor: &mut Cursor<'_>) -> Result<Entry, BadRecord>
 }
 
 #[tactic(auto, unfolding(mb_model::specs::EntryFormat::change_format))]
-fn change_at(cursor: &mut Cursor<'_>) -> Result<Entry, BadRecord>
-    ensures { Reads bad_at change_format cursor.old result cursor.new }
+fn change_at(cursor: &mut Cursor<'_>, version: u8) -> Result<Entry, BadRecord>
+    ensures { Reads bad_at (change_format version) cursor.old result cursor.new }
 {
     let position = cursor.take_u32()?;
     let number = cursor.take_u32()?;
@@ -90,9 +91,10 @@ fn change_at(cursor: &mut Cursor<'_>) -> Result<Entry, BadRecord>
     let layer = u8_between(cursor, 1, 3)?;
     let cosigned = pair_at(cursor)?;
     let kept = pair_at(cursor)?;
-    let layers = layers_at(cursor)?;
+    let layers = layers_at(cursor, version)?;
     let next = next_key_at(cursor)?;
     Ok(Entry::Change {
+        version,
         position,
         number,
         kind,
@@ -133,22 +135,38 @@ fn succession_at(cursor: &mut Cursor<'_>) -> Result<Entry, BadRecord>
     Ok(Entry::Succession { position, key })
 }
 
-/// An entry after a byte for which of the four it is.
+/// An entry, after a byte that says which of the four it is, and which version a birth or change has.
 #[tactic(auto, unfolding(mb_model::specs::EntryFormat::entry_format))]
 pub fn entry_at(cursor: &mut Cursor<'_>) -> Result<Entry, BadRecord>
     ensures { Reads bad_at entry_format cursor.old result cursor.new }
 {
     let at = cursor.offset();
     match cursor.take_u8()? {
-        0 => birth_at(cursor),
-        1 => change_at(cursor),
+        0 => birth_at(cursor, 1),
+        1 => change_at(cursor, 1),
         2 => new_key_at(cursor),
         3 => succession_at(cursor),
+        16 => birth_at(cursor, 2),
+        17 => change_at(cursor, 2),
         _ => Err(BadRecord { at }),
     }
 }
 
-fn change_number(kind: ChangeKind) -> u8
+/// The first byte of a birth of this version.
+fn birth_number(version: u8) -> u8
+    ensures { result ≡ entry_byte (birth_tag version) }
+{
+    if version == 1 { 0 } else { 16 }
+}
+
+/// The first byte of a change of this version.
+fn change_number(version: u8) -> u8
+    ensures { result ≡ entry_byte (change_tag version) }
+{
+    if version == 1 { 1 } else { 17 }
+}
+
+fn kind_number(kind: ChangeKind) -> u8
     ensures { result ≡ change_byte kind }
 {
     match kind {
@@ -191,19 +209,21 @@ fn put_pair(out: &mut Vec<u8>, pair: Pair) -> Result<(), NoMemory>
 
 fn put_kept(
     out: &mut Vec<u8>,
+    version: u8,
     kept: Pair,
     layers: &Layers,
     next: &Option<PublicKey>,
 ) -> Result<(), NoMemory>
-    ensures { Puts (kept_bytes kept layers.now next.now) out.old result out.new }
+    ensures { Puts (kept_bytes version kept layers.now next.now) out.old result out.new }
 {
     put_pair(out, kept)?;
-    put_layers(out, layers)?;
+    put_layers(out, layers, version)?;
     put_next_key(out, next)
 }
 
 fn put_changed(
     out: &mut Vec<u8>,
+    version: u8,
     kind: ChangeKind,
     layer: u8,
     cosigned: Pair,
@@ -211,12 +231,12 @@ fn put_changed(
     layers: &Layers,
     next: &Option<PublicKey>,
 ) -> Result<(), NoMemory>
-    ensures { Puts (changed_bytes kind layer cosigned kept layers.now next.now) out.old result out.new }
+    ensures { Puts (changed_bytes version kind layer cosigned kept layers.now next.now) out.old result out.new }
 {
-    put_u8(out, change_number(kind))?;
+    put_u8(out, kind_number(kind))?;
     put_u8(out, layer)?;
     put_pair(out, cosigned)?;
-    put_kept(out, kept, layers, next)
+    put_kept(out, version, kept, layers, next)
 }
 
 fn put_made_key(
@@ -241,16 +261,18 @@ pub fn put_entry(out: &mut Vec<u8>, entry: &Entry) -> Result<(), NoMemory>
 {
     match entry {
         Entry::Birth {
+            version,
             serial,
             key,
             layers,
         } => {
-            put_u8(out, 0)?;
+            put_u8(out, birth_number(*version))?;
             put_slice(out, serial)?;
             put_public_key(out, key)?;
-            put_layers(out, layers)
+            put_layers(out, layers, *version)
         }
         Entry::Change {
+            version,
             position,
             number,
             kind,
@@ -260,10 +282,10 @@ pub fn put_entry(out: &mut Vec<u8>, entry: &Entry) -> Result<(), NoMemory>
             kept,
             next,
         } => {
-            put_u8(out, 1)?;
+            put_u8(out, change_number(*version))?;
             put_u32(out, *position)?;
             put_u32(out, *number)?;
-            put_changed(out, *kind, *layer, *cosigned, *kept, layers, next)
+            put_changed(out, *version, *kind, *layer, *cosigned, *kept, layers, next)
         }
         Entry::NewKey {
             position,

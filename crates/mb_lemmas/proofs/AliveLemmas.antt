@@ -40,8 +40,8 @@ by_flags true true true p key e = sym (ap (λ b. cond b (key ∷ []) []) e)
 
 -- one more entry leaves a key that it does not end
 lasting-push : (L : ℕ) (entry : Entry) (later : List Entry) (last : Entry) → lasting L entry (later ++ last ∷ []) ≡ filter (goes_on L last) (lasting L entry later)
-lasting-push L (Birth serial key layers) later last = refl
-lasting-push L (Change position number kind layer cosigned layers kept next) later last = refl
+lasting-push L (Birth version serial key layers) later last = refl
+lasting-push L (Change version position number kind layer cosigned layers kept next) later last = refl
 lasting-push L (NewKey position number key_number layer kind key) later last =
     let mine : MadeKey = record { number = key_number; kind = kind; key = key } in
     ap (λ b. if (layer == L) && b then mine ∷ [] else []) (list_all-append (λ e. not (ends kind L e)) later (last ∷ []))
@@ -49,8 +49,8 @@ lasting-push L (NewKey position number key_number layer kind key) later last =
 lasting-push L (Succession position key) later last = refl
 
 lasting-nil : (L : ℕ) (entry : Entry) → lasting L entry [] ≡ made_by L entry
-lasting-nil L (Birth serial key layers) = refl
-lasting-nil L (Change position number kind layer cosigned layers kept next) = refl
+lasting-nil L (Birth version serial key layers) = refl
+lasting-nil L (Change version position number kind layer cosigned layers kept next) = refl
 lasting-nil L (NewKey position number key_number layer kind key) =
     let mine : MadeKey = record { number = key_number; kind = kind; key = key } in
     elim (layer == L) as (λ b. (if b && true then mine ∷ [] else []) ≡ (if b then mine ∷ [] else [])) [ false ↦ refl | true ↦ refl ]
@@ -143,8 +143,8 @@ own_is_alive layer L true true position number key_number n kind' kind key' key 
 
 lasting_is_alive : (L n : ℕ) (kind : KeyKind) (key : PublicKey) (entry : Entry) (later : List Entry) → Contains (lasting L entry later) (record { number = n; kind = kind; key = key })
     → Alive (entry ∷ later) n L kind key
-lasting_is_alive L n kind key (Birth serial device layers) later within = absurd (not_in_nothing _ within)
-lasting_is_alive L n kind key (Change position number change layer cosigned layers kept next) later within = absurd (not_in_nothing _ within)
+lasting_is_alive L n kind key (Birth version serial device layers) later within = absurd (not_in_nothing _ within)
+lasting_is_alive L n kind key (Change version position number change layer cosigned layers kept next) later within = absurd (not_in_nothing _ within)
 lasting_is_alive L n kind key (NewKey position number key_number layer kind' key') later within =
     own_is_alive layer L (layer == L) (list_all (λ e. not (ends kind' L e)) later) position number key_number n kind' kind key' key later refl refl within
 lasting_is_alive L n kind key (Succession position device) later within = absurd (not_in_nothing _ within)
@@ -194,12 +194,12 @@ record AreNumbered (n : ℕ) (keys : List MadeKey) : Type 0 where
 
 numbered_more : (before : List Entry) (entry : Entry) → Ruled before entry → (L : ℕ) (keys : List MadeKey) → AreNumbered (made before) keys
     → AreNumbered (made before + keys_in entry) (keys ++ made_by L entry)
-numbered_more before (Birth serial key layers) ruled L keys are = record {
+numbered_more before (Birth version serial key layers) ruled L keys are = record {
   below = All-append (IsBelow (made before + 1)) keys [] (All-weaker (IsBelow (made before)) (IsBelow (made before + 1)) (λ k less. omega (arith, less)) keys are.below) (All-nil (IsBelow (made before + 1)));
   up = subst (AllPairs Increase) (sym (append-nil keys)) are.up;
 }
-numbered_more before (Change position number kind layer cosigned layers kept next) ruled L keys are =
-    let n : ℕ = made before + keys_in (Change position number kind layer cosigned layers kept next) in
+numbered_more before (Change version position number kind layer cosigned layers kept next) ruled L keys are =
+    let n : ℕ = made before + keys_in (Change version position number kind layer cosigned layers kept next) in
     record {
       below = All-append (IsBelow n) keys [] (All-weaker (IsBelow (made before)) (IsBelow n) (λ k less. omega (arith, less)) keys are.below) (All-nil (IsBelow n));
       up = subst (AllPairs Increase) (sym (append-nil keys)) are.up;
@@ -249,8 +249,8 @@ pub high_is_unmade : (log : List Entry) (n : ℕ) → RuledLog log → made log 
 high_is_unmade log n ruled high = by_entries (λ es. made es ≤ n → IsUnmade es n) step (λ some. All-nil (λ e. makes n e ≡ false)) log ruled high
   where
     other : (before : List Entry) (entry : Entry) → Ruled before entry → made before + keys_in entry ≤ n → makes n entry ≡ false
-    other before (Birth serial key layers) next high = refl
-    other before (Change position number kind layer cosigned layers kept device) next high = refl
+    other before (Birth version serial key layers) next high = refl
+    other before (Change version position number kind layer cosigned layers kept device) next high = refl
     other before (NewKey position number key_number layer kind key) next high = let counted = next.1.key_counted in grind (arith, high, counted)
     other before (Succession position key) next high = refl
 
@@ -268,8 +268,8 @@ later_is_unmade front (entry ∷ rest) n less ruled =
     All-cons (λ e. makes n e ≡ false) entry rest (other entry (ruled front entry rest refl)) (later_is_unmade (front ++ entry ∷ []) rest n more (subst RuledLog (sym seam) ruled))
   where
     other : (e : Entry) → Ruled front e → makes n e ≡ false
-    other (Birth serial key layers) next = refl
-    other (Change position number kind layer cosigned layers kept device) next = refl
+    other (Birth version serial key layers) next = refl
+    other (Change version position number kind layer cosigned layers kept device) next = refl
     other (NewKey position number key_number layer kind key) next = let counted = next.1.key_counted in grind (arith, less, counted)
     other (Succession position key) next = refl
 
@@ -304,8 +304,8 @@ one_listed n lists (first ∷ before) entry later of_key unmade unmade_later =
     ∙ one_listed n (λ s. lists (with_front first s)) before entry later (λ s other. of_key (with_front first s) other) (All-tail (λ e. makes n e ≡ false) first before unmade) unmade_later
 
 pub lives_from-other : (n : ℕ) (before : List Entry) (entry : Entry) (later : List Entry) → makes n entry ≡ false → lives_from n before entry later ≡ []
-lives_from-other n before (Birth serial key layers) later other = refl
-lives_from-other n before (Change position number kind layer cosigned layers kept next) later other = refl
+lives_from-other n before (Birth version serial key layers) later other = refl
+lives_from-other n before (Change version position number kind layer cosigned layers kept next) later other = refl
 lives_from-other n before (NewKey position number key_number layer kind key) later other =
     ap (λ b. if b then configuration layer number (layers_of before) ∷ flat_map (outlived kind layer) (splits later) else []) other
 lives_from-other n before (Succession position key) later other = refl

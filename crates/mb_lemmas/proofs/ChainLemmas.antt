@@ -391,8 +391,8 @@ follows_placed log each =
 
 -- an entry that is no birth tells how many stand before it
 same_place : (entry : Entry) (b c : List Entry) → b ≢ [] → Ruled b entry → StandsAt (length b) entry → Ruled c entry → (c ≢ [] → StandsAt (length c) entry) → length b ≡ length c
-same_place (Birth serial key layers) b c some of_b at_b of_c at_c = absurd (some of_b.0)
-same_place (Change position number kind layer cosigned layers kept next) b c some of_b at_b of_c at_c = sym at_b ∙ at_c of_c.0
+same_place (Birth version serial key layers) b c some of_b at_b of_c at_c = absurd (some of_b.0)
+same_place (Change version position number kind layer cosigned layers kept next) b c some of_b at_b of_c at_c = sym at_b ∙ at_c of_c.0
 same_place (NewKey position number key_number layer kind key) b c some of_b at_b of_c at_c = sym at_b ∙ at_c of_c.0
 same_place (Succession position key) b c some of_b at_b of_c at_c = sym at_b ∙ at_c of_c.0
 

@@ -1,5 +1,5 @@
 -- A draft's lines stand for at most one order.
-use Rattle.std.proofs.Common.{◌≡◌, ℕ, ◌+◌, ◌*◌, ◌<◌, ◌^◌, List, [], ◌∷◌, ◌++◌, get_or, refl, sym, ap, subst, ◌∙◌, arith, lit≤}
+use Rattle.std.proofs.Common.{◌≡◌, ℕ, ◌+◌, ◌*◌, ◌<◌, ◌^◌, List, [], ◌∷◌, ◌++◌, length, get_or, inl, inr, refl, sym, ap, subst, ◌∙◌, arith, lit≤}
 use Rattle.std.specs.Prelude.{codes, IsTrue}
 use Rattle.std.specs.List.{AllZip}
 use Rattle.std.specs.Fmt.{digits, decimal}
@@ -21,7 +21,9 @@ use Rattle.mb_model.specs.declared.order.Order.{Order}
 use Rattle.mb_model.specs.Key.{key_bytes}
 use Rattle.mb_model.specs.Layers.{is_layer_number}
 use Rattle.mb_model.specs.Lines.{spaced}
-use Rattle.mb_model.specs.Drafts.{trust_line, kind_word, version_line, order_words, SaysTarget, AreLoadLines, AreOwnerLines, SayAct, IsDraft}
+use Rattle.mb_model.specs.declared.layer.Trusts.{Trusts}
+use Rattle.mb_model.specs.Layers.{equal_trusts}
+use Rattle.mb_model.specs.Drafts.{trust_word, trust_line, trusts_line, SaysTrusts, kind_word, version_line, order_words, SaysTarget, AreLoadLines, AreOwnerLines, SayAct, IsDraft}
 use Rattle.mb_model.proofs.KeyLemmas.{key_bytes-same}
 use Rattle.mb_lemmas.specs.SampleOrder.{surrender}
 use Rattle.mb_lemmas.proofs.LineLemmas.{cons_same}
@@ -94,7 +96,7 @@ target_begins line (target.Length n) says = ap (letters_at 0) says.1
 target_begins line (target.Owner layer hash) says = ap (letters_at 0) says.2.2
 target_begins line (target.Code layer hash) says = ap (letters_at 0) says.2.2
 
-owner_begins : (lines : List (List ℕ)) (owner : PublicKey) (trust : Trust) → AreOwnerLines lines owner trust → front_letters lines ≡ letters_at 0 (codes "owner")
+owner_begins : (lines : List (List ℕ)) (owner : PublicKey) (trust : Trusts) → AreOwnerLines lines owner trust → front_letters lines ≡ letters_at 0 (codes "owner")
 owner_begins lines owner trust says = ap front_letters says.spelled ∙ ap (letters_at 0) says.owned.2
 
 load_begins : (lines : List (List ℕ)) (payload : Payload) → AreLoadLines lines payload → front_letters lines ≡ letters_at 0 (codes "version")
@@ -129,32 +131,65 @@ targets_same (line ∷ s) (other ∷ t) (x ∷ a) (y ∷ b) xs ys ha hb px py e 
 
 -- ---- what is ordered
 
+word_same : (a b : Trust) → trust_word a ≡ trust_word b → a ≡ b
+word_same Always Always e = refl
+word_same Never Never e = refl
+word_same Countersigned Countersigned e = refl
+word_same a b e = absurd (omega (arith, ap (λ (x : List ℕ). get_or x 0 0) e))
+
+none_more : {x : ℕ} {xs : List ℕ} → [] ≡ x ∷ xs → ⊥
+none_more e = omega (arith, ap length e)
+
 trust_same : (a b : Trust) → trust_line a ≡ trust_line b → a ≡ b
 trust_same Always Always e = refl
 trust_same Never Never e = refl
 trust_same Countersigned Countersigned e = refl
 trust_same a b e = absurd (omega (arith, ap (λ (x : List ℕ). get_or x 6 0) e))
 
-owner_same : (lines : List (List ℕ)) (a b : PublicKey) (s t : Trust) → AreOwnerLines lines a s → AreOwnerLines lines b t
+two_words : (s t u v : Trust) → trusts_line (record { one = s; two = t }) ≡ trusts_line (record { one = u; two = v }) → (s ≡ u) × (t ≡ v)
+two_words Always t Always v e = (refl, word_same t v (append_cancel_left (codes "trust always ") (trust_word t) (trust_word v) e))
+two_words Never t Never v e = (refl, word_same t v (append_cancel_left (codes "trust never ") (trust_word t) (trust_word v) e))
+two_words Countersigned t Countersigned v e =
+    (refl, word_same t v (append_cancel_left (codes "trust countersigned ") (trust_word t) (trust_word v) e))
+two_words s t u v e = absurd (omega (arith, ap (λ (x : List ℕ). get_or x 6 0) e))
+
+one_or_two : (s u v : Trust) → trust_line s ≡ trusts_line (record { one = u; two = v }) → ⊥
+one_or_two Always Always v e = none_more (append_cancel_left (codes "trust always") [] (32 ∷ trust_word v) e)
+one_or_two Never Never v e = none_more (append_cancel_left (codes "trust never") [] (32 ∷ trust_word v) e)
+one_or_two Countersigned Countersigned v e = none_more (append_cancel_left (codes "trust countersigned") [] (32 ∷ trust_word v) e)
+one_or_two s u v e = omega (arith, ap (λ (x : List ℕ). get_or x 6 0) e)
+
+-- a line says at most one pair of trusts
+pub trusts_same : (line : List ℕ) (a b : Trusts) → SaysTrusts line a → SaysTrusts line b → a ≡ b
+trusts_same line a b (inl ha) (inl hb) =
+    let same = two_words a.one a.two b.one b.two (sym ha ∙ hb) in
+    let one = same.0 in
+    let two = same.1 in
+    λ i. record { one = one i; two = two i }
+trusts_same line a b (inl ha) (inr hb) = absurd (one_or_two b.one a.one a.two (sym hb.0 ∙ ha))
+trusts_same line a b (inr ha) (inl hb) = absurd (one_or_two a.one b.one b.two (sym ha.0 ∙ hb))
+trusts_same line a b (inr ha) (inr hb) = ha.1 ∙ ap equal_trusts (trust_same a.one b.one (sym ha.0 ∙ hb.0)) ∙ sym hb.1
+
+owner_same : (lines : List (List ℕ)) (a b : PublicKey) (s t : Trusts) → AreOwnerLines lines a s → AreOwnerLines lines b t
     → act.Establish a s ≡ act.Establish b t
 owner_same lines a b s t ha hb =
-    let first = cons_same ha.owner_line hb.owner_line (trust_line s ∷ []) (trust_line t ∷ []) (sym ha.spelled ∙ hb.spelled) in
-    let second = cons_same (trust_line s) (trust_line t) [] [] first.1 in
+    let first = cons_same ha.owner_line hb.owner_line (ha.line_of_trusts ∷ []) (hb.line_of_trusts ∷ []) (sym ha.spelled ∙ hb.spelled) in
+    let second = cons_same ha.line_of_trusts hb.line_of_trusts [] [] first.1 in
     let word = append_cancel_left (codes "owner ") ha.owned.0 hb.owned.0 (sym ha.owned.2 ∙ first.0 ∙ hb.owned.2) in
     let owner = key_bytes-same a b ha.sized hb.sized (IsHex-same ha.owned.0 hb.owned.0 (key_bytes a) (key_bytes b) word ha.owned.1 hb.owned.1) in
-    let trust = trust_same s t second.0 in
+    let trust = trusts_same hb.line_of_trusts s t (subst (λ (l : List ℕ). SaysTrusts l s) second.0 ha.trusted) hb.trusted in
     cc
 
 load_same : (lines : List (List ℕ)) (a b : Payload) → AreLoadLines lines a → AreLoadLines lines b → a ≡ b
 load_same lines a b ha hb =
     let first = cons_same (version_line a.version) (version_line b.version)
-    (trust_line a.trust ∷ ha.code_line ∷ []) (trust_line b.trust ∷ hb.code_line ∷ []) (sym ha.spelled ∙ hb.spelled) in
-    let second = cons_same (trust_line a.trust) (trust_line b.trust) (ha.code_line ∷ []) (hb.code_line ∷ []) first.1 in
+    (ha.line_of_trusts ∷ ha.code_line ∷ []) (hb.line_of_trusts ∷ hb.code_line ∷ []) (sym ha.spelled ∙ hb.spelled) in
+    let second = cons_same ha.line_of_trusts hb.line_of_trusts (ha.code_line ∷ []) (hb.code_line ∷ []) first.1 in
     let third = cons_same ha.code_line hb.code_line [] [] second.1 in
     let number = append_cancel_left (codes "version ") (decimal a.version) (decimal b.version) first.0 in
     let word = append_cancel_left (codes "code ") ha.coded.0 hb.coded.0 (sym ha.coded.2 ∙ third.0 ∙ hb.coded.2) in
     let version = decimal_injective a.version b.version (limited_fits a.version ha.version_fits) (limited_fits b.version hb.version_fits) number in
-    let trust = trust_same a.trust b.trust second.0 in
+    let trust = trusts_same hb.line_of_trusts a.trust b.trust (subst (λ (l : List ℕ). SaysTrusts l a.trust) second.0 ha.trusted) hb.trusted in
     let code = IsHex-same ha.coded.0 hb.coded.0 a.code b.code word ha.coded.1 hb.coded.1 in
     λ i. record { version = version i; trust = trust i; code = code i }
 

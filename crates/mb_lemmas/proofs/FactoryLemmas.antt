@@ -18,7 +18,8 @@ use Rattle.mb_model.specs.Flash.{public_format, flash_area, BeginsWithRecord, pu
 use Rattle.mb_model.specs.Valid.{Follows, EachFollows, IsValidRegion, IsValidState}
 use Rattle.mb_model.specs.Meaning.{IsWellFormed}
 use Rattle.mb_model.specs.Clean.{root_of}
-use Rattle.mb_model.specs.Factory.{birth_entry, state_at_birth, IsFactoryImage}
+use Rattle.mb_lemmas.proofs.RuleLemmas.{version_two_may_follow}
+use Rattle.mb_model.specs.Factory.{layers_at_birth, birth_entry, state_at_birth, IsFactoryImage}
 use Rattle.mb_model.proofs.FormatBounds.{public_short}
 use Rattle.mb_lemmas.proofs.FaultLemmas.{clean_stands_for_it}
 
@@ -51,7 +52,7 @@ written_begins : (flash : List ℕ) (codes : Codes) (log : List SignedEntry) →
 written_begins flash codes log made =
     let bytes = made.bytes in
     let front : List ℕ = to_be_bytes w32 (length bytes) ++ bytes in
-    let few : length bytes ≤ 444434 = omega (arith, public_short.short _ made.spelled.allowed, ap length made.spelled.whole) in
+    let few : length bytes ≤ 444818 = omega (arith, public_short.short _ made.spelled.allowed, ap length made.spelled.whole) in
     let long : length front ≡ 4 + length bytes = length-append (to_be_bytes w32 (length bytes)) bytes in
     record {
       bytes = bytes;
@@ -83,7 +84,7 @@ module _ (maker : KeySeed) (index : ℕ) (owner : PublicKey) (code noise : List 
   unfolding state_at_birth signed_by
   birth_follows = λ before signed rest split.
       only_entry (signed_by maker index (birth_entry owner code noise)) signed before rest split (record {
-        ruled = (refl, record { owned = refl; reliable = refl; two = refl; three = refl });
+        ruled = (refl, record { owned = refl; reliable = refl; two = refl; three = refl }, version_two_may_follow [] (layers_at_birth owner code));
         in_order = λ some. absurd (some refl);
         verifies = λ some. absurd (some refl);
       })

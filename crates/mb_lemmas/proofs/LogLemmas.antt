@@ -1,7 +1,9 @@
 -- What the entries of a log say together, after one more.
 use Rattle.std.proofs.Common.{◌≡◌, ◌≢◌, ◌⊎◌, inl, inr, ◌≤◌, ◌<◌, ℕ, ◌+◌, List, [], ◌∷◌, ◌++◌, length, take, get_or, Option, None, Some, Bool, true, false, cond, refl, sym, ap, subst, ◌∙◌, arith, append_assoc, length-append}
-use Rattle.std.specs.Prelude.{take_while, reverse, is_some, is_none, unwrap_or, All, if◌then◌else◌}
+use Rattle.std.specs.Prelude.{◌||◌, take_while, reverse, is_some, is_none, unwrap_or, All, if◌then◌else◌}
+use Rattle.std.specs.List.{list_any}
 use Rattle.std.specs.Option.{option_or}
+use Rattle.std.proofs.lemmas.List.Folds.{list_any-append}
 use Rattle.std.proofs.lemmas.List.{reverse-append, append-nil, map-append, length-map, take_more}
 use Rattle.std.proofs.lemmas.List.Elements.{All-tail, All-head}
 use Rattle.std.proofs.Math.Seq.{append_snoc}
@@ -14,7 +16,7 @@ use Rattle.mb_model.specs.declared.entry.Entry.{Entry}
 use Rattle.mb_model.specs.declared.entry.Entry.TheVariants.{Birth, Change, NewKey, Succession}
 use Rattle.mb_model.specs.declared.entry.SignedEntry.{SignedEntry}
 use Rattle.mb_model.specs.Layers.{unowned_layers}
-use Rattle.mb_model.specs.Log.{entries_of, is_change, layers_in, device_in, keys_in, last_of, number_of, layers_of, device_of, used, made, Ruled, RuledLog}
+use Rattle.mb_model.specs.Log.{entries_of, is_change, layers_in, device_in, keys_in, last_of, number_of, layers_of, device_of, used, made, is_version_two, has_version_two, Ruled, RuledLog}
 use Rattle.mb_lemmas.proofs.LineLemmas.{cons_same}
 
 pub number_of-push : (log : List Entry) (entry : Entry) → number_of (log ++ entry ∷ []) ≡ number_of log + (if is_change entry then 1 else 0)
@@ -24,6 +26,15 @@ number_of-push log entry = sum_by_push (λ e. cond (is_change e) 1 0) log entry
 pub made-push : (log : List Entry) (entry : Entry) → made (log ++ entry ∷ []) ≡ made log + keys_in entry
 unfolding made
 made-push log entry = sum_by_push keys_in log entry
+
+or_false : (b : Bool) → (b || false) ≡ b
+or_false true = refl
+or_false false = refl
+
+-- some entry has version 2 where one had, or the new one has
+pub has_version_two-push : (log : List Entry) (entry : Entry) → has_version_two (log ++ entry ∷ []) ≡ (has_version_two log || is_version_two entry)
+unfolding has_version_two
+has_version_two-push log entry = list_any-append is_version_two log (entry ∷ []) ∙ ap (λ b. list_any is_version_two log || b) (or_false (is_version_two entry))
 
 option_or_assoc : {X : Type 0} (a b c : Option X) → option_or (option_or a b) c ≡ option_or a (option_or b c)
 option_or_assoc None b c = refl
@@ -169,12 +180,12 @@ module _ (P : List Entry → Type 0) (step : (before : List Entry) (entry : Entr
   by_entries nil log ruled = from_here [] log nil ruled
 
 used_one_more : (before : List Entry) (entry : Entry) → RuledLog before → used before ≤ 31 → Ruled before entry → used (before ++ entry ∷ []) ≤ 31
-used_one_more before (Birth serial key layers) log few ruled = omega (arith, used-push before (Birth serial key layers))
-used_one_more before (Change position number kind layer cosigned layers kept None) log few ruled =
+used_one_more before (Birth version serial key layers) log few ruled = omega (arith, used-push before (Birth version serial key layers))
+used_one_more before (Change version position number kind layer cosigned layers kept None) log few ruled =
     let not_last : used before ≢ 31 = λ e. (grind (arith, ruled.1.last_index e)) in
-    omega (arith, used-push before (Change position number kind layer cosigned layers kept None), not_last)
-used_one_more before (Change position number kind layer cosigned layers kept (Some next)) log few ruled =
-    omega (arith, used-push before (Change position number kind layer cosigned layers kept (Some next)))
+    omega (arith, used-push before (Change version position number kind layer cosigned layers kept None), not_last)
+used_one_more before (Change version position number kind layer cosigned layers kept (Some next)) log few ruled =
+    omega (arith, used-push before (Change version position number kind layer cosigned layers kept (Some next)))
 used_one_more before (NewKey position number key_number layer kind key) log few ruled =
     omega (arith, used-push before (NewKey position number key_number layer kind key), ruled.1.last_index)
 used_one_more before (Succession position key) log few ruled = omega (arith, used-push before (Succession position key))
@@ -189,9 +200,9 @@ unfolding number_of
 number_of-le-length log = count_by-le-length is_change log
 
 keys_in-le : (entry : Entry) → keys_in entry ≤ 1
-keys_in-le (Birth serial key layers) = omega arith
-keys_in-le (Change position number kind layer cosigned layers kept None) = omega arith
-keys_in-le (Change position number kind layer cosigned layers kept (Some next)) = omega arith
+keys_in-le (Birth version serial key layers) = omega arith
+keys_in-le (Change version position number kind layer cosigned layers kept None) = omega arith
+keys_in-le (Change version position number kind layer cosigned layers kept (Some next)) = omega arith
 keys_in-le (NewKey position number key_number layer kind key) = omega arith
 keys_in-le (Succession position key) = omega arith
 
@@ -206,19 +217,19 @@ pub number_of-append : (log rest : List Entry) → number_of (log ++ rest) ≡ n
 unfolding number_of
 number_of-append log rest = sum_by-append (λ e. cond (is_change e) 1 0) log rest
 
-number_of-change : (position number : ℕ) (kind : ChangeKind) (k : ℕ) (cosigned : Pair) (layers : Layers) (kept : Pair) (next : Option PublicKey) (rest : List Entry)
-    → number_of (Change position number kind k cosigned layers kept next ∷ rest) ≡ 1 + number_of rest
+number_of-change : (version position number : ℕ) (kind : ChangeKind) (k : ℕ) (cosigned : Pair) (layers : Layers) (kept : Pair) (next : Option PublicKey) (rest : List Entry)
+    → number_of (Change version position number kind k cosigned layers kept next ∷ rest) ≡ 1 + number_of rest
 unfolding number_of
-number_of-change position number kind k cosigned layers kept next rest =
-    sum_by-cons (λ e. cond (is_change e) 1 0) (Change position number kind k cosigned layers kept next) rest
+number_of-change version position number kind k cosigned layers kept next rest =
+    sum_by-cons (λ e. cond (is_change e) 1 0) (Change version position number kind k cosigned layers kept next) rest
 
 -- no change of a log has a number above the log's
-pub number-le : (log before : List Entry) (position number : ℕ) (kind : ChangeKind) (k : ℕ) (cosigned : Pair) (layers : Layers) (kept : Pair) (next : Option PublicKey) (rest : List Entry)
-    → RuledLog log → log ≡ before ++ Change position number kind k cosigned layers kept next ∷ rest → number ≤ number_of log
-number-le log before position number kind k cosigned layers kept next rest ruled split =
-    let own : number ≡ number_of before + 1 = (ruled before (Change position number kind k cosigned layers kept next) rest split).1.counted in
-    let whole : number_of log ≡ number_of before + number_of (Change position number kind k cosigned layers kept next ∷ rest) = ap number_of split ∙ number_of-append before _ in
-    omega (arith, own, whole, number_of-change position number kind k cosigned layers kept next rest)
+pub number-le : (log before : List Entry) (version position number : ℕ) (kind : ChangeKind) (k : ℕ) (cosigned : Pair) (layers : Layers) (kept : Pair) (next : Option PublicKey) (rest : List Entry)
+    → RuledLog log → log ≡ before ++ Change version position number kind k cosigned layers kept next ∷ rest → number ≤ number_of log
+number-le log before version position number kind k cosigned layers kept next rest ruled split =
+    let own : number ≡ number_of before + 1 = (ruled before (Change version position number kind k cosigned layers kept next) rest split).1.counted in
+    let whole : number_of log ≡ number_of before + number_of (Change version position number kind k cosigned layers kept next ∷ rest) = ap number_of split ∙ number_of-append before _ in
+    omega (arith, own, whole, number_of-change version position number kind k cosigned layers kept next rest)
 
 -- a signed entry has one entry
 pub length-entries_of : (log : List SignedEntry) → length (entries_of log) ≡ length log

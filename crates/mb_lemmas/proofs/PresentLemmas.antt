@@ -66,15 +66,15 @@ not_first before entry more e = omega (arith, ap length e, length-append before 
 above : (k L : ℕ) → nat_le k L ≡ false → L < k
 above k L e = grind (arith, e)
 
-change_lives_now : (before : List Entry) (n L : ℕ) (position number : ℕ) (kind : ChangeKind) (k : ℕ) (cosigned : Pair) (layers : Layers) (kept : Pair) (next : Option PublicKey) (opens : Bool)
-    → IsTrue (is_upper L) → nat_le k L ≡ opens → Ruled before (Change position number kind k cosigned layers kept next)
-    → lives_of (before ++ Change position number kind k cosigned layers kept next ∷ []) n ≡ lives_of before n ++ (if opens then configuration L number layers ∷ [] else [])
-    → LivesNow before n L → LivesNow (before ++ Change position number kind k cosigned layers kept next ∷ []) n L
-change_lives_now before n L position number kind k cosigned layers kept next true upper opens ruled lives now =
-    let stand : layers_of (before ++ Change position number kind k cosigned layers kept next ∷ []) ≡ layers = layers_of-push before (Change position number kind k cosigned layers kept next) in
+change_lives_now : (before : List Entry) (n L : ℕ) (version position number : ℕ) (kind : ChangeKind) (k : ℕ) (cosigned : Pair) (layers : Layers) (kept : Pair) (next : Option PublicKey) (opens : Bool)
+    → IsTrue (is_upper L) → nat_le k L ≡ opens → Ruled before (Change version position number kind k cosigned layers kept next)
+    → lives_of (before ++ Change version position number kind k cosigned layers kept next ∷ []) n ≡ lives_of before n ++ (if opens then configuration L number layers ∷ [] else [])
+    → LivesNow before n L → LivesNow (before ++ Change version position number kind k cosigned layers kept next ∷ []) n L
+change_lives_now before n L version position number kind k cosigned layers kept next true upper opens ruled lives now =
+    let stand : layers_of (before ++ Change version position number kind k cosigned layers kept next ∷ []) ≡ layers = layers_of-push before (Change version position number kind k cosigned layers kept next) in
     (lives_of before n, number, lives ∙ ap (λ (x : Layers). lives_of before n ++ configuration L number x ∷ []) (sym stand))
-change_lives_now before n L position number kind k cosigned layers kept next false upper opens ruled lives now =
-    let entry : Entry = Change position number kind k cosigned layers kept next in
+change_lives_now before n L version position number kind k cosigned layers kept next false upper opens ruled lives now =
+    let entry : Entry = Change version position number kind k cosigned layers kept next in
     let stand : layers_of (before ++ entry ∷ []) ≡ layers = layers_of-push before entry in
     let same : layers_upto L (layers_of before) ≡ layers_upto L layers =
     upto_stays (layers_of before) kind k cosigned (layer_of layers k) L upper (above k L opens) ∙ ap (layers_upto L) (sym ruled.1.changed)
@@ -83,9 +83,9 @@ change_lives_now before n L position number kind k cosigned layers kept next fal
 
 one_more : (before : List Entry) (entry : Entry) (n L : ℕ) → IsTrue (is_upper L) → (before ≡ [] → ⊥) → Ruled before entry
     → lives_of (before ++ entry ∷ []) n ≡ lives_of before n ++ opened_by L entry → LivesNow before n L → LivesNow (before ++ entry ∷ []) n L
-one_more before (Birth serial key layers) n L upper some ruled lives now = absurd (some ruled.0)
-one_more before (Change position number kind k cosigned layers kept next) n L upper some ruled lives now =
-    change_lives_now before n L position number kind k cosigned layers kept next (nat_le k L) upper refl ruled lives now
+one_more before (Birth version serial key layers) n L upper some ruled lives now = absurd (some ruled.0)
+one_more before (Change version position number kind k cosigned layers kept next) n L upper some ruled lives now =
+    change_lives_now before n L version position number kind k cosigned layers kept next (nat_le k L) upper refl ruled lives now
 one_more before (NewKey position number key_number layer kind key) n L upper some ruled lives now =
     nothing_opened before (before ++ NewKey position number key_number layer kind key ∷ []) n L lives (ap (layers_upto L) (sym (layers_of-push before (NewKey position number key_number layer kind key)))) now
 one_more before (Succession position key) n L upper some ruled lives now =

@@ -51,8 +51,8 @@ last_is_named {X} named (first ∷ rest) x is = by (last_of named rest) refl is 
 -- ---- the entry of the key
 
 names_none : (n : ℕ) (entry : Entry) → key_in n entry ≡ None → makes n entry ≡ false
-names_none n (Birth serial key layers) none = refl
-names_none n (Change position number kind layer cosigned layers kept next) none = refl
+names_none n (Birth version serial key layers) none = refl
+names_none n (Change version position number kind layer cosigned layers kept next) none = refl
 names_none n (NewKey position number key_number layer kind key) none = by (key_number == n) (record { layer = layer; kind = kind; key = key }) none
   where
     by : (b : Bool) (own : KeyEntry) → (if b then Some own else None) ≡ None → b ≡ false
@@ -61,8 +61,8 @@ names_none n (NewKey position number key_number layer kind key) none = by (key_n
 names_none n (Succession position key) none = refl
 
 pub makes_none : (n : ℕ) (entry : Entry) → makes n entry ≡ false → key_in n entry ≡ None
-makes_none n (Birth serial key layers) other = refl
-makes_none n (Change position number kind layer cosigned layers kept next) other = refl
+makes_none n (Birth version serial key layers) other = refl
+makes_none n (Change version position number kind layer cosigned layers kept next) other = refl
 makes_none n (NewKey position number key_number layer kind key) other =
     let own : KeyEntry = record { layer = layer; kind = kind; key = key } in
     ap (λ b. if b then Some own else None) other
@@ -78,8 +78,8 @@ abbrev IsEntryOf : ℕ → KeyEntry → Entry → Type 0
 IsEntryOf n made entry = (position : ℕ) × (number : ℕ) × (entry ≡ NewKey position number n made.layer made.kind made.key)
 
 names_this : (n : ℕ) (entry : Entry) (made : KeyEntry) → key_in n entry ≡ Some made → IsEntryOf n made entry
-names_this n (Birth serial key layers) made is = absurd (grind (arith, is))
-names_this n (Change position number kind layer cosigned layers kept next) made is = absurd (grind (arith, is))
+names_this n (Birth version serial key layers) made is = absurd (grind (arith, is))
+names_this n (Change version position number kind layer cosigned layers kept next) made is = absurd (grind (arith, is))
 names_this n (NewKey position number key_number layer kind key) made is = by (key_number == n) refl (record { layer = layer; kind = kind; key = key }) refl is
   where
     by : (b : Bool) → (key_number == n) ≡ b → (own : KeyEntry) → own ≡ record { layer = layer; kind = kind; key = key } → (if b then Some own else None) ≡ Some made
@@ -118,8 +118,8 @@ first_sight log entry n none = last_of-push (key_in n) log entry ∙ ap (option_
 
 first_from : (n : ℕ) (log : List Entry) (entry : Entry) → lives_from n log entry [] ≡ first_life n log entry
 unfolding splits
-first_from n log (Birth serial key layers) = refl
-first_from n log (Change position number kind layer cosigned layers kept next) = refl
+first_from n log (Birth version serial key layers) = refl
+first_from n log (Change version position number kind layer cosigned layers kept next) = refl
 first_from n log (NewKey position number key_number layer kind key) = refl
 first_from n log (Succession position key) = refl
 
@@ -135,8 +135,8 @@ abbrev has_made : ℕ → MadeKey → Bool
 has_made n made = made.number == n
 
 other_lasts : (n L : ℕ) (entry : Entry) (later : List Entry) → makes n entry ≡ false → list_any (has_made n) (lasting L entry later) ≡ false
-other_lasts n L (Birth serial key layers) later other = refl
-other_lasts n L (Change position number kind layer cosigned layers kept next) later other = refl
+other_lasts n L (Birth version serial key layers) later other = refl
+other_lasts n L (Change version position number kind layer cosigned layers kept next) later other = refl
 other_lasts n L (NewKey position number key_number layer kind key) later other =
     by ((layer == L) && list_all (λ e. not (ends kind L e)) later) (record { number = key_number; kind = kind; key = key }) other
   where

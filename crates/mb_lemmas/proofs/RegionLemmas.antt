@@ -66,23 +66,23 @@ unreliable_is_empty layers kind k cosigned new L region upper can was e =
 -- one more entry, which the layer admits where it is a change at the layer or beneath it
 abbrev pub AdmitsEntry : List Entry → Entry → ℕ → Type 0
 AdmitsEntry log entry L =
-    (position number : ℕ) (kind : ChangeKind) (k : ℕ) (cosigned : Pair) (layers : Layers) (kept : Pair) (next : Option PublicKey)
-    → entry ≡ Change position number kind k cosigned layers kept next → k ≤ L → Admits (layers_of log) kind k cosigned L
+    (version position number : ℕ) (kind : ChangeKind) (k : ℕ) (cosigned : Pair) (layers : Layers) (kept : Pair) (next : Option PublicKey)
+    → entry ≡ Change version position number kind k cosigned layers kept next → k ≤ L → Admits (layers_of log) kind k cosigned L
 
 pub AdmittedSince-push : (log : List Entry) (entry : Entry) (c L : ℕ) → AdmittedSince log c L → AdmitsEntry log entry L → AdmittedSince (log ++ entry ∷ []) c L
 AdmittedSince-push log entry c L since admits_it =
-    λ before later position number kind k cosigned layers kept next split above beneath.
-    let change : Entry = Change position number kind k cosigned layers kept next in
+    λ before later version position number kind k cosigned layers kept next split above beneath.
+    let change : Entry = Change version position number kind k cosigned layers kept next in
     elim (split_push log before later entry change split) [
-      | inl end ↦ subst (λ (b : List Entry). Admits (layers_of b) kind k cosigned L) end.1 (admits_it position number kind k cosigned layers kept next end.2 beneath)
-      | inr found ↦ since before found.0 position number kind k cosigned layers kept next found.2 above beneath
+      | inl end ↦ subst (λ (b : List Entry). Admits (layers_of b) kind k cosigned L) end.1 (admits_it version position number kind k cosigned layers kept next end.2 beneath)
+      | inr found ↦ since before found.0 version position number kind k cosigned layers kept next found.2 above beneath
     ]
 
 -- what comes into a region now is kept rightly
 pub now_is_admitted : (log : List Entry) (L : ℕ) → RuledLog log → AdmittedSince log (number_of log) L
 now_is_admitted log L ruled =
-    λ before later position number kind k cosigned layers kept next split above beneath.
-    absurd (omega (arith, above, number-le log before position number kind k cosigned layers kept next later ruled split))
+    λ before later version position number kind k cosigned layers kept next split above beneath.
+    absurd (omega (arith, above, number-le log before version position number kind k cosigned layers kept next later ruled split))
 
 KeyAdmitted-push : (log : List Entry) (entry : Entry) (L n : ℕ) → AdmitsEntry log entry L → KeyAdmitted log L n → KeyAdmitted (log ++ entry ∷ []) L n
 KeyAdmitted-push log entry L n admits_it was = record {
@@ -123,13 +123,13 @@ kept_by true a log entry L region above agreed was = kept_over log entry L regio
 kept_by false true log entry L region above agreed was = less_is_kept (log ++ entry ∷ []) L region (kept_over log entry L region (agreed refl) was)
 kept_by false false log entry L region above agreed was = nothing_is_kept (log ++ entry ∷ []) L
 
-pub kept_over_change : (log : List Entry) (position number : ℕ) (kind : ChangeKind) (k : ℕ) (cosigned : Pair) (layers : Layers) (kept : Pair) (next : Option PublicKey) (L : ℕ) (region : Region)
+pub kept_over_change : (log : List Entry) (version position number : ℕ) (kind : ChangeKind) (k : ℕ) (cosigned : Pair) (layers : Layers) (kept : Pair) (next : Option PublicKey) (L : ℕ) (region : Region)
     → RegionKeptRightly log L region
-    → RegionKeptRightly (log ++ Change position number kind k cosigned layers kept next ∷ []) L (region_after (layers_of log) kind k cosigned L region)
-kept_over_change log position number kind k cosigned layers kept next L region was =
-    kept_by (nat_lt L k) (admits (layers_of log) kind k cosigned L) log (Change position number kind k cosigned layers kept next) L region
-    (λ less. λ position' number' kind' k' cosigned' layers' kept' next' e beneath. let same : k ≡ k' = cc in absurd (grind (arith, less, same, beneath)))
-    (λ agreed. λ position' number' kind' k' cosigned' layers' kept' next' e beneath. let same : k ≡ k' = cc in let same_kind : kind ≡ kind' = cc in let same_pair : cosigned ≡ cosigned' = cc in
+    → RegionKeptRightly (log ++ Change version position number kind k cosigned layers kept next ∷ []) L (region_after (layers_of log) kind k cosigned L region)
+kept_over_change log version position number kind k cosigned layers kept next L region was =
+    kept_by (nat_lt L k) (admits (layers_of log) kind k cosigned L) log (Change version position number kind k cosigned layers kept next) L region
+    (λ less. λ version' position' number' kind' k' cosigned' layers' kept' next' e beneath. let same : k ≡ k' = cc in absurd (grind (arith, less, same, beneath)))
+    (λ agreed. λ version' position' number' kind' k' cosigned' layers' kept' next' e beneath. let same : k ≡ k' = cc in let same_kind : kind ≡ kind' = cc in let same_pair : cosigned ≡ cosigned' = cc in
     subst (λ (x : ChangeKind). Admits (layers_of log) x k' cosigned' L) same_kind (subst (λ (x : ℕ). Admits (layers_of log) kind x cosigned' L) same (subst (λ (x : Pair). Admits (layers_of log) kind k x L) same_pair agreed)))
     was
 
@@ -139,7 +139,7 @@ pub kept_over_new_key : (log : List Entry) (position number : ℕ) (L : ℕ) (ki
     → RegionKeptRightly (log ++ NewKey position number key.number L kind public ∷ []) L (with_key key region)
 kept_over_new_key log position number L kind public key region ruled is was =
     let entry : Entry = NewKey position number key.number L kind public in
-    let no_change : AdmitsEntry log entry L = λ position' number' kind' k' cosigned' layers' kept' next' e beneath. absurd (grind (arith, e)) in
+    let no_change : AdmitsEntry log entry L = λ version' position' number' kind' k' cosigned' layers' kept' next' e beneath. absurd (grind (arith, e)) in
     let over = kept_over log entry L region no_change was in
     let own : KeyAdmitted (log ++ entry ∷ []) L key.number = record {
       before = log;
@@ -160,4 +160,4 @@ kept_over_new_key log position number L kind public key region ruled is was =
 -- an entry that is no change leaves what stands
 pub kept_over_other : (log : List Entry) (entry : Entry) (L : ℕ) (region : Region) → is_change entry ≡ false → RegionKeptRightly log L region → RegionKeptRightly (log ++ entry ∷ []) L region
 kept_over_other log entry L region other was =
-    kept_over log entry L region (λ position number kind k cosigned layers kept next e beneath. absurd (grind (arith, other, ap is_change e))) was
+    kept_over log entry L region (λ version position number kind k cosigned layers kept next e beneath. absurd (grind (arith, other, ap is_change e))) was

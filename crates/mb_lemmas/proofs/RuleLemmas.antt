@@ -1,8 +1,8 @@
 -- What the rules leave of the layers: an unowned layer stays as it is, and layer 1 keeps its owner and stays reliable.
-use Rattle.std.proofs.Common.{◌≡◌, ◌≢◌, ℕ, List, [], ◌∷◌, ◌++◌, Option, None, Some, Bool, true, false, refl, sym, ap, subst, ◌∙◌, arith}
+use Rattle.std.proofs.Common.{◌≡◌, ◌≢◌, ℕ, List, [], ◌∷◌, ◌++◌, Option, None, Some, Bool, true, false, inr, refl, sym, ap, subst, ◌∙◌, arith}
 use Rattle.std.specs.Prelude.{◌==◌, ◌&&◌, ◌≤◌, nat_lt, IsSome, IsTrue, if◌then◌else◌}
 use Rattle.mb_model.specs.declared.key.PublicKey.{PublicKey}
-use Rattle.mb_model.specs.declared.key.Trust.{Trust}
+use Rattle.mb_model.specs.declared.layer.Trusts.{Trusts}
 use Rattle.mb_model.specs.declared.layer.CodeName.{CodeName}
 use Rattle.mb_model.specs.declared.layer.Layer.{Layer}
 use Rattle.mb_model.specs.declared.layer.Layers.{Layers}
@@ -14,7 +14,7 @@ use Rattle.mb_model.specs.declared.order.ChangeKind.TheVariants.{Establish, Surr
 use Rattle.mb_model.specs.Layers.{layer_of, IsLayer, IsLayers, Runnable}
 use Rattle.mb_model.specs.declared.entry.Entry.{Entry}
 use Rattle.mb_model.specs.declared.entry.Entry.TheVariants.{Birth, Change, NewKey, Succession}
-use Rattle.mb_model.specs.Log.{layers_of, AreFirst, Ruled, RuledLog}
+use Rattle.mb_model.specs.Log.{layers_of, AreFirst, has_version_two, MayHaveVersion, Ruled, RuledLog}
 use Rattle.mb_lemmas.proofs.LogLemmas.{layers_of-push, by_entries}
 use Rattle.mb_model.specs.Rules.{kind_of, change_of, Condition, CanPlace, placed, admits, layer_after, after}
 
@@ -75,8 +75,12 @@ placed_can old (act.Emergency payload) kind e =
     subst (λ (c : ChangeKind). CanPlace c old (placed old (act.Emergency payload))) same (refl, refl, refl)
 placed_can old (act.NewKey key_kind) kind e = grind arith
 
+-- an entry of version 2 may name any layers after any entries
+pub version_two_may_follow : (before : List Entry) (layers : Layers) → MayHaveVersion (has_version_two before) 2 layers
+version_two_may_follow before layers = record { known = inr refl; equal_trusts = λ one. absurd (omega (arith, one)); rises = λ some. refl }
+
 -- two layers with the same four fields are one
-abbrev pub layer_with : Option PublicKey → Option CodeName → Bool → Trust → Layer
+abbrev pub layer_with : Option PublicKey → Option CodeName → Bool → Trusts → Layer
 layer_with owner code reliable trust = record { owner = owner; code = code; reliable = reliable; trust = trust }
 
 layer_same : (a b : Layer) → a.owner ≡ b.owner → a.code ≡ b.code → a.reliable ≡ b.reliable → a.trust ≡ b.trust → a ≡ b
@@ -84,7 +88,7 @@ layer_same a b owner code reliable trust =
     ap (λ (x : Option PublicKey). layer_with x a.code a.reliable a.trust) owner
     ∙ ap (λ (x : Option CodeName). layer_with b.owner x a.reliable a.trust) code
     ∙ ap (λ (x : Bool). layer_with b.owner b.code x a.trust) reliable
-    ∙ ap (λ (x : Trust). layer_with b.owner b.code b.reliable x) trust
+    ∙ ap (λ (x : Trusts). layer_with b.owner b.code b.reliable x) trust
 
 -- and what a change can put in place, some order of its kind does, with code of that name
 pub can_is_placed : (kind : ChangeKind) (old new : Layer) → CanPlace kind old new
@@ -117,11 +121,11 @@ first_are_layers layers first =
 -- and so are those after each entry that may follow
 one_more : (before : List Entry) (entry : Entry) → RuledLog before → (before ≢ [] → IsLayers (layers_of before)) → Ruled before entry
     → before ++ entry ∷ [] ≢ [] → IsLayers (layers_of (before ++ entry ∷ []))
-one_more before (Birth serial key layers) log are ruled some =
-    subst IsLayers (sym (layers_of-push before (Birth serial key layers))) (first_are_layers layers ruled.1)
-one_more before (Change position number kind layer cosigned layers kept next) log are ruled some =
+one_more before (Birth version serial key layers) log are ruled some =
+    subst IsLayers (sym (layers_of-push before (Birth version serial key layers))) (first_are_layers layers ruled.1)
+one_more before (Change version position number kind layer cosigned layers kept next) log are ruled some =
     let same : layers ≡ after (layers_of before) kind layer cosigned (layer_of layers layer) = ruled.1.changed in
-    subst IsLayers (sym (layers_of-push before (Change position number kind layer cosigned layers kept next) ∙ same)) (after_are_layers (layers_of before) kind layer cosigned (layer_of layers layer) (are ruled.0) ruled.1.allowed ruled.1.placed)
+    subst IsLayers (sym (layers_of-push before (Change version position number kind layer cosigned layers kept next) ∙ same)) (after_are_layers (layers_of before) kind layer cosigned (layer_of layers layer) (are ruled.0) ruled.1.allowed ruled.1.placed)
 one_more before (NewKey position number key_number layer kind key) log are ruled some =
     subst IsLayers (sym (layers_of-push before (NewKey position number key_number layer kind key))) (are ruled.0)
 one_more before (Succession position key) log are ruled some =

@@ -9,12 +9,14 @@ use Rattle.mb_model.specs.declared.key.PublicKey.{PublicKey}
 use Rattle.mb_model.specs.declared.layer.CodeName.{CodeName}
 use Rattle.mb_model.specs.declared.layer.Layer.{Layer}
 use Rattle.mb_model.specs.declared.layer.Layers.{Layers}
+use Rattle.mb_model.specs.declared.layer.Trusts.{Trusts}
 use Rattle.mb_model.specs.declared.state.Configuration.{Configuration}
 use Rattle.mb_model.specs.contracts.key.Tree as tree
 use Rattle.mb_model.specs.contracts.key.Chains as chains
 use Rattle.mb_model.specs.contracts.key.Trust as trust
 use Rattle.mb_model.specs.contracts.key.PublicKeyPartialEq.TheImpl as key
 use Rattle.mb_model.specs.contracts.layer.CodeNamePartialEq.TheImpl as name
+use Rattle.mb_model.specs.contracts.layer.TrustsPartialEq.TheImpl as trusts
 use Rattle.mb_model.specs.contracts.layer.LayerPartialEq.TheImpl as layer
 use Rattle.mb_model.specs.contracts.layer.LayersPartialEq.TheImpl as layers
 use Rattle.mb_model.specs.contracts.state.ConfigurationPartialEq.TheImpl as configuration
@@ -40,11 +42,17 @@ names_decide a b =
     let parts = Decides-and _ _ (bytes_eq-Decides a.hash b.hash) (Decides-eqb a.version b.version) in
     (λ yes. let p = parts.0 yes in search (rules, p), λ is. parts.1 (ap (λ (n : CodeName). n.hash) is, ap (λ (n : CodeName). n.version) is))
 
+trusts_decide : (a b : Trusts) → Decides (trusts.ghosts.eq a b) (a ≡ b)
+trusts_decide a b =
+    let parts = Decides-and _ _ (same_true trust.the_type tt a.one b.one, true_same trust.the_type a.one b.one)
+    (same_true trust.the_type tt a.two b.two, true_same trust.the_type a.two b.two) in
+    (λ yes. let p = parts.0 yes in search (rules, p), λ is. parts.1 (ap (λ (t : Trusts). t.one) is, ap (λ (t : Trusts). t.two) is))
+
 layer_decides : (a b : Layer) → Decides (layer.ghosts.eq a b) (a ≡ b)
 layer_decides a b =
     let parts = Decides-and _ _ (options_decide key.ghosts.eq keys_decide a.owner b.owner)
     (Decides-and _ _ (options_decide name.ghosts.eq names_decide a.code b.code)
-    (Decides-and _ _ (booleans_Decides a.reliable b.reliable) (same_true trust.the_type tt a.trust b.trust, true_same trust.the_type a.trust b.trust))) in (
+    (Decides-and _ _ (booleans_Decides a.reliable b.reliable) (trusts_decide a.trust b.trust))) in (
       λ yes. let p = parts.0 yes in search (rules, p),
       λ is. parts.1 (ap (λ (l : Layer). l.owner) is, (ap (λ (l : Layer). l.code) is, (ap (λ (l : Layer). l.reliable) is, ap (λ (l : Layer). l.trust) is))),
     )

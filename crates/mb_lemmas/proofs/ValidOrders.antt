@@ -25,7 +25,7 @@ use Rattle.mb_model.specs.Signing.{public_of}
 use Rattle.mb_model.specs.OrderStep.{region_of, IsCountersigned, next_key, succeeded, device_after, uses_after, code_after, codes_after, cosigned_by, named_next, change_entry, changed, key_entry, keyed}
 use Rattle.mb_model.specs.Valid.{IsNamed, AreNamed, IsValidState}
 use Rattle.mb_lemmas.specs.RegionLaws.{HasValidRegions}
-use Rattle.mb_lemmas.proofs.RuleLemmas.{placed_can}
+use Rattle.mb_lemmas.proofs.RuleLemmas.{placed_can, version_two_may_follow}
 use Rattle.mb_lemmas.proofs.ValidStates.{valid_is_ruled, succeeded_keeps, changed_keeps, keyed_keeps}
 use Rattle.mb_lemmas.proofs.ValidLogs.{named_is_some, valid_after}
 
@@ -169,6 +169,7 @@ change_ruled state kind order draw valid may =
     let can : CanPlace kind (layer_of state.layers k) new = placed_can (layer_of state.layers k) order.act kind may.kind_is in (
       named_is_some past (public_of state.device) valid.device,
       record {
+        has_version = version_two_may_follow past now;
         counted = refl;
         allowed = subst (λ (l : Layers). Condition l (Some kind) k) same may.allowed;
         placed = subst (λ (l : Layers). CanPlace kind (layer_of l k) (layer_of now k)) same (subst (CanPlace kind (layer_of state.layers k)) (sym own) can);

@@ -72,15 +72,15 @@ kept_at layers kind k cosigned L upper =
 not_above : (k L : ℕ) → nat_le k L ≡ not (nat_lt L k)
 not_above k L = grind arith
 
-ended_is : (layers : Layers) (position number : ℕ) (kind : ChangeKind) (k : ℕ) (cosigned : Pair) (now : Layers) (next : Option PublicKey) (L : ℕ) → IsTrue (is_upper L) → (key_kind : KeyKind)
-    → ends key_kind L (Change position number kind k cosigned now (kept_regions layers kind k cosigned) next) ≡ ended_by (nat_lt L k) (admits layers kind k cosigned L) key_kind
-ended_is layers position number kind k cosigned now next L upper kinds.Epoch = ap not (kept_at layers kind k cosigned L upper) ∙ by (nat_lt L k) (admits layers kind k cosigned L)
+ended_is : (layers : Layers) (version position number : ℕ) (kind : ChangeKind) (k : ℕ) (cosigned : Pair) (now : Layers) (next : Option PublicKey) (L : ℕ) → IsTrue (is_upper L) → (key_kind : KeyKind)
+    → ends key_kind L (Change version position number kind k cosigned now (kept_regions layers kind k cosigned) next) ≡ ended_by (nat_lt L k) (admits layers kind k cosigned L) key_kind
+ended_is layers version position number kind k cosigned now next L upper kinds.Epoch = ap not (kept_at layers kind k cosigned L upper) ∙ by (nat_lt L k) (admits layers kind k cosigned L)
   where
     by : (beneath agrees : Bool) → not (beneath || agrees) ≡ ended_by beneath agrees kinds.Epoch
     by true agrees = refl
     by false true = refl
     by false false = refl
-ended_is layers position number kind k cosigned now next L upper kinds.Configuration = not_above k L ∙ by (nat_lt L k) (admits layers kind k cosigned L)
+ended_is layers version position number kind k cosigned now next L upper kinds.Configuration = not_above k L ∙ by (nat_lt L k) (admits layers kind k cosigned L)
   where
     by : (beneath agrees : Bool) → not beneath ≡ ended_by beneath agrees kinds.Configuration
     by true agrees = refl
@@ -111,20 +111,20 @@ fewer : (p : RegionKey → Bool) (keys : List RegionKey) → length keys ≤ 8 �
 fewer p keys few = omega (arith, few, length-filter p keys, count_by-le-length p keys)
 
 -- a change of any layer, with what it leaves of the region
-pub valid_over_change : (log : List Entry) (layers : Layers) (position number : ℕ) (kind : ChangeKind) (k : ℕ) (cosigned : Pair) (new : Layer) (next : Option PublicKey) (L : ℕ) (region : Region)
+pub valid_over_change : (log : List Entry) (layers : Layers) (version position number : ℕ) (kind : ChangeKind) (k : ℕ) (cosigned : Pair) (new : Layer) (next : Option PublicKey) (L : ℕ) (region : Region)
     → IsTrue (is_upper L) → layers ≡ layers_of log → CanPlace kind (layer_of layers k) new → IsValidRegion log layers L region
-    → IsValidRegion (log ++ Change position number kind k cosigned (after layers kind k cosigned new) (kept_regions layers kind k cosigned) next ∷ []) (after layers kind k cosigned new) L (region_after layers kind k cosigned L region)
-valid_over_change log layers position number kind k cosigned new next L region upper are can valid =
+    → IsValidRegion (log ++ Change version position number kind k cosigned (after layers kind k cosigned new) (kept_regions layers kind k cosigned) next ∷ []) (after layers kind k cosigned new) L (region_after layers kind k cosigned L region)
+valid_over_change log layers version position number kind k cosigned new next L region upper are can valid =
     let now : Layers = after layers kind k cosigned new in
     let kept : Pair = kept_regions layers kind k cosigned in
-    let entry : Entry = Change position number kind k cosigned now kept next in
+    let entry : Entry = Change version position number kind k cosigned now kept next in
     let more : number_of (log ++ entry ∷ []) ≡ number_of log + 1 = number_of-push log entry in
     let Past : Secret → Type 0 = λ secret. secret.born ≤ number_of (log ++ entry ∷ []) in
     let past : All Past region.secrets = All-weaker (λ secret. secret.born ≤ number_of log) Past (λ secret old. omega (arith, old, more)) region.secrets valid.past in
     let beneath : Bool = nat_lt L k in
     let agrees : Bool = admits layers kind k cosigned L in
     let same : filter (λ (key : RegionKey). goes_on L entry (as_made key)) region.keys ≡ (region_after layers kind k cosigned L region).keys =
-    filter_agree (λ (key : RegionKey). goes_on L entry (as_made key)) (λ key. not (ended_by beneath agrees key.kind)) (λ key. ap not (ended_is layers position number kind k cosigned now next L upper key.kind)) region.keys
+    filter_agree (λ (key : RegionKey). goes_on L entry (as_made key)) (λ key. not (ended_by beneath agrees key.kind)) (λ key. ap not (ended_is layers version position number kind k cosigned now next L upper key.kind)) region.keys
     ∙ left_over beneath agrees region
     in
     record {
@@ -133,15 +133,15 @@ valid_over_change log layers position number kind k cosigned new next L region u
       past = either_way (λ (r : Region). All Past r.secrets) beneath agrees region past past (All-nil Past);
       few = either_way (λ (r : Region). length r.keys ≤ 8) beneath agrees region valid.few (fewer (λ key. is_epoch key.kind) region.keys valid.few) (omega arith);
       keys = sym (keys_over log entry L region.keys valid.keys ∙ append-nil _ ∙ ap (map as_made) same);
-      kept = subst (λ (ls : Layers). RegionKeptRightly (log ++ entry ∷ []) L (region_after ls kind k cosigned L region)) (sym are) (kept_over_change log position number kind k cosigned now kept next L region valid.kept);
+      kept = subst (λ (ls : Layers). RegionKeptRightly (log ++ entry ∷ []) L (region_after ls kind k cosigned L region)) (sym are) (kept_over_change log version position number kind k cosigned now kept next L region valid.kept);
     }
 
 -- ---- other entries
 
 not_ended : (entry : Entry) (L : ℕ) → is_change entry ≡ false → (kind : KeyKind) → ends kind L entry ≡ false
-not_ended (Birth serial key layers) L other kinds.Epoch = refl
-not_ended (Birth serial key layers) L other kinds.Configuration = refl
-not_ended (Change position number change layer cosigned layers kept next) L other kind = absurd (true≢false other)
+not_ended (Birth version serial key layers) L other kinds.Epoch = refl
+not_ended (Birth version serial key layers) L other kinds.Configuration = refl
+not_ended (Change version position number change layer cosigned layers kept next) L other kind = absurd (true≢false other)
 not_ended (NewKey position number key_number layer key_kind key) L other kinds.Epoch = refl
 not_ended (NewKey position number key_number layer key_kind key) L other kinds.Configuration = refl
 not_ended (Succession position key) L other kinds.Epoch = refl

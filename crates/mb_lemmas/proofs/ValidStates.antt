@@ -150,11 +150,11 @@ changed_keeps state kind order draw of_kind are valid =
     let new : Layer = placed (layer_of state.layers k) order.act in
     let named : Option PublicKey = if renews (Some kind) k then Some (public_of (next_key state draw)) else None in
     let can = placed_can (layer_of state.layers k) order.act kind of_kind in
-    let entry : Entry = Change (length state.log) (number_of past + 1) kind k by (after state.layers kind k by new) (kept_regions state.layers kind k by) named in
+    let entry : Entry = Change 2 (length state.log) (number_of past + 1) kind k by (after state.layers kind k by new) (kept_regions state.layers kind k by) named in
     let same : entries_of (changed state kind order draw).log ≡ past ++ entry ∷ [] = entries_of-push state.log _ in
     record {
-      two = subst (λ es. IsValidRegion es (after state.layers kind k by new) 2 (region_after state.layers kind k by 2 state.two)) (sym same) (valid_over_change past state.layers (length state.log) (number_of past + 1) kind k by new named 2 state.two refl are can valid.two);
-      three = subst (λ es. IsValidRegion es (after state.layers kind k by new) 3 (region_after state.layers kind k by 3 state.three)) (sym same) (valid_over_change past state.layers (length state.log) (number_of past + 1) kind k by new named 3 state.three refl are can valid.three);
+      two = subst (λ es. IsValidRegion es (after state.layers kind k by new) 2 (region_after state.layers kind k by 2 state.two)) (sym same) (valid_over_change past state.layers 2 (length state.log) (number_of past + 1) kind k by new named 2 state.two refl are can valid.two);
+      three = subst (λ es. IsValidRegion es (after state.layers kind k by new) 3 (region_after state.layers kind k by 3 state.three)) (sym same) (valid_over_change past state.layers 2 (length state.log) (number_of past + 1) kind k by new named 3 state.three refl are can valid.three);
     }
 
 -- an order makes a key

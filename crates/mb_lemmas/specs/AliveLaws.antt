@@ -18,16 +18,16 @@ goes_on L entry key = not (ends key.kind L entry)
 
 -- the key that an entry makes in the region of layer L
 abbrev pub made_by : ℕ → Entry → List MadeKey
-made_by L (Birth serial key layers) = []
-made_by L (Change position number kind layer cosigned layers kept next) = []
+made_by L (Birth version serial key layers) = []
+made_by L (Change version position number kind layer cosigned layers kept next) = []
 made_by L (NewKey position number key_number layer kind key) =
     if layer == L then record { number = key_number; kind = kind; key = key } ∷ [] else []
 made_by L (Succession position key) = []
 
 -- the entry makes the region key with this number
 abbrev pub makes : ℕ → Entry → Bool
-makes n (Birth serial key layers) = false
-makes n (Change position number kind layer cosigned layers kept next) = false
+makes n (Birth version serial key layers) = false
+makes n (Change version position number kind layer cosigned layers kept next) = false
 makes n (NewKey position number key_number layer kind key) = key_number == n
 makes n (Succession position key) = false
 

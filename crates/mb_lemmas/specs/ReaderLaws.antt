@@ -10,8 +10,8 @@ use Rattle.mb_model.specs.Acceptance.{KeyEntry, key_in, key_of, is_alive}
 
 -- the first configuration of the key with this number, where an entry after a log makes it
 abbrev pub first_life : ℕ → List Entry → Entry → List Configuration
-first_life n log (Birth serial key layers) = []
-first_life n log (Change position number kind layer cosigned layers kept next) = []
+first_life n log (Birth version serial key layers) = []
+first_life n log (Change version position number kind layer cosigned layers kept next) = []
 first_life n log (NewKey position number key_number layer kind key) =
     if key_number == n then configuration layer number (layers_of log) ∷ [] else []
 first_life n log (Succession position key) = []

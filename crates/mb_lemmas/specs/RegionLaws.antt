@@ -37,20 +37,20 @@ use Rattle.mb_lemmas.specs.AliveLaws.{made_by}
 
 -- the log with a change of layer k that puts `new` there
 abbrev pub with_change :
-    List Entry → Layers → ℕ → ℕ → ChangeKind → ℕ → Pair → Layer → Option PublicKey → List Entry
-with_change log layers position number kind k cosigned new next =
+    List Entry → Layers → ℕ → ℕ → ℕ → ChangeKind → ℕ → Pair → Layer → Option PublicKey → List Entry
+with_change log layers version position number kind k cosigned new next =
     let now = after layers kind k cosigned new in
-    log ++ Change position number kind k cosigned now (kept_regions layers kind k cosigned) next ∷ []
+    log ++ Change version position number kind k cosigned now (kept_regions layers kind k cosigned) next ∷ []
 
 -- a change of any layer, with what it leaves of the region
 abbrev pub ChangesKeepRegionsValid : Type 0
 ChangesKeepRegionsValid =
-    (log : List Entry) (layers : Layers) (position number : ℕ) (kind : ChangeKind) (k : ℕ) (cosigned : Pair)
+    (log : List Entry) (layers : Layers) (version position number : ℕ) (kind : ChangeKind) (k : ℕ) (cosigned : Pair)
     (new : Layer) (next : Option PublicKey) (L : ℕ) (region : Region)
     → IsTrue (is_upper L) → layers ≡ layers_of log → CanPlace kind (layer_of layers k) new
     → IsValidRegion log layers L region
     → IsValidRegion
-    (with_change log layers position number kind k cosigned new next) (after layers kind k cosigned new) L
+    (with_change log layers version position number kind k cosigned new next) (after layers kind k cosigned new) L
     (region_after layers kind k cosigned L region)
 
 -- the log with the next key, and this key as it stands in its region

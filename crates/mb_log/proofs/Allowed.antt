@@ -20,10 +20,12 @@ not_none (first ∷ rest) some = omega arith
 
 pub allowed_is_ruled : (before : List Entry) (entry : Entry) → IsAllowed (figures_of before) entry → Ruled before entry
 unfolding figures_of
-allowed_is_ruled before (Birth serial key layers) is = (none_stands before is.0, is.1)
-allowed_is_ruled before (Change position number kind layer cosigned layers kept next) is = (
+allowed_is_ruled before (Birth version serial key layers) is =
+    (none_stands before is.0, is.1, is.2)
+allowed_is_ruled before (Change version position number kind layer cosigned layers kept next) is = (
   some_stand before is.0,
   record {
+    has_version = is.3;
     counted = is.1.counted;
     allowed = is.2.allowed;
     placed = is.2.placed;
@@ -43,8 +45,9 @@ allowed_is_ruled before (Succession position key) is = (some_stand before is.0, 
 
 pub ruled_is_allowed : (before : List Entry) (entry : Entry) → Ruled before entry → IsAllowed (figures_of before) entry
 unfolding figures_of
-ruled_is_allowed before (Birth serial key layers) is = (ap length is.0, is.1)
-ruled_is_allowed before (Change position number kind layer cosigned layers kept next) is = (
+ruled_is_allowed before (Birth version serial key layers) is =
+    (ap length is.0, is.1, is.2)
+ruled_is_allowed before (Change version position number kind layer cosigned layers kept next) is = (
   not_none before is.0,
   record { counted = is.1.counted; renewed = is.1.renewed; last_index = is.1.last_index },
   record {
@@ -54,6 +57,7 @@ ruled_is_allowed before (Change position number kind layer cosigned layers kept 
     regions = is.1.regions;
     countersigned = record { two = is.1.cosigned_two; three = is.1.cosigned_three };
   },
+  is.1.has_version,
 )
 ruled_is_allowed before (NewKey position number key_number layer kind key) is = (
   not_none before is.0,

@@ -49,8 +49,8 @@ stays_unborn before entry n life unborn other is =
 pub no_new_key : (n : ℕ) (entry : Entry)
     → ((position number key_number layer : ℕ) (kind : KeyKind) (key : PublicKey) → entry ≡ NewKey position number key_number layer kind key → ⊥)
     → key_in n entry ≡ None
-no_new_key n (Birth serial device layers) not = refl
-no_new_key n (Change position number kind layer cosigned layers kept next) not = refl
+no_new_key n (Birth version serial device layers) not = refl
+no_new_key n (Change version position number kind layer cosigned layers kept next) not = refl
 no_new_key n (NewKey position number key_number layer kind key) not = absurd (not position number key_number layer kind key refl)
 no_new_key n (Succession position device) not = refl
 

@@ -1,6 +1,6 @@
 -- What a list of entries says together, after one more.
 use Rattle.std.proofs.Common.{◌≡◌, ℕ, ◌+◌, ◌-◌, ◌^◌, ◌<◌, ◌≤◌, List, [], ◌∷◌, ◌++◌, Bool, true, false, length, min, refl, arith, length-append}
-use Rattle.std.specs.Prelude.{Option, None, is_some, is_none, unwrap_or, reverse, if◌then◌else◌}
+use Rattle.std.specs.Prelude.{◌||◌, Option, None, is_some, is_none, unwrap_or, reverse, if◌then◌else◌}
 use Rattle.std.specs.List.{prefix_len}
 use Rattle.std.specs.Option.{option_or}
 use Rattle.std.proofs.lemmas.List.{length-reverse, length-take}
@@ -8,8 +8,8 @@ use Rattle.mb_model.specs.declared.key.PublicKey.{PublicKey}
 use Rattle.mb_model.specs.declared.layer.Layers.{Layers}
 use Rattle.mb_model.specs.declared.entry.Entry.{Entry}
 use Rattle.mb_model.specs.Layers.{unowned_layers}
-use Rattle.mb_model.specs.Log.{is_change, layers_in, device_in, keys_in, last_of, number_of, layers_of, device_of, used, made}
-use Rattle.mb_lemmas.proofs.LogLemmas.{number_of-push, layers_of-push, device_of-push, used-push, made-push, number_of-le-length, made-le-length}
+use Rattle.mb_model.specs.Log.{is_change, is_version_two, layers_in, device_in, keys_in, last_of, number_of, layers_of, device_of, used, made, has_version_two}
+use Rattle.mb_lemmas.proofs.LogLemmas.{number_of-push, layers_of-push, device_of-push, used-push, made-push, has_version_two-push, number_of-le-length, made-le-length}
 use Rattle.mb_log.specs.declared.figures.Figures.{Figures}
 use Rattle.mb_log.specs.Figures.{figures_of}
 
@@ -22,11 +22,12 @@ with_entry figures entry = record {
   device = option_or (device_in entry) figures.device;
   uses = if is_some (device_in entry) then 0 else min (figures.uses + 1) (2 ^ 32 - 1);
   keys_made = min (figures.keys_made + keys_in entry) (2 ^ 32 - 1);
+  version_two = figures.version_two || is_version_two entry;
 }
 
 -- the figures of no entries
-pub figures_nil : figures_of [] ≡ record { length = 0; number = 0; layers = unowned_layers; device = None; uses = 0; keys_made = 0 }
-unfolding figures_of number_of layers_of device_of last_of used made
+pub figures_nil : figures_of [] ≡ record { length = 0; number = 0; layers = unowned_layers; device = None; uses = 0; keys_made = 0; version_two = false }
+unfolding figures_of number_of layers_of device_of last_of used made has_version_two
 figures_nil = refl
 
 -- no more entries stand after the last key than there are
@@ -43,10 +44,10 @@ used_still : (b : Bool) (n m : ℕ) → n < 2 ^ 32 - 1 → m ≡ (if b then 0 el
 used_still true n m few e = e
 used_still false n m few e = omega arith
 
-same_figures : (a b e f a' b' e' f' : ℕ) (c c' : Layers) (d d' : Option PublicKey) → a ≡ a' → b ≡ b' → c ≡ c' → d ≡ d' → e ≡ e' → f ≡ f'
-    → ◌≡◌ {A = Figures} (record { length = a; number = b; layers = c; device = d; uses = e; keys_made = f })
-    (record { length = a'; number = b'; layers = c'; device = d'; uses = e'; keys_made = f' })
-same_figures a b e f a' b' e' f' c c' d d' ea eb ec ed ee ef = cc
+same_figures : (a b e f a' b' e' f' : ℕ) (c c' : Layers) (d d' : Option PublicKey) (g g' : Bool) → a ≡ a' → b ≡ b' → c ≡ c' → d ≡ d' → e ≡ e' → f ≡ f' → g ≡ g'
+    → ◌≡◌ {A = Figures} (record { length = a; number = b; layers = c; device = d; uses = e; keys_made = f; version_two = g })
+    (record { length = a'; number = b'; layers = c'; device = d'; uses = e'; keys_made = f'; version_two = g' })
+same_figures a b e f a' b' e' f' c c' d d' g g' ea eb ec ed ee ef eg = cc
 
 pub figures_more : (before : List Entry) (entry : Entry) → length before < 2 ^ 32 - 1 → figures_of (before ++ entry ∷ []) ≡ with_entry (figures_of before) entry
 unfolding figures_of
@@ -61,4 +62,4 @@ figures_more before entry few =
     used_still (is_some (device_in entry)) (used before) (used log) (omega (arith, used-le-length before)) (used-push before entry)
     in
     let made_is : made log ≡ min (made before + keys_in entry) (2 ^ 32 - 1) = still (made log) _ (made-push before entry) (omega (arith, made-le-length log)) in
-    same_figures _ _ _ _ _ _ _ _ _ _ _ _ length_is number_is (layers_of-push before entry) (device_of-push before entry) uses_is made_is
+    same_figures _ _ _ _ _ _ _ _ _ _ _ _ _ _ length_is number_is (layers_of-push before entry) (device_of-push before entry) uses_is made_is (has_version_two-push before entry)

@@ -63,7 +63,7 @@ next_public names_next view draw = if names_next then Some (public_of (next_by v
 -- the fact's own entry
 abbrev pub entry_by : View → Fact → List ℕ → Entry
 entry_by view (fact.Change kind layer cosigned layers kept) draw =
-    Change view.length (view.number + 1) kind layer cosigned layers kept
+    Change 2 view.length (view.number + 1) kind layer cosigned layers kept
     (next_public (renews (Some kind) layer) view draw)
 entry_by view (fact.NewKey layer kind) draw =
     NewKey view.length view.number view.keys_made layer kind (public_of (next_by view draw))

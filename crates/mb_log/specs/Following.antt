@@ -10,7 +10,7 @@ use Rattle.mb_model.specs.declared.state.Follow.{Follow}
 use Rattle.mb_model.specs.declared.state.Follow.TheVariants.{Yes, Order, Rules}
 use Rattle.mb_model.specs.Layers.{layer_of}
 use Rattle.mb_model.specs.Rules.{Condition, CanPlace, after, may_cosign, kept_regions, renews}
-use Rattle.mb_model.specs.Log.{AreFirst, Ordered, Ruled}
+use Rattle.mb_model.specs.Log.{AreFirst, MayHaveVersion, Ordered, Ruled}
 use Rattle.mb_log.specs.declared.figures.Figures.{Figures}
 
 -- an entry after others stands in its place, and its signature has this index; those of the first are free
@@ -64,10 +64,12 @@ pub record MakesRightly (figures : Figures) (number key_number k : ℕ) : Type 0
 
 -- the entry may stand after those with these figures
 abbrev pub IsAllowed : Figures → Entry → Type 0
-IsAllowed figures (Birth serial key layers) = (figures.length ≡ 0) × AreFirst layers
-IsAllowed figures (Change position number kind layer cosigned layers kept next) =
+IsAllowed figures (Birth version serial key layers) =
+    (figures.length ≡ 0) × AreFirst layers × MayHaveVersion figures.version_two version layers
+IsAllowed figures (Change version position number kind layer cosigned layers kept next) =
     (0 < figures.length) × CountsRightly figures.number figures.uses number kind layer next
     × ChangesRightly figures.layers kind layer cosigned layers kept
+    × MayHaveVersion figures.version_two version layers
 IsAllowed figures (NewKey position number key_number layer kind key) =
     (0 < figures.length) × MakesRightly figures number key_number layer
 IsAllowed figures (Succession position key) = (0 < figures.length) × (figures.uses ≡ 31)

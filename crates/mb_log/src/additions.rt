@@ -220,6 +220,7 @@ fn own_addition<L: Ledger>(
         } => {
             let device = device_after(renews(Some(kind), layer), view, draw, steps);
             let entry = Entry::Change {
+                version: 2,
                 position: view.length,
                 number: view.number + 1,
                 kind,

@@ -3,10 +3,10 @@
 ghost use Rattle.std.specs.Prelude.{◌≡◌, ◌+◌, ◌-◌, ◌^◌, ◌<◌, ◌≤◌, List, [], ◌∷◌, ◌++◌, length};
 ghost use Rattle.mb_model.specs.declared.entry.Entry.{Entry};
 ghost use Rattle.mb_model.specs.Layers.{unowned, unowned_layers};
-ghost use Rattle.mb_model.specs.Log.{entries_of, is_change, layers_in, layers_of, device_in, keys_in};
+ghost use Rattle.mb_model.specs.Log.{entries_of, is_change, is_version_two, layers_in, layers_of, device_in, keys_in};
 ghost use Rattle.mb_log.specs.Figures.{figures_of};
 
-use mb_model::{Entry, Layer, Layers, PublicKey, SignedEntry, Trust};
+use mb_model::{Entry, Layer, Layers, PublicKey, SignedEntry, Trust, Trusts};
 
 /// What the entries of a list say together: all by which the next entry is judged.
 #[derive(Clone, Copy)]
@@ -23,6 +23,8 @@ pub struct Figures {
     pub uses: u32,
     /// How many keys the entries name.
     pub keys_made: u32,
+    /// Whether an entry has version 2.
+    pub version_two: bool,
 }
 
 impl Figures {
@@ -38,6 +40,7 @@ impl Figures {
             device: None,
             uses: 0,
             keys_made: 0,
+            version_two: false,
         }
     }
 
@@ -72,6 +75,7 @@ impl Figures {
             device: device.or(self.device),
             uses,
             keys_made: self.keys_made.saturating_add(keys_in(entry)),
+            version_two: self.version_two || is_version_two(entry),
         };
     }
 }
@@ -84,7 +88,7 @@ pub(crate) fn unowned() -> Layer
         owner: None,
         code: None,
         reliable: false,
-        trust: Trust::Never,
+        trust: Trusts::equal(Trust::Never),
     }
 }
 
@@ -96,6 +100,16 @@ fn unowned_layers() -> Layers
         one: unowned(),
         two: unowned(),
         three: unowned(),
+    }
+}
+
+/// Whether the entry is a birth or change of version 2.
+fn is_version_two(entry: &Entry) -> bool
+    ensures { result ≡ is_version_two entry.now }
+{
+    match entry {
+        Entry::Birth { version, .. } | Entry::Change { version, .. } => *version == 2,
+        Entry::NewKey { .. } | Entry::Succession { .. } => false,
     }
 }
 

@@ -4,7 +4,7 @@ ghost use Rattle.std.specs.Prelude.{◌≡◌, ◌↔◌, ◌≤◌, List, lengt
 ghost use Rattle.mb_model.specs.declared.entry.Entry.{Entry};
 ghost use Rattle.mb_model.specs.Layers.{layer_of};
 ghost use Rattle.mb_model.specs.Rules.{CanPlace, after};
-ghost use Rattle.mb_model.specs.Log.{entries_of, StandsAt, AreFirst};
+ghost use Rattle.mb_model.specs.Log.{entries_of, StandsAt, AreFirst, HaveEqualTrusts, MayHaveVersion};
 ghost use Rattle.mb_log.specs.Figures.{figures_of};
 ghost use Rattle.mb_log.specs.Following.{Follows, IsAllowed, CountsRightly, MakesRightly, ChangesRightly, MayAllCosign};
 
@@ -49,8 +49,13 @@ impl Figures {
         ensures { IsTrue result ↔ IsAllowed self.now entry.now }
     {
         match entry {
-            Entry::Birth { layers, .. } => self.length == 0 && are_first(layers),
+            Entry::Birth {
+                version,
+                layers,
+                ..
+            } => self.length == 0 && are_first(layers) && self.may_have_version(*version, layers),
             Entry::Change {
+                version,
                 number,
                 kind,
                 layer,
@@ -63,6 +68,7 @@ impl Figures {
                 self.length > 0
                     && self.counts(*number, *kind, *layer, next)
                     && changes(&self.layers, *kind, *layer, *cosigned, layers, *kept)
+                    && self.may_have_version(*version, layers)
             }
             Entry::NewKey {
                 number,
@@ -81,6 +87,17 @@ impl Figures {
         number.checked_sub(1) == Some(self.number)
             && next.is_some() == renews(Some(kind), layer)
             && (self.uses != LAST_INDEX || next.is_some())
+    }
+
+    /// Whether a birth or change with these layers may have this version here.
+    fn may_have_version(&self, version: u8, layers: &Layers) -> bool
+        ensures { IsTrue result ↔ MayHaveVersion self.now.version_two version layers.now }
+    {
+        match version {
+            1 => !self.version_two && have_equal_trusts(layers),
+            2 => true,
+            _ => false,
+        }
     }
 
     /// Whether a new key of the layer tells its numbers, and may be made.
@@ -114,6 +131,15 @@ fn are_first(layers: &Layers) -> bool
         && layers.one.reliable
         && layers.two == unowned()
         && layers.three == unowned()
+}
+
+/// Whether each of the layers trusts changes of layer 1 and of layer 2 alike.
+fn have_equal_trusts(layers: &Layers) -> bool
+    ensures { IsTrue result ↔ HaveEqualTrusts layers.now }
+{
+    layers.one.trust.one == layers.one.trust.two
+        && layers.two.trust.one == layers.two.trust.two
+        && layers.three.trust.one == layers.three.trust.two
 }
 
 /// Whether a change leaves these layers and keeps these regions by the rules, where the layers stood so before.

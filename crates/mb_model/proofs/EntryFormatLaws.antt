@@ -4,7 +4,7 @@ use Rattle.std.specs.Int.{w8}
 use Rattle.mb_format.specs.Reading.{IsExact}
 use Rattle.mb_format.specs.Combinators.{row_of}
 use Rattle.mb_format.proofs.Rules.{exactly}
-use Rattle.mb_format.proofs.Fields.{IsTable}
+use Rattle.mb_format.proofs.Fields.{IsTable, IsList}
 use Rattle.mb_model.specs.declared.key.PublicKey.{PublicKey}
 use Rattle.mb_model.specs.declared.layer.Layers.{Layers}
 use Rattle.mb_model.specs.declared.layer.Pair.{Pair}
@@ -43,25 +43,25 @@ pub pair_format_exact : IsExact pair_format
 unfolding pair_format
 pair_format_exact = search (exactly, pair_table) depth 20
 
-pub entry_table : IsTable w8 entry_rows entry_byte
-entry_table = record { rows_are = search rules; back = elim [ birth_tag ↦ refl | change_tag ↦ refl | new_key_tag ↦ refl | succession_tag ↦ refl ] }
+pub entry_list : IsList w8 entry_rows entry_byte
+entry_list = record { rows_are = search rules }
 
 -- ---- entries
 
-birth_only : (entry : Entry) (p : List ℕ × (PublicKey × Layers)) → birth_in entry ≡ Some p → Birth p.0 p.1.0 p.1.1 ≡ entry
+birth_only : (entry : Entry) (p : ℕ × (List ℕ × (PublicKey × Layers))) → birth_in entry ≡ Some p → Birth p.0 p.1.0 p.1.1.0 p.1.1.1 ≡ entry
 birth_only entry p e = grind arith
 
-pub birth_exact : IsExact birth_format
+pub birth_exact : (version : ℕ) → IsExact (birth_format version)
 unfolding birth_format
-birth_exact = search (exactly, public_key_exact, layers_exact, birth_only) depth 20
+birth_exact version = search (exactly, public_key_exact, layers_exact, birth_only) depth 20
 
-change_only : (entry : Entry) (p : ℕ × (ℕ × (ChangeKind × (ℕ × (Pair × (Pair × (Layers × Option PublicKey)))))))
-    → change_in entry ≡ Some p → Change p.0 p.1.0 p.1.1.0 p.1.1.1.0 p.1.1.1.1.0 p.1.1.1.1.1.1.0 p.1.1.1.1.1.0 p.1.1.1.1.1.1.1 ≡ entry
+change_only : (entry : Entry) (p : ℕ × (ℕ × (ℕ × (ChangeKind × (ℕ × (Pair × (Pair × (Layers × Option PublicKey))))))))
+    → change_in entry ≡ Some p → Change p.0 p.1.0 p.1.1.0 p.1.1.1.0 p.1.1.1.1.0 p.1.1.1.1.1.0 p.1.1.1.1.1.1.1.0 p.1.1.1.1.1.1.0 p.1.1.1.1.1.1.1.1 ≡ entry
 change_only entry p e = grind arith
 
-pub change_exact : IsExact change_format
+pub change_exact : (version : ℕ) → IsExact (change_format version)
 unfolding change_format
-change_exact = search (exactly, change_table, pair_format_exact, public_key_exact, layers_exact, change_only) depth 20
+change_exact version = search (exactly, change_table, pair_format_exact, public_key_exact, layers_exact, change_only) depth 20
 
 new_key_only : (entry : Entry) (p : ℕ × (ℕ × (ℕ × (ℕ × (KeyKind × PublicKey))))) → new_key_in entry ≡ Some p
     → NewKey p.0 p.1.0 p.1.1.0 p.1.1.1.0 p.1.1.1.1.0 p.1.1.1.1.1 ≡ entry
@@ -79,22 +79,22 @@ unfolding succession_format
 succession_exact = search (exactly, public_key_exact, succession_only) depth 20
 
 pub entry_by-exact : (tag : EntryTag) → IsExact (entry_by tag)
-entry_by-exact birth_tag = birth_exact
-entry_by-exact change_tag = change_exact
+entry_by-exact (birth_tag version) = birth_exact version
+entry_by-exact (change_tag version) = change_exact version
 entry_by-exact new_key_tag = new_key_exact
 entry_by-exact succession_tag = succession_exact
 
 -- the tag of an entry is the one that was read
 pub entry_keyed : (tag : EntryTag) (entry : Entry) → (entry_by tag).Allowed entry → entry_tag entry ≡ tag
 unfolding birth_format change_format new_key_format succession_format
-entry_keyed birth_tag entry h = grind arith
-entry_keyed change_tag entry h = grind arith
+entry_keyed (birth_tag version) entry h = grind arith
+entry_keyed (change_tag version) entry h = grind arith
 entry_keyed new_key_tag entry h = grind arith
 entry_keyed succession_tag entry h = grind arith
 
 pub entry_exact : IsExact entry_format
 unfolding entry_format
-entry_exact = search (exactly, entry_table, entry_by-exact, entry_keyed) depth 20
+entry_exact = search (exactly, entry_list, entry_by-exact, entry_keyed) depth 20
 
 pub signed_entry_exact : IsExact signed_entry_format
 unfolding signed_entry_format

@@ -1,20 +1,22 @@
 -- How long the spellings of records are, and how far an order is read.
-use Rattle.std.proofs.Common.{ℕ, ◌+◌, ◌-◌, ◌≤◌, [], ◌∷◌, length, arith, lit≤}
-use Rattle.mb_format.specs.Format.{IsShort}
+use Rattle.std.proofs.Common.{ℕ, ◌+◌, ◌-◌, ◌≤◌, ◌==◌, Bool, true, false, [], ◌∷◌, length, arith, lit≤}
+use Rattle.mb_format.specs.Format.{Format, IsShort}
 use Rattle.mb_format.proofs.Fields.{wide8, wide16, wide32}
 use Rattle.mb_format.proofs.Bounds as bounds
+use Rattle.mb_model.specs.declared.key.Trust.{Trust}
 use Rattle.mb_model.specs.declared.key.Trust.TheVariants.{Never}
 use Rattle.mb_model.specs.declared.order.Act.TheVariants.{NewKey as MakeKey}
 use Rattle.mb_model.specs.declared.order.Target.TheVariants.{Serial, Length}
 use Rattle.mb_model.specs.declared.stored.Fate.TheVariants.{AddKey}
 use Rattle.mb_model.specs.Key.{tree_type, chains_type}
 use Rattle.mb_model.specs.KeyFormat.{tree_rows, chains_rows, public_key_format, key_seed_format, keyfile_word, keyfile_format}
-use Rattle.mb_model.specs.LayerFormat.{trust_byte, trust_rows, trust_format, code_name_format, Has, has_nothing, has_owner, has_code, has_reliable_code, has_byte, has_rows, has_of, trust_by, owner_by, code_by, reliable_by, layer_by, layer_format, layers_format}
+use Rattle.mb_model.specs.LayerFormat.{trust_byte, trust_rows, trust_format, one_trust, trusts_of, code_name_format, Has, has_nothing, has_owner, has_code, has_reliable_code, has_byte, has_rows, has_of, trust_by, owner_by, code_by, reliable_by, layer_by, layer_format, layers_format}
 use Rattle.mb_model.specs.EntryFormat.{change_byte, change_rows, key_kind_byte, key_kind_rows, key_kind_format, pair_byte, pair_rows, pair_format, EntryTag, birth_tag, change_tag, new_key_tag, succession_tag, entry_byte, entry_rows, entry_tag, birth_in, birth_format, change_in, change_format, new_key_in, new_key_format, succession_in, succession_format, entry_by, entry_format, signed_entry_format}
 use Rattle.mb_model.specs.declared.order.OrderKind.{OrderKind}
 use Rattle.mb_model.specs.declared.order.OrderKind.TheVariants as kind
+use Rattle.mb_model.specs.declared.order.OrderForm.{OrderForm}
 use Rattle.mb_model.specs.Rules.{kind_of, least_layer}
-use Rattle.mb_model.specs.OrderFormat.{TargetTag, serial_tag, length_tag, owner_tag, code_tag, target_byte, target_rows, target_tag, demanded_serial, demanded_length, demanded_owner, demanded_code, target_by, target_format, order_byte, order_rows, establish_in, load_in, emergency_in, made_in, payload_format, act_by, Body, body_by, body_format, sized_signature_format, Climb, countersignature_format, climbed, most_countersigned, countersignatures_format, order_format}
+use Rattle.mb_model.specs.OrderFormat.{TargetTag, serial_tag, length_tag, owner_tag, code_tag, target_byte, target_rows, target_tag, demanded_serial, demanded_length, demanded_owner, demanded_code, target_by, target_format, form_byte, form_rows, other_rows, given_trusts, establish_in, load_in, emergency_in, made_in, payload_format, act_by, Body, body_by, body_format, sized_signature_format, Climb, countersignature_format, climbed, most_countersigned, countersignatures_format, order_format}
 use Rattle.mb_model.specs.ChainFormat.{statement_format, chain_word, chain_format}
 use Rattle.mb_model.specs.RootFormat.{region_key_format, outgoing_format, FateTag, keep_tag, empty_tag, drop_tag, add_tag, fate_byte, fate_rows, fate_tag, added_in, fate_by, fate_format, pending_format, root_format}
 use Rattle.mb_model.specs.RegionFormat.{is_name, secret_format, secrets_format, least_keys, keys_format, region_format}
@@ -38,6 +40,13 @@ keyfile_short = bounds.then_value_short (bounds.mark_short keyfile_word) (bounds
 trust_short : IsShort trust_format 1
 unfolding trust_format
 trust_short = bounds.table_short trust_rows trust_byte wide8
+
+one_trust_short : {f : Format Trust} {n : ℕ} → IsShort f n → IsShort (one_trust f) (n + 0)
+one_trust_short is = bounds.led_short (λ trusts. trusts.one) is (λ trust h. bounds.nothing_short)
+
+trusts_of-short : (version : ℕ) {f : Format Trust} → IsShort f 1 → IsShort (trusts_of version f) 2
+trusts_of-short version is =
+    bounds.either_short (version == 1) (bounds.short_more (one_trust_short is) (lit≤ tt)) (bounds.as_record_short _ _ (bounds.pair_short is is))
 
 code_name_short : IsShort code_name_format 36
 unfolding code_name_format
@@ -67,17 +76,17 @@ reliable_by-short has_owner = bounds.nothing_short
 reliable_by-short has_code = bounds.nothing_short
 reliable_by-short has_reliable_code = bounds.nothing_short
 
-layer_by-short : (has : Has) → IsShort (layer_by has) 93
-layer_by-short has = bounds.as_record_short _ _
-    (bounds.pair_short (trust_by-short has) (bounds.pair_short (owner_by-short has) (bounds.pair_short (code_by-short has) (reliable_by-short has))))
+layer_by-short : (version : ℕ) (has : Has) → IsShort (layer_by version has) 94
+layer_by-short version has = bounds.as_record_short _ _
+    (bounds.pair_short (trusts_of-short version (trust_by-short has)) (bounds.pair_short (owner_by-short has) (bounds.pair_short (code_by-short has) (reliable_by-short has))))
 
-layer_short : IsShort layer_format 94
+layer_short : (version : ℕ) → IsShort (layer_format version) 95
 unfolding layer_format
-layer_short = bounds.led_short has_of (bounds.table_short has_rows has_byte wide8) (λ has h. layer_by-short has)
+layer_short version = bounds.led_short has_of (bounds.table_short has_rows has_byte wide8) (λ has h. layer_by-short version has)
 
-layers_short : IsShort layers_format 282
+layers_short : (version : ℕ) → IsShort (layers_format version) 285
 unfolding layers_format
-layers_short = bounds.as_record_short _ _ (bounds.pair_short layer_short (bounds.pair_short layer_short layer_short))
+layers_short version = bounds.as_record_short _ _ (bounds.pair_short (layer_short version) (bounds.pair_short (layer_short version) (layer_short version)))
 
 -- ---- entries and chains
 
@@ -89,15 +98,15 @@ pair_format_short : IsShort pair_format 1
 unfolding pair_format
 pair_format_short = bounds.table_short pair_rows pair_byte wide8
 
-birth_short : IsShort birth_format 354
+birth_short : (version : ℕ) → IsShort (birth_format version) 357
 unfolding birth_format
-birth_short = bounds.as_value_short _ birth_in (bounds.pair_short bounds.raw_short (bounds.pair_short public_key_short layers_short))
+birth_short version = bounds.as_value_short _ birth_in (bounds.pair_short bounds.nothing_short (bounds.pair_short bounds.raw_short (bounds.pair_short public_key_short (layers_short version))))
 
-change_short : IsShort change_format 351
+change_short : (version : ℕ) → IsShort (change_format version) 354
 unfolding change_format
-change_short = bounds.as_value_short _ change_in
-    (bounds.pair_short (bounds.number_short wide32) (bounds.pair_short (bounds.number_short wide32) (bounds.pair_short (bounds.table_short change_rows change_byte wide8) (bounds.pair_short (bounds.between_short 1 3 wide8)
-    (bounds.pair_short pair_format_short (bounds.pair_short pair_format_short (bounds.pair_short layers_short (bounds.optional_short public_key_short))))))))
+change_short version = bounds.as_value_short _ change_in
+    (bounds.pair_short bounds.nothing_short (bounds.pair_short (bounds.number_short wide32) (bounds.pair_short (bounds.number_short wide32) (bounds.pair_short (bounds.table_short change_rows change_byte wide8) (bounds.pair_short (bounds.between_short 1 3 wide8)
+    (bounds.pair_short pair_format_short (bounds.pair_short pair_format_short (bounds.pair_short (layers_short version) (bounds.optional_short public_key_short)))))))))
 
 new_key_short : IsShort new_key_format 70
 unfolding new_key_format
@@ -108,17 +117,17 @@ succession_short : IsShort succession_format 60
 unfolding succession_format
 succession_short = bounds.as_value_short _ succession_in (bounds.pair_short (bounds.number_short wide32) public_key_short)
 
-entry_by-short : (tag : EntryTag) → IsShort (entry_by tag) 354
-entry_by-short birth_tag = birth_short
-entry_by-short change_tag = bounds.short_more change_short (lit≤ tt)
+entry_by-short : (tag : EntryTag) → IsShort (entry_by tag) 357
+entry_by-short (birth_tag version) = birth_short version
+entry_by-short (change_tag version) = bounds.short_more (change_short version) (lit≤ tt)
 entry_by-short new_key_tag = bounds.short_more new_key_short (lit≤ tt)
 entry_by-short succession_tag = bounds.short_more succession_short (lit≤ tt)
 
-pub entry_short : IsShort entry_format 355
+pub entry_short : IsShort entry_format 358
 unfolding entry_format
-entry_short = bounds.led_short entry_tag (bounds.table_short entry_rows entry_byte wide8) (λ tag h. entry_by-short tag)
+entry_short = bounds.led_short entry_tag (bounds.listed_short entry_rows entry_byte wide8) (λ tag h. entry_by-short tag)
 
-pub signed_entry_short : IsShort signed_entry_format 2703
+pub signed_entry_short : IsShort signed_entry_format 2706
 unfolding signed_entry_format
 signed_entry_short = bounds.as_record_short _ _ (bounds.pair_short entry_short bounds.raw_short)
 
@@ -126,7 +135,7 @@ pub statement_short : IsShort statement_format 2481
 unfolding statement_format
 statement_short = bounds.as_record_short _ _ (bounds.pair_short (bounds.number_short wide32) (bounds.pair_short (bounds.sized_short 0 128 wide8) bounds.raw_short))
 
-pub chain_short : IsShort chain_format 348472
+pub chain_short : IsShort chain_format 348856
 unfolding chain_format
 chain_short = bounds.then_value_short (bounds.mark_short chain_word)
     (bounds.as_record_short _ _ (bounds.pair_short (bounds.counted_short 1 128 wide16 signed_entry_short) (bounds.optional_short statement_short)))
@@ -143,24 +152,28 @@ target_short : IsShort target_format 34
 unfolding target_format
 target_short = bounds.led_short target_tag (bounds.table_short target_rows target_byte wide8) (λ tag h. target_by-short tag)
 
-payload_short : IsShort payload_format 32777
+given_short : (differs : Bool) → IsShort (given_trusts differs) 2
+given_short false = bounds.short_more (one_trust_short trust_short) (lit≤ tt)
+given_short true = bounds.as_record_short _ _ (bounds.both_short trust_short (λ one h. bounds.listed_short (other_rows one) trust_byte wide8))
+
+payload_short : (differs : Bool) → IsShort (payload_format differs) 32778
 unfolding payload_format
-payload_short = bounds.as_record_short _ _ (bounds.pair_short (bounds.number_short wide32) (bounds.pair_short trust_short (bounds.sized_short 0 32768 wide32)))
+payload_short differs = bounds.as_record_short _ _ (bounds.pair_short (bounds.number_short wide32) (bounds.pair_short (given_short differs) (bounds.sized_short 0 32768 wide32)))
 
-act_by-short : (order : OrderKind) → IsShort (act_by order) 32777
-act_by-short kind.Establish = bounds.short_more (bounds.as_value_short _ establish_in (bounds.pair_short public_key_short trust_short)) (lit≤ tt)
-act_by-short kind.Surrender = bounds.short_more bounds.nothing_short (lit≤ tt)
-act_by-short kind.Load = bounds.as_value_short _ load_in payload_short
-act_by-short kind.Emergency = bounds.as_value_short _ emergency_in payload_short
-act_by-short kind.NewKey = bounds.short_more (bounds.as_value_short MakeKey made_in key_kind_short) (lit≤ tt)
+act_by-short : (order : OrderKind) (differs : Bool) → IsShort (act_by order differs) 32778
+act_by-short kind.Establish differs = bounds.short_more (bounds.as_value_short _ establish_in (bounds.pair_short public_key_short (given_short differs))) (lit≤ tt)
+act_by-short kind.Surrender differs = bounds.short_more bounds.nothing_short (lit≤ tt)
+act_by-short kind.Load differs = bounds.as_value_short _ load_in (payload_short differs)
+act_by-short kind.Emergency differs = bounds.as_value_short _ emergency_in (payload_short differs)
+act_by-short kind.NewKey differs = bounds.short_more (bounds.as_value_short MakeKey made_in key_kind_short) (lit≤ tt)
 
-body_by-short : (order : OrderKind) → IsShort (body_by order) 33051
-body_by-short order = bounds.as_record_short _ _
-    (bounds.pair_short (bounds.between_short (least_layer order) 3 wide8) (bounds.pair_short (bounds.counted_short 0 8 wide8 target_short) (act_by-short order)))
+body_by-short : (f : OrderForm) → IsShort (body_by f) 33052
+body_by-short f = bounds.as_record_short _ _
+    (bounds.pair_short (bounds.between_short (least_layer f.kind) 3 wide8) (bounds.pair_short (bounds.counted_short 0 8 wide8 target_short) (act_by-short f.kind f.differs)))
 
-pub body_short : IsShort body_format 33052
+pub body_short : IsShort body_format 33053
 unfolding body_format
-body_short = bounds.led_short _ (bounds.table_short order_rows order_byte wide8) (λ order h. body_by-short order)
+body_short = bounds.led_short _ (bounds.listed_short form_rows form_byte wide8) (λ f h. body_by-short f)
 
 sized_signature_short : IsShort sized_signature_format 9326
 unfolding sized_signature_format
@@ -187,7 +200,7 @@ countersignatures_short body h =
     bounds.led_short {n = 18654} length (bounds.between_short 0 (most_countersigned (kind_of body.act) body.layer) wide8)
     (λ n g. (let two = most_two body h in bounds.short_more (bounds.items_short climbed n (record { below = body.layer; left = n }) countersignature_short) (omega (arith, g.1, two))))
 
-pub order_short : IsShort order_format 61033
+pub order_short : IsShort order_format 61034
 unfolding order_format
 order_short = bounds.as_record_short _ _ (bounds.both_short body_short (λ body h. bounds.pair_short sized_signature_short (countersignatures_short body h)))
 
@@ -244,10 +257,10 @@ codes_short : IsShort codes_format 98319
 unfolding codes_format
 codes_short = bounds.as_record_short _ _ (bounds.pair_short code_format_short (bounds.pair_short code_format_short code_format_short))
 
-pub public_entry_short : IsShort public_entry_format 2704
+pub public_entry_short : IsShort public_entry_format 2707
 unfolding public_entry_format
 public_entry_short = bounds.as_record_short _ _ (bounds.pair_short entry_short (bounds.optional_short bounds.raw_short))
 
-pub public_short : IsShort public_format 444434
+pub public_short : IsShort public_format 444818
 unfolding public_format
 public_short = bounds.then_value_short (bounds.mark_short (1 ∷ [])) (bounds.as_record_short _ _ (bounds.pair_short codes_short (bounds.counted_short 1 128 wide16 public_entry_short)))

@@ -100,8 +100,8 @@ pub record KeyEntry : Type 0 where
   pub key : PublicKey
 
 abbrev pub key_in : ℕ → Entry → Option KeyEntry
-key_in n (Birth serial key layers) = None
-key_in n (Change position number kind layer cosigned layers kept next) = None
+key_in n (Birth version serial key layers) = None
+key_in n (Change version position number kind layer cosigned layers kept next) = None
 key_in n (NewKey position number key_number layer kind key) =
     if key_number == n then Some (record { layer = layer; kind = kind; key = key }) else None
 key_in n (Succession position key) = None

@@ -12,8 +12,8 @@ bare_chain log = record { entries = log; statement = None }
 
 -- the entry is a change with a number above this one
 abbrev pub is_change_above : ℕ → Entry → Bool
-is_change_above n (Birth serial key layers) = false
-is_change_above n (Change position number kind layer cosigned layers kept next) = nat_lt n number
+is_change_above n (Birth version serial key layers) = false
+is_change_above n (Change version position number kind layer cosigned layers kept next) = nat_lt n number
 is_change_above n (NewKey position number key_number layer kind key) = false
 is_change_above n (Succession position key) = false
 

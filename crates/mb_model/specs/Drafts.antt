@@ -1,10 +1,11 @@
 -- The draft of an order: what an officer writes before signing. Is what is signed what was written?
-use Rattle.std.specs.Prelude.{◌≡◌, ℕ, ◌≤◌, List, [], ◌∷◌, ◌++◌, length, codes, IsTrue}
+use Rattle.std.specs.Prelude.{◌≡◌, ◌⊎◌, ℕ, ◌≤◌, List, [], ◌∷◌, ◌++◌, length, codes, IsTrue}
 use Rattle.std.specs.List.{AllZip}
 use Rattle.std.specs.Fmt.{decimal}
 use Rattle.mb_model.specs.declared.key.PublicKey.{PublicKey}
 use Rattle.mb_model.specs.declared.key.Trust.{Trust}
 use Rattle.mb_model.specs.declared.key.Trust.TheVariants.{Always, Never, Countersigned}
+use Rattle.mb_model.specs.declared.layer.Trusts.{Trusts}
 use Rattle.mb_model.specs.declared.order.KeyKind.{KeyKind}
 use Rattle.mb_model.specs.declared.order.KeyKind.TheVariants as kinds
 use Rattle.mb_model.specs.declared.order.Payload.{Payload}
@@ -14,7 +15,7 @@ use Rattle.mb_model.specs.declared.order.Target.{Target}
 use Rattle.mb_model.specs.declared.order.Target.TheVariants as target
 use Rattle.mb_model.specs.declared.order.Order.{Order}
 use Rattle.mb_model.specs.Key.{key_bytes, IsSized}
-use Rattle.mb_model.specs.Layers.{is_layer_number}
+use Rattle.mb_model.specs.Layers.{equal_trusts, is_layer_number}
 use Rattle.mb_model.specs.Rules.{kind_of, MayBeFor}
 use Rattle.mb_model.specs.Lines.{spaced, number_limit}
 use Rattle.mb_model.specs.Script.{EndsInHex}
@@ -51,28 +52,41 @@ SaysTarget line (target.Code layer hash) =
     IsTrue (is_layer_number layer) × (length hash ≡ 32)
     × EndsInHex line (codes "target" ∷ codes "code" ∷ decimal layer ∷ []) hash
 
--- the line of a trust
+-- the line of one trust, in changes of layer 1 and of layer 2 alike
 abbrev pub trust_line : Trust → List ℕ
 trust_line trust = spaced (codes "trust" ∷ trust_word trust ∷ [])
+
+-- the line of two trusts: in changes of layer 1, and in changes of layer 2
+abbrev pub trusts_line : Trusts → List ℕ
+trusts_line trusts = spaced (codes "trust" ∷ trust_word trusts.one ∷ trust_word trusts.two ∷ [])
+
+-- The line gives these trusts, by two words or, where they are equal, by one. Two equal words are allowed too.
+abbrev pub SaysTrusts : List ℕ → Trusts → Type 0
+SaysTrusts line trusts =
+    (line ≡ trusts_line trusts) ⊎ ((line ≡ trust_line trusts.one) × (trusts ≡ equal_trusts trusts.one))
 
 -- the line of a version
 abbrev pub version_line : ℕ → List ℕ
 version_line version = spaced (codes "version" ∷ decimal version ∷ [])
 
--- the lines of a load: its version, the trust that it gives the layer, and its code
+-- the lines of a load: its version, the trusts that it gives the layer, and its code
 pub record AreLoadLines (lines : List (List ℕ)) (payload : Payload) : Type 0 where
   pub code_line : List ℕ
   pub coded : EndsInHex code_line (codes "code" ∷ []) payload.code
   pub code_fits : length payload.code ≤ 32768
   pub version_fits : payload.version ≤ number_limit
-  pub spelled : lines ≡ version_line payload.version ∷ trust_line payload.trust ∷ code_line ∷ []
+  pub line_of_trusts : List ℕ
+  pub trusted : SaysTrusts line_of_trusts payload.trust
+  pub spelled : lines ≡ version_line payload.version ∷ line_of_trusts ∷ code_line ∷ []
 
--- the lines of an establish: the new owner's public key, and the trust that it gives the layer
-pub record AreOwnerLines (lines : List (List ℕ)) (owner : PublicKey) (trust : Trust) : Type 0 where
+-- the lines of an establish: the new owner's public key, and the trusts that it gives the layer
+pub record AreOwnerLines (lines : List (List ℕ)) (owner : PublicKey) (trust : Trusts) : Type 0 where
   pub owner_line : List ℕ
   pub owned : EndsInHex owner_line (codes "owner" ∷ []) (key_bytes owner)
   pub sized : IsSized owner
-  pub spelled : lines ≡ owner_line ∷ trust_line trust ∷ []
+  pub line_of_trusts : List ℕ
+  pub trusted : SaysTrusts line_of_trusts trust
+  pub spelled : lines ≡ owner_line ∷ line_of_trusts ∷ []
 
 -- the lines after the targets, by what is ordered
 abbrev pub SayAct : List (List ℕ) → Act → Type 0

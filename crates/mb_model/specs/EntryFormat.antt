@@ -1,8 +1,8 @@
 -- How an entry of the log is spelled, and an entry with its signature. What did the device sign?
-use Rattle.std.specs.Prelude.{ℕ, ◌+◌, ◌*◌, true, false, List, [], ◌∷◌, Option, Some, None}
+use Rattle.std.specs.Prelude.{ℕ, ◌+◌, ◌*◌, ◌==◌, if◌then◌else◌, true, false, List, [], ◌∷◌, Option, Some, None}
 use Rattle.std.specs.Int.{w8, w32}
 use Rattle.mb_format.specs.Format.{Format}
-use Rattle.mb_format.specs.Combinators.{raw, number, between, table, flag_byte, optional}
+use Rattle.mb_format.specs.Combinators.{raw, number, between, table, listed, nothing, flag_byte, optional}
 use Rattle.mb_format.specs.Combinators.{pair, as_value, as_record, led}
 use Rattle.mb_model.specs.declared.key.PublicKey.{PublicKey}
 use Rattle.mb_model.specs.declared.layer.Layers.{Layers}
@@ -53,56 +53,68 @@ pair_rows =
 unfoldable pub pair_format : Format Pair
 pair_format = table w8 pair_rows pair_byte
 
--- an entry begins with a tag
+-- an entry begins with a tag, which gives the version of a birth or change as well
 pub data EntryTag : Type 0 where
-  birth_tag change_tag new_key_tag succession_tag : EntryTag
+  birth_tag change_tag : ℕ → EntryTag
+  new_key_tag succession_tag : EntryTag
 
+-- the byte of a tag; a version other than 1 and 2 has no row below, so no entry of such a version is spelled
 abbrev pub entry_byte : EntryTag → ℕ
-entry_byte birth_tag = 0
-entry_byte change_tag = 1
+entry_byte (birth_tag version) = if version == 1 then 0 else 16
+entry_byte (change_tag version) = if version == 1 then 1 else 17
 entry_byte new_key_tag = 2
 entry_byte succession_tag = 3
 
 abbrev pub entry_rows : List (ℕ × EntryTag)
-entry_rows = (0, birth_tag) ∷ (1, change_tag) ∷ (2, new_key_tag) ∷ (3, succession_tag) ∷ []
+entry_rows =
+    (0, birth_tag 1)
+    ∷ (1, change_tag 1)
+    ∷ (2, new_key_tag)
+    ∷ (3, succession_tag)
+    ∷ (16, birth_tag 2)
+    ∷ (17, change_tag 2)
+    ∷ []
 
 abbrev pub entry_tag : Entry → EntryTag
-entry_tag (Birth serial key layers) = birth_tag
-entry_tag (Change position number kind layer cosigned layers kept next) = change_tag
+entry_tag (Birth version serial key layers) = birth_tag version
+entry_tag (Change version position number kind layer cosigned layers kept next) = change_tag version
 entry_tag (NewKey position number key_number layer kind key) = new_key_tag
 entry_tag (Succession position key) = succession_tag
 
 -- a birth
-abbrev pub birth_in : Entry → Option (List ℕ × (PublicKey × Layers))
-birth_in (Birth serial key layers) = Some (serial, (key, layers))
+abbrev pub birth_in : Entry → Option (ℕ × (List ℕ × (PublicKey × Layers)))
+birth_in (Birth version serial key layers) = Some (version, (serial, (key, layers)))
 birth_in _ = None
 
--- its serial, the first device key, and the layers
-unfoldable pub birth_format : Format Entry
-birth_format = as_value (pair (raw 16) (pair public_key_format layers_format))
-    (λ (serial, (key, layers)). Birth serial key layers)
+-- its serial, the first device key, and the layers; the tag gave its version
+unfoldable pub birth_format : ℕ → Format Entry
+birth_format version = as_value
+    (pair (nothing version) (pair (raw 16) (pair public_key_format (layers_format version))))
+    (λ (its_version, (serial, (key, layers))). Birth its_version serial key layers)
     birth_in
 
 -- a change
-abbrev pub change_in : Entry → Option (ℕ × (ℕ × (ChangeKind × (ℕ × (Pair × (Pair × (Layers × Option PublicKey)))))))
-change_in (Change position number kind layer cosigned layers kept next) =
-    Some (position, (number, (kind, (layer, (cosigned, (kept, (layers, next)))))))
+abbrev pub change_in : Entry
+    → Option (ℕ × (ℕ × (ℕ × (ChangeKind × (ℕ × (Pair × (Pair × (Layers × Option PublicKey))))))))
+change_in (Change version position number kind layer cosigned layers kept next) =
+    Some (version, (position, (number, (kind, (layer, (cosigned, (kept, (layers, next))))))))
 change_in _ = None
 
 -- its position and number, its kind and layer, who countersigned, which regions are kept, the layers afterwards, and
--- the next device key after a byte that says whether there is one
-unfoldable pub change_format : Format Entry
-change_format = as_value
+-- the next device key after a byte that says whether there is one; the tag gave its version
+unfoldable pub change_format : ℕ → Format Entry
+change_format version = as_value
+    (pair (nothing version)  -- version
     (pair (number w32)  -- position
     (pair (number w32)  -- number
     (pair (table w8 change_rows change_byte)  -- kind
     (pair (between w8 1 3)  -- layer
     (pair pair_format  -- cosigned
     (pair pair_format  -- kept
-    (pair layers_format  -- layers
-    (optional public_key_format))))))))  -- next
-    (λ (position, (number, (kind, (layer, (cosigned, (kept, (layers, next))))))).
-    Change position number kind layer cosigned layers kept next)
+    (pair (layers_format version)  -- layers
+    (optional public_key_format)))))))))  -- next
+    (λ (its_version, (position, (number, (kind, (layer, (cosigned, (kept, (layers, next)))))))).
+    Change its_version position number kind layer cosigned layers kept next)
     change_in
 
 -- a new key
@@ -135,13 +147,13 @@ succession_format = as_value (pair (number w32) public_key_format)
     succession_in
 
 abbrev pub entry_by : EntryTag → Format Entry
-entry_by birth_tag = birth_format
-entry_by change_tag = change_format
+entry_by (birth_tag version) = birth_format version
+entry_by (change_tag version) = change_format version
 entry_by new_key_tag = new_key_format
 entry_by succession_tag = succession_format
 
 unfoldable pub entry_format : Format Entry
-entry_format = led (table w8 entry_rows entry_byte) entry_tag entry_by
+entry_format = led (listed w8 entry_rows entry_byte) entry_tag entry_by
 
 -- a signature of types 5 and 3 (RFC 8554, section 5.4)
 abbrev pub signature_format : Format (List ℕ)

@@ -10,7 +10,7 @@ use Rattle.mb_model.specs.declared.entry.Entry.TheVariants.{Birth}
 use Rattle.mb_model.specs.declared.state.Codes.{Codes}
 use Rattle.mb_model.specs.declared.state.State.{State}
 use Rattle.mb_model.specs.Pieces.{part}
-use Rattle.mb_model.specs.Layers.{unowned}
+use Rattle.mb_model.specs.Layers.{equal_trusts, unowned}
 use Rattle.mb_model.specs.Regions.{empty_region}
 use Rattle.mb_model.specs.Born.{born_key}
 use Rattle.mb_model.specs.Signing.{public_of}
@@ -19,14 +19,14 @@ use Rattle.mb_model.specs.Memory.{IsImage}
 use Rattle.mb_model.specs.Flash.{IsFactoryFlash}
 use Rattle.mb_model.specs.Clean.{IsCleanFor}
 
--- layer 1 has its owner and this code, and nobody owns what is above
+-- layer 1 has its owner, this code and both trusts always, and nobody owns what is above
 abbrev pub layers_at_birth : PublicKey → List ℕ → Layers
 layers_at_birth owner code = record {
   one = record {
     owner = Some owner;
     code = Some (record { hash = sha256 code; version = 1 });
     reliable = true;
-    trust = Always;
+    trust = equal_trusts Always;
   };
   two = unowned;
   three = unowned;
@@ -39,10 +39,10 @@ serial_from noise = part 32 16 noise
 abbrev pub first_key : List ℕ → KeySeed
 first_key noise = born_key (take 32 noise) (serial_from noise) 0
 
--- the first entry of the log
+-- the first entry of the log, of version 2
 abbrev pub birth_entry : PublicKey → List ℕ → List ℕ → Entry
 birth_entry owner code noise =
-    Birth (serial_from noise) (public_of (first_key noise)) (layers_at_birth owner code)
+    Birth 2 (serial_from noise) (public_of (first_key noise)) (layers_at_birth owner code)
 
 -- the code of layer 1 alone
 abbrev pub codes_at_birth : List ℕ → Codes

@@ -1,15 +1,16 @@
--- How a layer is spelled: what it has, what it trusts, its owner and the name of its code. Which layer do these bytes
--- hold?
-use Rattle.std.specs.Prelude.{ℕ, Bool, true, false, List, [], ◌∷◌, Option, Some, None}
+-- How a layer is spelled: what it has, its trusts, its owner and the name of its code. Which layer do these bytes hold?
+use Rattle.std.specs.Prelude.{ℕ, ◌==◌, Bool, true, false, List, [], ◌∷◌, Option, Some, None}
 use Rattle.std.specs.Int.{w8, w32}
 use Rattle.mb_format.specs.Format.{Format}
-use Rattle.mb_format.specs.Combinators.{raw, number, table, listed, nothing, present, pair, as_record, led}
+use Rattle.mb_format.specs.Combinators.{raw, number, table, listed, nothing, present, pair, either, as_record, led}
 use Rattle.mb_model.specs.declared.key.PublicKey.{PublicKey}
 use Rattle.mb_model.specs.declared.key.Trust.{Trust}
 use Rattle.mb_model.specs.declared.key.Trust.TheVariants.{Always, Never, Countersigned}
 use Rattle.mb_model.specs.declared.layer.CodeName.{CodeName}
 use Rattle.mb_model.specs.declared.layer.Layer.{Layer}
 use Rattle.mb_model.specs.declared.layer.Layers.{Layers}
+use Rattle.mb_model.specs.declared.layer.Trusts.{Trusts}
+use Rattle.mb_model.specs.Layers.{equal_trusts}
 use Rattle.mb_model.specs.KeyFormat.{public_key_format}
 
 -- a trust as a byte
@@ -23,6 +24,20 @@ trust_rows = (0, Always) ∷ (1, Never) ∷ (2, Countersigned) ∷ []
 
 unfoldable pub trust_format : Format Trust
 trust_format = table w8 trust_rows trust_byte
+
+-- one trust, which stands for two equal ones
+abbrev pub one_trust : Format Trust → Format Trusts
+one_trust f = led f (λ trusts. trusts.one) (λ trust. nothing (equal_trusts trust))
+
+-- two trusts: in changes of layer 1, then in changes of layer 2
+abbrev pub two_trusts : Format Trust → Format Trusts
+two_trusts f = as_record (pair f f)
+    (λ (one, two). record { one = one; two = two })
+    (λ trusts. (trusts.one, trusts.two))
+
+-- the trusts of a layer in an entry of this version: version 1 spells one trust, version 2 spells two
+abbrev pub trusts_of : ℕ → Format Trust → Format Trusts
+trusts_of version f = either (version == 1) (one_trust f) (two_trusts f)
 
 -- the name of code: its hash and its version
 unfoldable pub code_name_format : Format CodeName
@@ -53,7 +68,7 @@ has_with (Some owner) (Some code) true = has_reliable_code
 abbrev pub has_of : Layer → Has
 has_of layer = has_with layer.owner layer.code layer.reliable
 
--- a layer without an owner trusts never
+-- the trust of a layer without an owner is never
 abbrev pub trust_by : Has → Format Trust
 trust_by has_nothing = listed w8 ((1, Never) ∷ []) trust_byte
 trust_by has_owner = trust_format
@@ -78,17 +93,19 @@ reliable_by has_owner = nothing false
 reliable_by has_code = nothing false
 reliable_by has_reliable_code = nothing true
 
--- after that byte: its trust, its owner and its code name where it has them; that code is reliable takes no byte more
-abbrev pub layer_by : Has → Format Layer
-layer_by has = as_record (pair (trust_by has) (pair (owner_by has) (pair (code_by has) (reliable_by has))))
+-- after that byte: its trusts, and its owner and its code name where it has them; that code is reliable takes no byte
+abbrev pub layer_by : ℕ → Has → Format Layer
+layer_by version has = as_record
+    (pair (trusts_of version (trust_by has)) (pair (owner_by has) (pair (code_by has) (reliable_by has))))
     (λ (trust, (owner, (code, reliable))). record { owner = owner; code = code; reliable = reliable; trust = trust })
     (λ layer. (layer.trust, (layer.owner, (layer.code, layer.reliable))))
 
-unfoldable pub layer_format : Format Layer
-layer_format = led (table w8 has_rows has_byte) has_of layer_by
+-- a layer, as entries of this version spell it
+unfoldable pub layer_format : ℕ → Format Layer
+layer_format version = led (table w8 has_rows has_byte) has_of (layer_by version)
 
 -- three layers, from the first on
-unfoldable pub layers_format : Format Layers
-layers_format = as_record (pair layer_format (pair layer_format layer_format))
+unfoldable pub layers_format : ℕ → Format Layers
+layers_format version = as_record (pair (layer_format version) (pair (layer_format version) (layer_format version)))
     (λ (one, (two, three)). record { one = one; two = two; three = three })
     (λ layers. (layers.one, (layers.two, layers.three)))

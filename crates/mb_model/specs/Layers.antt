@@ -1,16 +1,37 @@
 -- The layers of a device, how they stand, and which of them may run. Which code may run?
-use Rattle.std.specs.Prelude.{◌≡◌, ℕ, ◌==◌, nat_lt, Bool, false, not, ◌&&◌, ◌||◌, None, is_some, IsSome, IsTrue}
+use Rattle.std.specs.Prelude.{◌≡◌, ℕ, ◌==◌, nat_lt, Bool, true, false, not, ◌&&◌, ◌||◌, None, is_some, IsSome, IsTrue}
 use Rattle.std.specs.Prelude.{if◌then◌else◌}
-use Rattle.mb_model.specs.declared.key.Trust.TheVariants.{Never}
+use Rattle.mb_model.specs.declared.key.Trust.{Trust}
+use Rattle.mb_model.specs.declared.key.Trust.TheVariants.{Always, Never, Countersigned}
 use Rattle.mb_model.specs.declared.layer.Layer.{Layer}
 use Rattle.mb_model.specs.declared.layer.Layers.{Layers}
+use Rattle.mb_model.specs.declared.layer.Trusts.{Trusts}
 use Rattle.mb_model.specs.declared.layer.Pair.{Pair}
 use Rattle.mb_model.specs.declared.reply.Standing.{Standing}
 use Rattle.mb_model.specs.declared.reply.Standing.TheVariants as stands
 
--- a layer without an owner: it has no code, is not reliable, and trusts never
+-- one trust, in changes of layer 1 and of layer 2 alike
+abbrev pub equal_trusts : Trust → Trusts
+equal_trusts trust = record { one = trust; two = trust }
+
+-- whether two trusts are the same
+abbrev pub is_same_trust : Trust → Trust → Bool
+is_same_trust Always Always = true
+is_same_trust Never Never = true
+is_same_trust Countersigned Countersigned = true
+is_same_trust _ _ = false
+
+-- whether changes of layer 1 and of layer 2 are trusted alike
+abbrev pub are_equal : Trusts → Bool
+are_equal trusts = is_same_trust trusts.one trusts.two
+
+-- the trust of a layer in changes of layer k, a layer beneath it: 1 or 2
+abbrev pub trust_for : Layer → ℕ → Trust
+trust_for layer k = if k == 1 then layer.trust.one else layer.trust.two
+
+-- a layer without an owner: it has no code, is not reliable, and both its trusts are never
 abbrev pub unowned : Layer
-unowned = record { owner = None; code = None; reliable = false; trust = Never }
+unowned = record { owner = None; code = None; reliable = false; trust = equal_trusts Never }
 
 -- no layer has an owner: how a device stands before its birth
 abbrev pub unowned_layers : Layers

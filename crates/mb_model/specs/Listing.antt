@@ -1,18 +1,20 @@
 -- What the verifier prints of a chain, and what is printed of a generated workload. Does the listing say all that was
 -- found?
 use Rattle.std.specs.Prelude.{ℕ, Bool, true, false, List, [], ◌∷◌, ◌++◌, length, take, codes, count_by, flat_map}
-use Rattle.std.specs.Prelude.{Option, None, Some}
+use Rattle.std.specs.Prelude.{Option, None, Some, if◌then◌else◌}
 use Rattle.std.specs.Fmt.{decimal}
 use Rattle.sha2.specs.Sha256.{sha256}
 use Rattle.mb_model.specs.declared.key.PublicKey.{PublicKey}
 use Rattle.mb_model.specs.declared.layer.CodeName.{CodeName}
 use Rattle.mb_model.specs.declared.layer.Layer.{Layer}
+use Rattle.mb_model.specs.declared.layer.Trusts.{Trusts}
 use Rattle.mb_model.specs.declared.state.Configuration.{Configuration}
 use Rattle.mb_model.specs.declared.state.Report.{Report}
 use Rattle.mb_model.specs.declared.event.Answered.{Answered}
 use Rattle.mb_model.specs.declared.reply.Reply.{Reply}
 use Rattle.mb_model.specs.declared.reply.Reply.TheVariants as reply
 use Rattle.mb_model.specs.Key.{key_bytes}
+use Rattle.mb_model.specs.Layers.{are_equal}
 use Rattle.mb_model.specs.Lines.{spaced, hex_word}
 use Rattle.mb_model.specs.Drafts.{trust_word, kind_word}
 
@@ -34,11 +36,17 @@ abbrev pub code_words : Option CodeName → List (List ℕ)
 code_words None = codes "-" ∷ codes "-" ∷ []
 code_words (Some code) = hex_word code.hash ∷ decimal code.version ∷ []
 
+-- the words for a layer's trusts: one word where they are equal, else both
+abbrev pub trust_words : Trusts → List (List ℕ)
+trust_words trusts =
+    if are_equal trusts then trust_word trusts.one ∷ []
+    else trust_word trusts.one ∷ trust_word trusts.two ∷ []
+
 -- the line of the layer with the number m
 abbrev pub layer_line : ℕ → Layer → List ℕ
 layer_line m layer =
     spaced (codes "layer" ∷ decimal m ∷ owner_word layer.owner ∷ code_words layer.code
-    ++ reliable_word layer.reliable ∷ trust_word layer.trust ∷ [])
+    ++ reliable_word layer.reliable ∷ trust_words layer.trust)
 
 -- the lines of a configuration: its number, and each layer from 1 up to the key's
 abbrev pub configuration_lines : Configuration → List (List ℕ)

@@ -15,9 +15,9 @@ use Rattle.mb_model.specs.Log.{layers_of}
 -- The entry ends each key of this kind and layer that was born before it: an epoch key, where a change does not keep
 -- the region; a configuration key, where a change is at the layer or beneath it.
 abbrev pub ends : KeyKind → ℕ → Entry → Bool
-ends kinds.Epoch L (Change position number kind layer cosigned layers kept next) = not (is_in L kept)
-ends kinds.Configuration L (Change position number kind layer cosigned layers kept next) = nat_le layer L
-ends key_kind L (Birth serial key layers) = false
+ends kinds.Epoch L (Change version position number kind layer cosigned layers kept next) = not (is_in L kept)
+ends kinds.Configuration L (Change version position number kind layer cosigned layers kept next) = nat_le layer L
+ends key_kind L (Birth version serial key layers) = false
 ends key_kind L (NewKey position number key_number layer kind key) = false
 ends key_kind L (Succession position key) = false
 
@@ -63,8 +63,8 @@ splits (entry ∷ rest) =
 
 -- the configuration that an entry opens for a key of layer L: a change at the layer or beneath it opens one
 abbrev pub opened_by : ℕ → Entry → List Configuration
-opened_by L (Birth serial key layers) = []
-opened_by L (Change position number kind layer cosigned layers kept next) =
+opened_by L (Birth version serial key layers) = []
+opened_by L (Change version position number kind layer cosigned layers kept next) =
     if nat_le layer L then configuration L number layers ∷ [] else []
 opened_by L (NewKey position number key_number layer kind key) = []
 opened_by L (Succession position key) = []
@@ -79,8 +79,8 @@ outlived kind L split =
 -- the configurations of the key with this number, where an entry makes it: that of its birth, and those that later
 -- entries open while it lives
 abbrev pub lives_from : ℕ → List Entry → Entry → List Entry → List Configuration
-lives_from n before (Birth serial key layers) later = []
-lives_from n before (Change position number kind layer cosigned layers kept next) later = []
+lives_from n before (Birth version serial key layers) later = []
+lives_from n before (Change version position number kind layer cosigned layers kept next) later = []
 lives_from n before (NewKey position number key_number layer kind key) later =
     if key_number == n
     then configuration layer number (layers_of before) ∷ flat_map (outlived kind layer) (splits later)
@@ -99,8 +99,8 @@ pub record MadeKey : Type 0 where
 
 -- the key that an entry makes in the region of layer L, where no later entry ends it
 abbrev pub lasting : ℕ → Entry → List Entry → List MadeKey
-lasting L (Birth serial key layers) later = []
-lasting L (Change position number kind layer cosigned layers kept next) later = []
+lasting L (Birth version serial key layers) later = []
+lasting L (Change version position number kind layer cosigned layers kept next) later = []
 lasting L (NewKey position number key_number layer kind key) later =
     if (layer == L) && list_all (λ entry. not (ends kind L entry)) later
     then record { number = key_number; kind = kind; key = key } ∷ []

@@ -1,8 +1,9 @@
 -- The log of a device: what its entries say together, and which entry may follow. Can a log tell of a change that the
 -- rules forbid?
-use Rattle.std.specs.Prelude.{◌≡◌, ◌≢◌, ℕ, ◌+◌, Bool, true, false, List, [], ◌∷◌, ◌++◌, length, map, reverse}
+use Rattle.std.specs.Prelude.{◌≡◌, ◌≢◌, ℕ, ◌+◌, ◌==◌, ◌⊎◌, Bool, true, false, List, [], ◌∷◌, ◌++◌, length, map, reverse}
 use Rattle.std.specs.Prelude.{take_while, count_by, sum_by}
 use Rattle.std.specs.Prelude.{Option, None, Some, is_some, is_none, IsSome, IsTrue, unwrap_or}
+use Rattle.std.specs.List.{list_any}
 use Rattle.std.specs.Option.{option_or}
 use Rattle.mb_model.specs.declared.key.PublicKey.{PublicKey}
 use Rattle.mb_model.specs.declared.layer.Layers.{Layers}
@@ -19,30 +20,30 @@ abbrev pub entries_of : List SignedEntry → List Entry
 entries_of log = map (λ signed. signed.entry) log
 
 abbrev pub is_change : Entry → Bool
-is_change (Birth serial key layers) = false
-is_change (Change position number kind layer cosigned layers kept next) = true
+is_change (Birth version serial key layers) = false
+is_change (Change version position number kind layer cosigned layers kept next) = true
 is_change (NewKey position number key_number layer kind key) = false
 is_change (Succession position key) = false
 
 -- the layers that an entry names
 abbrev pub layers_in : Entry → Option Layers
-layers_in (Birth serial key layers) = Some layers
-layers_in (Change position number kind layer cosigned layers kept next) = Some layers
+layers_in (Birth version serial key layers) = Some layers
+layers_in (Change version position number kind layer cosigned layers kept next) = Some layers
 layers_in (NewKey position number key_number layer kind key) = None
 layers_in (Succession position key) = None
 
 -- the device key that an entry names
 abbrev pub device_in : Entry → Option PublicKey
-device_in (Birth serial key layers) = Some key
-device_in (Change position number kind layer cosigned layers kept next) = next
+device_in (Birth version serial key layers) = Some key
+device_in (Change version position number kind layer cosigned layers kept next) = next
 device_in (NewKey position number key_number layer kind key) = None
 device_in (Succession position key) = Some key
 
 -- how many keys an entry names, a region's key included
 abbrev pub keys_in : Entry → ℕ
-keys_in (Birth serial key layers) = 1
-keys_in (Change position number kind layer cosigned layers kept None) = 0
-keys_in (Change position number kind layer cosigned layers kept (Some next)) = 1
+keys_in (Birth version serial key layers) = 1
+keys_in (Change version position number kind layer cosigned layers kept None) = 0
+keys_in (Change version position number kind layer cosigned layers kept (Some next)) = 1
 keys_in (NewKey position number key_number layer kind key) = 1
 keys_in (Succession position key) = 1
 
@@ -73,8 +74,8 @@ made log = sum_by keys_in log
 
 -- the entry says that this many stand before it; a birth does not say
 abbrev pub StandsAt : ℕ → Entry → Type 0
-StandsAt n (Birth serial key layers) = Unit {0}
-StandsAt n (Change position number kind layer cosigned layers kept next) = position ≡ n
+StandsAt n (Birth version serial key layers) = Unit {0}
+StandsAt n (Change version position number kind layer cosigned layers kept next) = position ≡ n
 StandsAt n (NewKey position number key_number layer kind key) = position ≡ n
 StandsAt n (Succession position key) = position ≡ n
 
@@ -83,6 +84,30 @@ pub record Ordered (before : List Entry) (entry : Entry) (index : ℕ) : Type 0 
   pub position : StandsAt (length before) entry
   pub next : index ≡ used before
 
+-- whether an entry is a birth or change of version 2, which spells two trusts for each of its layers
+abbrev pub is_version_two : Entry → Bool
+is_version_two (Birth version serial key layers) = version == 2
+is_version_two (Change version position number kind layer cosigned layers kept next) = version == 2
+is_version_two (NewKey position number key_number layer kind key) = false
+is_version_two (Succession position key) = false
+
+-- whether some of the entries has version 2
+unfoldable pub has_version_two : List Entry → Bool
+has_version_two log = list_any is_version_two log
+
+-- each of the layers trusts changes of layer 1 and of layer 2 alike
+pub record HaveEqualTrusts (layers : Layers) : Type 0 where
+  pub one : layers.one.trust.one ≡ layers.one.trust.two
+  pub two : layers.two.trust.one ≡ layers.two.trust.two
+  pub three : layers.three.trust.one ≡ layers.three.trust.two
+
+-- A birth or change with these layers may have this version. Version 1 spells one trust a layer, so it can only name
+-- layers whose trusts are equal. No entry of version 1 follows one of version 2.
+pub record MayHaveVersion (after_version_two : Bool) (version : ℕ) (layers : Layers) : Type 0 where
+  pub known : (version ≡ 1) ⊎ (version ≡ 2)
+  pub equal_trusts : version ≡ 1 → HaveEqualTrusts layers
+  pub rises : IsTrue after_version_two → version ≡ 2
+
 -- the layers at a birth: layer 1 has an owner and is reliable, and nobody owns what is above
 pub record AreFirst (layers : Layers) : Type 0 where
   pub owned : IsSome layers.one.owner
@@ -90,17 +115,18 @@ pub record AreFirst (layers : Layers) : Type 0 where
   pub two : layers.two ≡ unowned
   pub three : layers.three ≡ unowned
 
--- A change of layer k says what the entries before it make true. Which owner, code name and trust it puts there, its
+-- A change of layer k says what the entries before it make true. Which owner, code name and trusts it puts there, its
 -- own layer k says.
 pub record RuledChange
     (before : List Entry)
-    (number : ℕ)
+    (version number : ℕ)
     (kind : ChangeKind)
     (k : ℕ)
     (cosigned : Pair)
     (layers : Layers)
     (kept : Pair)
     (next : Option PublicKey) : Type 0 where
+  pub has_version : MayHaveVersion (has_version_two before) version layers
   pub counted : number ≡ number_of before + 1
   pub allowed : Condition (layers_of before) (Some kind) k
   pub placed : CanPlace kind (layer_of (layers_of before) k) (layer_of layers k)
@@ -124,9 +150,10 @@ pub record RuledNewKey (before : List Entry) (number key_number k : ℕ) : Type 
 -- By the rules the entry may stand after the others: a birth at first and nowhere else, and a succession where the
 -- last index of a device key is left.
 abbrev pub Ruled : List Entry → Entry → Type 0
-Ruled before (Birth serial key layers) = (before ≡ []) × AreFirst layers
-Ruled before (Change position number kind layer cosigned layers kept next) =
-    (before ≢ []) × RuledChange before number kind layer cosigned layers kept next
+Ruled before (Birth version serial key layers) =
+    (before ≡ []) × AreFirst layers × MayHaveVersion (has_version_two before) version layers
+Ruled before (Change version position number kind layer cosigned layers kept next) =
+    (before ≢ []) × RuledChange before version number kind layer cosigned layers kept next
 Ruled before (NewKey position number key_number layer kind key) =
     (before ≢ []) × RuledNewKey before number key_number layer
 Ruled before (Succession position key) = (before ≢ []) × (used before ≡ 31)
@@ -138,8 +165,8 @@ RuledLog log =
 
 -- the serial that a birth names
 abbrev pub serial_in : Entry → Option (List ℕ)
-serial_in (Birth serial key layers) = Some serial
-serial_in (Change position number kind layer cosigned layers kept next) = None
+serial_in (Birth version serial key layers) = Some serial
+serial_in (Change version position number kind layer cosigned layers kept next) = None
 serial_in (NewKey position number key_number layer kind key) = None
 serial_in (Succession position key) = None
 

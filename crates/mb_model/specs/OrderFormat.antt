@@ -1,24 +1,29 @@
 -- How an order is spelled: its body, which is what is signed, and after it the signatures. What exactly did the owner
 -- sign?
-use Rattle.std.specs.Prelude.{ℕ, ◌+◌, ◌-◌, List, [], ◌∷◌, length, Option, Some, None, if◌then◌else◌}
+use Rattle.std.specs.Prelude.{ℕ, ◌+◌, ◌-◌, Bool, true, false, not, List, [], ◌∷◌, length, Option, Some, None}
+use Rattle.std.specs.Prelude.{if◌then◌else◌}
 use Rattle.std.specs.Int.{w8, w16, w32}
 use Rattle.mb_format.specs.Format.{Format}
-use Rattle.mb_format.specs.Combinators.{raw, number, between, table, nothing, sized, items, counted}
+use Rattle.mb_format.specs.Combinators.{raw, number, between, table, listed, nothing, sized, items, counted}
 use Rattle.mb_format.specs.Combinators.{both, pair, as_value, as_record, led}
 use Rattle.mb_model.specs.declared.key.PublicKey.{PublicKey}
 use Rattle.mb_model.specs.declared.key.Trust.{Trust}
+use Rattle.mb_model.specs.declared.key.Trust.TheVariants.{Always, Never, Countersigned}
+use Rattle.mb_model.specs.declared.layer.Trusts.{Trusts}
 use Rattle.mb_model.specs.declared.order.KeyKind.{KeyKind}
 use Rattle.mb_model.specs.declared.order.Target.{Target}
 use Rattle.mb_model.specs.declared.order.Target.TheVariants.{Serial, Length, Owner, Code}
 use Rattle.mb_model.specs.declared.order.OrderKind.{OrderKind}
 use Rattle.mb_model.specs.declared.order.OrderKind.TheVariants as kind
+use Rattle.mb_model.specs.declared.order.OrderForm.{OrderForm}
 use Rattle.mb_model.specs.declared.order.Payload.{Payload}
 use Rattle.mb_model.specs.declared.order.Act.{Act}
 use Rattle.mb_model.specs.declared.order.Act.TheVariants.{Establish, Surrender, Load, Emergency, NewKey}
 use Rattle.mb_model.specs.declared.order.Countersignature.{Countersignature}
 use Rattle.mb_model.specs.declared.order.Order.{Order}
 use Rattle.mb_model.specs.KeyFormat.{public_key_format}
-use Rattle.mb_model.specs.LayerFormat.{trust_format}
+use Rattle.mb_model.specs.Layers.{are_equal}
+use Rattle.mb_model.specs.LayerFormat.{trust_byte, trust_format, one_trust}
 use Rattle.mb_model.specs.EntryFormat.{key_kind_format}
 use Rattle.mb_model.specs.Rules.{kind_of, change_of, least_layer, is_load}
 
@@ -77,10 +82,54 @@ order_byte kind.Load = 3
 order_byte kind.Emergency = 4
 order_byte kind.NewKey = 5
 
-abbrev pub order_rows : List (ℕ × OrderKind)
-order_rows = (1, kind.Establish) ∷ (2, kind.Surrender) ∷ (3, kind.Load) ∷ (4, kind.Emergency) ∷ (5, kind.NewKey) ∷ []
+abbrev pub form_byte : OrderForm → ℕ
+form_byte form = if form.differs then 16 + order_byte form.kind else order_byte form.kind
 
-abbrev pub establish_in : Act → Option (PublicKey × Trust)
+abbrev pub form : OrderKind → Bool → OrderForm
+form order differs = record { kind = order; differs = differs }
+
+-- surrender and new key give no trusts, so they have no row with two
+abbrev pub form_rows : List (ℕ × OrderForm)
+form_rows =
+    (1, form kind.Establish false)
+    ∷ (2, form kind.Surrender false)
+    ∷ (3, form kind.Load false)
+    ∷ (4, form kind.Emergency false)
+    ∷ (5, form kind.NewKey false)
+    ∷ (17, form kind.Establish true)
+    ∷ (19, form kind.Load true)
+    ∷ (20, form kind.Emergency true)
+    ∷ []
+
+-- whether the act gives its layer two trusts that differ
+abbrev pub differs_in : Act → Bool
+differs_in (Establish owner trust) = not (are_equal trust)
+differs_in Surrender = false
+differs_in (Load payload) = not (are_equal payload.trust)
+differs_in (Emergency payload) = not (are_equal payload.trust)
+differs_in (NewKey key_kind) = false
+
+abbrev pub form_of : Act → OrderForm
+form_of act = form (kind_of act) (differs_in act)
+
+-- the trusts other than this one
+abbrev pub other_rows : Trust → List (ℕ × Trust)
+other_rows Always = (1, Never) ∷ (2, Countersigned) ∷ []
+other_rows Never = (0, Always) ∷ (2, Countersigned) ∷ []
+other_rows Countersigned = (0, Always) ∷ (1, Never) ∷ []
+
+-- two trusts that differ
+abbrev pub differing_trusts : Format Trusts
+differing_trusts = as_record (both trust_format (λ one. listed w8 (other_rows one) trust_byte))
+    (λ (one, two). record { one = one; two = two })
+    (λ trusts. (trusts.one, trusts.two))
+
+-- the trusts that an act gives its layer: one trust where they are equal, else both
+abbrev pub given_trusts : Bool → Format Trusts
+given_trusts false = one_trust trust_format
+given_trusts true = differing_trusts
+
+abbrev pub establish_in : Act → Option (PublicKey × Trusts)
 establish_in (Establish owner trust) = Some (owner, trust)
 establish_in _ = None
 
@@ -96,20 +145,20 @@ abbrev pub made_in : Act → Option KeyKind
 made_in (NewKey key_kind) = Some key_kind
 made_in _ = None
 
--- what a load carries: the version, the trust, and the code after its length
-unfoldable pub payload_format : Format Payload
-payload_format = as_record (pair (number w32) (pair trust_format (sized (between w32 0 32768))))
+-- what a load carries: the version, the trusts, and the code after its length
+unfoldable pub payload_format : Bool → Format Payload
+payload_format differs = as_record (pair (number w32) (pair (given_trusts differs) (sized (between w32 0 32768))))
     (λ (version, (trust, code)). record { version = version; trust = trust; code = code })
     (λ payload. (payload.version, (payload.trust, payload.code)))
 
-abbrev pub act_by : OrderKind → Format Act
-act_by kind.Establish = as_value (pair public_key_format trust_format)
+abbrev pub act_by : OrderKind → Bool → Format Act
+act_by kind.Establish differs = as_value (pair public_key_format (given_trusts differs))
     (λ (owner, trust). Establish owner trust)
     establish_in
-act_by kind.Surrender = nothing Surrender
-act_by kind.Load = as_value payload_format Load load_in
-act_by kind.Emergency = as_value payload_format Emergency emergency_in
-act_by kind.NewKey = as_value key_kind_format NewKey made_in
+act_by kind.Surrender differs = nothing Surrender
+act_by kind.Load differs = as_value (payload_format differs) Load load_in
+act_by kind.Emergency differs = as_value (payload_format differs) Emergency emergency_in
+act_by kind.NewKey differs = as_value key_kind_format NewKey made_in
 
 -- ---- the signed part
 
@@ -121,15 +170,16 @@ pub record Body : Type 0 where
 abbrev pub body_of : Order → Body
 body_of order = record { layer = order.layer; targets = order.targets; act = order.act }
 
--- after the kind: the layer, the targets, and what the order does
-abbrev pub body_by : OrderKind → Format Body
-body_by order = as_record
-    (pair (between w8 (least_layer order) 3) (pair (counted (between w8 0 8) target_format) (act_by order)))
+-- after the form's byte: the layer, the targets, and what the order does
+abbrev pub body_by : OrderForm → Format Body
+body_by form = as_record
+    (pair (between w8 (least_layer form.kind) 3)
+    (pair (counted (between w8 0 8) target_format) (act_by form.kind form.differs)))
     (λ (layer, (targets, act)). record { layer = layer; targets = targets; act = act })
     (λ body. (body.layer, (body.targets, body.act)))
 
 unfoldable pub body_format : Format Body
-body_format = led (table w8 order_rows order_byte) (λ body. kind_of body.act) body_by
+body_format = led (listed w8 form_rows form_byte) (λ body. form_of body.act) body_by
 
 -- the bytes that an owner signs
 abbrev pub order_body : Order → List ℕ

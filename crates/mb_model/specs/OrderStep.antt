@@ -189,9 +189,10 @@ changed_layers state kind order =
 abbrev pub named_next : Bool → State → List ℕ → Option PublicKey
 named_next next state draw = if next then Some (public_of (next_key state draw)) else None
 
--- the entry of a change
+-- the entry of a change, of version 2
 abbrev pub change_entry : State → ChangeKind → Order → List ℕ → Entry
 change_entry state kind order draw = Change
+    2
     (length state.log)
     (number_of (entries_of state.log) + 1)
     kind

@@ -44,9 +44,9 @@ with_key key region = record region { keys = region.keys ++ key ∷ [] }
 -- over the log, at the layers as they stood before each such change.
 abbrev pub AdmittedSince : List Entry → ℕ → ℕ → Type 0
 AdmittedSince log c L =
-    (before later : List Entry) (position number : ℕ) (kind : ChangeKind) (k : ℕ)
+    (before later : List Entry) (version position number : ℕ) (kind : ChangeKind) (k : ℕ)
     → (cosigned : Pair) (layers : Layers) (kept : Pair) (next : Option PublicKey)
-    → log ≡ before ++ Change position number kind k cosigned layers kept next ∷ later
+    → log ≡ before ++ Change version position number kind k cosigned layers kept next ∷ later
     → c < number → k ≤ L → Admits (layers_of before) kind k cosigned L
 
 -- The log tells of the birth of the key with this number, in the region of layer L, and of each change since then that

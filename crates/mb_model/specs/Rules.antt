@@ -19,7 +19,7 @@ use Rattle.mb_model.specs.declared.order.Act.TheVariants as act
 use Rattle.mb_model.specs.declared.order.Target.{Target}
 use Rattle.mb_model.specs.declared.order.Target.TheVariants as target
 use Rattle.mb_model.specs.Key.{key_bytes}
-use Rattle.mb_model.specs.Layers.{unowned, layer_of, is_owned, is_layer_number, is_upper, is_in, is_runnable}
+use Rattle.mb_model.specs.Layers.{trust_for, unowned, layer_of, is_owned, is_layer_number, is_upper, is_in, is_runnable}
 
 -- ---- kinds of orders
 
@@ -129,7 +129,7 @@ trusts Countersigned cosigned = cosigned
 abbrev pub admits : Layers → ChangeKind → ℕ → Pair → ℕ → Bool
 admits layers kind k cosigned m =
     if m == k then is_own_load (Some kind)
-    else is_load (Some kind) && trusts (layer_of layers m).trust (is_in m cosigned)
+    else is_load (Some kind) && trusts (trust_for (layer_of layers m) k) (is_in m cosigned)
 
 abbrev pub Admits : Layers → ChangeKind → ℕ → Pair → ℕ → Type 0
 Admits layers kind k cosigned m = IsTrue (admits layers kind k cosigned m)
@@ -147,7 +147,7 @@ kept_regions layers kind k cosigned =
 abbrev pub may_cosign : Layers → ChangeKind → ℕ → ℕ → Bool
 may_cosign layers kind k m = is_load (Some kind) && nat_lt k m && is_owned layers m
 
--- a layer with the code and the trust of a load; its owner stays
+-- a layer with the code and the trusts of a load; its owner stays
 abbrev pub loaded_layer : Layer → Payload → Layer
 loaded_layer old payload = record {
   owner = old.owner;

@@ -17,6 +17,7 @@ use Rattle.mb_model.specs.declared.order.Order.{Order}
 use Rattle.mb_model.specs.declared.tools.Workload.{Workload}
 use Rattle.mb_model.specs.Born.{officer_key}
 use Rattle.mb_model.specs.Signing.{public_of, signature_of}
+use Rattle.mb_model.specs.Layers.{equal_trusts}
 use Rattle.mb_model.specs.Factory.{IsFactoryImage}
 use Rattle.mb_model.specs.SignedTexts.{order_text, countersigned_text}
 use Rattle.mb_model.specs.OrderFormat.{order_body}
@@ -125,15 +126,15 @@ pub record Plan : Type 0 where
 abbrev pub plan : ℕ → Act → List ℕ → Plan
 plan layer what countersigners = record { layer = layer; act = what; countersigners = countersigners }
 
--- what a load carries that lets the layer trust what is countersigned
+-- what a load carries that lets the layer trust what is countersigned, whichever layer is changed
 abbrev pub plan_payload : ℕ → List ℕ → Payload
-plan_payload version code = record { version = version; trust = Countersigned; code = code }
+plan_payload version code = record { version = version; trust = equal_trusts Countersigned; code = code }
 
 -- the orders before the rounds: layers 2 and 3 get their owners and their first code, and layer 3 a key
 abbrev pub first_plans : Draws → List Plan
 first_plans draws =
-    plan 2 (act.Establish (public_of (key_of_officer draws 2)) Countersigned) []
-    ∷ plan 3 (act.Establish (public_of (key_of_officer draws 3)) Countersigned) []
+    plan 2 (act.Establish (public_of (key_of_officer draws 2)) (equal_trusts Countersigned)) []
+    ∷ plan 3 (act.Establish (public_of (key_of_officer draws 3)) (equal_trusts Countersigned)) []
     ∷ plan 2 (act.Emergency (plan_payload 1 draws.code_two)) []
     ∷ plan 3 (act.Emergency (plan_payload 1 draws.code_three)) []
     ∷ plan 3 (act.NewKey kinds.Epoch) []

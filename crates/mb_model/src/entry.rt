@@ -11,12 +11,16 @@ use crate::order::{ChangeKind, KeyKind};
 pub enum Entry {
     /// The device was made: its serial, its first device key, and its layers.
     Birth {
+        /// The version of its spelling: 1 spells one trust for each of its layers, 2 spells both.
+        version: u8,
         serial: [u8; 16],
         key: PublicKey,
         layers: Layers,
     },
     /// A layer was changed.
     Change {
+        /// The version of its spelling: 1 spells one trust for each of its layers, 2 spells both.
+        version: u8,
         /// How many entries stand before this one.
         position: u32,
         /// How many changes there are up to this one: the configuration number from here on.

@@ -1,6 +1,6 @@
 //! Laws of the formats: each is clear, and how long its spellings are.
 
-ghost use Rattle.std.specs.Prelude.{◌≡◌};
+ghost use Rattle.std.specs.Prelude.{◌≡◌, ℕ};
 ghost use Rattle.mb_format.specs.Format.{IsClear, IsClearWhole, IsShort};
 ghost use Rattle.mb_format.specs.Reading.{IsLocal};
 ghost use Rattle.mb_model.specs.declared.key.PublicKey.{PublicKey};
@@ -20,8 +20,8 @@ pub fn formats_are_clear()
     ensures key_seed { IsClear key_seed_format }
     ensures keyfile { IsClear keyfile_format }
     ensures trust { IsClear trust_format }
-    ensures layer { IsClear layer_format }
-    ensures layers { IsClear layers_format }
+    ensures layer { (version : ℕ) → IsClear (layer_format version) }
+    ensures layers { (version : ℕ) → IsClear (layers_format version) }
     ensures entry { IsClear entry_format }
     ensures signed_entry { IsClear signed_entry_format }
     ensures target { IsClear target_format }
@@ -54,18 +54,18 @@ pub fn whole_formats_are_clear()
 pub fn formats_are_short()
     ensures public_key { IsShort public_key_format 56 }
     ensures keyfile { IsShort keyfile_format 56 }
-    ensures entry { IsShort entry_format 355 }
-    ensures order { IsShort order_format 61033 }
+    ensures entry { IsShort entry_format 358 }
+    ensures order { IsShort order_format 61034 }
     ensures statement { IsShort statement_format 2481 }
-    ensures chain { IsShort chain_format 348472 }
+    ensures chain { IsShort chain_format 348856 }
     ensures root { IsShort root_format 229 }
     ensures region { IsShort region_format 3091 }
-    ensures public_record { IsShort public_format 444434 }
+    ensures public_record { IsShort public_format 444818 }
 {}
 
 /// To read an order no more bytes are looked at than the longest order has.
 pub fn orders_are_local()
-    ensures { IsLocal order_format 61033 }
+    ensures { IsLocal order_format 61034 }
 {}
 
 /// A public key is spelled as the bytes that are hashed and signed.

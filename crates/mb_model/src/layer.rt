@@ -1,5 +1,8 @@
 //! The layers of a device.
 
+ghost use Rattle.std.specs.Prelude.{◌≡◌};
+ghost use Rattle.mb_model.specs.Layers.{equal_trusts, are_equal};
+
 use crate::key::{PublicKey, Trust};
 
 /// The name of a layer's code.
@@ -11,7 +14,41 @@ pub struct CodeName {
     pub version: u32,
 }
 
-/// A layer. One without an owner has no code, is not reliable, and trusts never.
+/// The trusts of a layer in changes of the layers beneath it. A trust in a layer that is not beneath it is stored, and
+/// never asked.
+#[derive(Clone, Copy, PartialEq, Eq)]
+pub struct Trusts {
+    /// The trust in changes of layer 1.
+    pub one: Trust,
+    /// The trust in changes of layer 2.
+    pub two: Trust,
+}
+
+impl Trusts {
+    /// One trust, in changes of layer 1 and of layer 2 alike.
+    pub fn equal(trust: Trust) -> Trusts
+        ensures { result ≡ equal_trusts trust }
+    {
+        Trusts {
+            one: trust,
+            two: trust,
+        }
+    }
+
+    /// Whether changes of layer 1 and of layer 2 are trusted alike.
+    pub fn are_equal(self) -> bool
+        ensures { result ≡ are_equal self }
+    {
+        match (self.one, self.two) {
+            (Trust::Always, Trust::Always) => true,
+            (Trust::Never, Trust::Never) => true,
+            (Trust::Countersigned, Trust::Countersigned) => true,
+            _ => false,
+        }
+    }
+}
+
+/// A layer. Without an owner it has no code, is not reliable, and both its trusts are never.
 #[derive(Clone, Copy, PartialEq, Eq)]
 pub struct Layer {
     /// The public key of its owner.
@@ -20,8 +57,8 @@ pub struct Layer {
     pub code: Option<CodeName>,
     /// Whether its code is to be relied on.
     pub reliable: bool,
-    /// When it keeps its secrets over a change beneath it.
-    pub trust: Trust,
+    /// Which changes beneath it the layer goes along with: over others it loses its secrets and is not reliable.
+    pub trust: Trusts,
 }
 
 /// The layers of a device that can change. Layer 1 always has an owner and is reliable.

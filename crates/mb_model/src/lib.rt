@@ -33,15 +33,15 @@ pub use formats::{
 };
 pub use items::{Calls, File, Files, Items};
 pub use key::{Chains, KeySeed, PublicKey, Tree, Trust};
-pub use layer::{CodeName, Layer, Layers, Pair};
+pub use layer::{CodeName, Layer, Layers, Pair, Trusts};
 pub use limits::{
     BBRAM_LENGTH, EVENT_LIMIT, FILE_LIMIT, FLASH_LENGTH, IMAGE_LENGTH, SECTOR_LENGTH,
     SIGNATURE_LIMIT,
 };
 pub use memory::NoMemory;
 pub use order::{
-    Act, ChangeKind, Countersignature, Countersignatures, KeyKind, Order, OrderKind, Payload,
-    Target, Targets,
+    Act, ChangeKind, Countersignature, Countersignatures, KeyKind, Order, OrderForm, OrderKind,
+    Payload, Target, Targets,
 };
 pub use region::{Region, RegionKey, RegionKeys, Secret, Secrets};
 pub use reply::{Reply, Standing};

@@ -2,7 +2,8 @@
 
 use crate::bytes::Bytes;
 use crate::items::Items;
-use crate::key::{PublicKey, Trust};
+use crate::key::PublicKey;
+use crate::layer::Trusts;
 
 /// How long a key of a region lives.
 #[derive(Clone, Copy, PartialEq, Eq)]
@@ -39,13 +40,21 @@ pub enum OrderKind {
     NewKey,
 }
 
+/// The form of an order's spelling, which its first byte gives.
+#[derive(Clone, Copy, PartialEq, Eq)]
+pub struct OrderForm {
+    pub kind: OrderKind,
+    /// Whether the order gives its layer two trusts that differ: then both are spelled.
+    pub differs: bool,
+}
+
 /// What a load of either kind carries.
 #[derive(Drop)]
 pub struct Payload {
     /// The version of the code.
     pub version: u32,
-    /// What the layer trusts from then on.
-    pub trust: Trust,
+    /// The trusts of the layer from then on.
+    pub trust: Trusts,
     /// At most 32,768 bytes.
     pub code: Bytes,
 }
@@ -54,7 +63,7 @@ pub struct Payload {
 #[derive(Drop)]
 pub enum Act {
     /// Gives the layer an owner.
-    Establish { owner: PublicKey, trust: Trust },
+    Establish { owner: PublicKey, trust: Trusts },
     /// Takes the layer's owner away.
     Surrender,
     /// The ordinary load, by the layer's own owner.

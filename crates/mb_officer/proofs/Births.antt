@@ -89,11 +89,11 @@ module _ (maker : KeySeed) (index : ℕ) (owner : PublicKey) (code noise : List 
       subst (λ (k : KeySeed). root_format.Allowed (root_at_birth serial k)) (sym is_key)
       (subst (λ (s : List ℕ). root_format.Allowed (root_at_birth s (first_key noise))) (sym is_serial) birth_root)
 
-  pub device_birth : (serial : List ℕ) (key : KeySeed) (birth : Entry) → serial ≡ serial_from noise → key ≡ first_key noise → birth ≡ Birth serial (public_of key) (layers_at_birth owner code)
+  pub device_birth : (serial : List ℕ) (key : KeySeed) (birth : Entry) → serial ≡ serial_from noise → key ≡ first_key noise → birth ≡ Birth 2 serial (public_of key) (layers_at_birth owner code)
       → birth ≡ birth_entry owner code noise
   device_birth serial key birth is_serial is_key is_birth =
-      is_birth ∙ ap (λ (s : List ℕ). Birth s (public_of key) (layers_at_birth owner code)) is_serial
-      ∙ ap (λ (k : KeySeed). Birth (serial_from noise) (public_of k) (layers_at_birth owner code)) is_key
+      is_birth ∙ ap (λ (s : List ℕ). Birth 2 s (public_of key) (layers_at_birth owner code)) is_serial
+      ∙ ap (λ (k : KeySeed). Birth 2 (serial_from noise) (public_of k) (layers_at_birth owner code)) is_key
 
   pub device_entry : (birth : Entry) → birth ≡ birth_entry owner code noise → entry_format.Allowed birth
   device_entry birth is_birth = subst entry_format.Allowed (sym is_birth) birth_spelled

@@ -7,7 +7,8 @@ use Rattle.std.proofs.lemmas.List.{append-nil}
 use Rattle.mb_model.specs.declared.key.PublicKey.{PublicKey}
 use Rattle.mb_model.specs.declared.key.Tree.TheVariants.{H5}
 use Rattle.mb_model.specs.declared.key.Chains.TheVariants.{W4}
-use Rattle.mb_model.specs.declared.key.Trust.{Trust}
+use Rattle.mb_model.specs.declared.layer.Trusts.{Trusts}
+use Rattle.mb_model.specs.Layers.{equal_trusts}
 use Rattle.mb_model.specs.declared.key.Trust.TheVariants.{Always}
 use Rattle.mb_model.specs.declared.order.Act.{Act}
 use Rattle.mb_model.specs.declared.order.Act.TheVariants as act
@@ -15,7 +16,7 @@ use Rattle.mb_model.specs.declared.order.Target.{Target}
 use Rattle.mb_model.specs.declared.order.Order.{Order}
 use Rattle.mb_model.specs.Key.{key_bytes}
 use Rattle.mb_model.specs.Lines.{HasLines, spaced, IsBeginning, bad_line, ends_early, Reads, TextFailsAtLine}
-use Rattle.mb_model.specs.Drafts.{SaysTarget, trust_line, SayAct, IsDraft}
+use Rattle.mb_model.specs.Drafts.{SaysTarget, SayAct, IsDraft}
 use Rattle.hex.specs.Hex.{decode_pairs}
 use Rattle.mb_model.specs.Texts.{IsHex}
 use Rattle.mb_lemmas.proofs.LineLemmas.{cons_none, HasLines-nil, HasLines-always}
@@ -52,12 +53,12 @@ finish_of k layer targets order (first ∷ lines) act_lines rest split zip all s
 load_more : (l : Loading) (a : Act) → SayAct [] a → ordered_by a ≡ kind.Load l → ⊥
 load_more l (act.Establish owner trust) says of_kind = establish_load l of_kind
 load_more l act.Surrender says of_kind = cc
-load_more l (act.Load payload) says of_kind = cons_none _ (trust_line payload.trust ∷ says.code_line ∷ []) says.spelled
-load_more l (act.Emergency payload) says of_kind = cons_none _ (trust_line payload.trust ∷ says.code_line ∷ []) says.spelled
+load_more l (act.Load payload) says of_kind = cons_none _ (says.line_of_trusts ∷ says.code_line ∷ []) says.spelled
+load_more l (act.Emergency payload) says of_kind = cons_none _ (says.line_of_trusts ∷ says.code_line ∷ []) says.spelled
 load_more l (act.NewKey key) says of_kind = cc
 
 establish_more : (a : Act) → SayAct [] a → ordered_by a ≡ kind.Establish → ⊥
-establish_more (act.Establish owner trust) says of_kind = cons_none says.owner_line (trust_line trust ∷ []) says.spelled
+establish_more (act.Establish owner trust) says of_kind = cons_none says.owner_line (says.line_of_trusts ∷ []) says.spelled
 establish_more act.Surrender says of_kind = cc
 establish_more (act.Load payload) says of_kind = cc
 establish_more (act.Emergency payload) says of_kind = cc
@@ -103,7 +104,7 @@ record Ends (s : Said) (targets : List Target) : Type 0 where
   order : Order
   says : SaysRest s targets more order
 
-ends_code : (l : Loading) (layer version : ℕ) (trust : Trust) (targets : List Target) → SaysCode l layer version trust targets (codes "code -" ∷ []) (drafted layer targets (load_act l version trust []))
+ends_code : (l : Loading) (layer version : ℕ) (trust : Trusts) (targets : List Target) → SaysCode l layer version trust targets (codes "code -" ∷ []) (drafted layer targets (load_act l version trust []))
 ends_code l layer version trust targets = record {
   line = codes "code -";
   code = [];
@@ -114,17 +115,19 @@ ends_code l layer version trust targets = record {
 }
 
 ends_load : (l : Loading) (layer version : ℕ) (targets : List Target)
-    → SaysLoad l layer version targets (codes "trust always" ∷ codes "code -" ∷ []) (drafted layer targets (load_act l version Always []))
+    → SaysLoad l layer version targets (codes "trust always" ∷ codes "code -" ∷ []) (drafted layer targets (load_act l version (equal_trusts Always) []))
 ends_load l layer version targets = record {
-  trust = Always;
+  trust = equal_trusts Always;
+  line_of_trusts = codes "trust always";
+  trusted = inr (refl, refl);
   remaining = codes "code -" ∷ [];
   spelled = refl;
-  coded = ends_code l layer version Always targets;
+  coded = ends_code l layer version (equal_trusts Always) targets;
 }
 
 ends_owner : (layer : ℕ) (owner : PublicKey) (targets : List Target)
-    → SaysOwner layer owner targets (codes "trust always" ∷ []) (drafted layer targets (act.Establish owner Always))
-ends_owner layer owner targets = record { trust = Always; spelled = refl; made = refl }
+    → SaysOwner layer owner targets (codes "trust always" ∷ []) (drafted layer targets (act.Establish owner (equal_trusts Always)))
+ends_owner layer owner targets = record { trust = equal_trusts Always; line_of_trusts = codes "trust always"; trusted = inr (refl, refl); spelled = refl; made = refl }
 
 abbrev some_word : List ℕ
 some_word = codes "0000000500000003000000000000000000000000000000000000000000000000000000000000000000000000000000000000000000000000"
@@ -136,8 +139,8 @@ some_hex = inr ((λ none. cons_none 48 _ (sym none)), refl)
 ends_heading : (k : Kind) (layer : ℕ) (targets : List Target) → length targets ≤ 8 → Ends (said.Heading k layer) targets
 ends_heading kind.Establish layer targets room = record {
   more = (codes "owner " ++ some_word) ∷ codes "trust always" ∷ [];
-  order = drafted layer targets (act.Establish some_key Always);
-  says = from_owner layer targets (codes "owner " ++ some_word) some_key (codes "trust always" ∷ []) (drafted layer targets (act.Establish some_key Always)) room
+  order = drafted layer targets (act.Establish some_key (equal_trusts Always));
+  says = from_owner layer targets (codes "owner " ++ some_word) some_key (codes "trust always" ∷ []) (drafted layer targets (act.Establish some_key (equal_trusts Always))) room
       (record { identifier = refl; root = refl }) (some_word, some_hex, refl) (ends_owner layer some_key targets);
 }
 ends_heading kind.Surrender layer targets room = record {
@@ -147,9 +150,9 @@ ends_heading kind.Surrender layer targets room = record {
 }
 ends_heading (kind.Load l) layer targets room = record {
   more = spaced (codes "version" ∷ decimal 0 ∷ []) ∷ codes "trust always" ∷ codes "code -" ∷ [];
-  order = drafted layer targets (load_act l 0 Always []);
+  order = drafted layer targets (load_act l 0 (equal_trusts Always) []);
   says = from_version l layer targets (spaced (codes "version" ∷ decimal 0 ∷ [])) 0 (codes "trust always" ∷ codes "code -" ∷ [])
-      (drafted layer targets (load_act l 0 Always [])) room (omega arith) refl (ends_load l layer 0 targets);
+      (drafted layer targets (load_act l 0 (equal_trusts Always) [])) room (omega arith) refl (ends_load l layer 0 targets);
 }
 ends_heading (kind.NewKey key) layer targets room = record {
   more = [];
@@ -166,12 +169,12 @@ ends said.Nothing targets none = record {
 ends (said.Heading k layer) targets sound = ends_heading k layer targets sound.1
 ends (said.Owner layer owner) targets sound = record {
   more = codes "trust always" ∷ [];
-  order = drafted layer targets (act.Establish owner Always);
+  order = drafted layer targets (act.Establish owner (equal_trusts Always));
   says = ends_owner layer owner targets;
 }
 ends (said.Version l layer version) targets sound = record {
   more = codes "trust always" ∷ codes "code -" ∷ [];
-  order = drafted layer targets (load_act l version Always []);
+  order = drafted layer targets (load_act l version (equal_trusts Always) []);
   says = ends_load l layer version targets;
 }
 ends (said.Trust l layer version trust) targets sound = record {

@@ -7,3 +7,4 @@ pub mod Spelled
 pub mod OrderTexts
 pub mod Images
 pub mod Births
+pub mod Trusting

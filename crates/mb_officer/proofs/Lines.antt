@@ -6,17 +6,16 @@ use Rattle.std.specs.List.{AllZip}
 use Rattle.std.specs.Fmt.{decimal}
 use Rattle.std.proofs.lemmas.List.{append-nil, append_cancel_left}
 use Rattle.mb_model.specs.declared.key.PublicKey.{PublicKey}
-use Rattle.mb_model.specs.declared.key.Trust.{Trust}
+use Rattle.mb_model.specs.declared.layer.Trusts.{Trusts}
 use Rattle.mb_model.specs.declared.order.Act.{Act}
 use Rattle.mb_model.specs.declared.order.Act.TheVariants as act
 use Rattle.mb_model.specs.declared.order.Target.{Target}
-use Rattle.mb_model.specs.declared.order.Target.TheVariants as target
 use Rattle.mb_model.specs.declared.order.Order.{Order}
 use Rattle.mb_model.specs.Key.{key_bytes, IsSized}
 use Rattle.mb_model.specs.Rules.{MayBeFor}
 use Rattle.mb_model.specs.Lines.{spaced, number_limit}
 use Rattle.mb_model.specs.Script.{EndsInHex}
-use Rattle.mb_model.specs.Drafts.{SaysTarget, trust_line, AreLoadLines, SayAct}
+use Rattle.mb_model.specs.Drafts.{SaysTarget, SaysTrusts, AreLoadLines, SayAct}
 use Rattle.mb_lemmas.proofs.LineLemmas.{cons_same, cons_none}
 use Rattle.std.proofs.lemmas.Fmt.{decimal_injective}
 use Rattle.mb_model.proofs.KeyLemmas.{key_bytes-same}
@@ -153,14 +152,16 @@ pub data FirstOf (k : Kind) (layer : ℕ) (targets : List Target) (line : List �
   version_first : (l : Loading) (version : ℕ) → k ≡ kind.Load l → version ≤ number_limit → line ≡ spaced (codes "version" ∷ decimal version ∷ [])
       → SaysLoad l layer version targets more order → FirstOf k layer targets line more order
 
-load_first : (k : Kind) (l : Loading) (layer : ℕ) (targets : List Target) (line : List ℕ) (more : List (List ℕ)) (order : Order) (version : ℕ) (trust : Trust) (code : List ℕ)
+load_first : (k : Kind) (l : Loading) (layer : ℕ) (targets : List Target) (line : List ℕ) (more : List (List ℕ)) (order : Order) (version : ℕ) (trust : Trusts) (code : List ℕ)
     → AreLoadLines (line ∷ more) (record { version = version; trust = trust; code = code }) → k ≡ kind.Load l → order ≡ drafted layer targets (load_act l version trust code)
     → FirstOf k layer targets line more order
 load_first k l layer targets line more order version trust code says of_kind made =
-    let parts = cons_same line _ more (trust_line trust ∷ says.code_line ∷ []) says.spelled in
+    let parts = cons_same line _ more (says.line_of_trusts ∷ says.code_line ∷ []) says.spelled in
     version_first l version of_kind says.version_fits parts.0
     (record {
       trust = trust;
+      line_of_trusts = says.line_of_trusts;
+      trusted = says.trusted;
       remaining = says.code_line ∷ [];
       spelled = parts.1;
       coded = record { line = says.code_line; code = code; coded = says.coded; fits = says.code_fits; spelled = refl; made = made };
@@ -169,9 +170,9 @@ load_first k l layer targets line more order version trust code says of_kind mad
 first_of : (k : Kind) (layer : ℕ) (targets : List Target) (line : List ℕ) (more : List (List ℕ)) (order : Order) (a : Act) → SayAct (line ∷ more) a
     → ordered_by a ≡ k → order ≡ drafted layer targets a → FirstOf k layer targets line more order
 first_of k layer targets line more order (act.Establish owner trust) says of_kind made =
-    let parts = cons_same line says.owner_line more (trust_line trust ∷ []) says.spelled in
+    let parts = cons_same line says.owner_line more (says.line_of_trusts ∷ []) says.spelled in
     owner_first owner (sym of_kind) says.sized (says.owned.0, says.owned.1, parts.0 ∙ says.owned.2)
-    (record { trust = trust; spelled = parts.1; made = made })
+    (record { trust = trust; line_of_trusts = says.line_of_trusts; trusted = says.trusted; spelled = parts.1; made = made })
 first_of k layer targets line more order act.Surrender says of_kind made = absurd (cons_none line more (sym says))
 first_of k layer targets line more order (act.Load payload) says of_kind made =
     load_first k loading.Ordinary layer targets line more order payload.version payload.trust payload.code says (sym of_kind) made
@@ -202,14 +203,16 @@ establish_load l e = cc
 load_same : (j l : Loading) → kind.Load j ≡ kind.Load l → j ≡ l
 load_same j l e = cc
 
-load_lines : (line : List ℕ) (more : List (List ℕ)) (version : ℕ) (trust : Trust) (code_line code : List ℕ) (remaining : List (List ℕ)) → EndsInHex code_line (codes "code" ∷ []) code
-    → length code ≤ 32768 → version ≤ number_limit → line ≡ spaced (codes "version" ∷ decimal version ∷ []) → more ≡ trust_line trust ∷ remaining → remaining ≡ code_line ∷ []
+load_lines : (line : List ℕ) (more : List (List ℕ)) (version : ℕ) (trust : Trusts) (line_of_trusts : List ℕ) → SaysTrusts line_of_trusts trust → (code_line code : List ℕ) (remaining : List (List ℕ)) → EndsInHex code_line (codes "code" ∷ []) code
+    → length code ≤ 32768 → version ≤ number_limit → line ≡ spaced (codes "version" ∷ decimal version ∷ []) → more ≡ line_of_trusts ∷ remaining → remaining ≡ code_line ∷ []
     → AreLoadLines (line ∷ more) (record { version = version; trust = trust; code = code })
-load_lines line more version trust code_line code remaining coded fits small spelled second third = record {
+load_lines line more version trust line_of_trusts trusted code_line code remaining coded fits small spelled second third = record {
   code_line = code_line;
   coded = coded;
   code_fits = fits;
   version_fits = small;
+  line_of_trusts = line_of_trusts;
+  trusted = trusted;
   spelled =
       let head = spelled in
       let rest = second in
@@ -243,7 +246,7 @@ from_owner layer targets line owner more order room sized owned says =
     let made = sym says.made in
     subst (λ (x : Order). SaysTargets kind.Establish layer targets (line ∷ more) x) made
     (says_only_act kind.Establish layer targets (line ∷ more) (act.Establish owner says.trust) room
-    (record { owner_line = line; owned = owned; sized = sized; spelled = ap (λ (x : List (List ℕ)). line ∷ x) says.spelled }) refl)
+    (record { owner_line = line; owned = owned; sized = sized; line_of_trusts = says.line_of_trusts; trusted = says.trusted; spelled = ap (λ (x : List (List ℕ)). line ∷ x) says.spelled }) refl)
 
 to_owner : (layer : ℕ) (targets : List Target) (line : List ℕ) (owner : PublicKey) (more : List (List ℕ)) (order : Order) → IsSized owner
     → EndsInHex line (codes "owner" ∷ []) (key_bytes owner) → FirstOf kind.Establish layer targets line more order → SaysOwner layer owner targets more order
@@ -274,11 +277,11 @@ pub from_version : (l : Loading) (layer : ℕ) (targets : List Target) (line : L
 from_version loading.Ordinary layer targets line version more order room fits spelled says =
     subst (λ (x : Order). SaysTargets (kind.Load loading.Ordinary) layer targets (line ∷ more) x) (sym says.coded.made)
     (says_only_act (kind.Load loading.Ordinary) layer targets (line ∷ more) (act.Load (record { version = version; trust = says.trust; code = says.coded.code })) room
-    (load_lines line more version says.trust says.coded.line says.coded.code says.remaining says.coded.coded says.coded.fits fits spelled says.spelled says.coded.spelled) refl)
+    (load_lines line more version says.trust says.line_of_trusts says.trusted says.coded.line says.coded.code says.remaining says.coded.coded says.coded.fits fits spelled says.spelled says.coded.spelled) refl)
 from_version loading.Emergency layer targets line version more order room fits spelled says =
     subst (λ (x : Order). SaysTargets (kind.Load loading.Emergency) layer targets (line ∷ more) x) (sym says.coded.made)
     (says_only_act (kind.Load loading.Emergency) layer targets (line ∷ more) (act.Emergency (record { version = version; trust = says.trust; code = says.coded.code })) room
-    (load_lines line more version says.trust says.coded.line says.coded.code says.remaining says.coded.coded says.coded.fits fits spelled says.spelled says.coded.spelled) refl)
+    (load_lines line more version says.trust says.line_of_trusts says.trusted says.coded.line says.coded.code says.remaining says.coded.coded says.coded.fits fits spelled says.spelled says.coded.spelled) refl)
 
 to_version : (l : Loading) (layer : ℕ) (targets : List Target) (line : List ℕ) (version : ℕ) (more : List (List ℕ)) (order : Order) → version ≤ number_limit
     → line ≡ spaced (codes "version" ∷ decimal version ∷ []) → FirstOf (kind.Load l) layer targets line more order → SaysLoad l layer version targets more order
@@ -303,7 +306,7 @@ Follows-version k layer l n targets line version none sound is_kind same fits sp
 
 -- ---- trust and code
 
-pub Follows-code : (l : Loading) (layer version : ℕ) (trust : Trust) (targets : List Target) (line code : List ℕ) (a : Act)
+pub Follows-code : (l : Loading) (layer version : ℕ) (trust : Trusts) (targets : List Target) (line code : List ℕ) (a : Act)
     → IsSound (said.Trust l layer version trust) targets → length code ≤ 32768 → EndsInHex line (codes "code" ∷ []) code → a ≡ load_act l version trust code
     → Follows (said.Trust l layer version trust) targets line (said.All layer a) targets
 Follows-code l layer version trust targets line code a sound fits coded is =

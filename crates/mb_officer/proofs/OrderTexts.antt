@@ -11,7 +11,7 @@ use Rattle.mb_model.specs.declared.order.Order.{Order}
 use Rattle.mb_model.specs.Texts.{IsHex}
 use Rattle.mb_model.specs.Lines.{hex_word}
 use Rattle.mb_model.specs.Rules.{kind_of}
-use Rattle.mb_model.specs.OrderFormat.{order_byte, target_format, act_by, body_of, body_format, order_body, sized_signature_format, countersignatures_format, order_format}
+use Rattle.mb_model.specs.OrderFormat.{form_byte, form_of, differs_in, target_format, act_by, body_of, body_format, order_body, sized_signature_format, countersignatures_format, order_format}
 use Rattle.mb_model.specs.OrderLines.{IsOrderLine}
 use Rattle.mb_lemmas.proofs.LineLemmas.{cons_same}
 use Rattle.mb_lemmas.proofs.WordLemmas.{IsHex-same, hex_word-some}
@@ -52,10 +52,10 @@ line_finds line word bytes begins hex (Err why.NoMemory) unsaid = tt
 order_some : (order : Order) → 0 < length (order_format.spelling order)
 unfolding order_format body_format number_bytes
 order_some order =
-    let kind = number_bytes w8 (order_byte (kind_of order.act)) in
-    let one : length kind ≡ 1 = wide8.len (order_byte (kind_of order.act)) in
+    let kind = number_bytes w8 (form_byte (form_of order.act)) in
+    let one : length kind ≡ 1 = wide8.len (form_byte (form_of order.act)) in
     let targets = (counted (between w8 0 8) target_format).spelling order.targets in
-    let remaining = number_bytes w8 order.layer ++ (targets ++ (act_by (kind_of order.act)).spelling order.act) in
+    let remaining = number_bytes w8 order.layer ++ (targets ++ (act_by (kind_of order.act) (differs_in order.act)).spelling order.act) in
     let signatures = sized_signature_format.spelling order.signature ++ (countersignatures_format (body_of order)).spelling order.countersignatures in
     omega (arith, one, length-append kind remaining, length-append (order_body order) signatures)
 

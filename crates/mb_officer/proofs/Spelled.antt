@@ -14,9 +14,10 @@ use Rattle.mb_model.specs.Drafts.{SaysTarget, SayAct, IsDraft}
 use Rattle.mb_model.specs.Rules.{kind_of}
 use Rattle.mb_model.specs.Lines.{Reads}
 use Rattle.mb_model.specs.KeyFormat.{public_key_format}
+use Rattle.mb_model.proofs.OrderFormatLaws.{form_listed, given_allowed}
 use Rattle.mb_model.specs.LayerFormat.{trust_format}
 use Rattle.mb_model.specs.EntryFormat.{key_kind_format}
-use Rattle.mb_model.specs.OrderFormat.{target_format, payload_format, act_by, Body, body_of, body_format, sized_signature_format, countersignatures_format, order_format}
+use Rattle.mb_model.specs.OrderFormat.{target_format, differs_in, payload_format, act_by, Body, body_of, body_format, sized_signature_format, countersignatures_format, order_format}
 
 numbered_within : (n : ℕ) → IsTrue (is_layer_number n) → (1 ≤ n) × (n ≤ 3)
 numbered_within n is = (grind (arith, is), grind (arith, is))
@@ -35,12 +36,12 @@ targets_allowed [] (t ∷ targets) zip = absurd zip
 targets_allowed (line ∷ lines) [] zip = absurd zip
 targets_allowed (line ∷ lines) (t ∷ targets) zip = (target_allowed line t zip.0, targets_allowed lines targets zip.1)
 
-act_allowed : (lines : List (List ℕ)) (a : Act) → SayAct lines a → (act_by (kind_of a)).Allowed a
+act_allowed : (lines : List (List ℕ)) (a : Act) → SayAct lines a → (act_by (kind_of a) (differs_in a)).Allowed a
 unfolding payload_format trust_format public_key_format key_kind_format
-act_allowed lines (act.Establish owner trust) says = ((tt, (tt, (says.sized.identifier, says.sized.root))), tt)
+act_allowed lines (act.Establish owner trust) says = ((tt, (tt, (says.sized.identifier, says.sized.root))), given_allowed trust)
 act_allowed lines act.Surrender says = refl
-act_allowed lines (act.Load payload) says = (omega (arith, says.version_fits), (tt, ((omega arith, says.code_fits), refl)))
-act_allowed lines (act.Emergency payload) says = (omega (arith, says.version_fits), (tt, ((omega arith, says.code_fits), refl)))
+act_allowed lines (act.Load payload) says = (omega (arith, says.version_fits), (given_allowed payload.trust, ((omega arith, says.code_fits), refl)))
+act_allowed lines (act.Emergency payload) says = (omega (arith, says.version_fits), (given_allowed payload.trust, ((omega arith, says.code_fits), refl)))
 act_allowed lines (act.NewKey kind) says = tt
 
 no_signature : (signature : List ℕ) → signature ≡ [] → sized_signature_format.Allowed signature
@@ -56,7 +57,7 @@ IsDraft-spelled : (lines : List (List ℕ)) (order : Order) → IsDraft lines or
 unfolding order_format body_format
 IsDraft-spelled lines order is = (
   (
-    tt,
+    form_listed order.act,
     (
       is.named,
       (((omega arith, is.few), targets_allowed is.target_lines order.targets is.targeted), act_allowed is.act_lines order.act is.says_act),

@@ -4,6 +4,7 @@ use Rattle.std.specs.List.{AllZip}
 use Rattle.std.specs.Fmt.{decimal}
 use Rattle.mb_model.specs.declared.key.PublicKey.{PublicKey}
 use Rattle.mb_model.specs.declared.key.Trust.{Trust}
+use Rattle.mb_model.specs.declared.layer.Trusts.{Trusts}
 use Rattle.mb_model.specs.declared.order.OrderKind.{OrderKind}
 use Rattle.mb_model.specs.declared.order.OrderKind.TheVariants as orders
 use Rattle.mb_model.specs.declared.order.Act.{Act}
@@ -14,7 +15,7 @@ use Rattle.mb_model.specs.Key.{key_bytes, IsSized}
 use Rattle.mb_model.specs.Rules.{MayBeFor}
 use Rattle.mb_model.specs.Lines.{spaced, number_limit, Reads, TextFailsAtLine}
 use Rattle.mb_model.specs.Script.{EndsInHex}
-use Rattle.mb_model.specs.Drafts.{kind_word, SaysTarget, trust_line, SayAct, IsDraft}
+use Rattle.mb_model.specs.Drafts.{kind_word, trust_word, SaysTarget, SaysTrusts, SayAct, IsDraft}
 use Rattle.mb_words.specs.declared.said.NotSaid.{NotSaid}
 use Rattle.mb_words.specs.declared.said.NotSaid.TheVariants as why
 use Rattle.mb_officer.specs.declared.draft.DraftEnd.{DraftEnd}
@@ -38,7 +39,7 @@ ReadsDraft text (Err end.NoMemory) = Unit {0}
 -- ---- the first line
 
 -- the load of this kind
-abbrev pub load_act : Loading → ℕ → Trust → List ℕ → Act
+abbrev pub load_act : Loading → ℕ → Trusts → List ℕ → Act
 load_act loading.Ordinary version trust code =
     act.Load (record { version = version; trust = trust; code = code })
 load_act loading.Emergency version trust code =
@@ -71,6 +72,12 @@ order_kind (kind.NewKey k) = orders.NewKey
 -- a line orders this of a layer
 abbrev pub IsHeading : List ℕ → Kind → ℕ → Type 0
 IsHeading line k layer = MayBeFor (order_kind k) layer × (line ≡ heading_line k layer)
+
+-- ---- what a layer trusts
+
+-- the word says the second of two trusts, of which this is the first
+abbrev pub SaysSecond : Trust → List ℕ → Trusts → Type 0
+SaysSecond first word trusts = (trusts.one ≡ first) × (word ≡ trust_word trusts.two)
 
 -- ---- the lines after those that were read
 
@@ -113,7 +120,7 @@ pub record SaysTargets
 pub record SaysCode
     (l : Loading)
     (layer version : ℕ)
-    (trust : Trust)
+    (trust : Trusts)
     (targets : List Target)
     (lines : List (List ℕ))
     (order : Order) : Type 0 where
@@ -131,9 +138,11 @@ pub record SaysLoad
     (targets : List Target)
     (lines : List (List ℕ))
     (order : Order) : Type 0 where
-  pub trust : Trust
+  pub trust : Trusts
+  pub line_of_trusts : List ℕ
+  pub trusted : SaysTrusts line_of_trusts trust
   pub remaining : List (List ℕ)
-  pub spelled : lines ≡ trust_line trust ∷ remaining
+  pub spelled : lines ≡ line_of_trusts ∷ remaining
   pub coded : SaysCode l layer version trust targets remaining order
 
 -- the line after the owner of an establish
@@ -143,8 +152,10 @@ pub record SaysOwner
     (targets : List Target)
     (lines : List (List ℕ))
     (order : Order) : Type 0 where
-  pub trust : Trust
-  pub spelled : lines ≡ trust_line trust ∷ []
+  pub trust : Trusts
+  pub line_of_trusts : List ℕ
+  pub trusted : SaysTrusts line_of_trusts trust
+  pub spelled : lines ≡ line_of_trusts ∷ []
   pub made : order ≡ drafted layer targets (act.Establish owner trust)
 
 -- these lines complete what was read to the draft of an order

@@ -22,7 +22,7 @@ use mb_lms::Steps;
 use mb_log::born;
 use mb_model::{
     Bytes, CodeName, Codes, Entry, IMAGE_LENGTH, KeySeed, Keyfile, Layer, Layers, NoMemory,
-    PublicKey, Root, SignedEntry, Trust,
+    PublicKey, Root, SignedEntry, Trust, Trusts,
 };
 use mb_signer::public;
 use sha2::{Digest, Sha256};
@@ -33,17 +33,20 @@ use std::sync::ledger::Ledger;
 const ENTRY: u8 = 3;
 
 /// How many bytes an entry has at most.
-const MOST_ENTRY: usize = 355;
+const MOST_ENTRY: usize = 358;
 
 /// How many bytes a public record has at most.
-const MOST_PUBLIC: usize = 444_434;
+const MOST_PUBLIC: usize = 444_818;
 
 /// A layer without an owner.
 const UNOWNED: Layer = Layer {
     owner: None,
     code: None,
     reliable: false,
-    trust: Trust::Never,
+    trust: Trusts {
+        one: Trust::Never,
+        two: Trust::Never,
+    },
 };
 
 /// What the noise gives of a new device.
@@ -164,7 +167,7 @@ fn birth_of<L: Ledger>(
     code: &[u8],
     steps: &mut Steps<L>,
 ) -> Entry
-    ensures birth { result ≡ entry.Birth device.now.serial (public_of device.now.key) (layers_at_birth owner.now code.now) }
+    ensures birth { result ≡ entry.Birth 2 device.now.serial (public_of device.now.key) (layers_at_birth owner.now code.now) }
     ensures cost { steps.new ≡ steps.old + 34399 }
 {
     let name = CodeName {
@@ -175,9 +178,10 @@ fn birth_of<L: Ledger>(
         owner: Some(*owner),
         code: Some(name),
         reliable: true,
-        trust: Trust::Always,
+        trust: Trusts::equal(Trust::Always),
     };
     Entry::Birth {
+        version: 2,
         serial: device.serial,
         key: public(&device.key, steps),
         layers: Layers {
@@ -198,7 +202,7 @@ fn sign_birth<L: Ledger>(
     requires next { k.now.next ≤ 31 }
     requires spelled { entry_format.Allowed birth }
     requires empty { text.items ≡ [] }
-    requires room { vec_len text + 355 ≤ vec_capacity text }
+    requires room { vec_len text + 358 ≤ vec_capacity text }
     ensures signed { result ≡ signed_by k.now.seed k.now.next birth }
     ensures cost { steps.new ≤ steps.old + 35473 }
 {
@@ -216,7 +220,7 @@ fn sign_birth<L: Ledger>(
 fn store(codes: &Codes, log: &[SignedEntry], stored: &mut Vec<u8>)
     requires spelled { public_format.Allowed (public_of_parts codes.now log.now []) }
     requires empty { stored.old.items ≡ [] }
-    requires room { vec_len stored.old + 444434 ≤ vec_capacity stored.old }
+    requires room { vec_len stored.old + 444818 ≤ vec_capacity stored.old }
     ensures { stored.new.items ≡ public_format.spelling (public_of_parts codes.now log.now []) }
 {
     let Ok(()) = write_public_parts(codes, log, &[], stored) else {

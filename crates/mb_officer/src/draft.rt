@@ -10,11 +10,11 @@ ghost use Rattle.mb_words.specs.Words.{FindsSome};
 ghost use Rattle.mb_officer.specs.Drafting.{IsHeading, load_act, drafted, IsSound, SaysRest, TellsNext, AddsTarget, IsFirst, ReadsDraft};
 
 use crate::words::{
-    read_code, read_layer, read_owner, read_target, read_trust, read_version, split_layer,
+    read_code, read_layer, read_owner, read_target, read_trusts, read_version, split_layer,
 };
 use mb_model::{
     Act, Bytes, Countersignatures, KeyKind, NoMemory, Order, Payload, PublicKey, Target, Targets,
-    Trust,
+    Trusts,
 };
 use mb_words::{NotSaid, after_word, split_line};
 use std::alloc::Global;
@@ -71,12 +71,12 @@ pub(crate) enum Said {
         layer: u8,
         version: u32,
     },
-    /// And the trust.
+    /// And the trusts.
     Trust {
         loading: Loading,
         layer: u8,
         version: u32,
-        trust: Trust,
+        trust: Trusts,
     },
     /// All that is ordered.
     All {
@@ -184,11 +184,11 @@ fn read_line(alloc: Global, said: Said, targets: &mut Targets, line: &[u8]) -> R
     }
 }
 
-/// All of an establish, where the line says the trust.
+/// All of an establish, where the line says the trusts.
 fn end_establish(layer: u8, owner: PublicKey, line: &[u8]) -> Result<Said, NotSaid>
     ensures { (targets : List Target) → IsSound (Said.Owner layer owner) targets → TellsNext (Said.Owner layer owner) targets line.now result targets }
 {
-    match read_trust(line) {
+    match read_trusts(line) {
         Some(trust) => Ok(Said::All {
             layer,
             act: Act::Establish { owner, trust },
@@ -197,11 +197,11 @@ fn end_establish(layer: u8, owner: PublicKey, line: &[u8]) -> Result<Said, NotSa
     }
 }
 
-/// A load with its trust, where the line says it.
+/// A load with its trusts, where the line says them.
 fn trust_load(loading: Loading, layer: u8, version: u32, line: &[u8]) -> Result<Said, NotSaid>
     ensures { (targets : List Target) → IsSound (Said.Version loading layer version) targets → TellsNext (Said.Version loading layer version) targets line.now result targets }
 {
-    match read_trust(line) {
+    match read_trusts(line) {
         Some(trust) => Ok(Said::Trust {
             loading,
             layer,
@@ -246,7 +246,7 @@ fn read_first(kind: Kind, layer: u8, line: &[u8]) -> Option<Said>
 }
 
 /// The load of this kind.
-fn load_of(loading: Loading, version: u32, trust: Trust, code: Bytes) -> Act
+fn load_of(loading: Loading, version: u32, trust: Trusts, code: Bytes) -> Act
     ensures { result ≡ load_act loading version trust code }
 {
     let payload = Payload {

@@ -6,11 +6,12 @@ ghost use Rattle.mb_model.specs.Key.{key_bytes, IsSized};
 ghost use Rattle.mb_model.specs.Layers.{is_layer_number};
 ghost use Rattle.mb_model.specs.Lines.{number_limit, spaced};
 ghost use Rattle.mb_model.specs.Script.{EndsInHex};
-ghost use Rattle.mb_model.specs.Drafts.{SaysTarget, trust_line};
+ghost use Rattle.mb_model.specs.Drafts.{SaysTarget, trust_word, trust_line, trusts_line, SaysTrusts};
 ghost use Rattle.mb_words.specs.Words.{Finds, FindsSome};
+ghost use Rattle.mb_officer.specs.Drafting.{SaysSecond};
 
 use mb_lms::parse_key;
-use mb_model::{Bytes, PublicKey, Target, Trust};
+use mb_model::{Bytes, PublicKey, Target, Trust, Trusts};
 use mb_words::{NotSaid, after_word, read_array, read_hex, read_number};
 use std::alloc::Global;
 
@@ -109,18 +110,65 @@ fn read_code_demand(words: &[u8]) -> Option<Target>
     Some(Target::Code { layer, hash })
 }
 
-/// The trust that a line says.
-pub(crate) fn read_trust(line: &[u8]) -> Option<Trust>
-    ensures { FindsSome (λ trust. line.now ≡ trust_line trust) result }
+/// The trust that a word says.
+fn trust_of(word: &[u8]) -> Option<Trust>
+    ensures { FindsSome (λ trust. word.now ≡ trust_word trust) result }
 {
-    if line == b"trust always".as_slice() {
+    if word == b"always".as_slice() {
         Some(Trust::Always)
-    } else if line == b"trust never".as_slice() {
+    } else if word == b"never".as_slice() {
         Some(Trust::Never)
-    } else if line == b"trust countersigned".as_slice() {
+    } else if word == b"countersigned".as_slice() {
         Some(Trust::Countersigned)
     } else {
         None
+    }
+}
+
+/// The trusts of which the first was said, and this word says the second.
+fn trusts_with(first: Trust, word: &[u8]) -> Option<Trusts>
+    ensures { FindsSome (SaysSecond first word.now) result }
+{
+    match trust_of(word) {
+        Some(two) => Some(Trusts { one: first, two }),
+        None => None,
+    }
+}
+
+/// The trusts that a line says by two words.
+#[tactic(auto, using(crate::proofs::Trusting::second_tells, crate::proofs::Trusting::none_begins))]
+fn read_two_trusts(line: &[u8]) -> Option<Trusts>
+    ensures { FindsSome (λ trusts. line.now ≡ trusts_line trusts) result }
+{
+    if let Some(word) = after_word(line, b"trust always ") {
+        trusts_with(Trust::Always, word)
+    } else if let Some(word) = after_word(line, b"trust never ") {
+        trusts_with(Trust::Never, word)
+    } else if let Some(word) = after_word(line, b"trust countersigned ") {
+        trusts_with(Trust::Countersigned, word)
+    } else {
+        None
+    }
+}
+
+/// The trusts that a line says by one word or by two.
+pub(crate) fn read_trusts(line: &[u8]) -> Option<Trusts>
+    ensures { FindsSome (SaysTrusts line.now) result }
+{
+    match read_trust(line) {
+        Some(trust) => Some(Trusts::equal(trust)),
+        None => read_two_trusts(line),
+    }
+}
+
+/// The trust that a line says by one word, for changes of layer 1 and of layer 2 alike.
+#[tactic(auto, using(crate::proofs::Trusting::one_tells, crate::proofs::Trusting::none_said))]
+fn read_trust(line: &[u8]) -> Option<Trust>
+    ensures { FindsSome (λ trust. line.now ≡ trust_line trust) result }
+{
+    match after_word(line, b"trust ") {
+        Some(word) => trust_of(word),
+        None => None,
     }
 }
 

@@ -1,6 +1,6 @@
 -- A statement that is attached to the log of the device, then or later, is accepted.
 use Rattle.std.proofs.Common.{◌≡◌, ◌≢◌, ◌≤◌, ◌<◌, ℕ, ◌+◌, List, [], ◌∷◌, ◌++◌, length, Option, None, Some, Bool, true, false, cond, refl, sym, ap, subst, ◌∙◌, arith, append_assoc}
-use Rattle.std.specs.Prelude.{not, take_while, All, Contains, IsSomeAnd}
+use Rattle.std.specs.Prelude.{nat_lt, not, take_while, All, Contains, IsSomeAnd}
 use Rattle.std.proofs.lemmas.Bool.{le-ltb}
 use Rattle.std.proofs.lemmas.List.{map-append}
 use Rattle.std.proofs.lemmas.List.Elements.{All-nil, All-cons, All-head, All-tail, All-append, All-map, All-weaker}
@@ -104,9 +104,9 @@ abbrev stays_in : ℕ → SignedEntry → Bool
 stays_in n signed = not (is_change_above n signed.entry)
 
 no_higher : (log before : List Entry) (entry : Entry) (rest : List Entry) → RuledLog log → log ≡ before ++ entry ∷ rest → is_change_above (number_of log) entry ≡ false
-no_higher log before (Birth serial key layers) rest ruled split = refl
-no_higher log before (Change position number kind layer cosigned layers kept next) rest ruled split =
-    le-ltb (number_of log) number (number-le log before position number kind layer cosigned layers kept next rest ruled split)
+no_higher log before (Birth version serial key layers) rest ruled split = refl
+no_higher log before (Change version position number kind layer cosigned layers kept next) rest ruled split =
+    le-ltb (number_of log) number (number-le log before version position number kind layer cosigned layers kept next rest ruled split)
 no_higher log before (NewKey position number key_number layer kind key) rest ruled split = refl
 no_higher log before (Succession position key) rest ruled split = refl
 
@@ -126,17 +126,19 @@ record IsQuiet (signed : SignedEntry) : Type 0 where
   change : is_change signed.entry ≡ false
   serial : serial_in signed.entry ≡ None
 
+stays_below : (n m number : ℕ) → n ≤ m → number ≡ m + 1 → nat_lt n number ≡ false → ⊥
+stays_below n m number low counted stays = grind (arith, low, counted, stays)
+
 no_change : (n : ℕ) (before : List Entry) (entry : Entry) → n ≤ number_of before → Ruled before entry → is_change_above n entry ≡ false → is_change entry ≡ false
-no_change n before (Birth serial key layers) low ruled stays = refl
-no_change n before (Change position number kind layer cosigned layers kept next) low ruled stays =
-    let counted : number ≡ number_of before + 1 = ruled.1.counted in
-    absurd (grind (arith, low, counted, stays))
+no_change n before (Birth version serial key layers) low ruled stays = refl
+no_change n before (Change version position number kind layer cosigned layers kept next) low ruled stays =
+    absurd (stays_below n (number_of before) number low ruled.1.counted stays)
 no_change n before (NewKey position number key_number layer kind key) low ruled stays = refl
 no_change n before (Succession position key) low ruled stays = refl
 
 no_birth : (before : List Entry) (entry : Entry) → before ≢ [] → Ruled before entry → serial_in entry ≡ None
-no_birth before (Birth serial key layers) some ruled = absurd (some ruled.0)
-no_birth before (Change position number kind layer cosigned layers kept next) some ruled = refl
+no_birth before (Birth version serial key layers) some ruled = absurd (some ruled.0)
+no_birth before (Change version position number kind layer cosigned layers kept next) some ruled = refl
 no_birth before (NewKey position number key_number layer kind key) some ruled = refl
 no_birth before (Succession position key) some ruled = refl
 
@@ -180,12 +182,12 @@ none_changes (signed ∷ rest) quiet =
     omega (arith, sum_by-cons (λ e. cond (is_change e) 1 0) signed.entry (entries_of rest), zero, none_changes rest (All-tail IsQuiet signed rest quiet))
 
 none_ends : (kind : KeyKind) (L : ℕ) (entry : Entry) → is_change entry ≡ false → ends kind L entry ≡ false
-none_ends kinds.Epoch L (Birth serial key layers) e = refl
-none_ends kinds.Epoch L (Change position number kind layer cosigned layers kept next) e = absurd (grind (arith, e))
+none_ends kinds.Epoch L (Birth version serial key layers) e = refl
+none_ends kinds.Epoch L (Change version position number kind layer cosigned layers kept next) e = absurd (grind (arith, e))
 none_ends kinds.Epoch L (NewKey position number key_number layer kind key) e = refl
 none_ends kinds.Epoch L (Succession position key) e = refl
-none_ends kinds.Configuration L (Birth serial key layers) e = refl
-none_ends kinds.Configuration L (Change position number kind layer cosigned layers kept next) e = absurd (grind (arith, e))
+none_ends kinds.Configuration L (Birth version serial key layers) e = refl
+none_ends kinds.Configuration L (Change version position number kind layer cosigned layers kept next) e = absurd (grind (arith, e))
 none_ends kinds.Configuration L (NewKey position number key_number layer kind key) e = refl
 none_ends kinds.Configuration L (Succession position key) e = refl
 

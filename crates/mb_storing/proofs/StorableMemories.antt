@@ -1,5 +1,5 @@
 -- A state for which a memory stands can be stored, and so can that of a new device.
-use Rattle.std.proofs.Common.{◌≡◌, ◌≤◌, ℕ, List, [], ◌∷◌, ◌++◌, inl, inr, length, map, take, Option, None, Some, Bool, true, false, refl, sym, subst, arith, length-append}
+use Rattle.std.proofs.Common.{◌≡◌, ◌≤◌, ℕ, List, [], ◌∷◌, ◌++◌, inl, inr, length, map, take, Option, None, Some, Bool, true, false, sym, subst, arith, length-append}
 use Rattle.std.specs.Prelude.{All, unwrap_or, if◌then◌else◌}
 use Rattle.std.specs.Option.{option_or}
 use Rattle.std.specs.List.{list_any, AllByRecursion}
@@ -42,7 +42,7 @@ use Rattle.mb_model.proofs.Places.{length-part}
 use Rattle.mb_lemmas.proofs.PublicLemmas.{root_pending, public_few, public_entries, signed_front, unsigned_rest, entry_from_signed, length-signed_for}
 use Rattle.mb_storing.specs.Storable.{IsStorableRegion, IsStorableState}
 use Rattle.mb_storing.proofs.CommitLemmas.{live_contents}
-use Rattle.mb_storing.proofs.StorableFormats.{keep_allowed, small_number, born_seed_allowed, born_public_allowed, unowned_allowed, layers_allowed, first_layer_allowed, first_codes_allowed, birth_allowed, signed_allowed}
+use Rattle.mb_storing.proofs.StorableFormats.{keep_allowed, small_number, born_seed_allowed, born_public_allowed, unowned_allowed, layers_allowed, layers_of_version_two, first_layer_allowed, first_codes_allowed, birth_allowed, signed_allowed}
 use Rattle.mb_storing.proofs.StorableOrders.{empty_storable}
 
 -- ---- the root
@@ -128,12 +128,12 @@ all_signed device uses (Some outgoing) (first ∷ rest) are =
 -- the layers that entries name can be stored
 abbrev NamesAllowed : Option Layers → Type 0
 NamesAllowed None = Unit {0}
-NamesAllowed (Some layers) = layers_format.Allowed layers
+NamesAllowed (Some layers) = (layers_format 2).Allowed layers
 
 entry_names : (entry : Entry) → entry_format.Allowed entry → NamesAllowed (layers_in entry)
 unfolding entry_format birth_format change_format
-entry_names (Birth serial key layers) is = is.1.1.1
-entry_names (Change position number kind layer cosigned layers kept next) is = is.1.1.1.1.1.1.1.0
+entry_names (Birth version serial key layers) is = layers_of_version_two version layers is.1.1.1.1
+entry_names (Change version position number kind layer cosigned layers kept next) is = layers_of_version_two version layers is.1.1.1.1.1.1.1.1.0
 entry_names (NewKey position number key_number layer kind key) is = tt
 entry_names (Succession position key) is = tt
 
@@ -146,11 +146,11 @@ unfolding last_of
 last_names [] are = tt
 last_names (signed ∷ rest) are = either_names (last_of layers_in (entries_of rest)) (layers_in signed.entry) (last_names rest are.1) (entry_names signed.entry (entry_from_signed signed are.0))
 
-named_or_none : (named : Option Layers) → NamesAllowed named → layers_format.Allowed (unwrap_or named unowned_layers)
+named_or_none : (named : Option Layers) → NamesAllowed named → (layers_format 2).Allowed (unwrap_or named unowned_layers)
 named_or_none None is = layers_allowed unowned_layers unowned_allowed unowned_allowed unowned_allowed
 named_or_none (Some layers) is = is
 
-pub layers_of-allowed : (log : List SignedEntry) → All signed_entry_format.Allowed log → layers_format.Allowed (layers_of (entries_of log))
+pub layers_of-allowed : (log : List SignedEntry) → All signed_entry_format.Allowed log → (layers_format 2).Allowed (layers_of (entries_of log))
 unfolding layers_of
 layers_of-allowed log are = named_or_none (last_of layers_in (entries_of log)) (last_names log (recursion_from_All signed_entry_format.Allowed log are))
 
@@ -211,7 +211,7 @@ pub birth_storable : (maker : KeySeed) (index : ℕ) (owner : PublicKey) (code n
 unfolding state_at_birth
 birth_storable maker index owner code noise is short long =
     let serial : length (serial_from noise) ≡ 16 = length-part 32 16 noise (omega (arith, long)) in
-    let layers : layers_format.Allowed (layers_at_birth owner code) =
+    let layers : (layers_format 2).Allowed (layers_at_birth owner code) =
     layers_allowed (layers_at_birth owner code) (first_layer_allowed owner code 1 _ is (small_number 1 (omega arith))) unowned_allowed unowned_allowed
     in
     let entry : entry_format.Allowed (birth_entry owner code noise) = birth_allowed (serial_from noise) _ (layers_at_birth owner code) serial (born_public_allowed (take 32 noise) (serial_from noise) 0) layers in

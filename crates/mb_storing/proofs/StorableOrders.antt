@@ -27,7 +27,7 @@ use Rattle.mb_model.specs.KeyFormat.{public_key_format, key_seed_format}
 use Rattle.mb_model.specs.LayerFormat.{layer_format, layers_format}
 use Rattle.mb_model.specs.EntryFormat.{entry_format, signed_entry_format}
 use Rattle.mb_model.specs.RootFormat.{region_key_format}
-use Rattle.mb_model.specs.OrderFormat.{act_by, body_format, order_format}
+use Rattle.mb_model.specs.OrderFormat.{differs_in, act_by, body_format, order_format}
 use Rattle.mb_model.specs.OrderStep.{region_of, with_region, change_by, needs_succession, RegionHasRoom, Passes, signed_by, log_with, succeeded, device_after, cosigned_by, named_next, changed_layers, change_entry, changed, key_made, key_entry, keyed, ready_for, carried_out, obeyed}
 use Rattle.mb_lemmas.proofs.LogLemmas.{number_of-le-length, made-le-length, length-entries_of}
 use Rattle.mb_storing.specs.Storable.{IsStorableRegion, IsStorableState}
@@ -145,8 +145,8 @@ named_next_allowed false state draw = none_allowed public_key_format
 record CanBring (state : State) (order : Order) : Type 0 where
   least : 1 ≤ order.layer
   most : order.layer ≤ 3
-  placed : layer_format.Allowed (placed (layer_of state.layers order.layer) order.act)
-  allowed : (act_by (kind_of order.act)).Allowed order.act
+  placed : (layer_format 2).Allowed (placed (layer_of state.layers order.layer) order.act)
+  allowed : (act_by (kind_of order.act) (differs_in order.act)).Allowed order.act
   room : length state.log + 1 ≤ 128
 
 changed_storable : (state : State) (kind : ChangeKind) (order : Order) (draw : List ℕ) → IsStorableState state → CanBring state order → IsStorableState (changed state kind order draw)
@@ -155,7 +155,7 @@ changed_storable state kind order draw is can =
     let k : ℕ = order.layer in
     let by : Pair = cosigned_by order in
     let now : Layers = changed_layers state kind order in
-    let layers : layers_format.Allowed now = after_allowed state.layers kind k by (placed (layer_of state.layers k) order.act) is.layers can.placed in
+    let layers : (layers_format 2).Allowed now = after_allowed state.layers kind k by (placed (layer_of state.layers k) order.act) is.layers can.placed in
     let entry : Entry = change_entry state kind order draw in
     let own : entry_format.Allowed entry =
     change_allowed (length state.log) (number_of (entries_of state.log) + 1) kind k by now (kept_regions state.layers kind k by) (named_next (renews (Some kind) k) state draw)
@@ -218,7 +218,7 @@ order_layer : (order : Order) → order_format.Allowed order → MayBeFor (kind_
 unfolding order_format body_format
 order_layer order allowed = allowed.0.1.0
 
-order_act : (order : Order) → order_format.Allowed order → (act_by (kind_of order.act)).Allowed order.act
+order_act : (order : Order) → order_format.Allowed order → (act_by (kind_of order.act) (differs_in order.act)).Allowed order.act
 unfolding order_format body_format
 order_act order allowed = allowed.0.1.1.1
 

@@ -20,7 +20,7 @@ pub record IsStorableRegion (region : Region) : Type 0 where
 pub record IsStorableState (state : State) : Type 0 where
   pub serial : length state.serial ≡ 16
   pub device : key_seed_format.Allowed state.device
-  pub layers : layers_format.Allowed state.layers
+  pub layers : (layers_format 2).Allowed state.layers
   pub codes : codes_format.Allowed state.codes
   pub log : All signed_entry_format.Allowed state.log
   pub few : length state.log ≤ 128

@@ -1,5 +1,5 @@
 -- The lines of a listing as text.
-use Rattle.std.proofs.Common.{◌≡◌, ◌<◌, ◌≤◌, ◌+◌, ℕ, List, [], ◌∷◌, ◌++◌, length, take, get_or, Option, None, Some, refl, sym, ap, ◌∙◌, arith, append_assoc}
+use Rattle.std.proofs.Common.{◌≡◌, ◌<◌, ◌≤◌, ◌+◌, ℕ, List, [], ◌∷◌, ◌++◌, length, take, get_or, Option, None, Some, refl, sym, ap, ◌∙◌, arith, append_assoc, Bool, true, false}
 use Rattle.std.specs.Prelude.{codes, flat_map, zero, suc, if◌then◌else◌}
 use Rattle.std.proofs.lemmas.Bool.{le-leb}
 use Rattle.std.specs.Fmt.{decimal}
@@ -12,7 +12,8 @@ use Rattle.mb_model.specs.declared.state.Configuration.{Configuration}
 use Rattle.mb_model.specs.declared.state.Report.{Report}
 use Rattle.mb_model.specs.Texts.{ended}
 use Rattle.mb_model.specs.Lines.{hex_word, spaced, text_of}
-use Rattle.mb_model.specs.Listing.{owner_word, code_words, reliable_word, layer_line, configuration_lines, statement_lines, listing}
+use Rattle.mb_model.specs.Layers.{are_equal}
+use Rattle.mb_model.specs.Listing.{owner_word, code_words, reliable_word, trust_words, layer_line, configuration_lines, statement_lines, listing}
 use Rattle.mb_model.specs.Drafts.{trust_word}
 use Rattle.mb_verifier.specs.Lines.{key_line, line_upto}
 
@@ -56,19 +57,25 @@ lives_more lives i d start before after within was is =
 -- ---- the line of a layer
 
 -- the words of a code stand in a line as two words do
-pub layer_words : (front : List ℕ) (code : Option CodeName) (reliable trust : List ℕ)
-    → spaced (front ∷ code_words code ++ reliable ∷ trust ∷ []) ≡ front ++ 32 ∷ (spaced (code_words code) ++ 32 ∷ (reliable ++ 32 ∷ trust))
-layer_words front None reliable trust = refl
-layer_words front (Some code) reliable trust = ap (λ t. front ++ 32 ∷ t) (sym (append_assoc (hex_word code.hash) _ _))
+pub layer_words : (front : List ℕ) (code : Option CodeName) (reliable trust : List ℕ) (more : List (List ℕ))
+    → spaced (front ∷ code_words code ++ reliable ∷ trust ∷ more) ≡ front ++ 32 ∷ (spaced (code_words code) ++ 32 ∷ (reliable ++ 32 ∷ spaced (trust ∷ more)))
+layer_words front None reliable trust more = refl
+layer_words front (Some code) reliable trust more = ap (λ t. front ++ 32 ∷ t) (sym (append_assoc (hex_word code.hash) _ _))
+
+trusted_words : (front : List ℕ) (code : Option CodeName) (reliable one two : List ℕ) (equal : Bool)
+    → spaced (front ∷ code_words code ++ reliable ∷ (if equal then one ∷ [] else one ∷ two ∷ []))
+    ≡ front ++ 32 ∷ (spaced (code_words code) ++ 32 ∷ (reliable ++ 32 ∷ spaced (if equal then one ∷ [] else one ∷ two ∷ [])))
+trusted_words front code reliable one two true = layer_words front code reliable one []
+trusted_words front code reliable one two false = layer_words front code reliable one (two ∷ [])
 
 -- what is written of a layer is its line
 pub layer_text : (number : ℕ) (layer : Layer) (line owner code reliable trust : List ℕ) → owner ≡ owner_word layer.owner → code ≡ spaced (code_words layer.code)
-    → reliable ≡ reliable_word layer.reliable → trust ≡ trust_word layer.trust
+    → reliable ≡ reliable_word layer.reliable → trust ≡ spaced (trust_words layer.trust)
     → line ≡ codes "layer " ++ (decimal number ++ 32 ∷ (owner ++ 32 ∷ (code ++ 32 ∷ (reliable ++ 32 ∷ (trust ++ 10 ∷ [])))))
     → line ≡ ended (layer_line number layer)
 layer_text number layer line owner code reliable trust owner_is code_is reliable_is trust_is is =
-    let words = layer_words (owner_word layer.owner) layer.code (reliable_word layer.reliable) (trust_word layer.trust) in
-    let whole : ended (layer_line number layer) ≡ codes "layer " ++ (decimal number ++ 32 ∷ (owner_word layer.owner ++ 32 ∷ (spaced (code_words layer.code) ++ 32 ∷ (reliable_word layer.reliable ++ 32 ∷ (trust_word layer.trust ++ 10 ∷ []))))) =
+    let words = trusted_words (owner_word layer.owner) layer.code (reliable_word layer.reliable) (trust_word layer.trust.one) (trust_word layer.trust.two) (are_equal layer.trust) in
+    let whole : ended (layer_line number layer) ≡ codes "layer " ++ (decimal number ++ 32 ∷ (owner_word layer.owner ++ 32 ∷ (spaced (code_words layer.code) ++ 32 ∷ (reliable_word layer.reliable ++ 32 ∷ (spaced (trust_words layer.trust) ++ 10 ∷ []))))) =
     ap (λ ws. ended (codes "layer " ++ (decimal number ++ 32 ∷ ws))) words ∙ simp append_assoc in
     is ∙ rw (owner_is, code_is, reliable_is, trust_is) (sym whole)
 

@@ -5,12 +5,12 @@ ghost use Rattle.std.specs.String.{string_bytes};
 ghost use Rattle.mb_model.specs.Texts.{ended};
 ghost use Rattle.mb_model.specs.Lines.{hex_word, spaced, text_of};
 ghost use Rattle.mb_model.specs.Drafts.{kind_word, trust_word};
-ghost use Rattle.mb_model.specs.Listing.{life_word, reliable_word, owner_word, code_words, layer_line, configuration_lines, statement_lines, listing};
+ghost use Rattle.mb_model.specs.Listing.{trust_words, life_word, reliable_word, owner_word, code_words, layer_line, configuration_lines, statement_lines, listing};
 ghost use Rattle.mb_verifier.specs.Lines.{key_line, line_upto};
 
 use mb_lms::key_hash;
 use mb_model::{
-    Bytes, CodeName, Configuration, KeyKind, Layer, NoMemory, PublicKey, Report, Trust,
+    Bytes, CodeName, Configuration, KeyKind, Layer, NoMemory, PublicKey, Report, Trust, Trusts,
 };
 use std::alloc::Global;
 
@@ -83,7 +83,7 @@ fn layer_line(alloc: Global, number: u8, layer: &Layer) -> Result<String, NoMemo
     let owner = owner_word(alloc, &layer.owner)?;
     let code = code_words(alloc, &layer.code)?;
     let reliable = reliable_word(layer.reliable);
-    let trust = trust_word(layer.trust);
+    let trust = trust_words(alloc, layer.trust)?;
     Ok(format!(in alloc; "layer {number} {owner} {code} {reliable} {trust}\n")?)
 }
 
@@ -141,6 +141,18 @@ fn kind_word(kind: KeyKind) -> &'static str
         KeyKind::Epoch => "epoch",
         KeyKind::Configuration => "configuration",
     }
+}
+
+/// The words for what a layer trusts: one where it trusts changes of layer 1 and of layer 2 alike.
+fn trust_words(alloc: Global, trusts: Trusts) -> Result<String, NoMemory>
+    ensures { IfOk result (λ words. string_bytes words ≡ spaced (trust_words trusts)) }
+{
+    let one = trust_word(trusts.one);
+    if trusts.are_equal() {
+        return Ok(format!(in alloc; "{one}")?);
+    }
+    let two = trust_word(trusts.two);
+    Ok(format!(in alloc; "{one} {two}")?)
 }
 
 /// The word for when a layer keeps its secrets over a change beneath it.

@@ -1,7 +1,7 @@
 //! Conditions, and what changes leave, by the rules of the device.
 
 use mb_authority::{after, condition, kept_regions, layer_of, may_cosign};
-use mb_model::{Chains, ChangeKind, CodeName, Layer, Layers, Pair, PublicKey, Tree, Trust};
+use mb_model::{Chains, ChangeKind, CodeName, Layer, Layers, Pair, PublicKey, Tree, Trust, Trusts};
 use std::process::Abort;
 
 /// A layer with an owner, which trusts so.
@@ -18,7 +18,7 @@ fn owned(trust: Trust) -> Layer {
             version: 4,
         }),
         reliable: true,
-        trust,
+        trust: Trusts::equal(trust),
     }
 }
 

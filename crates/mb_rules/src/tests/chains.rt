@@ -5,7 +5,7 @@ ghost use Rattle.std.specs.Prelude.{◌≤◌, vec_len, IfOk};
 
 use super::{joined, public_key};
 use hex::FromHex;
-use mb_model::{Bytes, CodeName, Configuration, KeyKind, Layer, Layers, Lives, Report, Trust};
+use mb_model::{Bytes, CodeName, Configuration, KeyKind, Layer, Layers, Lives, Report, Trust, Trusts};
 use mb_verifier::{ChainRefusal, verify, write_listing};
 use std::alloc::Global;
 use std::process::Abort;
@@ -156,7 +156,7 @@ fn loaded(owner: &str, code: &str, trust: Trust) -> Result<Layer, Fail> {
             version: 1,
         }),
         reliable: true,
-        trust,
+        trust: Trusts::equal(trust),
     })
 }
 
@@ -182,7 +182,10 @@ const BARE: Layer = Layer {
     owner: None,
     code: None,
     reliable: false,
-    trust: Trust::Never,
+    trust: Trusts {
+        one: Trust::Never,
+        two: Trust::Never,
+    },
 };
 
 /// Three such layers.

@@ -10,7 +10,7 @@ use super::signed::{
 use super::{joined, public_key};
 use mb_command::read_order;
 use mb_lms::Steps;
-use mb_model::{CodeName, Fate, KeySeed, Layer, Layers, Order, Trust, View};
+use mb_model::{CodeName, Fate, KeySeed, Layer, Layers, Order, Trust, Trusts, View};
 use mb_orders::{JudgeEnd, Plan, judge};
 use std::alloc::Global;
 use std::marker::Brand;
@@ -39,7 +39,10 @@ fn layer(owner: &str) -> Result<Layer, Fail> {
             version: 1,
         }),
         reliable: true,
-        trust: Trust::Always,
+        trust: Trusts {
+            one: Trust::Always,
+            two: Trust::Always,
+        },
     })
 }
 
@@ -69,7 +72,7 @@ fn layers_but(but: But) -> Result<Layers, Fail> {
         But::OneUnreliable => layers.one.reliable = false,
         But::TwoUnreliable => layers.two.reliable = false,
         But::ThreeUnowned => layers.three.owner = None,
-        But::ThreeCountersigned => layers.three.trust = Trust::Countersigned,
+        But::ThreeCountersigned => layers.three.trust = Trusts::equal(Trust::Countersigned),
     }
     Ok(layers)
 }

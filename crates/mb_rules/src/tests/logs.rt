@@ -6,7 +6,7 @@ use mb_lms::Steps;
 use mb_log::{Figures, Life, bodies, follows, lives};
 use mb_model::{
     Bodies, Chains, ChangeKind, CodeName, Configuration, Entry, Fact, Follow, KeyKind, KeySeed,
-    Layer, Layers, NoMemory, Pair, PublicKey, SignedEntry, Tree, Trust, View,
+    Layer, Layers, NoMemory, Pair, PublicKey, SignedEntry, Tree, Trust, Trusts, View,
 };
 use std::alloc::Global;
 use std::marker::Brand;
@@ -91,7 +91,10 @@ fn layer(owner: u8, version: Option<u32>) -> Layer {
             version,
         }),
         reliable: version.is_some(),
-        trust: Trust::Countersigned,
+        trust: Trusts {
+            one: Trust::Countersigned,
+            two: Trust::Countersigned,
+        },
     }
 }
 
@@ -99,7 +102,10 @@ const UNOWNED: Layer = Layer {
     owner: None,
     code: None,
     reliable: false,
-    trust: Trust::Never,
+    trust: Trusts {
+        one: Trust::Never,
+        two: Trust::Never,
+    },
 };
 
 const NEITHER: Pair = Pair {
@@ -126,6 +132,7 @@ fn change(
     kept: Pair,
 ) -> Entry {
     Entry::Change {
+        version: 2,
         position,
         number: if position < 6 { position } else { position - 1 },
         kind,
@@ -147,6 +154,7 @@ fn layers_of(layers: [Layer; 3]) -> Layers {
 
 fn birth(layers: [Layer; 3]) -> Entry {
     Entry::Birth {
+        version: 2,
         serial: [0; 16],
         key: key(8),
         layers: layers_of(layers),

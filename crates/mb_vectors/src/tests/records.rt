@@ -33,8 +33,8 @@ fn is_read(bytes: &[u8], expected: &Value, out: &mut Vec<u8>) -> Result<bool, Fa
     let mut cursor = Cursor::new(bytes);
     let is_same = match expected {
         Value::Layer(expected) => {
-            let layer = read_layer(&mut cursor)?;
-            write_layer(&layer, out)?;
+            let layer = read_layer(&mut cursor, 1)?;
+            write_layer(&layer, out, 1)?;
             layer == *expected
         }
         Value::Entry(expected) => {

@@ -3,7 +3,7 @@
 
 use mb_model::{
     Chains, ChangeKind, CodeName, Entry, Fate, KeyKind, KeySeed, Layer, Layers, Outgoing, Pair,
-    Pending, PublicKey, RegionKey, Root, Tree, Trust,
+    Pending, PublicKey, RegionKey, Root, Tree, Trust, Trusts,
 };
 
 /// Key 11.
@@ -93,7 +93,10 @@ pub const RELIABLE: Layer = Layer {
         version: 258,
     }),
     reliable: true,
-    trust: Trust::Always,
+    trust: Trusts {
+        one: Trust::Always,
+        two: Trust::Always,
+    },
 };
 
 pub const LOADED: Layer = Layer {
@@ -103,21 +106,30 @@ pub const LOADED: Layer = Layer {
         version: 7,
     }),
     reliable: false,
-    trust: Trust::Countersigned,
+    trust: Trusts {
+        one: Trust::Countersigned,
+        two: Trust::Countersigned,
+    },
 };
 
 pub const OWNED: Layer = Layer {
     owner: Some(KEY_31),
     code: None,
     reliable: false,
-    trust: Trust::Always,
+    trust: Trusts {
+        one: Trust::Always,
+        two: Trust::Always,
+    },
 };
 
 pub const UNOWNED: Layer = Layer {
     owner: None,
     code: None,
     reliable: false,
-    trust: Trust::Never,
+    trust: Trusts {
+        one: Trust::Never,
+        two: Trust::Never,
+    },
 };
 
 const THREE: Layers = Layers {
@@ -127,6 +139,7 @@ const THREE: Layers = Layers {
 };
 
 pub const BIRTH: Entry = Entry::Birth {
+    version: 1,
     serial: [0x41; 16],
     key: KEY_43,
     layers: Layers {
@@ -137,6 +150,7 @@ pub const BIRTH: Entry = Entry::Birth {
 };
 
 pub const CHANGE: Entry = Entry::Change {
+    version: 1,
     position: 5,
     number: 4,
     kind: ChangeKind::Load,
@@ -154,6 +168,7 @@ pub const CHANGE: Entry = Entry::Change {
 };
 
 pub const EMERGENCY: Entry = Entry::Change {
+    version: 1,
     position: 6,
     number: 5,
     kind: ChangeKind::Emergency,

@@ -6,7 +6,7 @@ pub returns-in_ok-put_u32-in-Change-2 : goal.returns-in_ok-put_u32-in-Change-2
 unfolding change_format entry_format
 returns-in_ok-put_u32-in-Change-2 c =
     let r = c.put_changed.result in
-    rw c.in-Change.is (puts_both _ _ r c.in_ok-put_u8-in-Change.ensures.puts (puts_both _ _ r c.in_ok-put_u32-in-Change.ensures.puts (puts_both _ _ r c.in_ok-put_u32-in-Change-2.ensures.puts c.put_changed.ensures)))
+    rw c.in-Change.is (puts_both _ _ r (rw c.change_number.ensures at c.in_ok-put_u8-in-Change.ensures.puts) (puts_both _ _ r c.in_ok-put_u32-in-Change.ensures.puts (puts_both _ _ r c.in_ok-put_u32-in-Change-2.ensures.puts c.put_changed.ensures)))
 
 pub returns-in_ok-put_u32-in-NewKey-2 : goal.returns-in_ok-put_u32-in-NewKey-2
 unfolding new_key_format entry_format

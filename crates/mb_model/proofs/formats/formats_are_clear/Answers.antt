@@ -18,10 +18,10 @@ pub returns-clause-trust : goal.returns-clause-trust
 returns-clause-trust c = IsClear-from_exact keys.trust_exact
 
 pub returns-clause-layer : goal.returns-clause-layer
-returns-clause-layer c = IsClear-from_exact keys.layer_exact
+returns-clause-layer c = λ version. IsClear-from_exact (keys.layer_exact version)
 
 pub returns-clause-layers : goal.returns-clause-layers
-returns-clause-layers c = IsClear-from_exact keys.layers_exact
+returns-clause-layers c = λ version. IsClear-from_exact (keys.layers_exact version)
 
 pub returns-clause-entry : goal.returns-clause-entry
 returns-clause-entry c = IsClear-from_exact entries.entry_exact
