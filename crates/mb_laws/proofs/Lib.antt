@@ -2,3 +2,4 @@ pub mod SaidLemmas
 pub mod ClearTexts
 pub mod ReplyLemmas
 pub mod WorkloadLemmas
+pub mod TrustLemmas

@@ -3,3 +3,4 @@ pub mod StepLaws
 pub mod TextLaws
 pub mod MeaningLaws
 pub mod ChainLaws
+pub mod TrustLaws

@@ -17,6 +17,7 @@ mod regions;
 mod signing;
 mod steps;
 mod texts;
+mod trusts;
 
 pub use alive::{
     alive_keys_are_alive, alive_keys_follow_the_log, alive_keys_live_now, key_numbers_increase,
@@ -49,4 +50,7 @@ pub use texts::{
     drafts_are_clear, draws_in_turn, events_are_bounded, one_workload, order_lines_are_clear,
     refusals_have_words, replies_differ, script_events, scripts_are_clear, texts_have_lines,
     words_are_read_back,
+};
+pub use trusts::{
+    each_layer_is_trusted_by_itself, trusts_are_given_in_one_form, versions_only_rise,
 };
