@@ -13,5 +13,6 @@ mod signing;
 mod spelled;
 mod statement_lines;
 mod statements;
+mod trusts;
 mod values;
 mod vectors;

@@ -12,14 +12,14 @@ use std::alloc::Global;
 use std::process::Abort;
 use std::test::Fail;
 
-/// The body of a load of layer 1 with eight targets and 32,768 bytes of code, and its signature and the countersignatures
+/// The body of a load of layer 1 with eight targets, two trusts and 32,768 bytes of code, and its signature and the countersignatures
 /// of layers 2 and 3, each of 9,324 bytes after their length.
 const LARGEST_ORDER: &[(&str, usize)] = &[
-    ("030108", 1),
+    ("130108", 1),
     ("0301", 1),
     ("11", 32),
     ("0200000007", 7),
-    ("000000020200008000", 1),
+    ("00000002020100008000", 1),
     ("ab", 32_768),
     ("246c", 1),
     ("c1", 9_324),
@@ -32,7 +32,7 @@ const LARGEST_ORDER: &[(&str, usize)] = &[
 ];
 
 /// How many of those bytes are the body.
-const BODY: usize = 32_849;
+const BODY: usize = 32_850;
 
 /// The lengths of the lists of an order, and of its signature.
 fn lengths(order: &Order) -> (usize, usize, usize) {

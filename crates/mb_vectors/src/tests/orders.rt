@@ -4,7 +4,7 @@ ghost use Rattle.mb_model.specs.OrderFormat.{order_format};
 
 use super::spelled::joined;
 use mb_command::{body_length, read_order, signed_part, write_order};
-use mb_model::{Act, NoMemory, Order, Target};
+use mb_model::{Act, NoMemory, Order, Target, Trust, Trusts};
 use std::alloc::Global;
 use std::process::Abort;
 use std::test::Fail;
@@ -47,6 +47,11 @@ const ORDERS: &[(&str, &str)] = &[
     ("0202010200000007", UNSIGNED),
     ("05030001", UNSIGNED),
     ("030300000001020100000003616263", UNSIGNED),
+    ("03010000000002010000000100", UNSIGNED),
+    (LOAD_APART, UNSIGNED),
+    (LOAD_APART, "0003a1a2a300"),
+    (ESTABLISH_APART, UNSIGNED),
+    (EMERGENCY_APART, "0001ff01030000"),
     (LOAD_OF_ONE, UNSIGNED),
     (EMERGENCY, UNSIGNED),
     (ESTABLISH, UNSIGNED),
@@ -75,6 +80,16 @@ const EMERGENCY: &str = "0402020301111111111111111111111111111111111111111111111
 const ESTABLISH: &str = "010300000000090000000133333333333333333333333333333333\
     444444444444444444444444444444444444444444444444444444444444444401";
 
+/// A load of layer 3, no targets: all loads of layer 1 are trusted, and none of layer 2.
+const LOAD_APART: &str = "13030000000102000100000003616263";
+
+/// Layer 3, no targets: all loads of layer 1 are trusted, and none of layer 2.
+const ESTABLISH_APART: &str = "1103000000000500000003313131313131313131313131313131313232323232\
+    3232323232323232323232323232323232323232323232323232320001";
+
+/// Layer 2, a target, no code: countersigned loads of layer 1 are trusted, and all of layer 2.
+const EMERGENCY_APART: &str = "140201020000000700000001020000000000";
+
 /// Whether the order is an unsigned surrender of layer 2 with a target of length 7.
 fn is_surrender(order: &Order) -> bool {
     order.layer == 2
@@ -88,5 +103,39 @@ fn is_surrender(order: &Order) -> bool {
 fn an_order_says_what_its_bytes_spell(rt: HostRuntime) -> Result<(), Fail> {
     let order = read_order(rt.alloc(), b"\x02\x02\x01\x02\0\0\0\x07\0\0\0")?;
     assert!(rt; is_surrender(&order) && body_length(&order) == 8);
+    Ok(())
+}
+
+/// The trusts that the order gives its layer.
+fn given_by(order: &Order) -> Option<Trusts> {
+    match &order.act {
+        Act::Establish { trust, .. } => Some(*trust),
+        Act::Load(payload) | Act::Emergency(payload) => Some(payload.trust),
+        _ => None,
+    }
+}
+
+/// The body is one of an order that gives these trusts.
+fn gives(rt: &impl Abort, alloc: Global, body: &str, one: Trust, two: Trust) -> Result<(), Fail> {
+    let bytes = joined(alloc, &[(body, 1), (UNSIGNED, 1)])?;
+    let order = read_order(alloc, &bytes)?;
+    assert!(rt; given_by(&order) == Some(Trusts { one, two }));
+    Ok(())
+}
+
+/// Bodies, and the trusts in changes of layer 1 and of layer 2 that they give.
+const GIVEN: &[(&str, Trust, Trust)] = &[
+    (LOAD_APART, Trust::Always, Trust::Never),
+    (ESTABLISH_APART, Trust::Always, Trust::Never),
+    (EMERGENCY_APART, Trust::Countersigned, Trust::Always),
+    (EMERGENCY, Trust::Always, Trust::Always),
+    (ESTABLISH, Trust::Never, Trust::Never),
+];
+
+#[test]
+fn orders_give_trusts(rt: HostRuntime) -> Result<(), Fail> {
+    for (body, one, two) in GIVEN {
+        gives(&rt, rt.alloc(), body, *one, *two)?;
+    }
     Ok(())
 }

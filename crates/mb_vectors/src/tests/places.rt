@@ -4,11 +4,11 @@ ghost use Rattle.std.specs.Prelude.{◌≤◌, length};
 
 use super::spelled::joined;
 use super::statements::FIRST;
-use super::vectors;
+use super::{trusts, vectors};
 use mb_bytes::Cursor;
 use mb_cert::{ChainEnd, read_chain, read_statement};
 use mb_command::{OrderEnd, read_order};
-use mb_layout::{BadRecord, LayoutEnd, read_entry, region_of_bytes, root_of_bytes};
+use mb_layout::{BadRecord, LayoutEnd, read_entry, read_layer, region_of_bytes, root_of_bytes};
 use std::alloc::Global;
 use std::process::Abort;
 use std::test::Fail;
@@ -16,6 +16,10 @@ use std::test::Fail;
 /// What bytes are read as.
 #[derive(Clone, Copy)]
 enum Form {
+    /// A layer of an entry of version 1.
+    OldLayer,
+    /// A layer of an entry of version 2.
+    Layer,
     Entry,
     Root,
     Region,
@@ -29,6 +33,14 @@ fn failing_place(alloc: Global, form: Form, bytes: &[u8]) -> Option<u32>
     requires { length bytes.now ≤ 100000 }
 {
     match form {
+        Form::OldLayer => match read_layer(&mut Cursor::new(bytes), 1) {
+            Err(BadRecord { at }) => Some(at),
+            Ok(_) => None,
+        },
+        Form::Layer => match read_layer(&mut Cursor::new(bytes), 2) {
+            Err(BadRecord { at }) => Some(at),
+            Ok(_) => None,
+        },
         Form::Entry => match read_entry(&mut Cursor::new(bytes)) {
             Err(BadRecord { at }) => Some(at),
             Ok(_) => None,
@@ -79,6 +91,24 @@ const SIGNATURE: (&str, usize) = ("61", 2_348);
 
 /// Pieces of bytes that are not of the form, and the place at which they fail.
 const WRONG: &[(Form, &[(&str, usize)], u32)] = &[
+    // a layer without an owner never trusts
+    (Form::OldLayer, &[("0000", 1)], 1),
+    (Form::Layer, &[("000001", 1)], 1),
+    (Form::Layer, &[("000202", 1)], 1),
+    (Form::Layer, &[("000100", 1)], 2),
+    (Form::Layer, &[("000102", 1)], 2),
+    // no such trust, and none
+    (Form::Layer, &[("010300", 1)], 1),
+    (Form::Layer, &[("010003", 1)], 2),
+    (Form::Layer, &[("0001", 1)], 2),
+    // no such layer
+    (Form::OldLayer, &[("0200", 1)], 0),
+    (Form::Layer, &[("020000", 1)], 0),
+    (Form::Entry, &[(trusts::SECOND_TRUST_MISSING, 1)], 173),
+    (Form::Entry, &[(trusts::NO_SUCH_VERSION, 1)], 0),
+    (Form::Entry, &[(trusts::NO_SUCH_SECOND_TRUST, 1)], 15),
+    (Form::Entry, &[(trusts::TWO_TRUSTS_IN_VERSION_ONE, 1)], 15),
+    (Form::Entry, &[("0f", 1)], 0),
     (Form::Entry, &[(vectors::LAYER_TRUST_MISSING, 1)], 170),
     (Form::Entry, &[(vectors::NO_SUCH_ENTRY, 1)], 0),
     (Form::Entry, &[(vectors::NO_SUCH_CHANGE, 1)], 9),
@@ -105,6 +135,28 @@ const WRONG: &[(Form, &[(&str, usize)], u32)] = &[
     (Form::Order, &[("020209", 1)], 2),
     (Form::Order, &[("02020105", 1)], 3),
     (Form::Order, &[("05030002", 1)], 3),
+    // two trusts that are equal, and no such second trust
+    (Form::Order, &[("13030000000102000000000003616263", 1)], 8),
+    (Form::Order, &[("13030000000102000300000003616263", 1)], 8),
+    (
+        Form::Order,
+        &[
+            ("110300", 1),
+            ("0000000500000003", 1),
+            ("31", 48),
+            ("0000", 1),
+        ],
+        60,
+    ),
+    (
+        Form::Order,
+        &[("14020102000000070000000102020000000000", 1)],
+        13,
+    ),
+    // no such kind with two trusts
+    (Form::Order, &[("1002", 1)], 0),
+    (Form::Order, &[("1202", 1)], 0),
+    (Form::Order, &[("1502", 1)], 0),
     // two countersignatures for layer 1 are of 2 and of 3
     (
         Form::Order,

@@ -1,13 +1,14 @@
 //! Records of a device both ways, by bytes of another program.
 
-ghost use Rattle.std.specs.Prelude.{◌≡◌, ◌≤◌, length};
+ghost use Rattle.std.specs.Prelude.{◌≡◌, ◌≤◌, ◌⊎◌, length};
 
 use super::spelled::bytes_of;
 use super::values::{
-    BIRTH, CHANGE, EMERGENCY, EMPTYING, KEY_NINE, KEY_TWO, LOADED, NEW_KEY, OWNED, PENDING,
-    RELIABLE, SETTLED, SUCCESSION, UNOWNED,
+    BIRTH, BIRTH_OF_TWO, CHANGE, CHANGE_OF_TWO, EMERGENCY, EMPTYING, KEY_NINE, KEY_TWO, LOADED,
+    LOADED_APART, NEW_KEY, OWNED, OWNED_APART, OWNED_COUNTERSIGNED, PENDING, RELIABLE,
+    RELIABLE_APART, SETTLED, SUCCESSION, UNOWNED,
 };
-use super::vectors;
+use super::{trusts, vectors};
 use mb_bytes::Cursor;
 use mb_layout::{
     LayoutEnd, Root, fill_area, read_entry, read_layer, read_region, read_root, record_in,
@@ -21,9 +22,26 @@ use std::test::Fail;
 
 /// What a record spells.
 enum Value {
+    /// A layer of an entry of version 1.
+    OldLayer(Layer),
+    /// A layer of an entry of version 2.
     Layer(Layer),
     Entry(Entry),
     Root(Root),
+}
+
+/// Whether the layer of an entry of the version is read at the cursor, and its bytes, which are appended.
+fn is_layer(
+    cursor: &mut Cursor,
+    expected: &Layer,
+    out: &mut Vec<u8>,
+    version: u8,
+) -> Result<bool, Fail>
+    requires { (version ≡ 1) ⊎ (version ≡ 2) }
+{
+    let layer = read_layer(cursor, version)?;
+    write_layer(&layer, out, version)?;
+    Ok(layer == *expected)
 }
 
 /// Whether the bytes are read as this value, up to their end, and its bytes, which are appended.
@@ -32,11 +50,8 @@ fn is_read(bytes: &[u8], expected: &Value, out: &mut Vec<u8>) -> Result<bool, Fa
 {
     let mut cursor = Cursor::new(bytes);
     let is_same = match expected {
-        Value::Layer(expected) => {
-            let layer = read_layer(&mut cursor, 1)?;
-            write_layer(&layer, out, 1)?;
-            layer == *expected
-        }
+        Value::OldLayer(expected) => is_layer(&mut cursor, expected, out, 1)?,
+        Value::Layer(expected) => is_layer(&mut cursor, expected, out, 2)?,
         Value::Entry(expected) => {
             let entry = read_entry(&mut cursor)?;
             write_entry(&entry, out)?;
@@ -67,10 +82,19 @@ fn goes_both_ways(
 
 /// Layers, entries and roots, and their records.
 const VALUES: &[(Value, &str)] = &[
-    (Value::Layer(RELIABLE), vectors::RELIABLE_LAYER),
-    (Value::Layer(LOADED), vectors::LOADED_LAYER),
-    (Value::Layer(OWNED), vectors::OWNED_LAYER),
-    (Value::Layer(UNOWNED), vectors::UNOWNED_LAYER),
+    (Value::OldLayer(RELIABLE), vectors::RELIABLE_LAYER),
+    (Value::OldLayer(LOADED), vectors::LOADED_LAYER),
+    (Value::OldLayer(OWNED), vectors::OWNED_LAYER),
+    (Value::OldLayer(UNOWNED), vectors::UNOWNED_LAYER),
+    (Value::Layer(RELIABLE), trusts::RELIABLE_LAYER),
+    (Value::Layer(RELIABLE_APART), trusts::RELIABLE_LAYER_APART),
+    (Value::Layer(LOADED), trusts::LOADED_LAYER),
+    (Value::Layer(LOADED_APART), trusts::LOADED_LAYER_APART),
+    (Value::Layer(OWNED_COUNTERSIGNED), trusts::OWNED_LAYER),
+    (Value::Layer(OWNED_APART), trusts::OWNED_LAYER_APART),
+    (Value::Layer(UNOWNED), trusts::UNOWNED_LAYER),
+    (Value::Entry(BIRTH_OF_TWO), trusts::BIRTH),
+    (Value::Entry(CHANGE_OF_TWO), trusts::CHANGE),
     (Value::Entry(BIRTH), vectors::BIRTH),
     (Value::Entry(CHANGE), vectors::CHANGE),
     (Value::Entry(EMERGENCY), vectors::EMERGENCY),

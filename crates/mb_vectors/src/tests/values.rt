@@ -132,6 +132,42 @@ pub const UNOWNED: Layer = Layer {
     },
 };
 
+/// The first layer, which trusts countersigned loads of layer 1 and all loads of layer 2.
+pub const RELIABLE_APART: Layer = Layer {
+    trust: Trusts {
+        one: Trust::Countersigned,
+        two: Trust::Always,
+    },
+    ..RELIABLE
+};
+
+/// The layer of owner 21, which trusts all loads of layer 1 and none of layer 2.
+pub const LOADED_APART: Layer = Layer {
+    trust: Trusts {
+        one: Trust::Always,
+        two: Trust::Never,
+    },
+    ..LOADED
+};
+
+/// The layer of owner 31, which trusts countersigned loads.
+pub const OWNED_COUNTERSIGNED: Layer = Layer {
+    trust: Trusts {
+        one: Trust::Countersigned,
+        two: Trust::Countersigned,
+    },
+    ..OWNED
+};
+
+/// The layer of owner 31, which trusts no loads of layer 1 and countersigned ones of layer 2.
+pub const OWNED_APART: Layer = Layer {
+    trust: Trusts {
+        one: Trust::Never,
+        two: Trust::Countersigned,
+    },
+    ..OWNED
+};
+
 const THREE: Layers = Layers {
     one: RELIABLE,
     two: LOADED,
@@ -183,6 +219,41 @@ pub const EMERGENCY: Entry = Entry::Change {
         three: true,
     },
     next: None,
+};
+
+/// The birth in version 2.
+pub const BIRTH_OF_TWO: Entry = Entry::Birth {
+    version: 2,
+    serial: [0x41; 16],
+    key: KEY_43,
+    layers: Layers {
+        one: RELIABLE,
+        two: UNOWNED,
+        three: UNOWNED,
+    },
+};
+
+/// The first change in version 2, with two trusts of layer 2 that differ.
+pub const CHANGE_OF_TWO: Entry = Entry::Change {
+    version: 2,
+    position: 5,
+    number: 4,
+    kind: ChangeKind::Load,
+    layer: 1,
+    cosigned: Pair {
+        two: false,
+        three: true,
+    },
+    layers: Layers {
+        one: RELIABLE,
+        two: LOADED_APART,
+        three: OWNED_COUNTERSIGNED,
+    },
+    kept: Pair {
+        two: true,
+        three: false,
+    },
+    next: Some(KEY_45),
 };
 
 pub const NEW_KEY: Entry = Entry::NewKey {
