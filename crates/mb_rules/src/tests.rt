@@ -13,6 +13,7 @@ mod images;
 mod judging;
 mod logs;
 mod signed;
+mod versions;
 
 /// The bytes of these parts, one part after another.
 fn joined(alloc: Global, parts: &[&str]) -> Result<Vec<u8>, Fail> {

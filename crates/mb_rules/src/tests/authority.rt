@@ -1,6 +1,6 @@
 //! Conditions, and what changes leave, by the rules of the device.
 
-use mb_authority::{after, condition, kept_regions, layer_of, may_cosign};
+use mb_authority::{admits, after, condition, kept_regions, layer_of, may_cosign};
 use mb_model::{Chains, ChangeKind, CodeName, Layer, Layers, Pair, PublicKey, Tree, Trust, Trusts};
 use std::process::Abort;
 
@@ -82,4 +82,53 @@ fn an_emergency_load_is_admitted_by_no_own_trust(rt: HostRuntime) {
     let by_three = may_cosign(&layers, ChangeKind::Emergency, 2, 3);
     let by_two = may_cosign(&layers, ChangeKind::Emergency, 2, 2);
     assert!(rt; by_three && !by_two);
+}
+
+/// Trust in all loads of layer 1 and in none of layer 2.
+const FIRST_ALONE: Trusts = Trusts {
+    one: Trust::Always,
+    two: Trust::Never,
+};
+
+/// Trust in no loads of layer 1 and in all of layer 2.
+const SECOND_ALONE: Trusts = Trusts {
+    one: Trust::Never,
+    two: Trust::Always,
+};
+
+/// Trust in countersigned loads of layer 1 and in none of layer 2.
+const FIRST_COUNTERSIGNED: Trusts = Trusts {
+    one: Trust::Countersigned,
+    two: Trust::Never,
+};
+
+/// The trusts of layer 3, a load beneath it and its layer, and whether layer 3 admits it where its owner countersigned.
+const LOADS: &[(Trusts, ChangeKind, u8, bool)] = &[
+    (FIRST_ALONE, ChangeKind::Load, 1, true),
+    (FIRST_ALONE, ChangeKind::Load, 2, false),
+    (FIRST_ALONE, ChangeKind::Emergency, 2, false),
+    (SECOND_ALONE, ChangeKind::Load, 1, false),
+    (SECOND_ALONE, ChangeKind::Load, 2, true),
+    (SECOND_ALONE, ChangeKind::Emergency, 2, true),
+    (FIRST_COUNTERSIGNED, ChangeKind::Load, 1, true),
+    (FIRST_COUNTERSIGNED, ChangeKind::Load, 2, false),
+    (FIRST_ALONE, ChangeKind::Surrender, 2, false),
+    (SECOND_ALONE, ChangeKind::Establish, 2, false),
+];
+
+/// Layer 3 with these trusts admits the change as expected, and exactly then stays reliable and keeps its region.
+fn three_admits(rt: &impl Abort, trust: Trusts, kind: ChangeKind, layer: u8, expected: bool) {
+    let mut layers = all_owned();
+    layers.three.trust = trust;
+    let admitted = admits(&layers, kind, layer, THREE, 3);
+    let kept = kept_regions(&layers, kind, layer, THREE);
+    let left = after(&layers, kind, layer, THREE, &layer_of(&layers, layer));
+    assert!(rt; [admitted, kept.three, left.three.reliable] == [expected; 3]);
+}
+
+#[test]
+fn two_trusts(rt: HostRuntime) {
+    for (trust, kind, layer, expected) in LOADS {
+        three_admits(&rt, *trust, *kind, *layer, *expected);
+    }
 }

@@ -5,7 +5,9 @@ ghost use Rattle.std.specs.Prelude.{◌≤◌, vec_len, IfOk};
 
 use super::{joined, public_key};
 use hex::FromHex;
-use mb_model::{Bytes, CodeName, Configuration, KeyKind, Layer, Layers, Lives, Report, Trust, Trusts};
+use mb_model::{
+    Bytes, CodeName, Configuration, KeyKind, Layer, Layers, Lives, Report, Trust, Trusts,
+};
 use mb_verifier::{ChainRefusal, verify, write_listing};
 use std::alloc::Global;
 use std::process::Abort;
@@ -177,6 +179,24 @@ layer 2 68cd35f6dc5234d9a7e9df889d48ec8302912dee6f7c9fe17efeffa7bf970b63 ba7816b
 layer 3 b3cee4b09ec5e77e7b1285231704c0e8fcdcd7b721946b5bac2437e157b6bae1 cb8379ac2098aa165029e3938a51da0bcecfc008fd6795f401178647f96c5b34 1 reliable countersigned\n\
 statement 68656c6c6f\n";
 
+/// The listing of that report over layers of which the third trusts all loads of layer 1 and none of layer 2.
+const STATED_APART: &str = "key 1 epoch layer 3 alive\n\
+configuration 4\n\
+layer 1 a40bf9d678da59a9e050d292356cbcb44ba41a7e2df7a4cc8f77c8f3acf75b0f f191e625176e7514249870c60bc24622131b04927a418001d1969c9cecd260f1 1 reliable always\n\
+layer 2 68cd35f6dc5234d9a7e9df889d48ec8302912dee6f7c9fe17efeffa7bf970b63 ba7816bf8f01cfea414140de5dae2223b00361a396177a9cb410ff61f20015ad 1 reliable countersigned\n\
+layer 3 b3cee4b09ec5e77e7b1285231704c0e8fcdcd7b721946b5bac2437e157b6bae1 cb8379ac2098aa165029e3938a51da0bcecfc008fd6795f401178647f96c5b34 1 reliable always never\n\
+statement 68656c6c6f\n";
+
+/// The three layers, the third of which trusts all loads of layer 1 and none of layer 2.
+fn stated_apart() -> Result<Layers, Fail> {
+    let mut layers = stated()?;
+    layers.three.trust = Trusts {
+        one: Trust::Always,
+        two: Trust::Never,
+    };
+    Ok(layers)
+}
+
 /// A layer with little to list.
 const BARE: Layer = Layer {
     owner: None,
@@ -236,6 +256,20 @@ fn reports_are_listed(rt: HostRuntime) -> Result<(), Fail> {
         layers: stated()?,
     };
     is_listed(&rt, rt.alloc(), 1, KeyKind::Epoch, life, b"hello", STATED)?;
+    let life = Configuration {
+        number: 4,
+        upto: 3,
+        layers: stated_apart()?,
+    };
+    is_listed(
+        &rt,
+        rt.alloc(),
+        1,
+        KeyKind::Epoch,
+        life,
+        b"hello",
+        STATED_APART,
+    )?;
     let life = Configuration {
         number: 3,
         upto: 2,

@@ -4,8 +4,8 @@ ghost use Rattle.std.specs.Prelude.{◌≡◌, ◌<◌, ◌≤◌, IfOk};
 ghost use Rattle.mb_model.specs.OrderFormat.{order_format};
 
 use super::signed::{
-    ESTABLISH_AT_SEVEN, LOAD_ONE, LOAD_ONE_BY_ONE, LOAD_ONE_BY_THREE, LOAD_TWO, LOAD_TWO_BY_TWO,
-    NEW_KEY, NEW_KEY_BY_THREE, ONE, THREE, TWO,
+    ESTABLISH_AT_SEVEN, LOAD_ONE, LOAD_ONE_BY_ONE, LOAD_ONE_BY_THREE, LOAD_THREE,
+    LOAD_THREE_BY_THREE, LOAD_TWO, LOAD_TWO_BY_TWO, NEW_KEY, NEW_KEY_BY_THREE, ONE, THREE, TWO,
 };
 use super::{joined, public_key};
 use mb_command::read_order;
@@ -46,6 +46,12 @@ fn layer(owner: &str) -> Result<Layer, Fail> {
     })
 }
 
+/// Trust in all loads of layer 1 and in none of layer 2.
+const APART: Trusts = Trusts {
+    one: Trust::Always,
+    two: Trust::Never,
+};
+
 /// In what three such layers differ.
 #[derive(Clone, Copy)]
 enum But {
@@ -59,6 +65,8 @@ enum But {
     ThreeUnowned,
     /// Layer 3 trusts where its owner countersigned.
     ThreeCountersigned,
+    /// Layer 3 trusts all loads of layer 1 and none of layer 2.
+    ThreeApart,
 }
 
 fn layers_but(but: But) -> Result<Layers, Fail> {
@@ -73,6 +81,7 @@ fn layers_but(but: But) -> Result<Layers, Fail> {
         But::TwoUnreliable => layers.two.reliable = false,
         But::ThreeUnowned => layers.three.owner = None,
         But::ThreeCountersigned => layers.three.trust = Trusts::equal(Trust::Countersigned),
+        But::ThreeApart => layers.three.trust = APART,
     }
     Ok(layers)
 }
@@ -291,6 +300,38 @@ const ORDERS: &[(&str, But, u32, u8, [&str; 3], Result<Seen, JudgeEnd>)] = &[
         }),
     ),
     (
+        "a region is kept where its layer trusts changes of layer 1",
+        But::ThreeApart,
+        2,
+        1,
+        [LOAD_ONE, LOAD_ONE_BY_ONE, ALONE],
+        Ok(Seen {
+            entries: 1,
+            uses: 0,
+            outgoing: true,
+            two_loses: true,
+            three_loses: true,
+            three_empties: false,
+            reliable: true,
+        }),
+    ),
+    (
+        "a region is lost where its layer does not trust changes of layer 2",
+        But::ThreeApart,
+        2,
+        1,
+        [LOAD_TWO, LOAD_TWO_BY_TWO, ALONE],
+        Ok(Seen {
+            entries: 1,
+            uses: 2,
+            outgoing: false,
+            two_loses: true,
+            three_loses: false,
+            three_empties: true,
+            reliable: false,
+        }),
+    ),
+    (
         "a region is kept where its owner countersigned",
         But::ThreeCountersigned,
         2,
@@ -332,5 +373,26 @@ fn orders_are_judged(rt: HostRuntime) -> Result<(), Fail> {
         let view = view(layers_but(*but)?, *length, u32::from(*uses % 32));
         comes_to(&rt, rt.alloc(), shown, &view, *parts, *expected)?;
     }
+    Ok(())
+}
+
+/// The trusts of layer 3 that the order of these parts leaves.
+fn trusts_left(alloc: Global, view: &View, parts: [&str; 3]) -> Result<Option<Trusts>, Fail>
+    requires uses { view.now.uses ≤ 31 }
+    requires number { view.now.number ≤ 128 }
+    requires keys_made { view.now.keys_made ≤ 128 }
+{
+    let order = order_of(alloc, parts)?;
+    match judge_counted::<Brand>(alloc, view, &order, Blank::new(1)) {
+        Ok(plan) => Ok(Some(plan.layers.three.trust)),
+        Err(_) => Ok(None),
+    }
+}
+
+#[test]
+fn a_load_gives_two_trusts(rt: HostRuntime) -> Result<(), Fail> {
+    let view = view(layers_but(But::Nothing)?, 2, 1);
+    let parts = [LOAD_THREE, LOAD_THREE_BY_THREE, ALONE];
+    assert!(rt; trusts_left(rt.alloc(), &view, parts)? == Some(APART));
     Ok(())
 }

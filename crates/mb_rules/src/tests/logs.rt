@@ -284,6 +284,32 @@ enum Changed {
     Swapped,
     /// Entry 3 keeps a region that it does not.
     Kept,
+    /// Births and changes have these versions.
+    Versions([u8; 8]),
+    /// Births and changes have this version, and entry 2 gives layer 3 two trusts that differ.
+    Apart(u8),
+}
+
+/// Gives a birth or a change the version.
+fn set_version(entry: &mut Entry, new: u8) {
+    match entry {
+        Entry::Birth { version, .. } | Entry::Change { version, .. } => *version = new,
+        Entry::NewKey { .. } | Entry::Succession { .. } => (),
+    }
+}
+
+/// Gives births and changes these versions.
+fn set_versions(entries: &mut [Entry; 8], versions: [u8; 8]) {
+    for at in 0..8 {
+        set_version(&mut entries[at], versions[at]);
+    }
+}
+
+/// Gives layer 3 of a change two trusts that differ.
+fn set_apart(entry: &mut Entry) {
+    if let Entry::Change { layers, .. } = entry {
+        layers.three.trust.two = Trust::Never;
+    }
 }
 
 /// A life that is changed so.
@@ -296,6 +322,11 @@ fn changed_life(how: Changed) -> [Entry; 8] {
             if let Entry::Change { kept, .. } = &mut entries[3] {
                 *kept = BOTH;
             }
+        }
+        Changed::Versions(versions) => set_versions(&mut entries, versions),
+        Changed::Apart(version) => {
+            set_versions(&mut entries, [version; 8]);
+            set_apart(&mut entries[2]);
         }
     }
     entries
@@ -315,6 +346,44 @@ const FOLLOWS: &[(Changed, usize, u32, Follow)] = &[
     (Changed::Swapped, 1, 0, Follow::Order),
     (Changed::Nothing, 1, 1, Follow::Order),
     (Changed::Kept, 3, 2, Follow::Rules),
+    // Versions are 1 and 2, and go up alone, also over a new key, which has none.
+    (Changed::Versions([1; 8]), 0, 7, Follow::Yes),
+    (Changed::Versions([1; 8]), 7, 0, Follow::Yes),
+    (
+        Changed::Versions([1, 1, 1, 1, 1, 0, 2, 2]),
+        6,
+        5,
+        Follow::Yes,
+    ),
+    (
+        Changed::Versions([1, 1, 2, 2, 2, 0, 2, 2]),
+        7,
+        0,
+        Follow::Yes,
+    ),
+    (
+        Changed::Versions([2, 1, 1, 1, 1, 0, 1, 1]),
+        1,
+        0,
+        Follow::Rules,
+    ),
+    (
+        Changed::Versions([1, 1, 1, 1, 2, 0, 1, 1]),
+        6,
+        5,
+        Follow::Rules,
+    ),
+    (Changed::Versions([0; 8]), 0, 7, Follow::Rules),
+    (Changed::Versions([3; 8]), 0, 7, Follow::Rules),
+    (
+        Changed::Versions([2, 3, 3, 3, 3, 0, 3, 3]),
+        1,
+        0,
+        Follow::Rules,
+    ),
+    // Version 1 has one trust for both layers.
+    (Changed::Apart(2), 2, 1, Follow::Yes),
+    (Changed::Apart(1), 2, 1, Follow::Rules),
 ];
 
 #[test]
