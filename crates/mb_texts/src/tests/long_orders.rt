@@ -6,11 +6,11 @@ use super::orders::{is_signed, order_of};
 use super::pieces::text_of;
 use std::alloc::Global;
 
-/// The draft of a load with eight targets and 32,768 bytes of code.
+/// The draft of a load with eight targets, two trusts and 32,768 bytes of code.
 const LONGEST_DRAFT: &[(&str, usize)] = &[
     ("order load 1\n", 1),
     ("target length 7\n", 8),
-    ("version 2\ntrust never\ncode ", 1),
+    ("version 2\ntrust never always\ncode ", 1),
     ("ab", 32_768),
 ];
 
@@ -30,12 +30,12 @@ fn the_largest_order_is_drafted(rt: HostRuntime) {
     assert!(rt; is_drafted(rt.alloc(), LONGEST_DRAFT, [32_768, 8, 0]));
 }
 
-/// The line of a load with eight targets, 32,768 bytes of code, a signature and two countersignatures. A signature has
+/// The line of a load with eight targets, two trusts, 32,768 bytes of code, a signature and two countersignatures. A signature has
 /// 9,324 bytes, after its length.
 const LONGEST_LINE: &[(&str, usize)] = &[
-    ("command 030108", 1),
+    ("command 130108", 1),
     ("0200000007", 8),
-    ("000000020200008000", 1),
+    ("00000002020100008000", 1),
     ("ab", 32_768),
     ("246c", 1),
     ("c1", 9_324),
@@ -69,14 +69,19 @@ fn is_handled(alloc: Global, draft: &str) -> bool {
     }
 }
 
-/// A draft of each kind of order.
+/// A draft of each kind of order, with one trust and with two.
 const KINDS: &[&str] = &[
     "order establish 2\ntarget length 1\n\
         owner 0000000500000003111111111111111111111111111111112222222222222222222222222222222222222222222222222222222222222222\n\
         trust countersigned\n",
+    "order establish 3\n\
+        owner 0000000500000003111111111111111111111111111111112222222222222222222222222222222222222222222222222222222222222222\n\
+        trust countersigned never\n",
     "order surrender 2\n",
     "order load 3\nversion 1\ntrust never\ncode -\n",
+    "order load 3\nversion 1\ntrust never always\ncode -\n",
     "order emergency 3\nversion 1\ntrust never\ncode 00\n",
+    "order emergency 3\nversion 1\ntrust never countersigned\ncode 00\n",
     "order newkey 2 epoch\n",
     "order newkey 3 configuration\n",
 ];

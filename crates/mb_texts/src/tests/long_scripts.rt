@@ -31,7 +31,7 @@ fn is_command(alloc: Global, count: usize) -> bool {
 
 #[test]
 fn long_lines_are_read_and_written(rt: HostRuntime) {
-    assert!(rt; is_command(rt.alloc(), 61_033));
+    assert!(rt; is_command(rt.alloc(), 61_034));
     let Ok(line) = text_of(rt.alloc(), &[("signed 1 0 ", 1), ("07", 2_481), ("\n", 1)]) else {
         panic!(rt; "no memory");
     };

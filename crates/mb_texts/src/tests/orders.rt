@@ -222,3 +222,61 @@ fn an_emergency_countersigned(rt: HostRuntime) {
         )
     );
 }
+
+/// Whether the draft says an order of this body.
+fn says_body(alloc: Global, draft: &str, body: &str) -> bool {
+    drafted(alloc, draft.as_bytes(), body).is_some()
+}
+
+/// Drafts with one trust or with two, and the bodies of their orders. Equal words are as one.
+const BODIES: &[(&str, &str)] = &[
+    (
+        "order establish 3\n\
+            owner 0000000500000003313131313131313131313131313131313232323232323232323232323232323232323232323232323232323232323232\n\
+            trust always never\n",
+        "110300000000050000000331313131313131313131313131313131323232323232323232323232323232323232323232323232\
+            32323232323232320001",
+    ),
+    (
+        "order load 3\nversion 258\ntrust always never\ncode 616263\n",
+        "13030000000102000100000003616263",
+    ),
+    (
+        "order emergency 2\ntarget length 7\nversion 1\ntrust countersigned always\ncode -\n",
+        "140201020000000700000001020000000000",
+    ),
+    (
+        "order load 1\nversion 2\ntrust never never\ncode 00\n",
+        "03010000000002010000000100",
+    ),
+    (
+        "order load 1\nversion 2\ntrust never\ncode 00\n",
+        "03010000000002010000000100",
+    ),
+];
+
+#[test]
+fn drafts_give_trusts(rt: HostRuntime) {
+    for (draft, body) in BODIES {
+        assert!(rt; says_body(rt.alloc(), draft, body), "{draft}");
+    }
+}
+
+/// Whether the order of the draft has this hash when it is signed.
+fn signs_draft(alloc: Global, draft: &str, hash: &str) -> bool {
+    match order_of(alloc, draft.as_bytes()) {
+        Some(mut order) => signs(alloc, &mut order, hash),
+        None => false,
+    }
+}
+
+#[test]
+fn a_load_with_two_trusts_is_signed(rt: HostRuntime) {
+    assert!(rt;
+        signs_draft(
+            rt.alloc(),
+            "order load 3\nversion 258\ntrust always never\ncode 616263\n",
+            "f008ead89a3683f44149961b1f95137573d9654244585829c452e80afb27b923",
+        )
+    );
+}

@@ -70,7 +70,7 @@ fn is_read(alloc: Global, count: usize) -> bool {
 #[test]
 fn long_words_are_read(rt: HostRuntime) {
     assert!(rt; is_read(rt.alloc(), 32_768));
-    assert!(rt; is_read(rt.alloc(), 61_033));
+    assert!(rt; is_read(rt.alloc(), 61_034));
 }
 
 #[test]
