@@ -11,6 +11,7 @@ mod runs;
 mod sign;
 mod statuses;
 mod succession;
+mod trusts;
 mod workloads;
 
 use mb_board::SimBoard;
@@ -25,13 +26,13 @@ use std::test::Fail;
 /// More writes than any call has.
 const MOST_WRITES: u32 = 471;
 
-/// A file before a play.
+/// A file that is given.
 struct Given {
     name: &'static str,
     content: Content,
 }
 
-/// What a file holds before a play.
+/// What a file holds that is given.
 enum Content {
     /// Bytes in hexadecimal.
     Hex(&'static str),
@@ -39,8 +40,8 @@ enum Content {
     Text(&'static str),
     /// The pieces of a text.
     Pieces(&'static [&'static str]),
-    /// Bytes in hexadecimal, and then erased flash up to this length.
-    Erased(&'static str, usize),
+    /// Pieces: what each begins with, in hexadecimal, where it ends, and the byte up to there.
+    Laid(&'static [(&'static str, usize, u8)]),
     /// So many bytes, all of them 7.
     Sevens(usize),
 }
@@ -67,6 +68,8 @@ enum Step {
     IsMissing(&'static str),
     /// So many reads, writes and prints were called.
     WasCalled(u64, u64, u64),
+    /// The file is written.
+    Gives(Given),
     /// The file of this name is written, of these parts.
     Writes(&'static str, &'static [Part]),
     /// The files of these names have the same bytes.
@@ -146,6 +149,7 @@ fn take(rt: &(impl Abort + AllocGlobal), host: &mut MemoryHost, step: &Step) -> 
         Step::IsOrder(name, hash) => order_is(rt, file_of(host, name)?, hash),
         Step::IsMissing(name) => is_missing(rt, host, name),
         Step::WasCalled(reads, writes, prints) => was_called(rt, host, [*reads, *writes, *prints]),
+        Step::Gives(given) => store(host, given.name, &bytes_of(rt.alloc(), &given.content)?),
         Step::Writes(name, parts) => write(rt.alloc(), host, name, parts),
         Step::Matches(name, other) => file_matches(rt, host, name, other),
         Step::EndsInZeros(name, count) => ends_in_zeros(rt, host, name, *count),
@@ -173,7 +177,7 @@ fn bytes_of(alloc: Global, content: &Content) -> Result<Vec<u8>, Fail> {
         Content::Hex(bytes) => Ok(hex::decode(alloc, bytes)?),
         Content::Text(text) => Ok(Vec::from_slice(alloc, text.as_bytes())?),
         Content::Pieces(pieces) => joined(alloc, pieces),
-        Content::Erased(bytes, length) => filled(hex::decode(alloc, bytes)?, *length, 0xFF),
+        Content::Laid(pieces) => laid(alloc, pieces),
         Content::Sevens(length) => filled(Vec::new(alloc), *length, 7),
     }
 }
@@ -185,6 +189,16 @@ fn joined(alloc: Global, pieces: &[&str]) -> Result<Vec<u8>, Fail> {
         text.extend_from_slice(piece.as_bytes())?;
     }
     Ok(text)
+}
+
+/// What the pieces lay out: their bytes, and then a byte up to the end of each.
+fn laid(alloc: Global, pieces: &[(&str, usize, u8)]) -> Result<Vec<u8>, Fail> {
+    let mut bytes = Vec::new(alloc);
+    for (text, end, byte) in pieces {
+        bytes.extend_from_slice(&hex::decode(alloc, text)?)?;
+        bytes.resize(*end, *byte)?;
+    }
+    Ok(bytes)
 }
 
 /// These bytes, and then this byte up to the length.

@@ -31,7 +31,7 @@ pub const OTHER_OWNER: &str =
 pub const SERIAL: &str = "serial c10b471ceff881272aa5ed819fd9a0e0\n";
 
 /// The hash of the device's image.
-pub const IMAGE: &str = "0b1b283088f05b23f17aa98035a889741b96a741f6cac3a3c975972315e08edd";
+pub const IMAGE: &str = "5efad9dd608cc5caf178c0d7fc67a633fbea2e0955ab94abba4ff1c318487aaa";
 
 const FILES: &[Given] = &[
     Given {

@@ -27,11 +27,11 @@ const FILES: &[Given] = &[
     },
     Given {
         name: "erased",
-        content: Content::Erased("", IMAGE_LENGTH),
+        content: Content::Laid(&[("", IMAGE_LENGTH, 0xFF)]),
     },
     Given {
         name: "less",
-        content: Content::Erased("", IMAGE_LENGTH - 1),
+        content: Content::Laid(&[("", IMAGE_LENGTH - 1, 0xFF)]),
     },
     Given {
         name: "script",

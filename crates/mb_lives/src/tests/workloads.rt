@@ -5,7 +5,7 @@ use super::{Play, Step, perform};
 use std::test::Fail;
 
 /// The hash of the image of each workload of the number 1, before it is served.
-const NEW: &str = "13cf7e976d85c64f8936dc952e335a9b8404969428707ff98ce42e5d5362374e";
+const NEW: &str = "36d16bff94bbca1772ed140c1601274d32f047e708c272635126ced362674d5c";
 
 /// A workload of three rounds, and that its image then comes to what its summary told.
 const SMALL: Play = Play {
