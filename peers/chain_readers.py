@@ -193,6 +193,8 @@ class Served:
         return "kept"
 
     def get(self, line, layer, name):
+        if self.stand(int(layer)) != "runnable":
+            return "refused 4 layer"
         secrets = {known: value for known, value, _ in self.device.regions[int(layer)]["secrets"]}
         return f"value {secrets[name.encode()].hex()}"
 
@@ -209,10 +211,10 @@ class Served:
         return f"status {device.serial.hex()} {device.number} {len(device.log)} {stands}"
 
     def stand(self, n):
-        layer = self.device.layers[n]
-        if layer["reliable"]:
-            return "runnable"
-        return "unreliable" if layer["owner"] else "unowned"
+        layers = self.device.layers
+        if layers[n]["reliable"]:
+            return "runnable" if all(layers[m]["reliable"] for m in range(1, n)) else "reliable"
+        return "unreliable" if layers[n]["owner"] else "unowned"
 
 
 # ---- the sources

@@ -24,6 +24,8 @@ ESTABLISH, SURRENDER, LOAD, EMERGENCY = 1, 2, 3, 4
 ALWAYS, NEVER, COUNTERSIGNED = 0, 1, 2
 EPOCH, CONFIGURATION = 0, 1
 BIRTH, CHANGE, NEW_KEY, SUCCESSION = 0, 1, 2, 3
+# what an entry's first byte says: what it is, and the version of a birth or change
+TAGS = {0: (BIRTH, 1), 1: (CHANGE, 1), 2: (NEW_KEY, None), 3: (SUCCESSION, None), 16: (BIRTH, 2), 17: (CHANGE, 2)}
 SIGNATURE = 2_348
 LONGEST_FILE = 4_194_304
 LAST_INDEX = 31
@@ -55,14 +57,17 @@ class Layer:
     code: bytes | None = None
     version: int | None = None
     reliable: bool = False
-    trust: int = NEVER
+    # in changes of layer 1, and in changes of layer 2
+    trusts: tuple = (NEVER, NEVER)
 
 
 @dataclasses.dataclass(frozen=True)
 class Entry:
-    """An entry of a log. `key` is the device key that it names, or the region's key that it makes."""
+    """An entry of a log. A birth or change has a version. `key` is the device key that it names, or the region's key that
+    it makes."""
 
     tag: int
+    version: int | None = None
     text: bytes = b""
     serial: bytes | None = None
     position: int | None = None
@@ -121,41 +126,49 @@ class Reader:
         self.take(32)
         return self.bytes[at : self.at]
 
-    def layer(self):
+    def trusts(self, version, is_owned):
+        """One trust for changes of both layers in version 1, and one for each in version 2."""
+        one, *more = (self.number(1, 0, 2) if is_owned else self.number(1, NEVER, NEVER) for _ in range(version))
+        return one, *(more or [one])
+
+    def layer(self, version):
         at = self.at
         flags = self.number(1)
         if flags not in (0, 1, 3, 7):
             raise Unformed(at)
-        trust = self.number(1, 0, 2) if flags else self.number(1, NEVER, NEVER)
+        trusts = self.trusts(version, flags & 1)
         owner = self.key() if flags & 1 else None
-        code, version = (self.take(32), self.number(4)) if flags & 2 else (None, None)
-        return Layer(owner, code, version, flags == 7, trust)
+        code, code_version = (self.take(32), self.number(4)) if flags & 2 else (None, None)
+        return Layer(owner, code, code_version, flags == 7, trusts)
 
-    def layers(self):
-        return tuple(self.layer() for _ in range(3))
+    def layers(self, version):
+        return tuple(self.layer(version) for _ in range(3))
 
-    def birth(self):
+    def birth(self, version):
         serial, key = self.take(16), self.key()
-        return {"serial": serial, "key": key, "layers": self.layers()}
+        return {"serial": serial, "key": key, "layers": self.layers(version)}
 
-    def change(self):
+    def change(self, version):
         fields = {"position": self.number(4), "number": self.number(4)}
         fields |= {"kind": self.number(1, 1, 4), "layer": self.number(1, 1, 3)}
-        fields |= {"cosigned": self.pair(), "kept": self.pair(), "layers": self.layers()}
+        fields |= {"cosigned": self.pair(), "kept": self.pair(), "layers": self.layers(version)}
         return fields | {"key": self.key() if self.number(1, 0, 1) else None}
 
-    def new_key(self):
+    def new_key(self, _):
         fields = {"position": self.number(4), "number": self.number(4), "key_number": self.number(4)}
         return fields | {"layer": self.number(1, 2, 3), "kind": self.number(1, 0, 1), "key": self.key()}
 
-    def succession(self):
+    def succession(self, _):
         return {"position": self.number(4), "key": self.key()}
 
     def entry(self):
         at = self.at
-        tag = self.number(1, BIRTH, SUCCESSION)
-        fields = (self.birth, self.change, self.new_key, self.succession)[tag]()
-        return Entry(tag, self.bytes[at : self.at], **fields)
+        byte = self.number(1)
+        if byte not in TAGS:
+            raise Unformed(at)
+        tag, version = TAGS[byte]
+        fields = (self.birth, self.change, self.new_key, self.succession)[tag](version)
+        return Entry(tag, version, self.bytes[at : self.at], **fields)
 
     def signed_entry(self):
         return self.entry(), self.take(SIGNATURE)
@@ -227,6 +240,8 @@ class Log:
     def __init__(self, maker):
         self.in_charge, self.signed, self.serial = maker, 0, None
         self.length = self.number = self.made = 0
+        # of the births and changes so far, the highest
+        self.version = 1
         self.layers = (Layer(),) * 3
 
     def layer(self, n):
@@ -246,6 +261,8 @@ class Log:
         return entry.position in (None, self.length) and index == self.signed
 
     def is_ruled(self, entry):
+        if entry.version is not None and entry.version < self.version:
+            return False
         if entry.tag == BIRTH:
             one, two, three = entry.layers
             return self.length == 0 and one.owner is not None and one.reliable and two == three == Layer()
@@ -298,7 +315,7 @@ class Log:
         if m == entry.layer:
             return entry.kind == LOAD
         trusts = {ALWAYS: True, NEVER: False, COUNTERSIGNED: m in entry.cosigned}
-        return entry.kind in (LOAD, EMERGENCY) and trusts[self.layer(m).trust]
+        return entry.kind in (LOAD, EMERGENCY) and trusts[self.layer(m).trusts[entry.layer - 1]]
 
     def is_left(self, entry, m):
         """Another layer stands as before, but for one above that does not admit the change."""
@@ -311,6 +328,7 @@ class Log:
         self.signed = self.signed + 1 if self.length > 1 else 0
         if entry.tag == CHANGE:
             self.number += 1
+        self.version = entry.version or self.version
         self.layers = entry.layers or self.layers
         self.serial = entry.serial or self.serial
         if entry.key is not None:
@@ -392,7 +410,8 @@ def layer_line(number, layer):
     owner = sha256(layer.owner).hex() if layer.owner else "-"
     code, version = (layer.code.hex(), layer.version) if layer.code else ("-", "-")
     reliable = "reliable" if layer.reliable else "unreliable"
-    return f"layer {number} {owner} {code} {version} {reliable} {TRUSTS[layer.trust]}"
+    one, two = (TRUSTS[trust] for trust in layer.trusts)
+    return f"layer {number} {owner} {code} {version} {reliable} {one if one == two else f'{one} {two}'}"
 
 
 def listing(n, life, statement):

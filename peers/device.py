@@ -5,8 +5,9 @@
     device.py pending KIND IMAGE   a device with work pending: entry, succession, renewal, last, add, short; with none: born
     device.py row KIND             a row of the tests of such work in crates/mb_cuts, whose birth is signed by zeros
 
-Each image's line says what it stands for: `state LENGTH NUMBER USES`, the numbers of secrets and keys of regions 2 and 3, and
-the SHA-256 hash of the signatures of the log, one after another.
+After `old`, as in `device.py old full IMAGE`, each birth and change has version 1, which spells one trust for each layer;
+otherwise version 2, which spells two. The rows are of version 1. Each image's line says what it stands for: `state LENGTH NUMBER USES`, the numbers of secrets
+and keys of regions 2 and 3, and the SHA-256 hash of the signatures of the log, one after another.
 """
 
 import sys
@@ -17,9 +18,10 @@ from officer import Officer
 FLASH, BBRAM, AREA, FLASH_AREA = 1_048_576, 28_672, 4_096, 524_288
 SIGNATURE = 2_348
 ESTABLISH, SURRENDER, LOAD, EMERGENCY = 1, 2, 3, 4
-ALWAYS, COUNTERSIGNED = 0, 2
+ALWAYS, NEVER, COUNTERSIGNED = 0, 1, 2
 EPOCH, CONFIGURATION = 0, 1
-UNOWNED = {"owner": None, "code": None, "version": 0, "reliable": False, "trust": 1}
+# the tags of a birth and of a change, by version
+BIRTH, CHANGE = {1: 0, 2: 16}, {1: 1, 2: 17}
 EMPTY, KEEP, DROP_CONFIGURATION, ADD = u8(1), u8(0), u8(2), u8(3)
 KINDS = "entry", "succession", "renewal", "last", "add", "short", "born"
 
@@ -42,6 +44,14 @@ class Key:
         return self.key.sign(self.uses - 1, text)
 
 
+def equal(trust):
+    """One trust, in changes of layer 1 and of layer 2 alike."""
+    return trust, trust
+
+
+UNOWNED = {"owner": None, "code": None, "version": 0, "reliable": False, "trusts": equal(NEVER)}
+
+
 def pair(some):
     return (2 in some) + 2 * (3 in some)
 
@@ -53,19 +63,23 @@ def optional(bytes_):
 class Device:
     """A device whose owners are obeyed without looking at their signatures, and whose birth the maker has signed or not."""
 
-    def __init__(self, signed=True):
+    # of the births and changes that it writes
+    version = 2
+
+    def __init__(self, signed=True, version=2):
+        self.version = version
         self.draws = 0
         self.serial = sha256(b"serial")[:16]
         self.maker, self.owner = Officer(sha256(b"maker")), {n: Officer(sha256(b"owner", u8(n))) for n in (1, 2, 3)}
         self.codes = {1: b"code of layer 1", 2: None, 3: None}
-        self.layers = {1: self.running(1, self.codes[1], 1, ALWAYS), 2: dict(UNOWNED), 3: dict(UNOWNED)}
+        self.layers = {1: self.running(1, self.codes[1], 1, equal(ALWAYS)), 2: dict(UNOWNED), 3: dict(UNOWNED)}
         self.be_born(signed)
 
     def be_born(self, signed=True):
         self.made = self.number = 0
         self.regions = {2: {"secrets": [], "keys": []}, 3: {"secrets": [], "keys": []}}
         self.key, self.outgoing, self.log = self.new_key(), None, []
-        birth = u8(0) + self.serial + self.key.key.public() + self.spelled_layers()
+        birth = u8(BIRTH[self.version]) + self.serial + self.key.key.public() + self.spelled_layers()
         self.log.append((birth, self.maker.sign(u8(3) + birth) if signed else bytes(SIGNATURE)))
 
     def draw(self):
@@ -76,18 +90,23 @@ class Device:
         self.made += 1
         return Key(self.draw(), self.serial, self.made - 1)
 
-    def running(self, layer, code, version, trust):
+    def running(self, layer, code, version, trusts):
         owner = self.owner[layer].public()
-        return {"owner": owner, "code": sha256(code), "version": version, "reliable": True, "trust": trust}
+        return {"owner": owner, "code": sha256(code), "version": version, "reliable": True, "trusts": trusts}
 
     def spelled_layers(self):
-        return b"".join(self.spelled_layer(self.layers[n]) for n in (1, 2, 3))
+        return b"".join(self.spelled_layer(self.layers[n], self.version) for n in (1, 2, 3))
 
     @staticmethod
-    def spelled_layer(layer):
+    def spelled_layer(layer, version):
+        """A layer as entries of this version spell it; version 1 has one trust, which both have to be."""
+        one, two = layer["trusts"]
+        if version == 1 and one != two:
+            raise ValueError("version 1 spells one trust")
+        trusts = u8(one) if version == 1 else u8(one) + u8(two)
         flags = (layer["owner"] is not None) + 2 * (layer["code"] is not None) + 4 * layer["reliable"]
         code = b"" if layer["code"] is None else layer["code"] + u32(layer["version"])
-        return u8(flags) + u8(layer["trust"]) + (layer["owner"] or b"") + code
+        return u8(flags) + trusts + (layer["owner"] or b"") + code
 
     # ---- entries
 
@@ -111,15 +130,15 @@ class Device:
         self.number += 1
         kept = self.kept(kind, layer, cosigned) if kept is None else kept
         after = self.new_key() if renews else None
-        entry = u8(1) + u32(len(self.log)) + u32(self.number) + u8(kind) + u8(layer) + u8(pair(cosigned))
-        entry += u8(pair(kept)) + self.spelled_layers() + optional(after and after.key.public())
+        entry = u8(CHANGE[self.version]) + u32(len(self.log)) + u32(self.number) + u8(kind) + u8(layer)
+        entry += u8(pair(cosigned)) + u8(pair(kept)) + self.spelled_layers() + optional(after and after.key.public())
         self.append(entry)
         if renews:
             self.outgoing, self.key = self.key, after
 
-    def establish(self, layer, trust):
+    def establish(self, layer, trusts=equal(ALWAYS)):
         self.succeed()
-        self.layers[layer] = dict(UNOWNED, owner=self.owner[layer].public(), trust=trust)
+        self.layers[layer] = dict(UNOWNED, owner=self.owner[layer].public(), trusts=trusts)
         self.change(ESTABLISH, layer)
 
     def surrender(self, layer):
@@ -128,14 +147,14 @@ class Device:
         self.layers[layer], self.codes[layer] = dict(UNOWNED), None
         self.change(SURRENDER, layer)
 
-    def load(self, layer, kind=LOAD, trust=ALWAYS):
+    def load(self, layer, kind=LOAD, trusts=equal(ALWAYS)):
         """A load of layer 1 makes the next device key itself, at the last index too."""
         self.outgoing = None
         if layer > 1:
             self.succeed()
         code = b"code %d of layer %d" % (len(self.log), layer)
         self.codes[layer] = code
-        self.layers[layer] = self.running(layer, code, len(self.log), trust)
+        self.layers[layer] = self.running(layer, code, len(self.log), trusts)
         self.change(kind, layer, renews=layer == 1)
         for m in range(max(layer, 2), 4):
             region = self.regions[m]
@@ -218,18 +237,18 @@ class Device:
         return " ".join(map(str, ["state", len(self.log), self.number, self.key.uses, *counts, signatures]))
 
 
-def owned(signed=True):
+def owned(signed=True, version=2):
     """A device whose three layers run."""
-    device = Device(signed)
+    device = Device(signed, version)
     for layer in (2, 3):
-        device.establish(layer, ALWAYS)
+        device.establish(layer)
     for layer in (2, 3):
         device.load(layer, EMERGENCY)
     return device
 
 
-def full():
-    device = owned()
+def full(version=2):
+    device = owned(version=version)
     for layer in (2, 3):
         for _ in range(8):
             device.make_key(layer)
@@ -240,11 +259,11 @@ def full():
     return device, device.image()
 
 
-def short_succession(signed):
+def short_succession(signed, version):
     """A device key that gives way in a log of small entries: layer 2 is established and surrendered in turn."""
-    device = Device(signed)
+    device = Device(signed, version)
     while device.key.uses < 31:
-        device.establish(2, ALWAYS)
+        device.establish(2)
         if device.key.uses < 31:
             device.surrender(2)
     before = device.region(2), device.region(3)
@@ -252,14 +271,14 @@ def short_succession(signed):
     return device, before, EMPTY * 2
 
 
-def left_to_do(kind, signed=True):
+def left_to_do(kind, signed=True, version=2):
     """A device after an order of the kind, the records of its regions before it, and their fates."""
     if kind == "short":
-        return short_succession(signed)
+        return short_succession(signed, version)
     if kind == "born":
-        device = Device(signed)
+        device = Device(signed, version)
         return device, (device.region(2), device.region(3)), None
-    device = owned(signed)
+    device = owned(signed, version)
     device.make_key(2, CONFIGURATION)
     device.make_key(3)
     device.put(2, b"pin", b"1234")
@@ -285,16 +304,16 @@ def pending_of(device, kind, fates):
     return unsigned, u8(unsigned) + optional(outgoing) + fates
 
 
-def with_pending(kind):
+def with_pending(kind, version=2):
     """The device after the order, and the image that the order leaves."""
-    device, before, fates = left_to_do(kind)
+    device, before, fates = left_to_do(kind, version=version)
     unsigned, pending = pending_of(device, kind, fates)
     return device, device.image(1, pending, unsigned, before)
 
 
 def row(kind):
     """A row of the tests: the records that the order leaves, and what they stand for."""
-    device, before, fates = left_to_do(kind, signed=False)
+    device, before, fates = left_to_do(kind, signed=False, version=1)
     unsigned, pending = pending_of(device, kind, fates)
     signer = device.outgoing or device.key
     public = device.public(unsigned)
@@ -319,13 +338,15 @@ def row(kind):
 
 
 def main(words):
+    version = 1 if words[:1] == ["old"] else 2
+    words = words[1:] if version == 1 else words
     if len(words) == 2 and words[0] == "full":
-        device, image = full()
+        device, image = full(version)
     elif len(words) == 2 and words[0] == "new":
-        device = Device()
+        device = Device(version=version)
         image = device.image()
     elif len(words) == 3 and words[0] == "pending" and words[1] in KINDS:
-        device, image = with_pending(words[1])
+        device, image = with_pending(words[1], version)
     elif len(words) == 2 and words[0] == "row" and words[1] in KINDS:
         print("\n".join(row(words[1])))
         return 0

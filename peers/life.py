@@ -3,47 +3,49 @@
 Nothing is verified here: it is for making the values that a device comes to, not for judging orders.
 """
 
-from device import ALWAYS, COUNTERSIGNED, EMERGENCY, EPOCH, ESTABLISH, LOAD, UNOWNED, Device
+from device import ALWAYS, COUNTERSIGNED, EMERGENCY, EPOCH, ESTABLISH, LOAD, UNOWNED, Device, equal
 from lms import sha256
-from officer import KEY_KINDS, TRUSTS, unhex
+from officer import KEY_KINDS, trusts_in, unhex
 
 LOADS = {"load": LOAD, "emergency": EMERGENCY}
 
 
 class Living(Device):
-    """A device of this noise, whose birth the maker signs, and whose layer 1 has this owner's public key and code."""
+    """A device of this noise, whose birth the maker signs, and whose layer 1 has this owner's public key and code. Where
+    its birth has version 1, its changes have version 2 all the same, as those of a device that is older than they are."""
 
-    def __init__(self, noise, maker, owner, code):
-        self.present, self.serial, self.maker = noise[:32], noise[32:48], maker
-        self.layers = {1: self.loaded(owner, code, 1, ALWAYS), 2: dict(UNOWNED), 3: dict(UNOWNED)}
+    def __init__(self, noise, maker, owner, code, version=2):
+        self.present, self.serial, self.maker, self.version = noise[:32], noise[32:48], maker, version
+        self.layers = {1: self.loaded(owner, code, 1, equal(ALWAYS)), 2: dict(UNOWNED), 3: dict(UNOWNED)}
         self.codes = {1: code, 2: None, 3: None}
         self.be_born()
+        self.version = 2
 
     def draw(self):
         """All keys of an event are made of its draw."""
         return self.present
 
     @staticmethod
-    def loaded(owner, code, version, trust):
-        return {"owner": owner, "code": sha256(code), "version": version, "reliable": True, "trust": trust}
+    def loaded(owner, code, version, trusts):
+        return {"owner": owner, "code": sha256(code), "version": version, "reliable": True, "trusts": trusts}
 
-    def admits(self, layer, cosigned):
-        """The layer goes along with a load beneath it."""
-        trust = self.layers[layer]["trust"]
-        return trust == ALWAYS or (trust == COUNTERSIGNED and layer in cosigned)
+    def admits(self, k, cosigned, m):
+        """Layer m goes along with a load of layer k, 1 or 2, which is beneath it."""
+        trust = self.layers[m]["trusts"][k - 1]
+        return trust == ALWAYS or (trust == COUNTERSIGNED and m in cosigned)
 
     def obey(self, draft, draw, cosigned=()):
         """Does what the draft of an order says, with this draw, and gives the reply."""
         self.present = draw
         lines = [line.split(" ") for line in draft.splitlines()]
         kind, layer = lines[0][1], int(lines[0][2])
-        fields = {line[0]: line[1] for line in lines[1:]}
+        fields = {line[0]: line[1:] for line in lines[1:]}
         if kind == "newkey":
             self.make_key(layer, KEY_KINDS[lines[0][3]])
         elif kind == "establish":
             self.succeed()
-            owner = unhex(fields["owner"])
-            self.layers[layer] = dict(UNOWNED, owner=owner, trust=TRUSTS[fields["trust"]])
+            owner = unhex(*fields["owner"])
+            self.layers[layer] = dict(UNOWNED, owner=owner, trusts=trusts_in(fields["trust"]))
             self.leave(layer, (), ESTABLISH)
         elif kind in LOADS:
             self.put_code(LOADS[kind], layer, fields, cosigned)
@@ -55,9 +57,9 @@ class Living(Device):
         renews = (kind, layer) == (LOAD, 1)
         if not renews:
             self.succeed()
-        code, trust = unhex(fields["code"]), TRUSTS[fields["trust"]]
-        admitting = {m for m in (2, 3) if m > layer and self.admits(m, cosigned)}
-        self.layers[layer] = self.loaded(self.layers[layer]["owner"], code, int(fields["version"]), trust)
+        code, version, trusts = unhex(*fields["code"]), int(*fields["version"]), trusts_in(fields["trust"])
+        admitting = {m for m in (2, 3) if m > layer and self.admits(layer, cosigned, m)}
+        self.layers[layer] = self.loaded(self.layers[layer]["owner"], code, version, trusts)
         self.codes[layer] = code
         if kind == LOAD:
             admitting.add(layer)

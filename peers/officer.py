@@ -5,6 +5,8 @@ from lms import PrivateKey, sha256, u8, u16, u32
 KINDS = {"establish": 1, "surrender": 2, "load": 3, "emergency": 4, "newkey": 5}
 TRUSTS = {"always": 0, "never": 1, "countersigned": 2}
 KEY_KINDS = {"epoch": 0, "configuration": 1}
+# An order that gives two trusts which differ has the number of its kind and this more.
+TWO_TRUSTS = 16
 
 
 class Officer:
@@ -44,18 +46,26 @@ def target(kind, *words):
     return u8({"owner": 3, "code": 4}[kind]) + u8(int(words[0])) + unhex(words[1])
 
 
+def trusts_in(words):
+    """The trusts of a draft's words after `trust`: for layer 1 and for layer 2, or one for both."""
+    return TRUSTS[words[0]], TRUSTS[words[-1]]
+
+
 def body(draft):
     """The part of a draft's order that is signed."""
     first, *rest = (line.split(" ") for line in draft.splitlines())
     kind = KINDS[first[1]]
     targets = [target(*line[1:]) for line in rest if line[0] == "target"]
-    fields = {line[0]: line[1] for line in rest if line[0] != "target"}
-    text = u8(kind) + u8(int(first[2])) + u8(len(targets)) + b"".join(targets)
+    fields = {line[0]: line[1:] for line in rest if line[0] != "target"}
+    given = trusts_in(fields["trust"]) if "trust" in fields else ()
+    differ = len(set(given)) > 1
+    trusts = b"".join(map(u8, given if differ else given[:1]))
+    text = u8(kind + TWO_TRUSTS * differ) + u8(int(first[2])) + u8(len(targets)) + b"".join(targets)
     if kind == 1:
-        text += unhex(fields["owner"]) + u8(TRUSTS[fields["trust"]])
+        text += unhex(*fields["owner"]) + trusts
     elif kind in (3, 4):
-        code = unhex(fields["code"])
-        text += u32(int(fields["version"])) + u8(TRUSTS[fields["trust"]]) + u32(len(code)) + code
+        code = unhex(*fields["code"])
+        text += u32(int(*fields["version"])) + trusts + u32(len(code)) + code
     elif kind == 5:
         text += u8(KEY_KINDS[first[3]])
     return text
