@@ -8,10 +8,10 @@
 #     run.sh --unproved    compiles the program without proving anything, and has it make and serve a life of its own
 #
 # What expected.txt has of keys, the device, the seven orders, the life and its chain was made by another program, and
-# peers/run.sh makes all of it anew by a third. The refusals and the power losses follow from docs/commands.md and
-# docs/formats.md: of the refusals 11, 12 and 13 the first that applies is given; an event in which power fails is
-# answered `stopped`, and the next boot does what was left to be done; and an order's records count from the write of the
-# root's selector on, so that the first write leaves the state before it.
+# peers/run.sh makes all of it anew by a third. The life of step 8 is that program's alone. The refusals and the power
+# losses follow from docs/commands.md and docs/formats.md: of the refusals 11, 12 and 13 the first that applies is given;
+# an event in which power fails is answered `stopped`, and the next boot does what was left to be done; and an order's
+# records count from the write of the root's selector on, so that the first write leaves the state before it.
 #
 # The noise is known here, so that the same keys can be made; people take bytes that nobody can guess, as
 # `head -c 32 /dev/urandom` gives them. Works from any current folder; beside the build in crates/*/out/ it writes in a
@@ -187,22 +187,40 @@ the_life() {
     keep_statement hello
 }
 
+the_two_trusts() {
+    echo "8. Officer: can layer 3 go along with layer 1 and refuse layer 2? With a trust for each, on a new device:"
+    draft trusting 'order establish 3' "owner $(hex <third.public)" 'trust always never'
+    signed trusting second
+    draft first3 'order emergency 3' 'version 1' 'trust always never' 'code 646566'
+    signed first3 second
+    draft next1 'order load 1' 'version 2' 'trust always' 'code 6f6e65'
+    signed next1 first 2 second
+    draft next2 'order load 2' 'version 2' 'trust countersigned' 'code 74776f'
+    signed next2 second
+    head -c 224 /dev/zero >noise
+    cp new other
+    serve other boot order1 trusting order3 first3 order5 go 'put 3 token 00ff' off boot next1 'get 3 token' \
+        next2 'get 3 token' status off
+    ask chain other others
+    ask verify maker.public others 1
+}
+
 the_chain() {
-    echo "8. Relying party: which code could ever sign with key 1? The chain tells whoever trusts maker.public alone:"
+    echo "9. Relying party: which code could ever sign with key 1? The chain tells whoever trusts maker.public alone:"
     ask chain image chain
     hash_of chain chain
     ask verify maker.public chain 1
 }
 
 the_statement() {
-    echo "9. Relying party: which code said 'hello'? That at the end of the chain, once it is cut where key 1 signed:"
+    echo "10. Relying party: which code said 'hello'? That at the end of the chain, once it is cut where key 1 signed:"
     ask attach chain hello attached
     hash_of attached attached
     ask verify maker.public attached 1
 }
 
 the_audit() {
-    echo "10. Maker: does a chain tell what happened? It lists what the device's own log lists:"
+    echo "11. Maker: does a chain tell what happened? It lists what the device's own log lists:"
     ask audit image maker.public chain 1
     ask audit image maker.public attached 1
 }
@@ -221,6 +239,8 @@ echo "Making keys, a device and orders, which takes a moment .." >&2
     the_power_losses
     echo
     the_life
+    echo
+    the_two_trusts
     echo
     the_chain
     echo

@@ -108,7 +108,7 @@ the_morning() {
 
 the_host_cheats() {
     echo "Can the host hide the last load? A chain without its last entry is one that tells less and nothing wrong:"
-    { printf 'MBC1\0\7'; part chain 6 17984; printf '\0'; } >shorter
+    { printf 'MBC1\0\7'; part chain 6 18002; printf '\0'; } >shorter
     ask verify maker.public shorter 1
     echo "But no statement of today goes with it: it names configuration 6, and this chain ends with 5."
     ask attach shorter fresh hidden
@@ -116,13 +116,13 @@ the_host_cheats() {
 
     echo
     echo "Can it put other code into the birth, by one bit of its hash? The maker did not sign that (entry 0):"
-    { part chain 0 137; printf '\xf0'; part chain 138 20629; } >turned
+    { part chain 0 138; printf '\xf0'; part chain 139 20650; } >turned
     ask verify maker.public turned 1
     echo "Can it tell of two changes in the other order? Entry 1 does not stand in its place:"
-    { part chain 0 2525; part chain 5041 7613; part chain 2525 5041; part chain 7613 20629; } >swapped
+    { part chain 0 2528; part chain 5047 7622; part chain 2528 5047; part chain 7622 20650; } >swapped
     ask verify maker.public swapped 1
     echo "And a file that lacks its last byte is no chain from there on:"
-    part chain 0 20628 >spoilt
+    part chain 0 20649 >spoilt
     ask verify maker.public spoilt 1
 
     echo
