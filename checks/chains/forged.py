@@ -1,16 +1,20 @@
 """Chains that a device signs against the rules, and what each is refused for."""
 
-from device import ALWAYS, CONFIGURATION, EMERGENCY, EPOCH, ESTABLISH, LOAD, SURRENDER, UNOWNED
-from device import Device, optional, owned, pair
+from device import ALWAYS, BIRTH, CHANGE, CONFIGURATION, COUNTERSIGNED, EMERGENCY, EPOCH, ESTABLISH, LOAD, NEVER
+from device import SURRENDER, UNOWNED, Device, optional, owned, pair
 from lms import sha256, u8, u16, u32
 from officer import Officer
 
 LAST_INDEX = 31
 
 
-def change(position, number, kind, layer, cosigned, kept, layers, key):
-    head = u8(1) + u32(position) + u32(number) + u8(kind) + u8(layer) + u8(pair(cosigned)) + u8(pair(kept))
-    return head + b"".join(map(Device.spelled_layer, layers)) + optional(key)
+def spelled(layers, version):
+    return b"".join(Device.spelled_layer(layer, version) for layer in layers)
+
+
+def change(position, number, kind, layer, cosigned, kept, layers, key, version=2):
+    head = u8(CHANGE[version]) + u32(position) + u32(number) + u8(kind) + u8(layer)
+    return head + u8(pair(cosigned)) + u8(pair(kept)) + spelled(layers, version) + optional(key)
 
 
 def new_key(position, number, key_number, layer, kind, key):
@@ -21,8 +25,8 @@ def succession(position, key):
     return u8(3) + u32(position) + key
 
 
-def birth(serial, key, layers):
-    return u8(0) + serial + key + b"".join(map(Device.spelled_layer, layers))
+def birth(serial, key, layers, version=2):
+    return u8(BIRTH[version]) + serial + key + spelled(layers, version)
 
 
 def chain(log, statement=b""):
@@ -35,8 +39,8 @@ class Forger:
     """A device whose three layers run, with one key of layer 3, which has the number 1, and whose device key signs one
     entry more."""
 
-    def __init__(self, used=None):
-        self.device = owned()
+    def __init__(self, used=None, version=2):
+        self.device = owned(version=version)
         self.device.make_key(3)
         while used is not None and self.device.key.uses < used:
             self.device.load(3)
@@ -114,7 +118,10 @@ def loads():
         "code that is not to be relied on": {"layers": f.loaded(3, reliable=False)},
         "no code": {"layers": f.loaded(3, code=None, reliable=False)},
         "layer 2 changed too": {"layers": [f.device.layers[1], dict(two, version=9), f.loaded(3)[2]]},
-        "the trust of layer 2 changed": {"layers": [f.device.layers[1], dict(two, trust=2), f.loaded(3)[2]]},
+        "a trust of layer 2 changed": {
+            "layers": [f.device.layers[1], dict(two, trusts=(COUNTERSIGNED, ALWAYS)), f.loaded(3)[2]],
+        },
+        "version 1 after version 2": {"version": 1},
         "layer 1 changed too": {"layers": [dict(f.device.layers[1], version=9), two, f.loaded(3)[2]]},
         "a next device key": {"key": f.other.public()},
         "an emergency that keeps its region": {"kind": EMERGENCY},
@@ -170,6 +177,9 @@ def births():
 
     yield "a birth alone", "refused 24", alone(birth(serial, key, [one, UNOWNED, UNOWNED]))
     yield "a birth at another index", "refused 24", alone(birth(serial, key, [one, UNOWNED, UNOWNED]), 17)
+    yield "a birth of version 1 alone", "refused 24", alone(birth(serial, key, [one, UNOWNED, UNOWNED], 1))
+    trusting = dict(one, trusts=(ALWAYS, NEVER))
+    yield "a birth with two trusts", "refused 24", alone(birth(serial, key, [trusting, UNOWNED, UNOWNED]))
     wrong = {
         "a birth with an owner of layer 2": [one, dict(UNOWNED, owner=f.other.public()), UNOWNED],
         "a birth with layer 3": [one, UNOWNED, one],
@@ -178,11 +188,55 @@ def births():
     }
     for name, layers in wrong.items():
         yield name, "refused 23 0", alone(birth(serial, key, layers))
+        yield name + ", version 1", "refused 23 0", alone(birth(serial, key, layers, 1))
     for name, text in zip(("a change", "a new key"), (device.log[1][0], device.log[-1][0])):
         yield name + " at first", "refused 23 0", alone(text)
     yield "a succession at first", "refused 23 0", alone(succession(0, key))
     text = birth(serial, key, [one, UNOWNED, UNOWNED])
     yield "a birth of another maker", "refused 21 0", chain([(text, f.other.sign(u8(3) + text))])
+
+
+def versions():
+    """Births and changes of both versions: a log goes from 1 to 2 at any change, and never back."""
+    f = Forger(version=1)
+    yield "a log of version 1", None, chain(f.device.log)
+    yield "a load of version 1 after version 1", None, f.load(version=1)
+    yield "a load of version 2 after version 1", None, f.load(version=2)
+    yield "a load of version 2 with two trusts", None, f.load(version=2, layers=f.loaded(3, trusts=(ALWAYS, NEVER)))
+    # the same device goes on in version 2, with a key between two changes
+    f.device.version = 2
+    f.device.load(3)
+    f.device.make_key(2)
+    n = len(f.device.log)
+    yield "a log that goes from version 1 to 2", None, chain(f.device.log)
+    yield "a load of version 1 after both", f"refused 23 {n}", f.load(version=1)
+    yield "a load of version 1 in the wrong position", f"refused 22 {n}", f.load(version=1, position=n + 1)
+    yield "a load of version 2 after both", None, f.load()
+
+
+def trusts():
+    """Loads beneath layer 3, which trusts changes of layer 1 and of layer 2 differently."""
+    for one, two in ((ALWAYS, NEVER), (NEVER, ALWAYS), (COUNTERSIGNED, NEVER), (ALWAYS, COUNTERSIGNED)):
+        f = Forger()
+        f.device.load(3, trusts=(one, two))
+        for layer, trust in ((1, one), (2, two)):
+            for cosigned in ((), (3,)):
+                goes_along = trust == ALWAYS or (trust == COUNTERSIGNED and cosigned == (3,))
+                for kept in (True, False):
+                    yield loaded_beneath(f, layer, cosigned, kept, goes_along)
+
+
+def loaded_beneath(f, layer, cosigned, kept, goes_along):
+    """A load of layer 1 or 2 by which layer 3 keeps its region and stays reliable, or not; which of both is right depends
+    on whether layer 3 goes along."""
+    layers = f.loaded(layer)
+    layers[2] = dict(layers[2], reliable=kept)
+    key = f.other.public() if layer == 1 else None
+    bytes_ = f.load(layer=layer, cosigned=cosigned, kept=(2, 3) if kept else (2,), layers=layers, key=key)
+    one, two = f.device.layers[3]["trusts"]
+    name = f"layer {layer} loaded beneath trusts {one} and {two}, countersigned by {list(cosigned)}"
+    line = None if kept == goes_along else f"refused 23 {len(f.device.log)}"
+    return f"{name}, region 3 {'kept' if kept else 'lost'}", line, bytes_
 
 
 def statements():
@@ -198,7 +252,7 @@ def statements():
     yield "an epoch key after an emergency beneath", None, f.stated()
     f = Forger()
     key = f.device.regions[3]["keys"][0][1]
-    f.device.load(3, EMERGENCY, ALWAYS)
+    f.device.load(3, EMERGENCY)
     f.device.log[-1] = emergency(f)
     yield "an epoch key after an emergency of its layer", "refused 27", f.stated(key=key)
     f = Forger()
@@ -221,5 +275,5 @@ def emergency(f):
 
 
 def all_chains():
-    for some in (loads, keys, births, statements):
+    for some in (loads, keys, births, versions, trusts, statements):
         yield from some()
