@@ -1,4 +1,4 @@
-"""Two lives of a device: what each event is, the image before it, and how it is answered where power holds."""
+"""Lives of devices: what each event is, the image before it, and how it is answered where power holds."""
 
 import hashlib
 import sys
@@ -115,6 +115,30 @@ def first_life(program):
     return life
 
 
+def trusting_life(program, peers):
+    """A device with a log of version 1, which `peers/device.py` makes, and whose next change is of version 2: layer 3 then
+    trusts changes of layer 1 and not those of layer 2."""
+    sys.path.insert(0, peers)
+    import device
+
+    made = device.owned(version=1)
+    made.put(3, b"token", b"\x00\xff")
+    life = Life(program, made.image(), made_officers(program, "trusting"), len(made.log), [(3, "token")])
+    life.load("load 3", 100, by=3, trust="always never")
+    life.order("newkey 3 epoch", by=3)
+    life.load("load 1", 101, by=1)
+    life.say("get 3 token", 3, "value 00ff")
+    life.load("load 2", 102, by=2)
+    life.say("get 3 token", 1, "refused 4 ")
+    return life
+
+
+def made_officers(program, name):
+    """The owners of a device that `peers/device.py` makes."""
+    noises = (hashlib.sha256(b"owner" + bytes([n])).digest() for n in (1, 2, 3))
+    return {n: Officer(program, f"{name}{n}", noise) for n, noise in enumerate(noises, 1)}
+
+
 def late_life(program, peers):
     """A device whose key is used but for two indices, which `peers/device.py` makes: the key gives way to the next."""
     sys.path.insert(0, peers)
@@ -125,8 +149,7 @@ def late_life(program, peers):
     made.put(2, b"pin", b"1234")
     while made.key.uses < 30:
         made.load(3)
-    noises = (hashlib.sha256(b"owner" + bytes([n])).digest() for n in (1, 2, 3))
-    officers = {n: Officer(program, f"late{n}", noise) for n, noise in enumerate(noises, 1)}
+    officers = made_officers(program, "late")
     life = Life(program, made.image(), officers, len(made.log), [(2, "pin"), (3, "token")])
     life.order("newkey 3 configuration", by=3)
     last = life.image, life.length
