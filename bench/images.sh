@@ -1,7 +1,7 @@
 #!/usr/bin/env bash
 # Reads images outside the gate. A program over `stand_for` tells for which state each image stands that
-# peers/device.py writes, with each kind of pending work; what it says is compared with what that program says. Then it
-# measures a new device and one with a full log, and says what spoilt images come to.
+# peers/device.py writes, with each kind of pending work, and with entries of version 1; what it says is compared with
+# what that program says. Then it measures a new device and one with a full log, and says what spoilt images come to.
 #
 #     bench/images.sh           compares and measures
 #     bench/images.sh spoil     also turns each bit of 600 bytes of each record of a new device's image, and cuts it there
@@ -12,7 +12,8 @@ cd "$(dirname "${BASH_SOURCE[0]}")/.."
 program image mb_host mb_image mb_lms mb_model sha2 hex
 
 failed=0
-for kind in new 'pending entry' 'pending succession' 'pending renewal' 'pending last' 'pending add' 'pending short' full; do
+for kind in new 'pending entry' 'pending succession' 'pending renewal' 'pending last' 'pending add' 'pending short' full \
+    'old new' 'old pending entry' 'old pending succession' 'old pending renewal' 'old full'; do
     # shellcheck disable=SC2086 # the words of a kind
     wanted=$(python3 peers/device.py $kind "$work/image")
     found=$("$program" tell "$work/image")
