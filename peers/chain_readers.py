@@ -11,13 +11,17 @@ import types
 
 import chains
 from life import Living
-from lms import sha256
+from lms import sha256, u8, u16
 from officer import body, order, order_line, unhex
 from sources import HEX
 from top_readers import Host, private_key
 
-TOKEN = re.compile(r'"(?:[^"\\]|\\.)*"|[A-Za-z_][\w:]*|\d[\d_]*|[()\[\]]')
+TOKEN = re.compile(r'"(?:[^"\\]|\\.)*"|[A-Za-z_][\w:]*|0x[0-9A-F]+|\d[\d_]*|[()\[\]{}]')
 BIRTHS = "crates/mb_lives/src/tests/births.rt"
+# the tables that lead to a new device with its first orders, and to one whose layers have code
+A_NEW_DEVICE = "MADE", "FIRST_ORDERS"
+LAYERS_OWNED = *A_NEW_DEVICE, "ORDERS_OF_A_LIFE", "LAYERS_ARE_GIVEN"
+LENGTHS = {"FLASH_LENGTH": chains.FLASH, "IMAGE_LENGTH": chains.FLASH + chains.BBRAM}
 DEAD = b"\xff" * chains.FLASH + bytes(chains.BBRAM)
 
 
@@ -30,8 +34,9 @@ def unescaped(word):
 
 
 def values(text):
-    """The values of a table: texts, numbers, names with what follows in brackets, and lists."""
-    tokens = TOKEN.findall(text)
+    """The values of a table: texts, numbers, names with what follows in brackets, and lists; of a record its fields."""
+    tokens = [token for token in TOKEN.findall(text) if not re.fullmatch(r"\w+:", token)]
+    ends = {"(": ")", "[": "]", "{": "}"}
 
     def several(end):
         found = []
@@ -43,15 +48,14 @@ def values(text):
 
     def one():
         token = tokens.pop(0)
-        if token in "([":
-            return several(")" if token == "(" else "]")
+        if token in ends:
+            return several(ends[token])
         if token[0] == '"':
             return unescaped(token[1:-1])
         if token[0].isdigit():
-            return int(token.replace("_", ""))
-        if tokens and tokens[0] == "(":
-            tokens.pop(0)
-            return (token, *several(")"))
+            return int(token.replace("_", ""), 0 if token.startswith("0x") else 10)
+        if tokens and tokens[0] in ("(", "{"):
+            return (token, *several(ends[tokens.pop(0)]))
         return (token,)
 
     return several(None)
@@ -59,11 +63,15 @@ def values(text):
 
 def tables(source, constants):
     """The tables of steps of a source by their names, with the texts for the constants' names."""
+    own = {name: source.constant(name) for name in re.findall(r'const ([A-Z_]+): &str =\s*"', source.text)}
     found = {}
-    for name, text in re.findall(r"const ([A-Z_]+): &\[Step\] = &\[(.*?)\n\];", source.text, re.DOTALL):
+    for name, text in re.findall(r"const ([A-Z_]+): &\[Step\] = &\[(.*?)\];\n", source.text, re.DOTALL):
         source.seen.update(re.findall(HEX, text))
-        for constant, value in constants.items():
+        for constant, value in (own | constants).items():
             text = re.sub(rf"\b{constant}\b", lambda _, value=value: f'"{value}"', text)
+        for constant, value in LENGTHS.items():
+            more = rf"\b{constant}\b(?: ([+-]) (\d[\d_]*))?"
+            text = re.sub(more, lambda found, value=value: str(value + int("".join(found.groups("")) or "0")), text)
         found[name] = values(text)
     return found
 
@@ -89,6 +97,8 @@ class World(Host):
     def __init__(self, files):
         super().__init__(files)
         self.devices, self.drafts, self.statement = {}, {}, None
+        # devices whose birth has version 1, which their maker made of the same, by the hashes of their images
+        self.old = {}
 
     def content(self, name):
         """The bytes of a file, or None."""
@@ -116,7 +126,8 @@ class World(Host):
     def factory(self, noise, key, owner, code, image):
         file, used = self.files[key], self.next_index(key)
         maker = types.SimpleNamespace(sign=functools.partial(private_key(file[4:20], file[20:52]).sign, used))
-        self.devices[image] = Living(self.files[noise], maker, self.files[owner], self.files[code])
+        new, old = (Living(self.files[noise], maker, self.files[owner], self.files[code], each) for each in (2, 1))
+        self.devices[image], self.old[sha256(old.image())] = new, old
         return f"serial {self.devices[image].serial.hex()}\n"
 
     def run(self, image, script, noise):
@@ -149,6 +160,15 @@ class World(Host):
         else:
             self.files[name] = b"".join(map(self.part, parts))
 
+    def gives(self, name, content):
+        """Makes a file of what is given; the image of an old device stands for that device."""
+        bytes_ = given_bytes(*content)
+        self.devices.pop(name, None)
+        if sha256(bytes_) in self.old:
+            self.devices[name] = copy.deepcopy(self.old[sha256(bytes_)])
+        else:
+            self.files[name] = bytes_
+
     def part(self, part):
         kind, what, *numbers = part
         if kind == "Part::Text":
@@ -157,6 +177,22 @@ class World(Host):
         if kind == "Part::Slice":
             return bytes_[slice(*numbers)]
         return bytes_[: len(bytes_) - sum(numbers)]
+
+
+def given_bytes(kind, what):
+    """The bytes of a file that is given."""
+    if kind == "Content::Hex":
+        return bytes.fromhex(what)
+    if kind == "Content::Text":
+        return what.encode()
+    if kind == "Content::Sevens":
+        return b"\7" * what
+    if kind != "Content::Laid":
+        raise ValueError(kind)
+    laid = b""
+    for begins, end, byte in what:
+        laid = (laid + bytes.fromhex(begins)).ljust(end, bytes([byte]))
+    return laid
 
 
 class Served:
@@ -224,6 +260,11 @@ def follow(source, world, step):
     kind, *words = step
     if kind == "Step::Writes":
         world.writes(*words)
+    elif kind == "Step::Gives":
+        ((_, name, content),) = words
+        world.gives(name, content)
+    elif kind == "Step::IsOrder":
+        source.compare(f"order {words[0]}", sha256(order(*world.orders[words[0]])).hex(), words[1])
     elif kind == "Step::KeepsStatement":
         world.files[words[0]] = world.statement
     elif kind == "Step::HasHash":
@@ -241,15 +282,15 @@ def compare_end(source, world, words, status, lines):
         source.compare(words, (status, lines) if right else (found, printed), (status, lines))
 
 
-def born(source):
-    """The world in which the tests begin: keys, orders, and a device whose layers have code."""
+def born(source, first=LAYERS_OWNED):
+    """The world in which tests begin: keys, orders, and a device to which the first tables of births have led."""
     births = type(source)(source.root, BIRTHS)
     constants = {name: births.owner(name).constant(name) for name in ("MAKER", "OWNER", "SERIAL", "IMAGE")}
     files = {"noise": b"\7" * 4_096}
     for name, kind, word in births.rows(r'name: "(\w+)",\s*content: Content::(Hex|Text)\(\s*"([^"]*)",?\s*\)'):
         files[name] = bytes.fromhex(word) if kind == "Hex" else unescaped(word).encode()
     world, steps = World(files), tables(births, constants)
-    for name in ("MADE", "FIRST_ORDERS", "ORDERS_OF_A_LIFE", "LAYERS_ARE_GIVEN"):
+    for name in first:
         for step in steps[name]:
             follow(births, world, step)
     return world
@@ -270,11 +311,12 @@ def compare_turned(source, world):
 
 def chains_tests(source):
     """The tables in the order of the tests, each test over a world of its own."""
-    steps, start = tables(source, {}), born(source)
+    begins = A_NEW_DEVICE if "new_device_goes_through" in source.text else LAYERS_OWNED
+    steps, start = tables(source, {}), born(source, begins)
     lists = dict(re.findall(r"const (\w+): &\[&\[Step\]\] = &\[([\w\s,]*)\]", source.text))
     for test in source.text.split("#[test]")[1:]:
         world = copy.deepcopy(start)
-        for word in re.findall(r"[A-Z_]{3,}|entries_are_turned", test):
+        for word in re.findall(r"[A-Z_]{3,}|entries_are_turned", test[: test.index("\n}")]):
             if word == "entries_are_turned":
                 compare_turned(source, world)
             for name in re.findall(r"\w+", lists.get(word, word)):
@@ -282,10 +324,41 @@ def chains_tests(source):
                     follow(source, world, step)
 
 
+def chain_versions(source):
+    """The keys and the entries of a chain, each entry in both versions, and what chains of these are refused for."""
+    world = born(source, A_NEW_DEVICE)
+    (old,), new = world.old.values(), world.devices["fresh"]
+    old.version = 1
+    for draft in ("draft1", "draft2", "draft3"):
+        for device in (old, new):
+            device.obey(world.files[draft].decode(), bytes(32))
+    maker = private_key(world.files["maker"][4:20], world.files["maker"][20:52])
+    source.compare("ROOT", maker.public().hex(), source.constant("ROOT"))
+    for name, key in ("MAKER", world.files["maker"][4:52]), ("DEVICE", new.key.spelled()):
+        ((identifier, seed),) = source.rows(rf"const {name}: [^=]*= \(\s*{HEX},\s*{HEX},?\s*\);")
+        source.compare(name, key.hex(), identifier + seed)
+    entries = source.rows(rf"\[\s*{HEX},\s*{HEX},?\s*\]")
+    source.compare("entries", [(one.hex(), two.hex()) for (one, _), (two, _) in zip(old.log, new.log)], entries)
+
+    def signed(at, text):
+        key = new.key.key if at else maker
+        return text, key.sign(max(at, 1) - 1, u8(3) + text)
+
+    reasons = {"KeyUnknown": "refused 24", "Rules": "refused 23 "}
+    for *versions, why, entry in source.rows(
+        r"\(\[(\d), (\d), (\d), (\d)\], ChainRefusal::(\w+)(?: { entry: (\d+) })?\)"
+    ):
+        log = [signed(at, (old, new)[int(version) - 1].log[at][0]) for at, version in enumerate(versions)]
+        bytes_ = b"MBC1" + u16(len(log)) + b"".join(text + signature for text, signature in log) + u8(0)
+        found = chains.answer(["verify", "root", "chain", "9"], {"root": maker.public(), "chain": bytes_}.get)
+        source.compare(f"a chain of versions {versions}", found[1], f"{reasons[why]}{entry or ''}\n")
+
+
 def sample_signatures(source):
     """The key, the text and the signature of each entry of the first chain of the tests, and of its statement."""
     world, steps = born(source), tables(source, {})
-    for step in (*steps["A_WHOLE_LIFE"], *steps["A_STATEMENT_IS_ATTACHED"]):
-        follow(source, world, step)
+    for name in ("A_NEW_DEVICE", "A_WHOLE_LIFE", "A_STATEMENT_IS_ATTACHED"):
+        for step in steps[name]:
+            follow(source, world, step)
     yield from chains.signatures(world.files["public0"], world.files["chain"])
     yield chains.statement_signature(world.files["attached"], 1)

@@ -6,8 +6,9 @@
     device.py row KIND             a row of the tests of such work in crates/mb_cuts, whose birth is signed by zeros
 
 After `old`, as in `device.py old full IMAGE`, each birth and change has version 1, which spells one trust for each layer;
-otherwise version 2, which spells two. The rows are of version 1. Each image's line says what it stands for: `state LENGTH NUMBER USES`, the numbers of secrets
-and keys of regions 2 and 3, and the SHA-256 hash of the signatures of the log, one after another.
+otherwise version 2, which spells two. The rows are of version 1. Each image's line says what it stands for:
+`state LENGTH NUMBER USES`, the numbers of secrets and keys of regions 2 and 3, and the SHA-256 hash of the signatures of
+the log, one after another.
 """
 
 import sys

@@ -2,8 +2,9 @@
 
 import re
 
+import chains
 import device
-from lms import PrivateKey, sha256, u16
+from lms import PrivateKey, sha256, u8, u16, u32
 from officer import Officer, body, countersigned_text, order, signed_text
 from sources import HEX, line_of, unhex, verifies
 from workload import workload
@@ -61,6 +62,19 @@ def officers_orders(source):
             by_three = Officer(*unhex(beside)).sign(countersigned_text(3, text))
             found = sha256(order(text, signature, [(3, by_three)])).hex()
             source.compare(f"{name}, countersigned", found, hashes[1])
+    drafts_with_trusts(source, by)
+
+
+def drafts_with_trusts(source, by):
+    """Drafts whose bodies stand beside them, and those that are signed by the hash of the order."""
+    ((rows,),) = source.rows(r"const BODIES: [^=]*= &\[(.*?)\n\];")
+    for draft, wanted in re.findall(rf'\(\s*"([^"]*)",\s*{HEX},?\s*\)', rows):
+        source.compare("body of a draft", body(line_of(draft)).hex(), wanted)
+        source.seen.add(wanted)
+    for draft, wanted in source.rows(rf'signs_draft\(\s*[^"]*"([^"]*)",\s*{HEX}'):
+        text = body(line_of(draft))
+        signature = Officer(*unhex(by)).sign(signed_text(text))
+        source.compare("order of a draft", sha256(order(text, signature)).hex(), wanted)
 
 
 def workloads(source):
@@ -81,10 +95,48 @@ def commands_orders(source):
         "EMERGENCY": f"order emergency 2\ntarget owner 1 {'11' * 32}\ntarget code 3 {'22' * 32}\n"
         "version 4294967295\ntrust always\ncode 00ff",
         "ESTABLISH": f"order establish 3\nowner 0000000900000001{'33' * 16}{'44' * 32}\ntrust never",
+        "LOAD_APART": "order load 3\nversion 258\ntrust always never\ncode 616263",
+        "ESTABLISH_APART": f"order establish 3\nowner 0000000500000003{'31' * 16}{'32' * 32}\ntrust always never",
+        "EMERGENCY_APART": "order emergency 2\ntarget length 7\nversion 1\ntrust countersigned always\ncode -",
     }
     for name, draft in drafts.items():
         ((wanted,),) = source.rows(rf"const {name}: &str = {HEX}")
         source.compare(f"body {name}", body(draft).hex(), wanted)
+
+
+def records_with_trusts(source):
+    """Layers and entries of version 2, and bytes that are no entry, with the place at which each fails."""
+    key = "0000000500000003" + "{0}" * 16 + "{1}" * 32
+    keys = {n: bytes.fromhex(key.format(n, n + 1)) for n in (11, 21, 31, 43, 45)}
+    reliable = {"owner": keys[11], "code": b"\x13" * 32, "version": 258, "reliable": True}
+    loaded = {"owner": keys[21], "code": b"\x23" * 32, "version": 7, "reliable": False}
+    owned = dict(device.UNOWNED, owner=keys[31])
+    always, never, countersigned = device.ALWAYS, device.NEVER, device.COUNTERSIGNED
+    layers = {
+        "RELIABLE_LAYER": (reliable, always, always),
+        "RELIABLE_LAYER_APART": (reliable, countersigned, always),
+        "LOADED_LAYER": (loaded, countersigned, countersigned),
+        "LOADED_LAYER_APART": (loaded, always, never),
+        "OWNED_LAYER": (owned, countersigned, countersigned),
+        "OWNED_LAYER_APART": (owned, never, countersigned),
+        "UNOWNED_LAYER": (device.UNOWNED, never, never),
+    }
+    layers = {name: dict(of, trusts=(one, two)) for name, (of, one, two) in layers.items()}
+    spelled = {name: device.Device.spelled_layer(layer, 2) for name, layer in layers.items()}
+    birth = u8(16) + b"\x41" * 16 + keys[43] + spelled["RELIABLE_LAYER"] + 2 * spelled["UNOWNED_LAYER"]
+    change = u8(17) + u32(5) + u32(4) + u8(device.LOAD) + u8(1) + u8(device.pair({3})) + u8(device.pair({2}))
+    change += b"".join(spelled[name] for name in ("RELIABLE_LAYER", "LOADED_LAYER_APART", "OWNED_LAYER"))
+    change += device.optional(keys[45])
+    for name, bytes_ in (spelled | {"BIRTH": birth, "CHANGE": change}).items():
+        source.compare(name, bytes_.hex(), source.constant(name))
+    for at, name in source.rows(r"/// No entry, from byte (\d+) on[^\n]*\npub const (\w+)"):
+        reader = chains.Reader(bytes.fromhex(source.constant(name)))
+        try:
+            reader.whole(chains.Reader.entry)
+            found = None
+        except chains.Unformed as unformed:
+            found = unformed.at
+        source.compare(name, found, int(at))
 
 
 def judged_orders(source):
@@ -96,6 +148,7 @@ def judged_orders(source):
     texts = {
         "LOAD_ONE": body(load.format(1)),
         "LOAD_TWO": body(load.format(2)),
+        "LOAD_THREE": body("order load 3\nversion 258\ntrust always never\ncode 616263"),
         "NEW_KEY": body("order newkey 3 epoch"),
         "ESTABLISH_AT_SEVEN": body(f"order establish 2\ntarget length 7\nowner {owners[1].public().hex()}\ntrust always"),
     }
@@ -105,6 +158,7 @@ def judged_orders(source):
         "LOAD_ONE_BY_ONE": sized(owners[0].sign(0, signed_text(texts["LOAD_ONE"]))),
         "LOAD_ONE_BY_THREE": bytes([1, 3]) + sized(owners[2].sign(1, countersigned_text(3, texts["LOAD_ONE"]))),
         "LOAD_TWO_BY_TWO": sized(owners[1].sign(0, signed_text(texts["LOAD_TWO"]))),
+        "LOAD_THREE_BY_THREE": sized(owners[2].sign(2, signed_text(texts["LOAD_THREE"]))),
         "NEW_KEY_BY_THREE": sized(owners[2].sign(0, signed_text(texts["NEW_KEY"]))),
     }
     for name, word in signed.items():
