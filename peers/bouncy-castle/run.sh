@@ -183,9 +183,10 @@ compare "the program's order is served" "$(serve establish)" 'done 1 2'
 peer sign first.key "$(body establish 60)" >foreign
 compare 'it is another signature' "$(cmp -s foreign establish && echo same)" ''
 compare "Bouncy Castle's order is served" "$(serve foreign)" 'done 1 2'
-# In the chain of the device the second entry tells of layer 2 from this offset on: that it has an owner, whom it trusts.
+# In the chain of the device the second entry tells of layer 2 from this offset on: that it has an owner, what it trusts of
+# changes of layer 1 and of layer 2, and the owner's key.
 miniboot chain image chain
-compare 'the owner of layer 2' "$(part chain 2632 58 | hex)" "0102$(hex <second.public)"
+compare 'the owner of layer 2' "$(part chain 2636 59 | hex)" "010202$(hex <second.public)"
 word=$(cat foreign)
 printf '%s%x00\n' "${word:0:-3}" "$((16#${word: -3:1} ^ 1))" >turned
 compare 'a turned bit, by Bouncy Castle' "$(verified turned 60 first.public)" no
