@@ -44,6 +44,7 @@ READERS = {
     "crates/mb_lives/src/tests/keys.rt": top_readers.plays,
     "crates/mb_lives/src/tests/sign.rt": top_readers.signed_orders,
     "crates/mb_lives/src/tests/workloads.rt": readers.workloads,
+    "crates/miniboot/stdout": readers.stored_run,
     "examples/device-life/expected.txt": examples.device_life,
     "examples/outbound/expected.txt": examples.outbound,
 }

@@ -7,7 +7,7 @@ import device
 from lms import PrivateKey, sha256, u8, u16, u32
 from officer import Officer, body, countersigned_text, order, signed_text
 from sources import HEX, line_of, unhex, verifies
-from workload import workload
+from workload import served, workload
 
 
 def sized(signature):
@@ -85,6 +85,12 @@ def workloads(source):
         made = workload(int(number), int(rounds))
         for name, wanted, found in zip(("image", "script", "noise"), (new, script, noise), made, strict=True):
             source.compare(f"hash of the {name}", sha256(found).hex(), wanted)
+
+
+def stored_run(source):
+    """What the stored run of the program prints."""
+    command, number, rounds, *_ = (source.root / source.name).with_name("args").read_text().split()
+    source.compare(command, served(int(number), int(rounds)), source.text)
 
 
 def commands_orders(source):

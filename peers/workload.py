@@ -12,8 +12,9 @@ import sys
 import tempfile
 
 from chain_readers import Served
+from device import AREA, BBRAM, FLASH, FLASH_AREA
 from life import Living
-from lms import sha256, u32
+from lms import sha256, u8, u16, u32
 from officer import Officer, body, countersigned_text, order, order_line, signed_text
 
 HERE = pathlib.Path(__file__).resolve().parent
@@ -22,6 +23,7 @@ sys.path.insert(0, str(HERE.parent / "checks" / "cuts"))
 from program import meaning  # noqa: E402
 
 MASK = 0xFFFFFFFF
+SECTOR = 4_096
 
 
 def turned(word, bits):
@@ -148,6 +150,66 @@ def workload(number, rounds):
     return device.image(), script.text.encode(), commands
 
 
+class Writing(Served):
+    """A device that serves a script, and its memory as its writes leave it. An order writes its public record into the second
+    area of the flash, and that with all signatures into the first; each area of the root is in force in turn."""
+
+    def __init__(self, world, device, draws):
+        super().__init__(world, device, draws)
+        self.flash = bytearray(device.image()[:FLASH])
+        # of regions 2 and 3: whether the second area is in force
+        self.selectors = {2: 0, 3: 0}
+
+    def write_area(self, area, record):
+        """The length and the record, sector by sector. Nothing is written of a sector that begins so already."""
+        bytes_ = u32(len(record)) + record
+        for at in range(0, len(bytes_), SECTOR):
+            piece, start = bytes_[at : at + SECTOR], FLASH_AREA * area + at
+            if self.flash[start : start + len(piece)] != piece:
+                self.flash[start : start + SECTOR] = piece.ljust(SECTOR, b"\xff")
+
+    def written_regions(self, line):
+        """The regions that an order writes: where it makes a key, and else its layer's and those above."""
+        first = self.world.order_of(line)[0].splitlines()[0].split(" ")
+        layer = int(first[2])
+        return [m for m in (2, 3) if (m == layer if first[1] == "newkey" else m >= layer)]
+
+    def command(self, line, word):
+        before, written = len(self.device.log), self.written_regions(line)
+        reply = super().command(line, word)
+        self.write_area(1, self.device.public(len(self.device.log) - before))
+        for m in written:
+            self.selectors[m] ^= 1
+        self.write_area(0, self.device.public(0))
+        return reply
+
+    def put(self, line, layer, *words):
+        self.selectors[int(layer)] ^= 1
+        return super().put(line, layer, *words)
+
+    def sign(self, line, layer, *words):
+        self.selectors[int(layer)] ^= 1
+        return super().sign(line, layer, *words)
+
+    def image(self):
+        """The image at the end, in which areas that are not in force are blank."""
+        selectors = [0, self.selectors[2], self.selectors[3]]
+        bbram = bytearray(BBRAM)
+        bbram[0:4] = u8(0xA5) + bytes(selectors)
+        for slot, text in enumerate((self.device.root(0, None), self.device.region(2), self.device.region(3))):
+            at = AREA * (1 + 2 * slot + selectors[slot])
+            bbram[at : at + 2 + len(text)] = u16(len(text)) + text
+        return bytes(self.flash + bbram)
+
+
+def served(number, rounds):
+    """What `generate` prints of a workload."""
+    device, script, noise = made(number, rounds)
+    serving = Writing(script, device, noise)
+    lines = list(summary(serving.replies(script.text), len(device.log)))
+    return "\n".join([*lines, f"image {sha256(serving.image()).hex()}", ""])
+
+
 def stands_for(device):
     """What the records of its image are, but for the areas in which they stand."""
     root = device.root(0, None)
@@ -191,14 +253,16 @@ class Comparison:
 
     def workload(self, number, rounds):
         device, script, noise = made(number, rounds)
+        serving = Writing(script, device, noise)
         files = {"image": device.image(), "script": script.text.encode(), "noise": noise}
-        replies = Served(script, device, noise).replies(script.text)
+        replies = serving.replies(script.text)
         printed = self.run("generate", str(number), str(rounds), *files)
         for name, bytes_ in files.items():
             self.compare(f"hash of the {name}", self.hash_of(name), sha256(bytes_).hex())
         self.compare_lines("summary", printed[:-1], list(summary(replies, len(device.log))))
         self.compare_lines("replies", self.run("run", *files), replies)
         self.compare("image at the end", printed[-1:], [f"image {self.hash_of('image')}"])
+        self.compare("hash of the image at the end", self.hash_of("image"), sha256(serving.image()).hex())
         if self.hash_of("image"):
             found = meaning((self.folder / "image").read_bytes())
             self.compare("the image stands for the device", found == stands_for(device), True)
