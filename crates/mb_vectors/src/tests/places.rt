@@ -89,8 +89,8 @@ const BIRTH: (&str, usize) = (vectors::BIRTH, 1);
 
 const SIGNATURE: (&str, usize) = ("61", 2_348);
 
-/// Pieces of bytes that are not of the form, and the place at which they fail.
-const WRONG: &[(Form, &[(&str, usize)], u32)] = &[
+/// Pieces of bytes that are no layer, entry, root or region, and the place at which they fail.
+const RECORDS: &[(Form, &[(&str, usize)], u32)] = &[
     // a layer without an owner never trusts
     (Form::OldLayer, &[("0000", 1)], 1),
     (Form::Layer, &[("000001", 1)], 1),
@@ -121,6 +121,10 @@ const WRONG: &[(Form, &[(&str, usize)], u32)] = &[
     (Form::Region, &[(vectors::NAME_WITH_A_SPACE, 1)], 3),
     (Form::Region, &[(vectors::NO_SUCH_VERSION, 1)], 0),
     (Form::Region, &[(vectors::BYTE_LEFT_OVER, 1)], 131),
+];
+
+/// Pieces of bytes that are no order, and the place at which they fail.
+const ORDERS: &[(Form, &[(&str, usize)], u32)] = &[
     // a surrender has no countersignatures
     (Form::Order, &[("0202010200000007000001", 1)], 10),
     // no field is left, and a byte is
@@ -178,6 +182,10 @@ const WRONG: &[(Form, &[(&str, usize)], u32)] = &[
     ),
     // none stands above layer 3
     (Form::Order, &[("030300000000000000000000000001", 1)], 14),
+];
+
+/// Pieces of bytes that are no chain or statement, and the place at which they fail.
+const CHAINS: &[(Form, &[(&str, usize)], u32)] = &[
     (Form::Chain, &[("4d4243", 1)], 0),
     (Form::Chain, &[("4d42434b0001", 1)], 0),
     (Form::Chain, &[("4d42433100", 1)], 4),
@@ -205,8 +213,24 @@ const WRONG: &[(Form, &[(&str, usize)], u32)] = &[
 ];
 
 #[test]
-fn failing_places_are_named(rt: HostRuntime) -> Result<(), Fail> {
-    for (form, pieces, at) in WRONG {
+fn records_fail_at_their_places(rt: HostRuntime) -> Result<(), Fail> {
+    for (form, pieces, at) in RECORDS {
+        fails(&rt, rt.alloc(), *form, pieces, *at)?;
+    }
+    Ok(())
+}
+
+#[test]
+fn orders_fail_at_their_places(rt: HostRuntime) -> Result<(), Fail> {
+    for (form, pieces, at) in ORDERS {
+        fails(&rt, rt.alloc(), *form, pieces, *at)?;
+    }
+    Ok(())
+}
+
+#[test]
+fn chains_fail_at_their_places(rt: HostRuntime) -> Result<(), Fail> {
+    for (form, pieces, at) in CHAINS {
         fails(&rt, rt.alloc(), *form, pieces, *at)?;
     }
     Ok(())
