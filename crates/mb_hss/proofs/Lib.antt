@@ -1,0 +1,2 @@
+pub mod HssKeyLemmas
+pub mod VerificationLemmas

@@ -1,0 +1,2 @@
+pub mod HssKeyFormat
+pub mod HssVerification
