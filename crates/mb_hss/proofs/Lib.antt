@@ -1,2 +1,5 @@
 pub mod HssKeyLemmas
 pub mod VerificationLemmas
+pub mod Digits
+pub mod LevelLemmas
+pub mod MakerLemmas

@@ -1,2 +1,4 @@
 pub mod HssKeyFormat
 pub mod HssVerification
+pub mod MakerKeys
+pub mod MakerSignatures

@@ -1,0 +1,130 @@
+//! The keys of a maker's levels, and where a number signs by them.
+
+ghost use Rattle.std.specs.Prelude.{◌≡◌, ◌+◌, ◌/◌, ◌^◌, ◌<◌, ◌≤◌, ◌++◌};
+ghost use Rattle.std.specs.Int.{w8, w64, to_be_bytes};
+ghost use Rattle.mb_model.specs.Key.{key_bytes};
+ghost use Rattle.mb_model.specs.Signing.{public_of, signature_of};
+ghost use Rattle.mb_signer.specs.Tree.{IsTreeOf};
+ghost use Rattle.mb_hss.specs.MakerKeys.{level_key, prefix_at, index_at, key_at};
+
+use crate::maker::Maker;
+use mb_bytes::put_at;
+use mb_lms::{Steps, hash, key_bytes};
+use mb_model::KeySeed;
+use mb_signer::{KeptTree, Uses, public_kept, sign_kept, take_index};
+use std::sync::ledger::Ledger;
+
+/// Domain separator of the hash that derives the seed of a level's key.
+const SEED: u8 = 0x14;
+
+/// Domain separator of the hash that derives the identifier of a level's key.
+const IDENTIFIER: u8 = 0x15;
+
+/// The number without its last `count` digits to the base 32, at most 8.
+#[tactic(auto, using(crate::proofs::Digits::digit_powers))]
+fn without_digits(number: u64, count: u8) -> u64
+    requires { count ≤ 8 }
+    ensures { result ≡ number / 32 ^ count }
+{
+    number >> (5 * count)
+}
+
+/// The level in one byte, and the prefix in eight.
+fn level_and_prefix(level: u8, prefix: u64) -> [u8; 9]
+    ensures { result ≡ to_be_bytes w8 level ++ to_be_bytes w64 prefix }
+{
+    let mut bytes = [0; 9];
+    put_at(&mut bytes, 0, &level.to_be_bytes());
+    put_at(&mut bytes, 1, &prefix.to_be_bytes());
+    bytes
+}
+
+/// The key of a level and a prefix, in two hashes.
+pub(crate) fn level_key<L: Ledger>(
+    seed: &[u8; 32],
+    level: u8,
+    prefix: u64,
+    steps: &mut Steps<L>,
+) -> KeySeed
+    ensures key { result ≡ level_key seed.now level prefix }
+    ensures counted { steps.new ≡ steps.old + 2 }
+{
+    let whose = level_and_prefix(level, prefix);
+    let mut identifier = [0; 16];
+    identifier.copy_from_slice(&hash(&[IDENTIFIER], seed, &whose, steps)[..16]);
+    KeySeed {
+        identifier,
+        seed: hash(&[SEED], seed, &whose, steps),
+    }
+}
+
+/// The key that a number uses at a level, with its tree, and the index at which it signs.
+#[derive(Drop)]
+pub(crate) struct Level {
+    seed: KeySeed,
+    tree: KeptTree,
+    index: u32,
+    ghost kept: { IsTreeOf seed tree },
+    ghost within: { index ≤ 31 },
+}
+
+impl Level {
+    /// The key that the number uses at the level, in 34,401 hashes: two derive it, and its tree takes the others.
+    pub(crate) fn at<L: Ledger>(
+        maker: &Maker,
+        number: u64,
+        level: u8,
+        steps: &mut Steps<L>,
+    ) -> Level
+        requires level { level < maker.now.levels }
+        requires most { maker.now.levels ≤ 8 }
+        ensures seed { result.seed ≡ key_at maker.now number level }
+        ensures index { result.index ≡ index_at maker.now.levels number level }
+        ensures counted { steps.new ≡ steps.old + 34401 }
+    {
+        let prefix = without_digits(number, maker.levels - level);
+        let index = (without_digits(number, maker.levels - level - 1) % 32) as u32;
+        let seed = level_key(&maker.seed, level, prefix, steps);
+        let tree = KeptTree::build(&seed, steps);
+        Level { seed, tree, index }
+    }
+
+    /// The public key as 56 bytes (RFC 8554, section 5.3), in no hash.
+    pub(crate) fn public_bytes(&self) -> [u8; 56]
+        ensures { result ≡ key_bytes (public_of self.now.seed) }
+    {
+        key_bytes(&public_kept(&self.tree, &self.seed))
+    }
+
+    /// The signature of `head` followed by `body` at the index, in at most 1,074 hashes (RFC 8554, section 5.4.1).
+    pub(crate) fn sign<L: Ledger>(
+        &self,
+        head: &[u8],
+        body: &[u8],
+        steps: &mut Steps<L>,
+    ) -> [u8; 2348]
+        ensures signature { result ≡ signature_of self.now.seed self.now.index (head.now ++ body.now) }
+        ensures cost { steps.new ≤ steps.old + 1074 }
+    {
+        let mut uses = Uses::stored(self.index);
+        let Some(right) = take_index(&mut uses) else {
+            unreachable!();
+        };
+        let mut signature = no_signature();
+        sign_kept(
+            right,
+            &self.tree,
+            &self.seed,
+            head,
+            body,
+            &mut signature,
+            steps,
+        );
+        signature
+    }
+}
+
+/// Room for a signature.
+fn no_signature() -> [u8; 2348] {
+    [0; 2348]
+}

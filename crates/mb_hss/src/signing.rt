@@ -1,0 +1,135 @@
+//! A maker's public key, and its signatures (RFC 8554, sections 6.1 and 6.2).
+
+ghost use Rattle.std.specs.Prelude.{◌≡◌, ◌↔◌, ◌+◌, ◌-◌, ◌*◌, ◌^◌, ◌≤◌, ◌<◌, ◌++◌, List, ℕ, length, vec_len, vec_capacity, IfOk, OnOk, OnErr, IsErrOf};
+ghost use Rattle.mb_bytes.specs.Puts.{Appends, HasNoRoom};
+ghost use Rattle.mb_hss.specs.MakerKeys.{IsMaker, maker_key};
+ghost use Rattle.mb_hss.specs.MakerSignatures.{maker_signature, Signs};
+
+use crate::key::HssKey;
+use crate::level::{Level, level_key};
+use crate::maker::{Maker, number_count};
+use mb_bytes::put_slice;
+use mb_lms::Steps;
+use mb_model::NoMemory;
+use mb_signer::public as public_of_seed;
+use std::alloc::AllocError;
+use std::sync::ledger::Ledger;
+
+/// The length of one level's signature, in bytes.
+const SIGNATURE_LENGTH: usize = 2348;
+
+/// The length of a level's public key, in bytes.
+const KEY_LENGTH: usize = 56;
+
+/// Why nothing was signed. The maker, the output and the count of hashes are then as before.
+#[derive(Clone, Copy, Debug, PartialEq, Eq)]
+pub enum HssEnd {
+    /// The maker has no number left.
+    Spent,
+    /// An allocation failed.
+    NoMemory,
+}
+
+impl From<AllocError> for HssEnd {
+    ghost use Rattle.mb_hss.specs.declared.signing.HssEnd.TheVariants as end;
+
+    ghost from_gives = { λ _ e. e ≡ end.NoMemory };
+
+    fn from(_error: AllocError) -> HssEnd {
+        HssEnd::NoMemory
+    }
+}
+
+/// The maker's public key, in 34,401 hashes: two derive the key of the first level, and its tree takes the others (RFC
+/// 8554, section 6.1).
+#[tactic(auto, unfolding(crate::specs::MakerKeys::maker_key))]
+pub fn public<L: Ledger>(maker: &Maker, steps: &mut Steps<L>) -> HssKey
+    requires { IsMaker maker.now }
+    ensures key { result ≡ maker_key maker.now }
+    ensures counted { steps.new ≡ steps.old + 34401 }
+{
+    let seed = level_key(&maker.seed, 0, 0, steps);
+    HssKey {
+        levels: maker.levels,
+        top: public_of_seed(&seed, steps),
+    }
+}
+
+/// The length of the signatures of a maker of 1 to 8 levels, in bytes.
+fn signature_length(levels: u8) -> usize
+    requires least { 1 ≤ levels }
+    requires most { levels ≤ 8 }
+    ensures { result ≡ 2404 * levels - 52 }
+{
+    let levels = usize::from(levels);
+    4 + SIGNATURE_LENGTH * levels + KEY_LENGTH * (levels - 1)
+}
+
+/// Appends the piece, for which there is room.
+fn append(out: &mut Vec<u8>, piece: &[u8])
+    requires { vec_len out.old + length piece.now ≤ vec_capacity out.old }
+    ensures { Appends piece.now out.old out.new }
+{
+    match put_slice(out, piece) {
+        Ok(()) => {}
+        Err(NoMemory) => unreachable!(),
+    }
+}
+
+/// Appends the signature of `head` followed by `body` with the number, for which there is room. Each level's tree is
+/// built once: its root is the key that the level above signs, and its nodes are in the level's own signature.
+fn put_signature<L: Ledger>(
+    maker: &Maker,
+    number: u64,
+    head: &[u8],
+    body: &[u8],
+    out: &mut Vec<u8>,
+    steps: &mut Steps<L>,
+)
+    requires maker { IsMaker maker.now }
+    requires room { vec_len out.old + (2404 * maker.now.levels - 52) ≤ vec_capacity out.old }
+    ensures signature { Appends (maker_signature maker.now number (head.now ++ body.now)) out.old out.new }
+    ensures cost { steps.new ≤ steps.old + 35475 * maker.now.levels }
+{
+    append(out, &u32::from(maker.levels - 1).to_be_bytes());
+    let mut level = Level::at(maker, number, 0, steps);
+    for above in 0..maker.levels - 1 {
+        let below = Level::at(maker, number, above + 1, steps);
+        let key = below.public_bytes();
+        append(out, &level.sign(&key, &[], steps));
+        append(out, &key);
+        level = below;
+    }
+    append(out, &level.sign(head, body, steps));
+}
+
+/// Signs `head` followed by `body` with the maker's next number, which is answered and raised, and appends the
+/// signature, in at most 35,475 hashes a level (RFC 8554, section 6.2).
+///
+/// Errors: `Spent` exactly where the next number is 32^levels; and `NoMemory`, only where the capacity of `out` does not
+/// hold the signature.
+pub fn sign<L: Ledger>(
+    maker: &mut Maker,
+    head: &[u8],
+    body: &[u8],
+    out: &mut Vec<u8>,
+    steps: &mut Steps<L>,
+) -> Result<u64, HssEnd>
+    requires { IsMaker maker.old }
+    ensures number { IfOk result (λ number. number ≡ maker.old.next) }
+    ensures signed { OnOk result ((sig : List ℕ) × Signs maker.old (head.now ++ body.now) sig maker.new × Appends sig out.old out.new) }
+    ensures spent { IsErrOf result HssEnd.Spent ↔ (maker.old.next ≡ 32 ^ maker.old.levels) }
+    ensures room { IsErrOf result HssEnd.NoMemory → HasNoRoom (maker_signature maker.old maker.old.next (head.now ++ body.now)) out.old }
+    ensures unchanged { OnErr result ((maker.new ≡ maker.old) × (out.new.items ≡ out.old.items) × (steps.new ≡ steps.old)) }
+    ensures valid { IsMaker maker.new }
+    ensures cost { steps.new ≤ steps.old + 35475 * maker.old.levels }
+{
+    let number = maker.next;
+    if number == number_count(maker.levels) {
+        return Err(HssEnd::Spent);
+    }
+    out.reserve(signature_length(maker.levels))?;
+    put_signature(maker, number, head, body, out, steps);
+    maker.next = number + 1;
+    Ok(number)
+}
