@@ -3,3 +3,4 @@ pub mod VerificationLemmas
 pub mod Digits
 pub mod LevelLemmas
 pub mod MakerLemmas
+pub mod MakerFormatLemmas

@@ -2,3 +2,4 @@ pub mod HssKeyFormat
 pub mod HssVerification
 pub mod MakerKeys
 pub mod MakerSignatures
+pub mod MakerFormat

@@ -64,7 +64,6 @@ pub fn parse(bytes: &[u8; 60]) -> Option<HssKey>
 }
 
 /// The key as 60 bytes: the number of levels, and the 56 bytes of the first level's key (RFC 8554, section 6.1).
-#[tactic(auto, unfolding(crate::specs::HssKeyFormat::hss_key_format, mb_format::specs::Combinators::number_bytes))]
 pub fn hss_key_bytes(key: &HssKey) -> [u8; 60]
     ensures { result ≡ hss_key_format.spelling key.now }
 {

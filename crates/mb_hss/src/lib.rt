@@ -1,7 +1,7 @@
 //! A maker's HSS key (RFC 8554, section 6): a tree of LMS keys, each of which signs the keys of the next level.
 //!
 //! This crate owns the spelling of an HSS public key, the verification of an HSS signature, and the maker of such
-//! signatures, whose keys are all derived from one seed. It stands on `mb_model`, which has the definitions of LMS, on
+//! signatures, whose keys are all derived from one seed, with its file. It stands on `mb_model`, which has the definitions of LMS, on
 //! the laws of LMS signatures in `mb_lemmas`, on `mb_format`, of whose fields its formats are composed, on `mb_bytes`,
 //! which reads and writes fields, on `mb_lms`, which verifies each level and has the count of hashes, on `mb_signer`,
 //! which signs at each level, and on `sha2`. Each call that makes a key or a signature counts its hashes on the count of
@@ -11,11 +11,13 @@
 mod key;
 mod level;
 mod maker;
+mod maker_file;
 mod signing;
 mod verification;
 
 pub use key::{HssKey, hss_key_bytes, parse, read_hss_key};
 pub use maker::{Maker, make_maker};
+pub use maker_file::{read_maker, write_maker};
 pub use mb_model::BadRecord;
 pub use signing::{HssEnd, public, sign};
 pub use verification::verify;
