@@ -4,3 +4,5 @@ pub mod Digits
 pub mod LevelLemmas
 pub mod MakerLemmas
 pub mod MakerFormatLemmas
+pub mod VerifyLemmas
+pub mod NumberLemmas

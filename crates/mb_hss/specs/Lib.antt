@@ -3,3 +3,4 @@ pub mod HssVerification
 pub mod MakerKeys
 pub mod MakerSignatures
 pub mod MakerFormat
+pub mod MakerLaws

@@ -9,6 +9,7 @@
 #![tactic(auto)]
 
 mod key;
+mod laws;
 mod level;
 mod maker;
 mod maker_file;
@@ -16,6 +17,7 @@ mod signing;
 mod verification;
 
 pub use key::{HssKey, hss_key_bytes, parse, read_hss_key};
+pub use laws::{indices_serve_one_text, makers_signatures_verify, numbers_count_up};
 pub use maker::{Maker, make_maker};
 pub use maker_file::{read_maker, write_maker};
 pub use mb_model::BadRecord;
