@@ -6,7 +6,8 @@ use Rattle.mb_model.specs.Key.{IsSized, key_bytes}
 use Rattle.std.specs.Prelude.{IsTrue, ◌↔◌}
 use Rattle.mb_model.specs.Merkle.{Verifies}
 use Rattle.mb_model.proofs.KeyLemmas.{same_parts, length-key_bytes, key_bytes-same}
-use Rattle.mb_hss.specs.HssVerification.{signature_length, SignsNext, VerifiesUnder}
+use Rattle.mb_hss.specs.HssVerification.{SignsNext, VerifiesUnder}
+use Rattle.mb_hss.specs.SignatureParts.{signature_length, ArePartsOf, HasNoParts}
 
 -- a signature with a key after its first part is no shorter than these two
 pub parts_long : (own rest sig : List ℕ) (next : PublicKey) → IsSized next → sig ≡ own ++ key_bytes next ++ rest →
@@ -51,21 +52,14 @@ under_last key zero text sig r none is = is
 under_last key (suc n) text sig r none is = absurd (omega arith)
 
 -- a level above the last, whose signature can't be taken apart
-pub under_none : (key : PublicKey) (n : ℕ) (text sig : List ℕ) → (n ≡ 0 → ⊥) →
-    ((own rest : List ℕ) (next : PublicKey) → length own ≡ signature_length key → IsSized next → sig ≡ own ++ key_bytes next ++ rest → ⊥) →
-    VerifiesUnder key n text sig → ⊥
+pub under_none : (key : PublicKey) (n : ℕ) (text sig : List ℕ) → (n ≡ 0 → ⊥) → HasNoParts key sig → VerifiesUnder key n text sig → ⊥
 unfolding VerifiesUnder
 under_none key zero text sig some none under = some refl
 under_none key (suc n) text sig some none (own, rest, next, signs, below) =
-    none own rest next signs.signed.form.sized signs.sized signs.parts
+    none own rest next (record { long = signs.signed.form.sized; sized = signs.sized; parts = signs.parts })
 
 -- one whose signature can
-pub record IsApart (key : PublicKey) (sig own : List ℕ) (next : PublicKey) (rest : List ℕ) : Type 0 where
-  pub long : length own ≡ signature_length key
-  pub sized : IsSized next
-  pub parts : sig ≡ own ++ key_bytes next ++ rest
-
-pub under_apart : (key next : PublicKey) (n : ℕ) (text sig own rest : List ℕ) → (n ≡ 0 → ⊥) → IsApart key sig own next rest →
+pub under_apart : (key next : PublicKey) (n : ℕ) (text sig own rest : List ℕ) → (n ≡ 0 → ⊥) → ArePartsOf key sig own next rest →
     VerifiesUnder key n text sig → Verifies key (key_bytes next) own × VerifiesUnder next (n - 1) text rest
 unfolding VerifiesUnder
 under_apart key next zero text sig own rest some apart under = absurd (some refl)
@@ -78,7 +72,7 @@ under_apart key next (suc n) text sig own rest some apart (first, last, other, s
       subst (λ m. Q m next rest) one (subst (λ y. Q n y rest) same.1 (subst (Q n other) same.2 below)),
     )
 
-pub under_from : (key next : PublicKey) (n : ℕ) (text sig own rest : List ℕ) → (n ≡ 0 → ⊥) → IsApart key sig own next rest →
+pub under_from : (key next : PublicKey) (n : ℕ) (text sig own rest : List ℕ) → (n ≡ 0 → ⊥) → ArePartsOf key sig own next rest →
     Verifies key (key_bytes next) own → VerifiesUnder next (n - 1) text rest → VerifiesUnder key n text sig
 unfolding VerifiesUnder
 under_from key next zero text sig own rest some apart signed below = absurd (some refl)

@@ -1,15 +1,11 @@
--- When a signature verifies under an HSS key (RFC 8554, sections 6.2 and 6.3). Does each level sign the key of the next,
--- and the last one the text?
-use Rattle.std.specs.Prelude.{◌≡◌, ℕ, zero, suc, ◌+◌, ◌-◌, ◌*◌, List, ◌++◌}
+-- When a signature verifies under an HSS key (RFC 8554, sections 6.2 and 6.3). Does each level sign the key of the
+-- next, and the last one the text?
+use Rattle.std.specs.Prelude.{◌≡◌, ℕ, zero, suc, ◌-◌, List, ◌++◌}
 use Rattle.std.specs.Int.{w32, to_be_bytes}
 use Rattle.mb_model.specs.declared.key.PublicKey.{PublicKey}
-use Rattle.mb_model.specs.Key.{IsSized, key_bytes, chain_count, height}
+use Rattle.mb_model.specs.Key.{IsSized, key_bytes}
 use Rattle.mb_model.specs.Merkle.{Verifies}
 use Rattle.mb_hss.specs.declared.key.HssKey.{HssKey}
-
--- how many bytes a signature under a key of LMS has (5.4)
-abbrev pub signature_length : PublicKey → ℕ
-signature_length key = 44 + 32 * chain_count key.chains + 32 * height key.tree
 
 -- these bytes are a key's own signature of the key of the next level, that key, and the rest, in a row (6.2)
 pub record SignsNext (key : PublicKey) (sig own : List ℕ) (next : PublicKey) (rest : List ℕ) : Type 0 where

@@ -1,5 +1,6 @@
 pub mod HssKeyFormat
 pub mod HssVerification
+pub mod SignatureParts
 pub mod MakerKeys
 pub mod MakerSignatures
 pub mod MakerFormat

@@ -1,4 +1,4 @@
--- The keys of a maker, all derived from one seed. Which of them, and which index of it, does a number use at each level?
+-- The keys of a maker, all derived from one seed. Which of them does a number use at each level, and at which index?
 use Rattle.std.specs.Prelude.{ℕ, ◌-◌, ◌/◌, ◌%◌, ◌^◌, ◌≤◌, List, ◌∷◌, ◌++◌, take}
 use Rattle.std.specs.Int.{w8, w64, to_be_bytes}
 use Rattle.sha2.specs.Sha256.{sha256}

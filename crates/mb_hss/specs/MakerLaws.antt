@@ -1,5 +1,5 @@
--- Laws of a maker's signatures, each proved on a public function. Do they verify, and does an index of a key ever sign two
--- texts?
+-- Laws of a maker's signatures, each proved on a public function. Do they verify, and does an index of a key ever sign
+-- two texts?
 use Rattle.std.specs.Prelude.{◌≡◌, ℕ, ◌+◌, ◌<◌, ◌^◌, List, [], ◌∷◌, ◌++◌, length}
 use Rattle.mb_hss.specs.declared.maker.Maker.{Maker}
 use Rattle.mb_hss.specs.HssVerification.{HssVerifies}
@@ -27,7 +27,8 @@ SignsAll maker (call ∷ calls) after =
 -- Numbers count up from the maker's next one, stay below 32^levels, and each gives the signature of its number.
 abbrev pub NumbersCountUp : Type 0
 NumbersCountUp =
-    (maker after : Maker) (before later : List SignCall) (call : SignCall) → SignsAll maker (before ++ call ∷ later) after
+    (maker after : Maker) (before later : List SignCall) (call : SignCall)
+    → SignsAll maker (before ++ call ∷ later) after
     → (call.number ≡ maker.next + length before) × (call.number < 32 ^ maker.levels)
     × (call.signature ≡ maker_signature maker call.number call.text)
 

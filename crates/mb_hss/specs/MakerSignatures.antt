@@ -1,7 +1,9 @@
 -- What a maker signs, and the bytes of its signatures (RFC 8554, section 6.2).
 use Rattle.std.specs.Prelude.{◌≡◌, ℕ, zero, suc, ◌+◌, ◌-◌, ◌^◌, ◌<◌, ◌==◌, List, [], ◌++◌, if◌then◌else◌}
 use Rattle.std.specs.Int.{w32, to_be_bytes}
+use Rattle.std.specs.Global.{Vec}
 use Rattle.mb_model.specs.Signing.{signature_of}
+use Rattle.mb_bytes.specs.Puts.{Appends}
 use Rattle.mb_hss.specs.declared.maker.Maker.{Maker}
 use Rattle.mb_hss.specs.MakerKeys.{index_at, key_at, public_at}
 
@@ -31,3 +33,15 @@ pub record Signs (maker : Maker) (text sig : List ℕ) (after : Maker) : Type 0 
   pub left : maker.next < 32 ^ maker.levels
   pub signature : sig ≡ maker_signature maker maker.next text
   pub counted : after ≡ record maker { next = maker.next + 1 }
+
+-- the maker signs a text, and the signature is appended
+pub record SignsOnto (maker : Maker) (text : List ℕ) (old new : Vec ℕ) (after : Maker) : Type 0 where
+  pub signature : List ℕ
+  pub signs : Signs maker text signature after
+  pub appends : Appends signature old new
+
+-- nothing has changed: the maker, the bytes, and the count of hashes
+pub record IsUnsigned (maker after : Maker) (old new : Vec ℕ) (hashes later : ℕ) : Type 0 where
+  pub maker_same : after ≡ maker
+  pub bytes_same : new.items ≡ old.items
+  pub hashes_same : later ≡ hashes

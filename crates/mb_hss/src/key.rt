@@ -55,7 +55,8 @@ pub fn read_hss_key(bytes: &[u8]) -> Result<HssKey, BadRecord>
 /// The key that 60 bytes spell; none exactly where they spell no key: the number of levels is not 1 to 8, or a type
 /// number is not one of the tables (RFC 8554, sections 4.1 and 5.1).
 pub fn parse(bytes: &[u8; 60]) -> Option<HssKey>
-    ensures { MatchOption result ((key : HssKey) → Spells hss_key_format bytes.now key → ⊥) (λ key. Spells hss_key_format bytes.now key) }
+    ensures { MatchOption result ((key : HssKey) → Spells hss_key_format bytes.now key → ⊥)
+        (λ key. Spells hss_key_format bytes.now key) }
 {
     match read_hss_key(bytes) {
         Ok(key) => Some(key),

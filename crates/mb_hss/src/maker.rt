@@ -8,8 +8,7 @@ use sha2::{Digest, Sha256};
 /// Domain separator of the hash that derives a maker's seed.
 const MAKER_SEED: u8 = 0x16;
 
-/// A maker's key, from which the keys of all its levels are derived. It can't be copied, since each number may sign only
-/// once.
+/// A maker's key, from which the keys of all its levels are derived. It can't be copied: each number signs only once.
 #[derive(PartialEq, Eq, Drop)]
 pub struct Maker {
     /// The number of levels, 1 to 8.

@@ -58,8 +58,8 @@ fn maker_at(cursor: &mut Cursor) -> Result<Maker, BadRecord>
     Ok(Maker { levels, seed, next })
 }
 
-/// The maker that the bytes spell; else the offset of the first field that is not in its form, or of the first byte after
-/// the last field. The fields begin at 0, 4, 5 and 37. There are at most 4,194,304 bytes.
+/// The maker that the bytes spell; else the offset of the first field that is not in its form, or of the first byte
+/// after the last field. The fields begin at 0, 4, 5 and 37. There are at most 4,194,304 bytes.
 pub fn read_maker(bytes: &[u8]) -> Result<Maker, BadRecord>
     requires { length bytes.now ≤ 4194304 }
     ensures reads { ReadsWhole bad_at maker_format bytes.now result }

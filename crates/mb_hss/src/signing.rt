@@ -1,9 +1,10 @@
 //! A maker's public key, and its signatures (RFC 8554, sections 6.1 and 6.2).
 
-ghost use Rattle.std.specs.Prelude.{◌≡◌, ◌↔◌, ◌+◌, ◌-◌, ◌*◌, ◌^◌, ◌≤◌, ◌<◌, ◌++◌, List, ℕ, length, vec_len, vec_capacity, IfOk, OnOk, OnErr, IsErrOf};
+ghost use Rattle.std.specs.Prelude.{◌≡◌, ◌↔◌, ◌+◌, ◌-◌, ◌*◌, ◌^◌, ◌≤◌, ◌<◌, ◌++◌};
+ghost use Rattle.std.specs.Prelude.{length, vec_len, vec_capacity, IfOk, OnOk, OnErr, IsErrOf};
 ghost use Rattle.mb_bytes.specs.Puts.{Appends, HasNoRoom};
 ghost use Rattle.mb_hss.specs.MakerKeys.{IsMaker, maker_key};
-ghost use Rattle.mb_hss.specs.MakerSignatures.{maker_signature, Signs};
+ghost use Rattle.mb_hss.specs.MakerSignatures.{maker_signature, SignsOnto, IsUnsigned};
 
 use crate::key::HssKey;
 use crate::level::{Level, level_key};
@@ -106,7 +107,7 @@ fn put_signature<L: Ledger>(
 /// Signs `head` followed by `body` with the maker's next number, which is answered and raised, and appends the
 /// signature, in at most 35,475 hashes a level (RFC 8554, section 6.2).
 ///
-/// Errors: `Spent` exactly where the next number is 32^levels; and `NoMemory`, only where the capacity of `out` does not
+/// Errors: `Spent` exactly where the next number is 32^levels; and `NoMemory`, only where the capacity of `out` doesn't
 /// hold the signature.
 pub fn sign<L: Ledger>(
     maker: &mut Maker,
@@ -117,10 +118,11 @@ pub fn sign<L: Ledger>(
 ) -> Result<u64, HssEnd>
     requires { IsMaker maker.old }
     ensures number { IfOk result (λ number. number ≡ maker.old.next) }
-    ensures signed { OnOk result ((sig : List ℕ) × Signs maker.old (head.now ++ body.now) sig maker.new × Appends sig out.old out.new) }
+    ensures signed { OnOk result (SignsOnto maker.old (head.now ++ body.now) out.old out.new maker.new) }
     ensures spent { IsErrOf result HssEnd.Spent ↔ (maker.old.next ≡ 32 ^ maker.old.levels) }
-    ensures room { IsErrOf result HssEnd.NoMemory → HasNoRoom (maker_signature maker.old maker.old.next (head.now ++ body.now)) out.old }
-    ensures unchanged { OnErr result ((maker.new ≡ maker.old) × (out.new.items ≡ out.old.items) × (steps.new ≡ steps.old)) }
+    ensures room { IsErrOf result HssEnd.NoMemory
+        → HasNoRoom (maker_signature maker.old maker.old.next (head.now ++ body.now)) out.old }
+    ensures unchanged { OnErr result (IsUnsigned maker.old maker.new out.old out.new steps.old steps.new) }
     ensures valid { IsMaker maker.new }
     ensures cost { steps.new ≤ steps.old + 35475 * maker.old.levels }
 {

@@ -1,9 +1,9 @@
 //! Whether an HSS signature is one of a text (RFC 8554, section 6.3).
 
-ghost use Rattle.std.specs.Prelude.{◌≡◌, ◌↔◌, ◌≤◌, ◌++◌, ℕ, List, length, IsTrue, IsNone, IfSome};
-ghost use Rattle.mb_model.specs.declared.key.PublicKey.{PublicKey};
-ghost use Rattle.mb_model.specs.Key.{IsSized, key_bytes, chain_count, height};
-ghost use Rattle.mb_hss.specs.HssVerification.{signature_length, VerifiesUnder, HssVerifies};
+ghost use Rattle.std.specs.Prelude.{◌≡◌, ◌↔◌, ◌≤◌, ◌++◌, IsTrue, MatchOption};
+ghost use Rattle.mb_model.specs.Key.{chain_count, height};
+ghost use Rattle.mb_hss.specs.HssVerification.{VerifiesUnder, HssVerifies};
+ghost use Rattle.mb_hss.specs.SignatureParts.{signature_length, ArePartsOf, HasNoParts};
 
 use crate::key::HssKey;
 use mb_lms::{key_bytes, parse_key, verify as verify_level};
@@ -54,10 +54,8 @@ fn signature_length(key: &PublicKey) -> usize
 
 /// Takes a signature above the last level apart; none where it is too short, or where the next key is of unknown types.
 fn split<'a>(key: &PublicKey, sig: &'a [u8]) -> Option<Parts<'a>>
-    ensures parts { IfSome result (λ parts. sig.now ≡ parts.own.now ++ key_bytes parts.next ++ parts.rest.now) }
-    ensures own { IfSome result (λ parts. length parts.own.now ≡ signature_length key.now) }
-    ensures next { IfSome result (λ parts. IsSized parts.next) }
-    ensures none { IsNone result → (own rest : List ℕ) (next : PublicKey) → length own ≡ signature_length key.now → IsSized next → sig.now ≡ own ++ key_bytes next ++ rest → ⊥ }
+    ensures { MatchOption result (HasNoParts key.now sig.now)
+        (λ parts. ArePartsOf key.now sig.now parts.own.now parts.next parts.rest.now) }
 {
     let (own, after) = sig.split_at_checked(signature_length(key))?;
     let (bytes, rest) = after.split_first_chunk::<56>()?;
