@@ -1,0 +1,205 @@
+-- What an instruction of the application machine does: one step, as a relation. Which trap comes first, and when?
+use Rattle.std.specs.Prelude.{◌≡◌, ℕ, zero, suc, ◌+◌, ◌-◌, ◌*◌, ◌/◌, ◌%◌, ◌^◌, ◌<◌, ◌≤◌, ◌⊎◌, ◌==◌, nat_lt, if◌then◌else◌}
+use Rattle.std.specs.Prelude.{bit_and, bit_or, bit_xor, List, [], ◌∷◌, ◌++◌, length, take, drop, get_or, find}
+use Rattle.std.specs.Prelude.{Option, Some, None}
+use Rattle.mb_model.specs.declared.region.Secret.{Secret}
+use Rattle.mb_model.specs.LayerEvents.{has_name}
+use Rattle.mb_appvm.specs.declared.instruction.Operation.{Operation}
+use Rattle.mb_appvm.specs.declared.instruction.Operation.TheVariants as op
+use Rattle.mb_appvm.specs.declared.instruction.Plain.{Plain}
+use Rattle.mb_appvm.specs.declared.instruction.Plain.TheVariants as plain
+use Rattle.mb_appvm.specs.declared.instruction.Instruction.{Instruction}
+use Rattle.mb_appvm.specs.declared.instruction.Instruction.TheVariants as instruction
+use Rattle.mb_appvm.specs.declared.trap.Trap.{Trap}
+use Rattle.mb_appvm.specs.declared.trap.Trap.TheVariants as trap
+use Rattle.mb_appvm.specs.Instructions.{Stands}
+
+-- ---- machines
+
+-- A machine between two instructions. The value on top of the stack stands last in its list, and so does the place
+-- that was kept last.
+pub record AppState : Type 0 where
+  pub place : ℕ
+  pub stack : List ℕ
+  pub returns : List ℕ
+  pub memory : List ℕ
+  pub output : List ℕ
+
+-- What a run sees: the code, the input, and the secrets of each region; None if the region may not be read.
+pub record Surroundings : Type 0 where
+  pub code : List ℕ
+  pub input : List ℕ
+  pub secrets : ℕ → Option (List Secret)
+
+-- what an instruction leads to: the next machine, the end, or a trap
+pub data Outcome : Type 0 where
+  goes : AppState → Outcome
+  ends : Outcome
+  traps : Trap → Outcome
+
+-- the number by which a trap is told
+abbrev pub trap_number : Trap → ℕ
+trap_number trap.NoInstruction = 1
+trap_number trap.TooFewValues = 2
+trap_number trap.TooManyValues = 3
+trap_number trap.BadAddress = 4
+trap_number trap.DivisionByZero = 5
+trap_number trap.BadRegion = 6
+trap_number trap.OutputFull = 7
+trap_number trap.BadReturn = 8
+
+-- ---- what instructions take and leave
+
+-- how many values an instruction without an operand takes from the stack
+abbrev pub plain_takes : Plain → ℕ
+plain_takes plain.Halt = 0
+plain_takes plain.Pop = 1
+plain_takes plain.Dup = 1
+plain_takes plain.Swap = 2
+plain_takes plain.Over = 2
+plain_takes (plain.Compute operation) = 2
+plain_takes plain.Return = 0
+plain_takes plain.Load = 1
+plain_takes plain.Store = 2
+plain_takes plain.Input = 1
+plain_takes plain.Length = 0
+plain_takes plain.Emit = 1
+
+-- how many values it leaves in their place
+abbrev pub plain_leaves : Plain → ℕ
+plain_leaves plain.Halt = 0
+plain_leaves plain.Pop = 0
+plain_leaves plain.Dup = 2
+plain_leaves plain.Swap = 2
+plain_leaves plain.Over = 3
+plain_leaves (plain.Compute operation) = 1
+plain_leaves plain.Return = 0
+plain_leaves plain.Load = 1
+plain_leaves plain.Store = 0
+plain_leaves plain.Input = 1
+plain_leaves plain.Length = 1
+plain_leaves plain.Emit = 0
+
+-- the same numbers of any instruction
+abbrev pub takes : Instruction → ℕ
+takes (instruction.Plain p) = plain_takes p
+takes (instruction.Push n) = 0
+takes (instruction.Jump to) = 0
+takes (instruction.JumpZero to) = 1
+takes (instruction.Call to) = 0
+takes (instruction.Get name) = 2
+
+abbrev pub leaves : Instruction → ℕ
+leaves (instruction.Plain p) = plain_leaves p
+leaves (instruction.Push n) = 1
+leaves (instruction.Jump to) = 0
+leaves (instruction.JumpZero to) = 0
+leaves (instruction.Call to) = 0
+leaves (instruction.Get name) = 1
+
+-- ---- what instructions do
+
+abbrev pub quotient : ℕ → ℕ → Option ℕ
+quotient a zero = None
+quotient a (suc b) = Some (a / suc b)
+
+abbrev pub remainder : ℕ → ℕ → Option ℕ
+remainder a zero = None
+remainder a (suc b) = Some (a % suc b)
+
+-- the result of an operation on a and b, of which b is on top; None for a division by 0
+abbrev pub result_of : Operation → ℕ → ℕ → Option ℕ
+result_of op.Add a b = Some ((a + b) % 2 ^ 32)
+result_of op.Sub a b = Some ((a + (2 ^ 32 - b)) % 2 ^ 32)
+result_of op.Mul a b = Some (a * b % 2 ^ 32)
+result_of op.Div a b = quotient a b
+result_of op.Rem a b = remainder a b
+result_of op.And a b = Some (bit_and a b)
+result_of op.Or a b = Some (bit_or a b)
+result_of op.Xor a b = Some (bit_xor a b)
+result_of op.Equal a b = Some (if a == b then 1 else 0)
+result_of op.Less a b = Some (if nat_lt a b then 1 else 0)
+
+-- the machine at the next place, with these values pushed
+abbrev pub after_push : ℕ → List ℕ → AppState → AppState
+after_push next values m = record m { place = next; stack = m.stack ++ values }
+
+-- the machine with these bytes in its memory, from an address on
+abbrev pub after_write : ℕ → List ℕ → AppState → AppState
+after_write address bytes m =
+    record m { memory = take address m.memory ++ bytes ++ drop (address + length bytes) m.memory }
+
+-- an operation pushes its result, or traps if it has none
+abbrev pub outcome_of_result : Option ℕ → ℕ → AppState → Outcome
+outcome_of_result None next m = traps trap.DivisionByZero
+outcome_of_result (Some value) next m = goes (after_push next (value ∷ []) m)
+
+-- the value that `get` pushes for a secret that is not there
+abbrev pub absent_secret : ℕ
+absent_secret = 4294967295
+
+-- the secret is copied to memory and its length is pushed, or it does not fit
+abbrev pub DoesCopy : Option Secret → ℕ → ℕ → AppState → Outcome → Type 0
+DoesCopy None next address m o = o ≡ goes (after_push next (absent_secret ∷ []) m)
+DoesCopy (Some secret) next address m o =
+    ((1024 < address + length secret.value) × (o ≡ traps trap.BadAddress))
+    ⊎ ((address + length secret.value ≤ 1024)
+    × (o ≡ goes (after_push next (length secret.value ∷ []) (after_write address secret.value m))))
+
+-- the region may not be read, or its secret with this name is looked for
+abbrev pub DoesGet : Option (List Secret) → List ℕ → ℕ → ℕ → AppState → Outcome → Type 0
+DoesGet None name next address m o = o ≡ traps trap.BadRegion
+DoesGet (Some secrets) name next address m o = DoesCopy (find (has_name name) secrets) next address m o
+
+-- What an instruction without an operand does with the values that it takes, the last of them from the top; m is the
+-- machine without these values.
+abbrev pub DoesPlain : List ℕ → Plain → ℕ → List ℕ → AppState → Outcome → Type 0
+DoesPlain input plain.Halt next [] m o = o ≡ ends
+DoesPlain input plain.Pop next (a ∷ []) m o = o ≡ goes (after_push next [] m)
+DoesPlain input plain.Dup next (a ∷ []) m o = o ≡ goes (after_push next (a ∷ a ∷ []) m)
+DoesPlain input plain.Swap next (a ∷ b ∷ []) m o = o ≡ goes (after_push next (b ∷ a ∷ []) m)
+DoesPlain input plain.Over next (a ∷ b ∷ []) m o = o ≡ goes (after_push next (a ∷ b ∷ a ∷ []) m)
+DoesPlain input (plain.Compute operation) next (a ∷ b ∷ []) m o = o ≡ outcome_of_result (result_of operation a b) next m
+DoesPlain input plain.Return next [] m o =
+    ((m.returns ≡ []) × (o ≡ traps trap.BadReturn))
+    ⊎ ((others : List ℕ) × (last : ℕ) × (m.returns ≡ others ++ last ∷ [])
+    × (o ≡ goes (record m { place = last; returns = others })))
+DoesPlain input plain.Load next (address ∷ []) m o =
+    ((1023 < address) × (o ≡ traps trap.BadAddress))
+    ⊎ ((address ≤ 1023) × (o ≡ goes (after_push next (get_or m.memory address 0 ∷ []) m)))
+DoesPlain input plain.Store next (value ∷ address ∷ []) m o =
+    ((1023 < address) × (o ≡ traps trap.BadAddress))
+    ⊎ ((address ≤ 1023) × (o ≡ goes (after_push next [] (after_write address (value % 256 ∷ []) m))))
+DoesPlain input plain.Input next (index ∷ []) m o = o ≡ goes (after_push next (get_or input index 256 ∷ []) m)
+DoesPlain input plain.Length next [] m o = o ≡ goes (after_push next (length input ∷ []) m)
+DoesPlain input plain.Emit next (value ∷ []) m o =
+    ((4096 ≤ length m.output) × (o ≡ traps trap.OutputFull))
+    ⊎ ((length m.output < 4096) × (o ≡ goes (after_push next [] (record m { output = m.output ++ value % 256 ∷ [] }))))
+DoesPlain input p next values m o = ⊥
+
+-- what any instruction does
+abbrev pub Does : Surroundings → Instruction → ℕ → List ℕ → AppState → Outcome → Type 0
+Does s (instruction.Plain p) next values m o = DoesPlain s.input p next values m o
+Does s (instruction.Push n) next [] m o = o ≡ goes (after_push next (n ∷ []) m)
+Does s (instruction.Jump to) next [] m o = o ≡ goes (after_push to [] m)
+Does s (instruction.JumpZero to) next (a ∷ []) m o = o ≡ goes (after_push (if a == 0 then to else next) [] m)
+Does s (instruction.Call to) next [] m o =
+    ((64 ≤ length m.returns) × (o ≡ traps trap.BadReturn))
+    ⊎ ((length m.returns < 64) × (o ≡ goes (record (after_push to [] m) { returns = m.returns ++ next ∷ [] })))
+Does s (instruction.Get name) next (address ∷ region ∷ []) m o = DoesGet (s.secrets region) name next address m o
+Does s i next values m o = ⊥
+
+-- ---- one step
+
+-- One step, with the traps in their order: no instruction stands at the place, or it finds too few values, or it would
+-- leave more than 256, or it does what it does with the values that it takes.
+pub data AppStep (s : Surroundings) (m : AppState) (o : Outcome) : Type 0 where
+  unknown : ((i : Instruction) (next : ℕ) → Stands s.code m.place i next → ⊥) → o ≡ traps trap.NoInstruction
+      → AppStep s m o
+  lacks : (i : Instruction) (next : ℕ) → Stands s.code m.place i next → length m.stack < takes i
+      → o ≡ traps trap.TooFewValues → AppStep s m o
+  overflows : (i : Instruction) (next : ℕ) → Stands s.code m.place i next → takes i ≤ length m.stack
+      → takes i + 256 < length m.stack + leaves i → o ≡ traps trap.TooManyValues → AppStep s m o
+  does : (i : Instruction) (next : ℕ) → Stands s.code m.place i next → (rest values : List ℕ)
+      → m.stack ≡ rest ++ values → length values ≡ takes i → length rest + leaves i ≤ 256
+      → Does s i next values (record m { stack = rest }) o → AppStep s m o

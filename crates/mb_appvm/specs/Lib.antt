@@ -1,0 +1,4 @@
+pub mod Instructions
+pub mod Application
+pub mod Runs
+pub mod Acting

@@ -1,0 +1,19 @@
+//! The application machine: what the code of layers 2 and 3 is, and what it does.
+//!
+//! This crate owns the machine's instructions and how each is spelled in bytes, and the run of a code on an input and
+//! the secrets that its layer may read. It stands on `mb_model`, for layers, regions and secrets, on `mb_format` and
+//! `mb_bytes`, by which instructions are spelled and read, and on `arrayvec`, which holds the stack.
+#![tactic(auto)]
+
+mod environment;
+mod fetching;
+mod instruction;
+mod machine;
+mod plain;
+mod running;
+mod secrets;
+mod trap;
+
+pub use instruction::{Instruction, Name, Opcode, Operation, Plain};
+pub use running::{AppEnd, run_app};
+pub use trap::Trap;
