@@ -3,3 +3,10 @@ pub mod Fetches
 pub mod Actions
 pub mod Names
 pub mod RunSteps
+pub mod Words
+pub mod Sizes
+pub mod Labels
+pub mod ReadLines
+pub mod Soundness
+pub mod Codes
+pub mod Assemblies

@@ -5,15 +5,23 @@
 //! `mb_bytes`, by which instructions are spelled and read, and on `arrayvec`, which holds the stack.
 #![tactic(auto)]
 
+mod assembling;
+mod checking;
+mod encoding;
 mod environment;
 mod fetching;
 mod instruction;
+mod keyword;
+mod lines;
 mod machine;
 mod plain;
 mod running;
 mod secrets;
 mod trap;
 
+pub use assembling::{AsmEnd, assemble};
 pub use instruction::{Instruction, Name, Opcode, Operation, Plain};
+pub use keyword::{Jump, Keyword};
+pub use lines::Said;
 pub use running::{AppEnd, run_app};
 pub use trap::Trap;

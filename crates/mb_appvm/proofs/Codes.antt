@@ -1,0 +1,60 @@
+-- The code of lines, one after another.
+use Rattle.std.proofs.Common.{◌≡◌, ℕ, ◌+◌, ◌<◌, ◌≤◌, List, [], ◌∷◌, ◌++◌, length, take, drop, get_or, Bool, true, false, refl, sym, ap, subst, ◌∙◌, arith, append_assoc, length-append}
+use Rattle.std.specs.Prelude.{flat_map, sum_by}
+use Rattle.std.specs.Global.{Vec}
+use Rattle.std.specs.List.{AllZip, list_any}
+use Rattle.std.proofs.lemmas.List.{take_more, take-append-drop, flat_map_more}
+use Rattle.std.proofs.lemmas.List.Sums.{sum_by_push, sum_by-take-le}
+use Rattle.mb_bytes.specs.Puts.{Appends}
+use Rattle.mb_appvm.specs.declared.instruction.Instruction.{Instruction}
+use Rattle.mb_appvm.specs.declared.keyword.Jump.{Jump}
+use Rattle.mb_appvm.specs.declared.lines.Said.{Said}
+use Rattle.mb_appvm.specs.declared.lines.Said.TheVariants as says
+use Rattle.mb_appvm.specs.Instructions.{instruction_format}
+use Rattle.mb_appvm.specs.Assembly.{jump_to, size_of, is_label, IsPlaced, Makes, piece}
+use Rattle.mb_appvm.specs.Checking.{IsCode}
+use Rattle.mb_appvm.proofs.Labels.{is_label-true}
+use Rattle.mb_appvm.proofs.Sizes.{size_jump}
+use Rattle.mb_appvm.proofs.Words.{jump_sayable}
+
+pub splits_at : (all : List Said) (at : ℕ) (s d : Said) → at < length all → s ≡ get_or all at d → all ≡ take at all ++ s ∷ drop (at + 1) all
+splits_at all at s d within is =
+    sym (take-append-drop (at + 1) all)
+    ∙ ap (λ (x : List Said). x ++ drop (at + 1) all) (take_more all at d within ∙ ap (λ (x : Said). take at all ++ x ∷ []) (sym is))
+    ∙ append_assoc (take at all) (s ∷ []) (drop (at + 1) all)
+
+pub placed_at : (all : List Said) (name : List ℕ) (at place : ℕ) (s d : Said) → at < length all → s ≡ get_or all at d → is_label name s ≡ true
+    → place ≡ sum_by size_of (take at all) → IsPlaced all name place
+placed_at all name at place s d within is label sum = record {
+  before = take at all;
+  after = drop (at + 1) all;
+  split = splits_at all at s d within is ∙ ap (λ (x : Said). take at all ++ x ∷ drop (at + 1) all) (is_label-true s name label);
+  size = sum;
+}
+
+pub jump_allowed : (kind : Jump) (place : ℕ) (i : Instruction) → i ≡ jump_to kind place → place ≤ 32768 → instruction_format.Allowed i
+jump_allowed kind place i is fits =
+    subst (λ (j : Instruction). instruction_format.Allowed j) (sym is) (jump_sayable kind place (omega (arith, fits)))
+
+makes_size : (all : List Said) (s : Said) (bytes : List ℕ) → Makes all s bytes → length bytes ≡ size_of s
+makes_size all (says.Label name) bytes is = ap length is
+makes_size all (says.Whole i) bytes is = ap length is
+makes_size all (says.JumpTo kind name) bytes is = ap length is.2 ∙ sym (size_jump kind is.0)
+
+pub zip_push : {A B : Type 0} (R : A → B → Type 0) (xs : List A) (ys : List B) (x : A) (y : B) → AllZip R xs ys → R x y → AllZip R (xs ++ x ∷ []) (ys ++ y ∷ [])
+zip_push R [] [] x y all is = (is, tt)
+zip_push R [] (b ∷ ys) x y all is = absurd all
+zip_push R (a ∷ xs) [] x y all is = absurd all
+zip_push R (a ∷ xs) (b ∷ ys) x y all is = (all.0, zip_push R xs ys x y all.1 is)
+
+pub one_line : (all : List Said) (at : ℕ) (s d : Said) (bytes : List ℕ) (old new : Vec ℕ) → at < length all → s ≡ get_or all at d → IsCode all (take at all) old.items
+    → Makes all s bytes → Appends bytes old new → IsCode all (take (at + 1) all) new.items
+one_line all at s d bytes old new within is code makes puts =
+    let more : take (at + 1) all ≡ take at all ++ s ∷ [] = take_more all at d within ∙ ap (λ (x : Said). take at all ++ x ∷ []) (sym is) in
+    subst (λ (xs : List Said). IsCode all xs new.items) (sym more)
+    (record {
+      pieces = code.pieces ++ bytes ∷ [];
+      made = zip_push (Makes all) (take at all) code.pieces s bytes code.made makes;
+      whole = puts.items ∙ ap (λ (x : List ℕ). x ++ bytes) code.whole ∙ flat_map_more piece [] code.pieces bytes;
+      size = omega (arith, ap length puts.items, length-append old.items bytes, code.size, makes_size all s bytes makes, sum_by_push size_of (take at all) s);
+    })

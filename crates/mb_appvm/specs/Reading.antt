@@ -1,0 +1,11 @@
+-- What the readers of a line find. Is what is found exactly what stands there?
+use Rattle.std.specs.Prelude.{◌≡◌, ℕ, List, Option}
+use Rattle.mb_appvm.specs.declared.keyword.Keyword.{Keyword}
+use Rattle.mb_appvm.specs.declared.lines.Said.{Said}
+use Rattle.mb_appvm.specs.Assembly.{keyword_of, operand_of, IsSayable}
+
+-- what a line says that has this keyword, and this operand or none
+pub record SaysWords (keyword : Keyword) (operand : Option (List ℕ)) (s : Said) : Type 0 where
+  pub sayable : IsSayable s
+  pub begins : keyword_of s ≡ keyword
+  pub ends : operand_of s ≡ operand

@@ -1,0 +1,77 @@
+//! The assembler.
+
+ghost use Rattle.std.specs.Prelude.{◌≡◌, ◌≤◌, length, IfOk};
+ghost use Rattle.mb_appvm.specs.Checking.{ReadsTo, AssemblesTo};
+
+use crate::checking::count_sound;
+use crate::encoding::write_code;
+use crate::lines::{Said, read_line};
+use mb_model::{Bytes, NoMemory};
+use mb_words::split_line;
+use std::alloc::Global;
+
+/// Why a text was not assembled.
+#[derive(Clone, Copy, Debug, PartialEq, Eq)]
+pub enum AsmEnd {
+    /// A line is not in the grammar, repeats a label, names a label that no line gives, or takes the code past 32,768
+    /// bytes.
+    BadLine {
+        /// The number of the first such line, from 1.
+        line: u32,
+    },
+    /// An allocation failed.
+    NoMemory,
+}
+
+impl From<NoMemory> for AsmEnd {
+    ghost use Rattle.mb_appvm.specs.declared.assembling.AsmEnd.TheVariants as end;
+
+    ghost from_gives = { λ _ e. e ≡ end.NoMemory };
+
+    fn from(_error: NoMemory) -> AsmEnd {
+        AsmEnd::NoMemory
+    }
+}
+
+/// The code of an assembler text. A line is `label NAME`, or the name of an instruction with its operand; lines end with
+/// LF, which the last may lack. The text has at most 4,194,304 bytes.
+///
+/// Errors: `BadLine` with the first line that is wrong, and `NoMemory`.
+pub fn assemble(alloc: Global, text: &[u8]) -> Result<Bytes, AsmEnd>
+    requires { length text.now ≤ 4194304 }
+    ensures assembled { AssemblesTo text.now result }
+    ensures short { IfOk result (λ code. length code ≤ 32768) }
+{
+    let (said, rest) = read_lines(alloc, text)?;
+    let right = count_sound(said.as_slice(), rest);
+    if right < said.len() {
+        return Err(AsmEnd::BadLine {
+            line: right as u32 + 1,
+        });
+    }
+    if !rest.is_empty() {
+        return Err(AsmEnd::BadLine {
+            line: right as u32 + 1,
+        });
+    }
+    let code = write_code(alloc, said.as_slice())?;
+    Ok(Bytes::from_vec(code))
+}
+
+/// What the lines of a text say, up to the first that says nothing; and the text from that line on.
+fn read_lines(alloc: Global, text: &[u8]) -> Result<(Vec<Said<'_>>, &[u8]), NoMemory>
+    requires { length text.now ≤ 4194304 }
+    ensures { IfOk result (λ parts. ReadsTo text.now parts.0.items parts.1.now) }
+{
+    let mut said = Vec::new(alloc);
+    let mut rest = text;
+    while !rest.is_empty() {
+        let (line, later) = split_line(rest);
+        match read_line(line) {
+            Some(line) => said.push(line)?,
+            None => return Ok((said, rest)),
+        }
+        rest = later;
+    }
+    Ok((said, rest))
+}
