@@ -16,7 +16,7 @@ use Rattle.mb_appvm.proofs.Words.{SaysLine-same}
 
 -- ---- lines and what they say, side by side
 
-zip_take : {A B : Type 0} (R : A → B → Type 0) (n : ℕ) (xs : List A) (ys : List B) → AllZip R xs ys → AllZip R (take n xs) (take n ys)
+pub zip_take : {A B : Type 0} (R : A → B → Type 0) (n : ℕ) (xs : List A) (ys : List B) → AllZip R xs ys → AllZip R (take n xs) (take n ys)
 zip_take R zero xs ys all = tt
 zip_take R (suc n) [] [] all = tt
 zip_take R (suc n) [] (y ∷ ys) all = absurd all

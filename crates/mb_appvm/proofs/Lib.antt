@@ -10,3 +10,5 @@ pub mod ReadLines
 pub mod Soundness
 pub mod Codes
 pub mod Assemblies
+pub mod Listings
+pub mod Clear

@@ -112,7 +112,7 @@ letters (key.Plain (plain.Compute op.Xor)) = refl
 letters (key.Plain (plain.Compute op.Equal)) = refl
 letters (key.Plain (plain.Compute op.Less)) = refl
 
-abbrev Above : ℕ → List ℕ → Type 0
+abbrev pub Above : ℕ → List ℕ → Type 0
 Above least bytes = All (λ byte. least < byte) bytes
 
 above_more : (x : ℕ) (xs : List ℕ) (b : Bool) → nat_lt 32 x ≡ b → (b && list_all is_letter xs) ≡ true → (list_all is_letter xs ≡ true → Above 32 xs) → Above 32 (x ∷ xs)

@@ -5,3 +5,4 @@ pub mod Acting
 pub mod Assembly
 pub mod Reading
 pub mod Checking
+pub mod Listing

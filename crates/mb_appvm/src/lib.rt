@@ -7,11 +7,13 @@
 
 mod assembling;
 mod checking;
+mod disassembling;
 mod encoding;
 mod environment;
 mod fetching;
 mod instruction;
 mod keyword;
+mod laws;
 mod lines;
 mod machine;
 mod plain;
@@ -20,8 +22,10 @@ mod secrets;
 mod trap;
 
 pub use assembling::{AsmEnd, assemble};
+pub use disassembling::{DisasmEnd, disassemble};
 pub use instruction::{Instruction, Name, Opcode, Operation, Plain};
 pub use keyword::{Jump, Keyword};
+pub use laws::{assemblies_are_clear, listings_assemble};
 pub use lines::Said;
 pub use running::{AppEnd, run_app};
 pub use trap::Trap;
