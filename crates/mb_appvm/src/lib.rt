@@ -29,3 +29,6 @@ pub use laws::{assemblies_are_clear, listings_assemble};
 pub use lines::Said;
 pub use running::{AppEnd, run_app};
 pub use trap::Trap;
+
+#[cfg(test)]
+mod tests;

@@ -1,0 +1,6 @@
+//! Runs, texts and codes, by values of another program.
+
+mod devices;
+mod pieces;
+mod runs;
+mod texts;
