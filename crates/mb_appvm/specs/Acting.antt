@@ -13,7 +13,8 @@ use Rattle.mb_appvm.specs.declared.running.Stop.TheVariants as stop
 use Rattle.mb_appvm.specs.declared.running.AppEnd.{AppEnd}
 use Rattle.mb_appvm.specs.declared.running.AppEnd.TheVariants as end
 use Rattle.mb_appvm.specs.Instructions.{Stands}
-use Rattle.mb_appvm.specs.Application.{AppState, Surroundings, Outcome, goes, ends, traps, takes, plain_takes, Does, DoesPlain, AppStep}
+use Rattle.mb_appvm.specs.Application.{AppState, Surroundings, Outcome, goes, ends, traps, takes, plain_takes}
+use Rattle.mb_appvm.specs.Application.{Does, DoesPlain, AppStep}
 use Rattle.mb_appvm.specs.Runs.{readable}
 
 -- what the code's environment stands for

@@ -1,5 +1,6 @@
 -- How far a text is read and checked, in terms of what its lines say.
-use Rattle.std.specs.Prelude.{◌≡◌, ◌⊎◌, ℕ, ◌+◌, ◌<◌, ◌≤◌, List, [], ◌∷◌, ◌++◌, length, take, All, flat_map, sum_by, IsTrue, true}
+use Rattle.std.specs.Prelude.{◌≡◌, ◌⊎◌, ℕ, ◌+◌, ◌<◌, ◌≤◌, List, [], ◌∷◌, ◌++◌, length, take, All, flat_map}
+use Rattle.std.specs.Prelude.{sum_by, IsTrue, true}
 use Rattle.std.specs.Prelude.{Result, Ok, Err}
 use Rattle.std.specs.List.{AllZip, list_any}
 use Rattle.std.specs.Global.{Vec}
@@ -9,7 +10,8 @@ use Rattle.mb_appvm.specs.declared.assembling.AsmEnd.{AsmEnd}
 use Rattle.mb_appvm.specs.declared.assembling.AsmEnd.TheVariants as end
 use Rattle.mb_appvm.specs.declared.lines.Said.{Said}
 use Rattle.mb_appvm.specs.declared.lines.Said.TheVariants as says
-use Rattle.mb_appvm.specs.Assembly.{SaysLine, size_of, is_label, LabelsDiffer, GivesLabel, Makes, piece, Assembles, AssemblyFailsAt}
+use Rattle.mb_appvm.specs.Assembly.{SaysLine, size_of, is_label, LabelsDiffer, GivesLabel, Makes, piece}
+use Rattle.mb_appvm.specs.Assembly.{Assembles, AssemblyFailsAt}
 
 -- a text is lines that say these, and a rest whose first line says nothing
 pub record ReadsTo (text : List ℕ) (said : List Said) (rest : List ℕ) : Type 0 where

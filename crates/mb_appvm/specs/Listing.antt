@@ -50,5 +50,7 @@ pub record AssembliesAreClear : Type 0 where
 -- the text of a code stands for that code and no other, and no line of it is wrong
 pub record ListingsAssemble : Type 0 where
   pub again : (code text : List ℕ) → length code ≤ 32768 → IsListing code text → Assembles text code
-  pub alone : (code text other : List ℕ) → length code ≤ 32768 → IsListing code text → Assembles text other → other ≡ code
-  pub never_wrong : (code text : List ℕ) (n : ℕ) → length code ≤ 32768 → IsListing code text → AssemblyFailsAt text n → ⊥
+  pub alone : (code text other : List ℕ)
+      → length code ≤ 32768 → IsListing code text → Assembles text other → other ≡ code
+  pub never_wrong : (code text : List ℕ) (n : ℕ)
+      → length code ≤ 32768 → IsListing code text → AssemblyFailsAt text n → ⊥
