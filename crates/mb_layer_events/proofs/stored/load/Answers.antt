@@ -2,6 +2,12 @@ use Rattle.mb_model.specs.OrderStep.{region_of}
 use Rattle.mb_layer_events.proofs.Readied.{region_held, region_kept, kept_if}
 use Rattle.mb_layer_events.proofs.stored.load.Goals as goal
 
+pub read_stored-requires-clause-held : goal.read_stored-requires-clause-held
+read_stored-requires-clause-held g c = record {
+  region = region_of c.requires.ready.state g.L.Place.place;
+  holds = region_held g.L.Place.place _ c.requires.ready.state g.met.L.Named.named c.requires.ready.ready;
+}
+
 pub returns-clause-region : goal.returns-clause-region
 returns-clause-region g c = λ state ready. c.read_stored.ensures.region (region_of state g.L.Place.place) (region_held g.L.Place.place _ state g.met.L.Named.named ready)
 
