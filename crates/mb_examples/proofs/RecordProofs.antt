@@ -89,7 +89,7 @@ layers = record {
   split = spells (layer_exact 2) (bytes_of split_layer_digits) split_layer refl refl;
   wary = spells (layer_exact 2) (bytes_of wary_layer_digits) wary_layer refl refl;
   unowned_in_version_two = spells (layer_exact 2) (0 ∷ 1 ∷ 1 ∷ []) unowned refl refl;
-  no_split_in_version_one = λ spelled. never_is_not_always (ap (λ (trusts : Trusts). trusts.two) spelled.allowed.1.0.1);
+  no_split_in_version_one = λ bytes spelled. never_is_not_always (ap (λ (trusts : Trusts). trusts.two) spelled.allowed.1.0.1);
 }
 
 pub entries : EntryRecords

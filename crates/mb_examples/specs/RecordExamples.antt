@@ -52,8 +52,8 @@ pub record LayerRecords : Type 0 where
   pub split : Spells (layer_format 2) (bytes_of split_layer_digits) split_layer
   pub wary : Spells (layer_format 2) (bytes_of wary_layer_digits) wary_layer
   pub unowned_in_version_two : Spells (layer_format 2) (0 ∷ 1 ∷ 1 ∷ []) unowned
-  -- version 1 has one trust for a layer
-  pub no_split_in_version_one : Spells (layer_format 1) (bytes_of split_layer_digits) split_layer → ⊥
+  -- no bytes of version 1 spell two trusts that differ
+  pub no_split_in_version_one : (bytes : List ℕ) → Spells (layer_format 1) bytes split_layer → ⊥
 
 pub record EntryRecords : Type 0 where
   pub of_birth : Spells entry_format (bytes_of birth_digits) birth

@@ -8,9 +8,11 @@ use Rattle.mb_model.specs.declared.key.Trust.{Trust}
 use Rattle.mb_model.specs.declared.order.ChangeKind.{ChangeKind}
 use Rattle.mb_model.specs.declared.entry.Entry.{Entry}
 use Rattle.mb_model.specs.declared.entry.Entry.TheVariants.{Birth, Change, NewKey, Succession}
-use Rattle.mb_model.specs.Rules.{admits, is_load, trusts}
+use Rattle.mb_model.specs.declared.layer.Trusts.{Trusts}
+use Rattle.mb_model.specs.LayerFormat.{layer_format}
+use Rattle.mb_model.specs.Rules.{is_load, trusts}
 use Rattle.mb_model.specs.Log.{is_version_two, has_version_two, Ruled, RuledLog}
-use Rattle.mb_laws.specs.TrustLaws.{EqualTrustsAreOneTrust, version_in, VersionsOnlyRise}
+use Rattle.mb_laws.specs.TrustLaws.{EqualTrustsAreOneTrust, version_in, VersionsOnlyRise, VersionOneHasEqualTrusts}
 
 pub equal_trusts_are_one : EqualTrustsAreOneTrust
 equal_trusts_are_one layers kind cosigned equal = ap (λ (t : Trust). is_load (Some kind) && trusts t cosigned.three) equal
@@ -40,3 +42,7 @@ versions_rise before between after entry later version ruled is named =
     rises (before ++ entry ∷ between) later version
     (ruled (before ++ entry ∷ between) later after (sym (append_assoc before (entry ∷ between) (later ∷ after))))
     (has_passed before between entry is) named
+
+pub version_one_equal : VersionOneHasEqualTrusts
+unfolding layer_format
+version_one_equal bytes layer spelled = sym (ap (λ (t : Trusts). t.two) spelled.allowed.1.0.1)

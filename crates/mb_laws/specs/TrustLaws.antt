@@ -1,7 +1,8 @@
 -- Laws of the two trusts of a layer. What does an owner decide by each of them?
 use Rattle.std.specs.Prelude.{◌≡◌, ℕ, ◌==◌, Bool, not, List, ◌∷◌, ◌++◌, Option, None, Some, IsTrue}
-use Rattle.mb_format.specs.Format.{Format}
+use Rattle.mb_format.specs.Format.{Format, Spells}
 use Rattle.mb_model.specs.declared.key.Trust.{Trust}
+use Rattle.mb_model.specs.declared.layer.Layer.{Layer}
 use Rattle.mb_model.specs.declared.layer.Layers.{Layers}
 use Rattle.mb_model.specs.declared.layer.Pair.{Pair}
 use Rattle.mb_model.specs.declared.layer.Trusts.{Trusts}
@@ -11,6 +12,7 @@ use Rattle.mb_model.specs.declared.entry.Entry.TheVariants.{Birth, Change, NewKe
 use Rattle.mb_model.specs.Layers.{are_equal}
 use Rattle.mb_model.specs.Rules.{admits}
 use Rattle.mb_model.specs.Log.{is_version_two, RuledLog}
+use Rattle.mb_model.specs.LayerFormat.{layer_format}
 use Rattle.mb_model.specs.OrderFormat.{given_trusts}
 
 -- with equal trusts layer 3 admits a change of layer 1 exactly where it would admit the same of layer 2
@@ -50,6 +52,11 @@ VersionsOnlyRise =
     (before between after : List Entry) (entry later : Entry) (version : ℕ)
     → RuledLog (before ++ entry ∷ (between ++ later ∷ after)) → IsTrue (is_version_two entry)
     → version_in later ≡ Some version → version ≡ 2
+
+-- a layer that bytes spell in version 1 has equal trusts
+abbrev pub VersionOneHasEqualTrusts : Type 0
+VersionOneHasEqualTrusts =
+    (bytes : List ℕ) (layer : Layer) → Spells (layer_format 1) bytes layer → layer.trust.one ≡ layer.trust.two
 
 -- two trusts can be given in the form of an order that fits them
 abbrev pub TrustsCanBeGiven : Type 0

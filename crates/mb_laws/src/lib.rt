@@ -52,5 +52,6 @@ pub use texts::{
     words_are_read_back,
 };
 pub use trusts::{
-    each_layer_is_trusted_by_itself, trusts_are_given_in_one_form, versions_only_rise,
+    each_layer_is_trusted_by_itself, trusts_are_given_in_one_form, version_one_has_equal_trusts,
+    versions_only_rise,
 };

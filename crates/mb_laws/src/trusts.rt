@@ -1,6 +1,6 @@
 //! Laws of the two trusts of a layer: which changes each decides, and how logs and orders spell them.
 
-ghost use Rattle.mb_laws.specs.TrustLaws.{EqualTrustsAreOneTrust, TrustInTwoLeavesOne, TrustInOneLeavesTwo, VersionsOnlyRise, TrustsCanBeGiven, TrustsHaveOneForm};
+ghost use Rattle.mb_laws.specs.TrustLaws.{EqualTrustsAreOneTrust, TrustInTwoLeavesOne, TrustInOneLeavesTwo, VersionsOnlyRise, VersionOneHasEqualTrusts, TrustsCanBeGiven, TrustsHaveOneForm};
 
 /// Layers 1 and 2 are trusted by themselves. What layer 3 trusts in changes of one decides nothing about changes of the
 /// other, and if its trusts are equal it admits a change of layer 1 exactly if it would admit the same of layer 2.
@@ -13,6 +13,11 @@ pub fn each_layer_is_trusted_by_itself()
 /// In a log that obeys the rules, no birth or change of version 1 stands after an entry of version 2.
 pub fn versions_only_rise()
     ensures { VersionsOnlyRise }
+{}
+
+/// No bytes spell a layer of version 1 whose trusts differ.
+pub fn version_one_has_equal_trusts()
+    ensures { VersionOneHasEqualTrusts }
 {}
 
 /// Each pair of trusts is given by an order in one form: equal trusts by one byte, others by two.
