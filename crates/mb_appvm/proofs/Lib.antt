@@ -12,3 +12,4 @@ pub mod Codes
 pub mod Assemblies
 pub mod Listings
 pub mod Clear
+pub mod Determined

@@ -15,22 +15,22 @@ use Rattle.mb_appvm.specs.declared.running.AppEnd.TheVariants as end
 use Rattle.mb_appvm.specs.Instructions.{Stands}
 use Rattle.mb_appvm.specs.Application.{AppState, Surroundings, Outcome, goes, ends, traps, takes, plain_takes}
 use Rattle.mb_appvm.specs.Application.{Does, DoesPlain, AppStep}
-use Rattle.mb_appvm.specs.Runs.{readable}
+use Rattle.mb_appvm.specs.Runs.{readable_secrets}
 
 -- what the code's environment stands for
 abbrev pub surroundings_of : Environment → Surroundings
-surroundings_of e = record {
-  code = e.code.now;
-  input = e.input.now;
-  secrets = readable e.layers.now e.layer e.two.now e.three.now;
+surroundings_of environment = record {
+  code = environment.code.now;
+  input = environment.input.now;
+  secrets = readable_secrets environment.layers.now environment.layer environment.two.now environment.three.now;
 }
 
 -- the running layer may not read a region, or may read these secrets of it
 abbrev pub MayNotRead : Environment → ℕ → Type 0
-MayNotRead e region = (surroundings_of e).secrets region ≡ None
+MayNotRead environment region = (surroundings_of environment).secrets region ≡ None
 
 abbrev pub MayRead : Environment → ℕ → List Secret → Type 0
-MayRead e region secrets = (surroundings_of e).secrets region ≡ Some secrets
+MayRead environment region secrets = (surroundings_of environment).secrets region ≡ Some secrets
 
 -- no secret has the name, or the first that has it has this value
 abbrev pub LacksSecret : List ℕ → List Secret → Type 0
@@ -45,17 +45,17 @@ HasSecret name secrets value = HasValue (find (has_name name) secrets) value
 
 -- the instruction that stands at a place, and the next place; or none stands there
 abbrev pub Fetches : List ℕ → ℕ → Option (Instruction × ℕ) → Type 0
-Fetches code place None = (i : Instruction) (next : ℕ) → Stands code place i next → ⊥
+Fetches code place None = (it : Instruction) (next : ℕ) → Stands code place it next → ⊥
 Fetches code place (Some found) = Stands code place found.0 found.1
 
 -- the machine that the code's fields stand for
 abbrev pub state_of : Machine → AppState
-state_of m = record {
-  place = m.place;
-  stack = m.stack.items;
-  returns = m.returns.items;
-  memory = m.memory;
-  output = m.output.items;
+state_of machine = record {
+  place = machine.place;
+  stack = machine.stack.items;
+  returns = machine.returns.items;
+  memory = machine.memory;
+  output = machine.output.items;
 }
 
 -- the outcome that an answer and the machine after it stand for
@@ -71,36 +71,36 @@ IsKept step.Ends old new = state_of new ≡ state_of old
 IsKept (step.Traps cause) old new = state_of new ≡ state_of old
 
 -- what a step answers and leaves is one step of the machine
-pub record DoesStep (s : Surroundings) (old : Machine) (result : Step) (new : Machine) : Type 0 where
-  pub is : AppStep s (state_of old) (outcome_of result new)
+pub record DoesStep (seen : Surroundings) (old : Machine) (result : Step) (new : Machine) : Type 0 where
+  pub is : AppStep seen (state_of old) (outcome_of result new)
   pub kept : IsKept result old new
 
 -- the machine without the values that an instruction takes
 abbrev pub without_values : Machine → List ℕ → AppState
-without_values m rest = record (state_of m) { stack = rest }
+without_values machine rest = record (state_of machine) { stack = rest }
 
 -- an instruction was done with the values that it takes, of which there are enough
-pub record DoesOn (s : Surroundings) (i : Instruction) (next : ℕ) (old : Machine) (result : Step) (new : Machine)
+pub record DoesOn (seen : Surroundings) (it : Instruction) (next : ℕ) (old : Machine) (result : Step) (new : Machine)
     : Type 0 where
   pub rest : List ℕ
   pub values : List ℕ
   pub split : old.stack.items ≡ rest ++ values
-  pub enough : length values ≡ takes i
-  pub does : Does s i next values (without_values old rest) (outcome_of result new)
+  pub enough : length values ≡ takes it
+  pub does : Does seen it next values (without_values old rest) (outcome_of result new)
   pub kept : IsKept result old new
 
--- the same of an instruction without an operand
-pub record DoesPlainOn (input : List ℕ) (p : Plain) (next : ℕ) (old : Machine) (result : Step) (new : Machine)
+-- an instruction without an operand was done with the values that it takes
+pub record DoesPlainOn (input : List ℕ) (kind : Plain) (next : ℕ) (old : Machine) (result : Step) (new : Machine)
     : Type 0 where
   pub rest : List ℕ
   pub values : List ℕ
   pub split : old.stack.items ≡ rest ++ values
-  pub enough : length values ≡ plain_takes p
-  pub does : DoesPlain input p next values (without_values old rest) (outcome_of result new)
+  pub enough : length values ≡ plain_takes kind
+  pub does : DoesPlain input kind next values (without_values old rest) (outcome_of result new)
   pub kept : IsKept result old new
 
 -- the end of a run that stops for this reason with this machine
 abbrev pub end_of : Stop → Machine → AppEnd
-end_of (stop.Halted steps) m = end.Halted steps m.output.items
-end_of (stop.Trap cause) m = end.Trap cause m.place m.output.items
-end_of stop.OutOfSteps m = end.OutOfSteps m.output.items
+end_of (stop.Halted steps) machine = end.Halted steps machine.output.items
+end_of (stop.Trap cause) machine = end.Trap cause machine.place machine.output.items
+end_of stop.OutOfSteps machine = end.OutOfSteps machine.output.items

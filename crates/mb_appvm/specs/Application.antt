@@ -1,8 +1,7 @@
 -- What an instruction of the application machine does: one step, as a relation. Which trap comes first, and when?
 use Rattle.std.specs.Prelude.{◌≡◌, ℕ, zero, suc, ◌+◌, ◌-◌, ◌*◌, ◌/◌, ◌%◌, ◌^◌, ◌<◌, ◌≤◌, ◌⊎◌, ◌==◌, nat_lt}
-use Rattle.std.specs.Prelude.{if◌then◌else◌}
 use Rattle.std.specs.Prelude.{bit_and, bit_or, bit_xor, List, [], ◌∷◌, ◌++◌, length, take, drop, get_or, find}
-use Rattle.std.specs.Prelude.{Option, Some, None}
+use Rattle.std.specs.Prelude.{Option, Some, None, if◌then◌else◌}
 use Rattle.mb_model.specs.declared.region.Secret.{Secret}
 use Rattle.mb_model.specs.LayerEvents.{has_name}
 use Rattle.mb_appvm.specs.declared.instruction.Operation.{Operation}
@@ -81,18 +80,18 @@ plain_leaves plain.Input = 1
 plain_leaves plain.Length = 1
 plain_leaves plain.Emit = 0
 
--- the same numbers of any instruction
+-- how many values any instruction takes, and how many it leaves in their place
 abbrev pub takes : Instruction → ℕ
-takes (instruction.Plain p) = plain_takes p
-takes (instruction.Push n) = 0
+takes (instruction.Plain kind) = plain_takes kind
+takes (instruction.Push number) = 0
 takes (instruction.Jump to) = 0
 takes (instruction.JumpZero to) = 1
 takes (instruction.Call to) = 0
 takes (instruction.Get name) = 2
 
 abbrev pub leaves : Instruction → ℕ
-leaves (instruction.Plain p) = plain_leaves p
-leaves (instruction.Push n) = 1
+leaves (instruction.Plain kind) = plain_leaves kind
+leaves (instruction.Push number) = 1
 leaves (instruction.Jump to) = 0
 leaves (instruction.JumpZero to) = 0
 leaves (instruction.Call to) = 0
@@ -123,17 +122,17 @@ result_of op.Less a b = Some (if nat_lt a b then 1 else 0)
 
 -- the machine at the next place, with these values pushed
 abbrev pub after_push : ℕ → List ℕ → AppState → AppState
-after_push next values m = record m { place = next; stack = m.stack ++ values }
+after_push next values machine = record machine { place = next; stack = machine.stack ++ values }
 
 -- the machine with these bytes in its memory, from an address on
 abbrev pub after_write : ℕ → List ℕ → AppState → AppState
-after_write address bytes m =
-    record m { memory = take address m.memory ++ bytes ++ drop (address + length bytes) m.memory }
+after_write address bytes machine =
+    record machine { memory = take address machine.memory ++ bytes ++ drop (address + length bytes) machine.memory }
 
 -- an operation pushes its result, or traps if it has none
 abbrev pub outcome_of_result : Option ℕ → ℕ → AppState → Outcome
-outcome_of_result None next m = traps trap.DivisionByZero
-outcome_of_result (Some value) next m = goes (after_push next (value ∷ []) m)
+outcome_of_result None next machine = traps trap.DivisionByZero
+outcome_of_result (Some value) next machine = goes (after_push next (value ∷ []) machine)
 
 -- the value that `get` pushes for a secret that is not there
 abbrev pub absent_secret : ℕ
@@ -141,66 +140,74 @@ absent_secret = 4294967295
 
 -- the secret is copied to memory and its length is pushed, or it does not fit
 abbrev pub DoesCopy : Option Secret → ℕ → ℕ → AppState → Outcome → Type 0
-DoesCopy None next address m o = o ≡ goes (after_push next (absent_secret ∷ []) m)
-DoesCopy (Some secret) next address m o =
-    ((1024 < address + length secret.value) × (o ≡ traps trap.BadAddress))
+DoesCopy None next address machine outcome = outcome ≡ goes (after_push next (absent_secret ∷ []) machine)
+DoesCopy (Some secret) next address machine outcome =
+    ((1024 < address + length secret.value) × (outcome ≡ traps trap.BadAddress))
     ⊎ ((address + length secret.value ≤ 1024)
-    × (o ≡ goes (after_push next (length secret.value ∷ []) (after_write address secret.value m))))
+    × (outcome ≡ goes (after_push next (length secret.value ∷ []) (after_write address secret.value machine))))
 
 -- the region may not be read, or its secret with this name is looked for
 abbrev pub DoesGet : Option (List Secret) → List ℕ → ℕ → ℕ → AppState → Outcome → Type 0
-DoesGet None name next address m o = o ≡ traps trap.BadRegion
-DoesGet (Some secrets) name next address m o = DoesCopy (find (has_name name) secrets) next address m o
+DoesGet None name next address machine outcome = outcome ≡ traps trap.BadRegion
+DoesGet (Some secrets) name next address machine outcome =
+    DoesCopy (find (has_name name) secrets) next address machine outcome
 
--- What an instruction without an operand does with the values that it takes, the last of them from the top; m is the
--- machine without these values.
+-- What an instruction without an operand does with the values that it takes, the last of them from the top; the
+-- machine is without these values.
 abbrev pub DoesPlain : List ℕ → Plain → ℕ → List ℕ → AppState → Outcome → Type 0
-DoesPlain input plain.Halt next [] m o = o ≡ ends
-DoesPlain input plain.Pop next (a ∷ []) m o = o ≡ goes (after_push next [] m)
-DoesPlain input plain.Dup next (a ∷ []) m o = o ≡ goes (after_push next (a ∷ a ∷ []) m)
-DoesPlain input plain.Swap next (a ∷ b ∷ []) m o = o ≡ goes (after_push next (b ∷ a ∷ []) m)
-DoesPlain input plain.Over next (a ∷ b ∷ []) m o = o ≡ goes (after_push next (a ∷ b ∷ a ∷ []) m)
-DoesPlain input (plain.Compute operation) next (a ∷ b ∷ []) m o = o ≡ outcome_of_result (result_of operation a b) next m
-DoesPlain input plain.Return next [] m o =
-    ((m.returns ≡ []) × (o ≡ traps trap.BadReturn))
-    ⊎ ((others : List ℕ) × (last : ℕ) × (m.returns ≡ others ++ last ∷ [])
-    × (o ≡ goes (record m { place = last; returns = others })))
-DoesPlain input plain.Load next (address ∷ []) m o =
-    ((1023 < address) × (o ≡ traps trap.BadAddress))
-    ⊎ ((address ≤ 1023) × (o ≡ goes (after_push next (get_or m.memory address 0 ∷ []) m)))
-DoesPlain input plain.Store next (value ∷ address ∷ []) m o =
-    ((1023 < address) × (o ≡ traps trap.BadAddress))
-    ⊎ ((address ≤ 1023) × (o ≡ goes (after_push next [] (after_write address (value % 256 ∷ []) m))))
-DoesPlain input plain.Input next (index ∷ []) m o = o ≡ goes (after_push next (get_or input index 256 ∷ []) m)
-DoesPlain input plain.Length next [] m o = o ≡ goes (after_push next (length input ∷ []) m)
-DoesPlain input plain.Emit next (value ∷ []) m o =
-    ((4096 ≤ length m.output) × (o ≡ traps trap.OutputFull))
-    ⊎ ((length m.output < 4096) × (o ≡ goes (after_push next [] (record m { output = m.output ++ value % 256 ∷ [] }))))
-DoesPlain input p next values m o = ⊥
+DoesPlain input plain.Halt next [] machine outcome = outcome ≡ ends
+DoesPlain input plain.Pop next (a ∷ []) machine outcome = outcome ≡ goes (after_push next [] machine)
+DoesPlain input plain.Dup next (a ∷ []) machine outcome = outcome ≡ goes (after_push next (a ∷ a ∷ []) machine)
+DoesPlain input plain.Swap next (a ∷ b ∷ []) machine outcome = outcome ≡ goes (after_push next (b ∷ a ∷ []) machine)
+DoesPlain input plain.Over next (a ∷ b ∷ []) machine outcome = outcome ≡ goes (after_push next (a ∷ b ∷ a ∷ []) machine)
+DoesPlain input (plain.Compute operation) next (a ∷ b ∷ []) machine outcome =
+    outcome ≡ outcome_of_result (result_of operation a b) next machine
+DoesPlain input plain.Return next [] machine outcome =
+    ((machine.returns ≡ []) × (outcome ≡ traps trap.BadReturn))
+    ⊎ ((others : List ℕ) × (last : ℕ) × (machine.returns ≡ others ++ last ∷ [])
+    × (outcome ≡ goes (record machine { place = last; returns = others })))
+DoesPlain input plain.Load next (address ∷ []) machine outcome =
+    ((1023 < address) × (outcome ≡ traps trap.BadAddress))
+    ⊎ ((address ≤ 1023) × (outcome ≡ goes (after_push next (get_or machine.memory address 0 ∷ []) machine)))
+DoesPlain input plain.Store next (value ∷ address ∷ []) machine outcome =
+    ((1023 < address) × (outcome ≡ traps trap.BadAddress))
+    ⊎ ((address ≤ 1023) × (outcome ≡ goes (after_push next [] (after_write address (value % 256 ∷ []) machine))))
+DoesPlain input plain.Input next (index ∷ []) machine outcome =
+    outcome ≡ goes (after_push next (get_or input index 256 ∷ []) machine)
+DoesPlain input plain.Length next [] machine outcome = outcome ≡ goes (after_push next (length input ∷ []) machine)
+DoesPlain input plain.Emit next (value ∷ []) machine outcome =
+    ((4096 ≤ length machine.output) × (outcome ≡ traps trap.OutputFull))
+    ⊎ ((length machine.output < 4096)
+    × (outcome ≡ goes (after_push next [] (record machine { output = machine.output ++ value % 256 ∷ [] }))))
+DoesPlain input kind next values machine outcome = ⊥
 
 -- what any instruction does
 abbrev pub Does : Surroundings → Instruction → ℕ → List ℕ → AppState → Outcome → Type 0
-Does s (instruction.Plain p) next values m o = DoesPlain s.input p next values m o
-Does s (instruction.Push n) next [] m o = o ≡ goes (after_push next (n ∷ []) m)
-Does s (instruction.Jump to) next [] m o = o ≡ goes (after_push to [] m)
-Does s (instruction.JumpZero to) next (a ∷ []) m o = o ≡ goes (after_push (if a == 0 then to else next) [] m)
-Does s (instruction.Call to) next [] m o =
-    ((64 ≤ length m.returns) × (o ≡ traps trap.BadReturn))
-    ⊎ ((length m.returns < 64) × (o ≡ goes (record (after_push to [] m) { returns = m.returns ++ next ∷ [] })))
-Does s (instruction.Get name) next (address ∷ region ∷ []) m o = DoesGet (s.secrets region) name next address m o
-Does s i next values m o = ⊥
+Does seen (instruction.Plain kind) next values machine outcome = DoesPlain seen.input kind next values machine outcome
+Does seen (instruction.Push number) next [] machine outcome = outcome ≡ goes (after_push next (number ∷ []) machine)
+Does seen (instruction.Jump to) next [] machine outcome = outcome ≡ goes (after_push to [] machine)
+Does seen (instruction.JumpZero to) next (a ∷ []) machine outcome =
+    outcome ≡ goes (after_push (if a == 0 then to else next) [] machine)
+Does seen (instruction.Call to) next [] machine outcome =
+    ((64 ≤ length machine.returns) × (outcome ≡ traps trap.BadReturn))
+    ⊎ ((length machine.returns < 64)
+    × (outcome ≡ goes (record (after_push to [] machine) { returns = machine.returns ++ next ∷ [] })))
+Does seen (instruction.Get name) next (address ∷ region ∷ []) machine outcome =
+    DoesGet (seen.secrets region) name next address machine outcome
+Does seen it next values machine outcome = ⊥
 
 -- ---- one step
 
 -- One step, with the traps in their order: no instruction stands at the place, or it finds too few values, or it would
 -- leave more than 256, or it does what it does with the values that it takes.
-pub data AppStep (s : Surroundings) (m : AppState) (o : Outcome) : Type 0 where
-  unknown : ((i : Instruction) (next : ℕ) → Stands s.code m.place i next → ⊥) → o ≡ traps trap.NoInstruction
-      → AppStep s m o
-  lacks : (i : Instruction) (next : ℕ) → Stands s.code m.place i next → length m.stack < takes i
-      → o ≡ traps trap.TooFewValues → AppStep s m o
-  overflows : (i : Instruction) (next : ℕ) → Stands s.code m.place i next → takes i ≤ length m.stack
-      → takes i + 256 < length m.stack + leaves i → o ≡ traps trap.TooManyValues → AppStep s m o
-  does : (i : Instruction) (next : ℕ) → Stands s.code m.place i next → (rest values : List ℕ)
-      → m.stack ≡ rest ++ values → length values ≡ takes i → length rest + leaves i ≤ 256
-      → Does s i next values (record m { stack = rest }) o → AppStep s m o
+pub data AppStep (seen : Surroundings) (machine : AppState) (outcome : Outcome) : Type 0 where
+  unknown : ((it : Instruction) (next : ℕ) → Stands seen.code machine.place it next → ⊥)
+      → outcome ≡ traps trap.NoInstruction → AppStep seen machine outcome
+  lacks : (it : Instruction) (next : ℕ) → Stands seen.code machine.place it next → length machine.stack < takes it
+      → outcome ≡ traps trap.TooFewValues → AppStep seen machine outcome
+  overflows : (it : Instruction) (next : ℕ) → Stands seen.code machine.place it next → takes it ≤ length machine.stack
+      → takes it + 256 < length machine.stack + leaves it → outcome ≡ traps trap.TooManyValues
+      → AppStep seen machine outcome
+  does : (it : Instruction) (next : ℕ) → Stands seen.code machine.place it next → (rest values : List ℕ)
+      → machine.stack ≡ rest ++ values → length values ≡ takes it → length rest + leaves it ≤ 256
+      → Does seen it next values (record machine { stack = rest }) outcome → AppStep seen machine outcome

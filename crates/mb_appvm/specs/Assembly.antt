@@ -55,7 +55,7 @@ jump_word jump.Calling = codes "call"
 
 -- the first word of a line
 abbrev pub keyword_word : Keyword → List ℕ
-keyword_word (key.Plain p) = plain_word p
+keyword_word (key.Plain kind) = plain_word kind
 keyword_word key.Push = codes "push"
 keyword_word (key.Jump kind) = jump_word kind
 keyword_word key.Get = codes "get"
@@ -71,30 +71,30 @@ jump_to jump.Calling place = instruction.Call place
 
 -- the first word of an instruction, and its operand, a jump's place as a number
 abbrev pub keyword_of_instruction : Instruction → Keyword
-keyword_of_instruction (instruction.Plain p) = key.Plain p
-keyword_of_instruction (instruction.Push n) = key.Push
+keyword_of_instruction (instruction.Plain kind) = key.Plain kind
+keyword_of_instruction (instruction.Push number) = key.Push
 keyword_of_instruction (instruction.Jump to) = key.Jump jump.Always
 keyword_of_instruction (instruction.JumpZero to) = key.Jump jump.IfZero
 keyword_of_instruction (instruction.Call to) = key.Jump jump.Calling
 keyword_of_instruction (instruction.Get name) = key.Get
 
 abbrev pub operand_of_instruction : Instruction → Option (List ℕ)
-operand_of_instruction (instruction.Plain p) = None
-operand_of_instruction (instruction.Push n) = Some (decimal n)
+operand_of_instruction (instruction.Plain kind) = None
+operand_of_instruction (instruction.Push number) = Some (decimal number)
 operand_of_instruction (instruction.Jump to) = Some (decimal to)
 operand_of_instruction (instruction.JumpZero to) = Some (decimal to)
 operand_of_instruction (instruction.Call to) = Some (decimal to)
 operand_of_instruction (instruction.Get name) = Some name
 
--- the same of what a line says
+-- the first word and the operand of what a line says
 abbrev pub keyword_of : Said → Keyword
 keyword_of (says.Label name) = key.Label
-keyword_of (says.Whole i) = keyword_of_instruction i
+keyword_of (says.Whole it) = keyword_of_instruction it
 keyword_of (says.JumpTo kind name) = key.Jump kind
 
 abbrev pub operand_of : Said → Option (List ℕ)
 operand_of (says.Label name) = Some name
-operand_of (says.Whole i) = operand_of_instruction i
+operand_of (says.Whole it) = operand_of_instruction it
 operand_of (says.JumpTo kind name) = Some name
 
 -- a word alone, or with an operand after one space
@@ -103,7 +103,7 @@ line_of_words word None = word
 line_of_words word (Some operand) = word ++ 32 ∷ operand
 
 abbrev pub line_of : Said → List ℕ
-line_of s = line_of_words (keyword_word (keyword_of s)) (operand_of s)
+line_of meaning = line_of_words (keyword_word (keyword_of meaning)) (operand_of meaning)
 
 -- the name of a label is like a secret's, and does not begin with a digit
 pub record IsLabelName (name : List ℕ) : Type 0 where
@@ -113,37 +113,37 @@ pub record IsLabelName (name : List ℕ) : Type 0 where
 -- what a line can say: an operand fits its bytes
 abbrev pub IsSayable : Said → Type 0
 IsSayable (says.Label name) = IsLabelName name
-IsSayable (says.Whole i) = instruction_format.Allowed i
+IsSayable (says.Whole it) = instruction_format.Allowed it
 IsSayable (says.JumpTo kind name) = IsLabelName name
 
 -- what a line says
-pub record SaysLine (line : List ℕ) (s : Said) : Type 0 where
-  pub sayable : IsSayable s
-  pub spelled : line ≡ line_of s
+pub record SaysLine (line : List ℕ) (meaning : Said) : Type 0 where
+  pub sayable : IsSayable meaning
+  pub spelled : line ≡ line_of meaning
 
 -- ---- a text
 
 -- how many bytes of code a line makes
 abbrev pub size_of : Said → ℕ
 size_of (says.Label name) = 0
-size_of (says.Whole i) = length (instruction_format.spelling i)
+size_of (says.Whole it) = length (instruction_format.spelling it)
 size_of (says.JumpTo kind name) = 3
 
 -- the line is the label with this name
 abbrev pub is_label : List ℕ → Said → Bool
 is_label name (says.Label other) = same_bytes other name
-is_label name (says.Whole i) = false
+is_label name (says.Whole it) = false
 is_label name (says.JumpTo kind other) = false
 
 -- no two lines are labels with one name
 abbrev pub IsNew : Said → List Said → Type 0
 IsNew (says.Label name) others = list_any (is_label name) others ≡ false
-IsNew (says.Whole i) others = Unit {0}
+IsNew (says.Whole it) others = Unit {0}
 IsNew (says.JumpTo kind name) others = Unit {0}
 
 abbrev pub LabelsDiffer : List Said → Type 0
 LabelsDiffer [] = Unit {0}
-LabelsDiffer (s ∷ rest) = IsNew s rest × LabelsDiffer rest
+LabelsDiffer (meaning ∷ rest) = IsNew meaning rest × LabelsDiffer rest
 
 -- one of the lines gives the label
 abbrev pub GivesLabel : List (List ℕ) → List ℕ → Type 0
@@ -153,7 +153,7 @@ GivesLabel (line ∷ rest) name = SaysLine line (says.Label name) ⊎ GivesLabel
 -- a line of the text gives the label to which a line jumps
 abbrev pub HasTarget : List (List ℕ) → Said → Type 0
 HasTarget lines (says.Label name) = Unit {0}
-HasTarget lines (says.Whole i) = Unit {0}
+HasTarget lines (says.Whole it) = Unit {0}
 HasTarget lines (says.JumpTo kind name) = GivesLabel lines name
 
 -- The lines at the front of a text are right: each says something, no two give one label, the text gives each label to
@@ -164,8 +164,9 @@ pub record AreRight (lines front : List (List ℕ)) (said : List Said) : Type 0 
   pub targets : All (HasTarget lines) said
   pub short : sum_by size_of said ≤ 32768
 
--- Line n, from 1, is the first that is wrong: the lines before it are right, and with it they are not.
-pub record FailsAssembly (lines : List (List ℕ)) (n : ℕ) : Type 0 where
+-- The line with this number, from 1, is the first that is wrong: the lines before it are right, and with it they are
+-- not.
+pub record FailsAssembly (lines : List (List ℕ)) (line_number : ℕ) : Type 0 where
   pub before : List (List ℕ)
   pub line : List ℕ
   pub later : List (List ℕ)
@@ -173,7 +174,7 @@ pub record FailsAssembly (lines : List (List ℕ)) (n : ℕ) : Type 0 where
   pub said : List Said
   pub right : AreRight lines before said
   pub wrong : (more : List Said) → AreRight lines (before ++ line ∷ []) more → ⊥
-  pub number : n ≡ length before + 1
+  pub number : line_number ≡ length before + 1
 
 -- ---- its code
 
@@ -187,10 +188,11 @@ pub record IsPlaced (said : List Said) (name : List ℕ) (place : ℕ) : Type 0 
 -- the bytes of code that a line makes, among all lines
 abbrev pub Makes : List Said → Said → List ℕ → Type 0
 Makes all (says.Label name) bytes = bytes ≡ []
-Makes all (says.Whole i) bytes = bytes ≡ instruction_format.spelling i
+Makes all (says.Whole it) bytes = bytes ≡ instruction_format.spelling it
 Makes all (says.JumpTo kind name) bytes =
     (place : ℕ) × IsPlaced all name place × (bytes ≡ instruction_format.spelling (jump_to kind place))
 
+-- the bytes of a line, as they are
 abbrev pub piece : List ℕ → List ℕ
 piece bytes = bytes
 
@@ -208,8 +210,8 @@ pub record Assembles (text code : List ℕ) : Type 0 where
   pub has : HasLines text lines
   pub stands : IsAssembly lines code
 
--- line n of a text is the first that is wrong
-pub record AssemblyFailsAt (text : List ℕ) (n : ℕ) : Type 0 where
+-- the line with this number is the first of a text that is wrong
+pub record AssemblyFailsAt (text : List ℕ) (line_number : ℕ) : Type 0 where
   pub lines : List (List ℕ)
   pub has : HasLines text lines
-  pub fails : FailsAssembly lines n
+  pub fails : FailsAssembly lines line_number

@@ -1,7 +1,6 @@
 -- How far a text is read and checked, in terms of what its lines say.
-use Rattle.std.specs.Prelude.{◌≡◌, ◌⊎◌, ℕ, ◌+◌, ◌<◌, ◌≤◌, List, [], ◌∷◌, ◌++◌, length, take, All, flat_map}
-use Rattle.std.specs.Prelude.{sum_by, IsTrue, true}
-use Rattle.std.specs.Prelude.{Result, Ok, Err}
+use Rattle.std.specs.Prelude.{◌≡◌, ◌⊎◌, ℕ, ◌+◌, ◌<◌, ◌≤◌, List, [], ◌∷◌, ◌++◌, length, take, All}
+use Rattle.std.specs.Prelude.{flat_map, sum_by, IsTrue, true, Result, Ok, Err}
 use Rattle.std.specs.List.{AllZip, list_any}
 use Rattle.std.specs.Global.{Vec}
 use Rattle.mb_bytes.specs.Puts.{Appends}
@@ -18,7 +17,8 @@ pub record ReadsTo (text : List ℕ) (said : List Said) (rest : List ℕ) : Type
   pub front : List (List ℕ)
   pub worded : AllZip SaysLine front said
   pub forward : (more : List (List ℕ)) → HasLines rest more → HasLines text (front ++ more)
-  pub stops : (line : List ℕ) (later : List (List ℕ)) → HasLines rest (line ∷ later) → (s : Said) → SaysLine line s → ⊥
+  pub stops : (line : List ℕ) (later : List (List ℕ)) → HasLines rest (line ∷ later)
+      → (meaning : Said) → SaysLine line meaning → ⊥
   pub few : length said + length rest ≤ length text
 
 -- a line of a text gives the label

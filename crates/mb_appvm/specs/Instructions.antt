@@ -38,7 +38,7 @@ plain_byte plain.Emit = 0x42
 
 -- the first byte of an instruction
 abbrev pub opcode_byte : Opcode → ℕ
-opcode_byte (opcode.Plain p) = plain_byte p
+opcode_byte (opcode.Plain kind) = plain_byte kind
 opcode_byte opcode.Push = 0x01
 opcode_byte opcode.Jump = 0x20
 opcode_byte opcode.JumpZero = 0x21
@@ -61,8 +61,8 @@ opcode_rows =
 
 -- an instruction without its operand
 abbrev pub opcode_of : Instruction → Opcode
-opcode_of (instruction.Plain p) = opcode.Plain p
-opcode_of (instruction.Push n) = opcode.Push
+opcode_of (instruction.Plain kind) = opcode.Plain kind
+opcode_of (instruction.Push number) = opcode.Push
 opcode_of (instruction.Jump to) = opcode.Jump
 opcode_of (instruction.JumpZero to) = opcode.JumpZero
 opcode_of (instruction.Call to) = opcode.Call
@@ -70,7 +70,7 @@ opcode_of (instruction.Get name) = opcode.Get
 
 -- the operand of an instruction of each kind, if it is of that kind
 abbrev pub pushed_in : Instruction → Option ℕ
-pushed_in (instruction.Push n) = Some n
+pushed_in (instruction.Push number) = Some number
 pushed_in _ = None
 
 abbrev pub jump_in : Instruction → Option ℕ
@@ -91,7 +91,7 @@ name_in _ = None
 
 -- what follows the first byte: nothing, a number, or a name after its length
 abbrev pub instruction_by : Opcode → Format Instruction
-instruction_by (opcode.Plain p) = nothing (instruction.Plain p)
+instruction_by (opcode.Plain kind) = nothing (instruction.Plain kind)
 instruction_by opcode.Push = as_value (number w32) instruction.Push pushed_in
 instruction_by opcode.Jump = as_value (number w16) instruction.Jump jump_in
 instruction_by opcode.JumpZero = as_value (number w16) instruction.JumpZero jump_zero_in
@@ -104,4 +104,4 @@ instruction_format = led (table w8 opcode_rows opcode_byte) opcode_of instructio
 
 -- the instruction stands at a place of a code, and the next place is the first after it
 abbrev pub Stands : List ℕ → ℕ → Instruction → ℕ → Type 0
-Stands code place i next = SpelledAt instruction_format.spelling instruction_format.Allowed code place i next
+Stands code place it next = SpelledAt instruction_format.spelling instruction_format.Allowed code place it next

@@ -10,7 +10,7 @@ use Rattle.mb_appvm.specs.Assembly.{line_of, Assembles, AssemblyFailsAt}
 
 -- the line of an instruction, with a jump's place as a number
 abbrev pub instruction_line : Instruction → List ℕ
-instruction_line i = line_of (says.Whole i)
+instruction_line it = line_of (says.Whole it)
 
 -- these instructions as bytes, one after another
 abbrev pub bytes_of : List Instruction → List ℕ
@@ -31,7 +31,7 @@ pub record LacksInstruction (code : List ℕ) (place : ℕ) : Type 0 where
   pub split : code ≡ bytes_of listed ++ rest
   pub here : place ≡ length (bytes_of listed)
   pub some : rest ≢ []
-  pub none : (i : Instruction) (next : ℕ) → Stands code place i next → ⊥
+  pub none : (it : Instruction) (next : ℕ) → Stands code place it next → ⊥
 
 -- the text of a code was written, or no instruction stands at a place; of a failed allocation nothing is said
 abbrev pub DisassemblesTo : List ℕ → Result (List ℕ) DisasmEnd → Type 0
@@ -44,13 +44,14 @@ DisassemblesTo code (Err end.NoMemory) = Unit {0}
 -- a text stands for one code, or one line of it is the first that is wrong; never two of either, never both
 pub record AssembliesAreClear : Type 0 where
   pub one_code : (text a b : List ℕ) → Assembles text a → Assembles text b → a ≡ b
-  pub one_line : (text : List ℕ) (m n : ℕ) → AssemblyFailsAt text m → AssemblyFailsAt text n → m ≡ n
-  pub never_both : (text code : List ℕ) (n : ℕ) → Assembles text code → AssemblyFailsAt text n → ⊥
+  pub one_line : (text : List ℕ) (first second : ℕ) → AssemblyFailsAt text first → AssemblyFailsAt text second
+      → first ≡ second
+  pub never_both : (text code : List ℕ) (line : ℕ) → Assembles text code → AssemblyFailsAt text line → ⊥
 
 -- the text of a code stands for that code and no other, and no line of it is wrong
 pub record ListingsAssemble : Type 0 where
   pub again : (code text : List ℕ) → length code ≤ 32768 → IsListing code text → Assembles text code
-  pub alone : (code text other : List ℕ)
-      → length code ≤ 32768 → IsListing code text → Assembles text other → other ≡ code
-  pub never_wrong : (code text : List ℕ) (n : ℕ)
-      → length code ≤ 32768 → IsListing code text → AssemblyFailsAt text n → ⊥
+  pub alone : (code text other : List ℕ) → length code ≤ 32768 → IsListing code text → Assembles text other
+      → other ≡ code
+  pub never_wrong : (code text : List ℕ) (line : ℕ) → length code ≤ 32768 → IsListing code text
+      → AssemblyFailsAt text line → ⊥

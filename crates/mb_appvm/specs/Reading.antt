@@ -5,7 +5,7 @@ use Rattle.mb_appvm.specs.declared.lines.Said.{Said}
 use Rattle.mb_appvm.specs.Assembly.{keyword_of, operand_of, IsSayable}
 
 -- what a line says that has this keyword, and this operand or none
-pub record SaysWords (keyword : Keyword) (operand : Option (List ℕ)) (s : Said) : Type 0 where
-  pub sayable : IsSayable s
-  pub begins : keyword_of s ≡ keyword
-  pub ends : operand_of s ≡ operand
+pub record SaysWords (keyword : Keyword) (operand : Option (List ℕ)) (meaning : Said) : Type 0 where
+  pub sayable : IsSayable meaning
+  pub begins : keyword_of meaning ≡ keyword
+  pub ends : operand_of meaning ≡ operand

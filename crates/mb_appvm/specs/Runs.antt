@@ -1,6 +1,7 @@
 -- How a run of an application ends, and what of a device it can see.
 use Rattle.std.specs.Prelude.{◌≡◌, ℕ, zero, suc, ◌+◌, ◌==◌, nat_le, Bool, ◌&&◌, if◌then◌else◌}
 use Rattle.std.specs.Prelude.{List, [], replicate, Option, Some, None}
+use Rattle.mb_format.specs.Format.{IsBytes}
 use Rattle.mb_model.specs.declared.layer.Layers.{Layers}
 use Rattle.mb_model.specs.declared.region.Region.{Region}
 use Rattle.mb_model.specs.declared.region.Secret.{Secret}
@@ -15,26 +16,46 @@ first_state = record { place = 0; stack = []; returns = []; memory = replicate 1
 
 -- what follows from an outcome: the next machine goes on, or the run ends
 abbrev pub Leads : (AppState → Type 0) → AppState → Outcome → ℕ → AppEnd → Type 0
-Leads GoesOn m (goes next) steps e = GoesOn next
-Leads GoesOn m ends steps e = e ≡ end.Halted steps m.output
-Leads GoesOn m (traps cause) steps e = e ≡ end.Trap cause m.place m.output
+Leads GoesOn machine (goes next) steps ending = GoesOn next
+Leads GoesOn machine ends steps ending = ending ≡ end.Halted steps machine.output
+Leads GoesOn machine (traps cause) steps ending = ending ≡ end.Trap cause machine.place machine.output
 
 -- From a machine that has done so many steps, and may do so many more, a run ends so.
 unfoldable pub RunsTo : Surroundings → AppState → ℕ → ℕ → AppEnd → Type 0
-RunsTo s m steps zero e = e ≡ end.OutOfSteps m.output
-RunsTo s m steps (suc more) e =
-    (o : Outcome) × AppStep s m o × Leads (λ next. RunsTo s next (steps + 1) more e) m o (steps + 1) e
+RunsTo seen machine steps zero ending = ending ≡ end.OutOfSteps machine.output
+RunsTo seen machine steps (suc more) ending =
+    (outcome : Outcome) × AppStep seen machine outcome
+    × Leads (λ next. RunsTo seen next (steps + 1) more ending) machine outcome (steps + 1) ending
 
 -- the running layer may read this region: it is 2 or 3, not below the layer, and names a layer that may run
 abbrev pub is_readable : Layers → ℕ → ℕ → Bool
 is_readable layers layer region = is_upper region && (nat_le layer region && is_runnable layers region)
 
--- the secrets that the running layer may read, region by region
-abbrev pub readable : Layers → ℕ → Region → Region → ℕ → Option (List Secret)
-readable layers layer two three region =
+-- the secrets of a region, if the running layer may read them
+abbrev pub readable_secrets : Layers → ℕ → Region → Region → ℕ → Option (List Secret)
+readable_secrets layers layer two three region =
     if is_readable layers layer region then Some (if region == 2 then two.secrets else three.secrets) else None
 
 -- how the run of a code ends, with an input and these secrets, after at most so many steps
 abbrev pub AppRun : List ℕ → List ℕ → (ℕ → Option (List Secret)) → ℕ → AppEnd → Type 0
-AppRun code input secrets steps e =
-    RunsTo (record { code = code; input = input; secrets = secrets }) first_state 0 steps e
+AppRun code input secrets steps ending =
+    RunsTo (record { code = code; input = input; secrets = secrets }) first_state 0 steps ending
+
+-- ---- laws
+
+-- a run ends in one way
+abbrev pub RunsEndOnce : Type 0
+RunsEndOnce =
+    (code input : List ℕ) (secrets : ℕ → Option (List Secret)) (steps : ℕ) (a b : AppEnd) → IsBytes code
+    → AppRun code input secrets steps a → AppRun code input secrets steps b → a ≡ b
+
+-- Whatever stands in a region that the layer may not read changes nothing: devices that agree on the secrets that may
+-- be read have equal ends.
+abbrev pub RunsSeeNothingElse : Type 0
+RunsSeeNothingElse =
+    (layers : Layers) (layer : ℕ) (two three other_two other_three : Region)
+    (code input : List ℕ) (steps : ℕ) (a b : AppEnd) → IsBytes code
+    → ((region : ℕ)
+    → readable_secrets layers layer two three region ≡ readable_secrets layers layer other_two other_three region)
+    → AppRun code input (readable_secrets layers layer two three) steps a
+    → AppRun code input (readable_secrets layers layer other_two other_three) steps b → a ≡ b

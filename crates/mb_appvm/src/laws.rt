@@ -1,6 +1,18 @@
 //! Laws of the definitions, as the contracts of functions that do nothing.
 
+ghost use Rattle.mb_appvm.specs.Runs.{RunsEndOnce, RunsSeeNothingElse};
 ghost use Rattle.mb_appvm.specs.Listing.{AssembliesAreClear, ListingsAssemble};
+
+/// A run ends in one way. The code's numbers are bytes.
+pub fn runs_end_once()
+    ensures { RunsEndOnce }
+{}
+
+/// What stands in regions that the running layer may not read changes nothing: devices that agree on the secrets that may
+/// be read have equal ends.
+pub fn runs_see_nothing_else()
+    ensures { RunsSeeNothingElse }
+{}
 
 /// A text stands for one code, or one line of it is the first that is wrong; never two of either, never both.
 pub fn assemblies_are_clear()

@@ -1,8 +1,9 @@
-//! The application machine: what the code of layers 2 and 3 is, and what it does.
+//! The application machine: what the code of layers 2 and 3 is and does, and how it is written as text.
 //!
-//! This crate owns the machine's instructions and how each is spelled in bytes, and the run of a code on an input and
-//! the secrets that its layer may read. It stands on `mb_model`, for layers, regions and secrets, on `mb_format` and
-//! `mb_bytes`, by which instructions are spelled and read, and on `arrayvec`, which holds the stack.
+//! This crate owns the machine's instructions and their bytes, the run of a code on an input and on the secrets that its
+//! layer may read, the assembler and the disassembler. It stands on `mb_model`, for layers, regions and secrets, on
+//! `mb_format` and `mb_bytes`, by which instructions are spelled and read, on `mb_words` and `mb_lemmas` for lines, on
+//! `arrayvec`, which holds the stack, and on `itoa`; its tests stand on `hex`.
 #![tactic(auto)]
 
 mod assembling;
@@ -25,7 +26,7 @@ pub use assembling::{AsmEnd, assemble};
 pub use disassembling::{DisasmEnd, disassemble};
 pub use instruction::{Instruction, Name, Opcode, Operation, Plain};
 pub use keyword::{Jump, Keyword};
-pub use laws::{assemblies_are_clear, listings_assemble};
+pub use laws::{assemblies_are_clear, listings_assemble, runs_end_once, runs_see_nothing_else};
 pub use lines::Said;
 pub use running::{AppEnd, run_app};
 pub use trap::Trap;

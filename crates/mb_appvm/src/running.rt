@@ -1,7 +1,7 @@
 //! The run of an application.
 
 ghost use Rattle.std.specs.Prelude.{◌≤◌, length, IfOk};
-ghost use Rattle.mb_appvm.specs.Runs.{readable, RunsTo, AppRun};
+ghost use Rattle.mb_appvm.specs.Runs.{readable_secrets, RunsTo, AppRun};
 ghost use Rattle.mb_appvm.specs.Acting.{state_of, surroundings_of, end_of};
 
 use crate::environment::Environment;
@@ -47,7 +47,7 @@ pub fn run_app(
 ) -> Result<AppEnd, NoMemory>
     requires code { length code.now ≤ 4194304 }
     requires input { length input.now ≤ 4194304 }
-    ensures { IfOk result (AppRun code.now input.now (readable layers.now layer two.now three.now) steps) }
+    ensures { IfOk result (AppRun code.now input.now (readable_secrets layers.now layer two.now three.now) steps) }
 {
     let environment = Environment {
         code,

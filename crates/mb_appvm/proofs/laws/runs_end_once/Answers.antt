@@ -1,0 +1,5 @@
+use Rattle.mb_appvm.proofs.Determined.{runs_end_once}
+use Rattle.mb_appvm.proofs.laws.runs_end_once.Goals as goal
+
+pub returns : goal.returns
+returns c = runs_end_once
