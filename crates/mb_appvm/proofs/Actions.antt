@@ -9,7 +9,7 @@ use Rattle.mb_appvm.specs.declared.machine.Step.{Step}
 use Rattle.mb_appvm.specs.declared.machine.Step.TheVariants as step
 use Rattle.mb_appvm.specs.declared.trap.Trap.TheVariants as trap
 use Rattle.mb_appvm.specs.Instructions.{Stands}
-use Rattle.mb_appvm.specs.Application.{AppState, Surroundings, goes, ends, traps, takes, leaves, AppStep, does, lacks, overflows}
+use Rattle.mb_appvm.specs.Application.{Surroundings, goes, takes, leaves, does, lacks, overflows}
 use Rattle.mb_appvm.specs.Acting.{state_of, DoesStep, DoesOn, DoesPlainOn}
 
 -- no value is taken and none is left

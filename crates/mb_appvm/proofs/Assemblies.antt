@@ -1,16 +1,15 @@
 -- A text that was read and checked, as a whole.
-use Rattle.std.proofs.Common.{◌≡◌, ℕ, zero, suc, ◌+◌, ◌<◌, ◌≤◌, ◌⊎◌, inl, inr, List, [], ◌∷◌, ◌++◌, length, take, drop, get_or, Bool, true, false, refl, sym, ap, subst, ◌∙◌, arith, append_assoc, append-nil, length-append, length-take}
+use Rattle.std.proofs.Common.{◌≡◌, ℕ, zero, suc, ◌+◌, ◌<◌, ◌≤◌, ◌⊎◌, inl, inr, List, [], ◌∷◌, ◌++◌, length, take, drop, get_or, Bool, true, false, refl, sym, ap, subst, ◌∙◌, arith, append_assoc, append-nil, length-take}
 use Rattle.std.specs.Prelude.{All, sum_by, ◌||◌}
 use Rattle.std.specs.List.{AllZip, list_any}
-use Rattle.std.proofs.lemmas.Bool.{false≢true}
 use Rattle.std.proofs.lemmas.List.{take_more, take-append-drop, take_all}
 use Rattle.std.proofs.lemmas.List.Elements.{All-nil, All-cons, All-weaker}
 use Rattle.mb_model.specs.Lines.{HasLines}
 use Rattle.mb_lemmas.proofs.LineLemmas.{HasLines-none, HasLines-nil, HasLines-same, HasLines-always}
 use Rattle.mb_appvm.specs.declared.lines.Said.{Said}
 use Rattle.mb_appvm.specs.declared.lines.Said.TheVariants as says
-use Rattle.mb_appvm.specs.Assembly.{SaysLine, IsSayable, size_of, is_label, GivesLabel, HasTarget, LabelsDiffer, AreRight, FailsAssembly, Makes, IsAssembly, Assembles, AssemblyFailsAt}
-use Rattle.mb_appvm.specs.Checking.{ReadsTo, TextGives, IsTarget, IsGiven, AreSound, CountsSound, IsCode}
+use Rattle.mb_appvm.specs.Assembly.{SaysLine, IsSayable, size_of, is_label, GivesLabel, HasTarget, AreRight, Assembles, AssemblyFailsAt}
+use Rattle.mb_appvm.specs.Checking.{ReadsTo, IsTarget, IsGiven, AreSound, CountsSound, IsCode}
 use Rattle.mb_appvm.proofs.Labels.{is_label-true, same_bytes-refl, none_given}
 use Rattle.mb_appvm.proofs.Words.{SaysLine-same}
 

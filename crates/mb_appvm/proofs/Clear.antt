@@ -1,19 +1,17 @@
 -- A text is assembled in one way, or wrong at one line.
-use Rattle.std.proofs.Common.{◌≡◌, ℕ, zero, suc, ◌+◌, ◌<◌, ◌≤◌, inl, inr, List, [], ◌∷◌, ◌++◌, length, take, Bool, true, false, refl, sym, ap, subst, ◌∙◌, arith, append_assoc, length-append}
-use Rattle.std.specs.Prelude.{All, sum_by, flat_map, ◌||◌}
+use Rattle.std.proofs.Common.{◌≡◌, ℕ, zero, suc, ◌<◌, inl, inr, List, [], ◌∷◌, ◌++◌, length, take, Bool, true, false, refl, sym, ap, subst, ◌∙◌, arith, append_assoc}
+use Rattle.std.specs.Prelude.{sum_by, flat_map, ◌||◌}
 use Rattle.std.specs.List.{AllZip, list_any}
 use Rattle.std.proofs.lemmas.Bool.{false≢true, cases_order}
 use Rattle.std.proofs.lemmas.List.{take_at}
 use Rattle.std.proofs.lemmas.List.Elements.{All-take}
 use Rattle.std.proofs.lemmas.List.Sums.{sum_by-take-le}
-use Rattle.mb_model.specs.Lines.{HasLines}
 use Rattle.mb_lemmas.proofs.LineLemmas.{HasLines-same, cons_same}
-use Rattle.mb_appvm.specs.declared.keyword.Jump.{Jump}
 use Rattle.mb_appvm.specs.declared.lines.Said.{Said}
 use Rattle.mb_appvm.specs.declared.lines.Said.TheVariants as says
 use Rattle.mb_appvm.specs.Instructions.{instruction_format}
-use Rattle.mb_appvm.specs.Assembly.{SaysLine, jump_to, size_of, is_label, IsNew, LabelsDiffer, HasTarget, AreRight, FailsAssembly, IsPlaced, Makes, piece, IsAssembly, Assembles, AssemblyFailsAt}
-use Rattle.mb_appvm.specs.Listing.{IsListing, AssembliesAreClear, ListingsAssemble}
+use Rattle.mb_appvm.specs.Assembly.{SaysLine, jump_to, size_of, is_label, IsNew, LabelsDiffer, HasTarget, AreRight, FailsAssembly, IsPlaced, Makes, piece, IsAssembly}
+use Rattle.mb_appvm.specs.Listing.{AssembliesAreClear, ListingsAssemble}
 use Rattle.mb_appvm.proofs.Labels.{same_bytes-refl}
 use Rattle.mb_appvm.proofs.Soundness.{or_parts}
 use Rattle.mb_appvm.proofs.Assemblies.{said_unique, zip_take}

@@ -1,22 +1,19 @@
 -- A run ends in one way, whatever stands where it may not read.
-use Rattle.std.proofs.Common.{◌≡◌, ℕ, zero, suc, ◌+◌, ◌<◌, ◌≤◌, ◌⊎◌, inl, inr, List, [], ◌∷◌, ◌++◌, length, Option, Some, None, refl, sym, ap, subst, ◌∙◌, arith, length-append}
+use Rattle.std.proofs.Common.{◌≡◌, ℕ, zero, suc, ◌+◌, ◌⊎◌, inl, inr, List, [], ◌∷◌, ◌++◌, length, Option, Some, None, refl, sym, ap, subst, ◌∙◌, arith, length-append}
 use Rattle.std.specs.Prelude.{find}
 use Rattle.std.proofs.lemmas.List.{same_from_push}
 use Rattle.mb_format.specs.Format.{IsBytes}
 use Rattle.mb_format.proofs.Exact.{IsClear-from_exact}
-use Rattle.mb_model.specs.declared.layer.Layers.{Layers}
-use Rattle.mb_model.specs.declared.region.Region.{Region}
 use Rattle.mb_model.specs.declared.region.Secret.{Secret}
 use Rattle.mb_model.specs.LayerEvents.{has_name}
 use Rattle.mb_appvm.specs.declared.instruction.Plain.{Plain}
 use Rattle.mb_appvm.specs.declared.instruction.Plain.TheVariants as plain
 use Rattle.mb_appvm.specs.declared.instruction.Instruction.{Instruction}
 use Rattle.mb_appvm.specs.declared.instruction.Instruction.TheVariants as instruction
-use Rattle.mb_appvm.specs.declared.trap.Trap.{Trap}
 use Rattle.mb_appvm.specs.declared.running.AppEnd.{AppEnd}
-use Rattle.mb_appvm.specs.Instructions.{instruction_format, Stands}
+use Rattle.mb_appvm.specs.Instructions.{Stands}
 use Rattle.mb_appvm.specs.Application.{AppState, Surroundings, Outcome, goes, ends, traps, takes, leaves, DoesCopy, DoesGet, DoesPlain, Does, AppStep, unknown, lacks, overflows, does}
-use Rattle.mb_appvm.specs.Runs.{first_state, Leads, RunsTo, readable_secrets, AppRun, RunsEndOnce, RunsSeeNothingElse}
+use Rattle.mb_appvm.specs.Runs.{first_state, Leads, RunsTo, readable_secrets, RunsEndOnce, RunsSeeNothingElse}
 use Rattle.mb_appvm.proofs.Instructions.{instruction_exact}
 
 -- ---- what an instruction does is one thing

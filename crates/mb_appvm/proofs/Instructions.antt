@@ -1,5 +1,5 @@
 -- Instructions are read exactly.
-use Rattle.std.proofs.Common.{◌≡◌, ℕ, List, Option, Some, refl, ap, arith, rules}
+use Rattle.std.proofs.Common.{◌≡◌, ℕ, List, Some, refl, ap, arith, rules}
 use Rattle.std.specs.Int.{w8}
 use Rattle.mb_format.specs.Reading.{IsExact}
 use Rattle.mb_format.proofs.Rules.{exactly}

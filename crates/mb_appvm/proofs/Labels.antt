@@ -1,15 +1,14 @@
 -- Labels among lines and in texts.
-use Rattle.std.proofs.Common.{◌≡◌, ◌==◌, ℕ, ◌+◌, ◌<◌, ◌≤◌, ◌⊎◌, ◌↔◌, inl, inr, List, [], ◌∷◌, ◌++◌, length, Bool, true, false, refl, sym, ap, subst, ◌∙◌, arith}
-use Rattle.std.specs.Prelude.{IsTrue, Option, Some, None}
+use Rattle.std.proofs.Common.{◌≡◌, ◌==◌, ℕ, ◌<◌, ◌⊎◌, ◌↔◌, inl, inr, List, [], ◌∷◌, length, Bool, true, false, refl, sym, ap, subst, ◌∙◌}
+use Rattle.std.specs.Prelude.{IsTrue}
 use Rattle.std.specs.Str.{bytes_eq}
 use Rattle.std.proofs.lemmas.Bool.{false≢true, eq-eqb}
 use Rattle.mb_format.specs.Combinators.{same_bytes}
 use Rattle.mb_format.proofs.Fields.{same_bytes-true}
 use Rattle.mb_model.specs.Lines.{HasLines}
-use Rattle.mb_lemmas.proofs.LineLemmas.{HasLines-same, HasLines-always, HasLines-nil, cons_same}
+use Rattle.mb_lemmas.proofs.LineLemmas.{HasLines-same, HasLines-always, HasLines-nil}
 use Rattle.mb_words.specs.Words.{SplitsLine}
 use Rattle.mb_words.proofs.NextLines.{with_line}
-use Rattle.mb_appvm.specs.declared.instruction.Instruction.{Instruction}
 use Rattle.mb_appvm.specs.declared.lines.Said.{Said}
 use Rattle.mb_appvm.specs.declared.lines.Said.TheVariants as says
 use Rattle.mb_appvm.specs.Assembly.{SaysLine, is_label, GivesLabel}

@@ -1,6 +1,6 @@
 -- How far a code has been listed, and what its text stands for.
-use Rattle.std.proofs.Common.{◌≡◌, ◌≢◌, ℕ, ◌+◌, ◌-◌, ◌<◌, ◌≤◌, inl, inr, List, [], ◌∷◌, ◌++◌, length, take, drop, map, refl, sym, ap, subst, ◌∙◌, arith, append_assoc, append-nil, length-append, length-take, length-drop}
-use Rattle.std.specs.Prelude.{All, flat_map, sum_by, Option, Some, None}
+use Rattle.std.proofs.Common.{◌≡◌, ◌≢◌, ℕ, ◌+◌, ◌-◌, ◌<◌, ◌≤◌, inl, List, [], ◌∷◌, ◌++◌, length, take, drop, map, refl, sym, ap, ◌∙◌, arith, append_assoc, length-append, length-take, length-drop}
+use Rattle.std.specs.Prelude.{All, flat_map, sum_by}
 use Rattle.std.specs.List.{AllZip}
 use Rattle.std.specs.Fmt.{decimal}
 use Rattle.std.proofs.lemmas.List.{take-append-drop, take_all, take_at, flat_map_more}
@@ -8,15 +8,14 @@ use Rattle.std.proofs.lemmas.List.Elements.{All-nil, All-cons, All-head, All-tai
 use Rattle.std.proofs.lemmas.List.Concat.{flat_map-cons}
 use Rattle.std.proofs.lemmas.List.Sums.{sum_by-cons}
 use Rattle.mb_model.specs.Texts.{ended}
-use Rattle.mb_model.specs.Lines.{IsLine, HasLines, text_of}
+use Rattle.mb_model.specs.Lines.{IsLine, text_of}
 use Rattle.mb_appvm.specs.declared.instruction.Instruction.{Instruction}
 use Rattle.mb_appvm.specs.declared.instruction.Instruction.TheVariants as instruction
 use Rattle.mb_appvm.specs.declared.keyword.Jump.TheVariants as jump
-use Rattle.mb_appvm.specs.declared.keyword.Keyword.{Keyword}
 use Rattle.mb_appvm.specs.declared.lines.Said.{Said}
 use Rattle.mb_appvm.specs.declared.lines.Said.TheVariants as says
 use Rattle.mb_appvm.specs.Instructions.{instruction_format, Stands}
-use Rattle.mb_appvm.specs.Assembly.{keyword_word, keyword_of_instruction, operand_of_instruction, line_of_words, SaysLine, size_of, HasTarget, LabelsDiffer, Makes, piece, Assembles}
+use Rattle.mb_appvm.specs.Assembly.{keyword_word, keyword_of_instruction, SaysLine, size_of, HasTarget, LabelsDiffer, Makes, piece, Assembles}
 use Rattle.mb_appvm.specs.Listing.{instruction_line, bytes_of, IsListing, LacksInstruction}
 use Rattle.mb_appvm.proofs.Sizes.{size_plain, size_push, size_jump, size_get}
 use Rattle.mb_appvm.proofs.Words.{Above, keyword_above, decimal_above, push_fits, jump_fits, get_named}

@@ -1,7 +1,6 @@
 -- How far a run has come.
-use Rattle.std.proofs.Common.{◌≡◌, ℕ, zero, suc, ◌+◌, ◌-◌, ◌<◌, refl, sym, ap, subst, ◌∙◌, arith}
+use Rattle.std.proofs.Common.{◌≡◌, ℕ, zero, suc, ◌+◌, ◌-◌, ◌<◌, refl, sym, subst, arith}
 use Rattle.mb_appvm.specs.declared.machine.Machine.{Machine}
-use Rattle.mb_appvm.specs.declared.machine.Step.{Step}
 use Rattle.mb_appvm.specs.declared.machine.Step.TheVariants as step
 use Rattle.mb_appvm.specs.declared.trap.Trap.{Trap}
 use Rattle.mb_appvm.specs.declared.running.AppEnd.{AppEnd}

@@ -1,8 +1,7 @@
 -- How many bytes instructions have.
-use Rattle.std.proofs.Common.{◌≡◌, ℕ, ◌+◌, List, length, refl, sym, ap, subst, ◌∙◌, arith}
+use Rattle.std.proofs.Common.{◌≡◌, ℕ, ◌+◌, List, length, refl, arith}
 use Rattle.mb_format.specs.Combinators.{number_bytes}
 use Rattle.mb_appvm.specs.declared.instruction.Plain.{Plain}
-use Rattle.mb_appvm.specs.declared.instruction.Instruction.{Instruction}
 use Rattle.mb_appvm.specs.declared.instruction.Instruction.TheVariants as instruction
 use Rattle.mb_appvm.specs.declared.keyword.Jump.{Jump}
 use Rattle.mb_appvm.specs.declared.keyword.Jump.TheVariants as jump

@@ -1,10 +1,9 @@
 -- The words of lines: which keyword a word is, and what a line with a keyword and an operand says.
-use Rattle.std.proofs.Common.{◌≡◌, ℕ, ◌+◌, ◌%◌, ◌<◌, ◌≤◌, ◌^◌, ◌⊎◌, inl, inr, List, [], ◌∷◌, ◌++◌, length, Option, Some, None, refl, sym, ap, subst, ◌∙◌, arith}
+use Rattle.std.proofs.Common.{◌≡◌, ℕ, ◌+◌, ◌%◌, ◌<◌, ◌≤◌, ◌^◌, ◌⊎◌, inl, inr, List, [], ◌∷◌, length, Option, Some, None, refl, sym, ap, subst, ◌∙◌, arith}
 use Rattle.std.specs.Prelude.{codes, All, Bool, true, false, cond, nat_lt, nat_le, ◌&&◌}
 use Rattle.std.specs.List.{list_all}
 use Rattle.std.proofs.lemmas.Bool.{ltb-true, le-leb, leb-true}
 use Rattle.std.specs.Fmt.{decimal}
-use Rattle.std.specs.Int.{w8, w16, w32}
 use Rattle.std.proofs.lemmas.Fmt.{decimal_by_steps, decimal_injective, decimal_nonempty}
 use Rattle.std.proofs.lemmas.List.Elements.{All-nil, All-cons, All-head, All-tail, All-append, All-weaker}
 use Rattle.mb_format.specs.Combinators.{same_bytes}
@@ -26,7 +25,7 @@ use Rattle.mb_appvm.specs.declared.lines.Said.TheVariants as says
 use Rattle.mb_words.specs.Words.{FindsSome}
 use Rattle.mb_appvm.specs.Instructions.{instruction_format}
 use Rattle.mb_appvm.specs.Reading.{SaysWords}
-use Rattle.mb_appvm.specs.Assembly.{operation_word, plain_word, jump_word, keyword_word, jump_to, keyword_of_instruction, operand_of_instruction, keyword_of, operand_of, line_of_words, line_of, IsLabelName, IsSayable, SaysLine}
+use Rattle.mb_appvm.specs.Assembly.{keyword_word, jump_to, keyword_of, operand_of, line_of_words, IsLabelName, IsSayable, SaysLine}
 
 -- ---- keywords
 

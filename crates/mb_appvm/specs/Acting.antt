@@ -1,5 +1,5 @@
 -- What the code's machine stands for, and what acting on its stack leaves.
-use Rattle.std.specs.Prelude.{◌≡◌, ℕ, ◌+◌, ◌<◌, ◌≤◌, List, [], ◌∷◌, ◌++◌, length, find, Option, Some, None}
+use Rattle.std.specs.Prelude.{◌≡◌, ℕ, List, ◌++◌, length, find, Option, Some, None}
 use Rattle.mb_model.specs.declared.region.Secret.{Secret}
 use Rattle.mb_model.specs.LayerEvents.{has_name}
 use Rattle.mb_appvm.specs.declared.instruction.Instruction.{Instruction}

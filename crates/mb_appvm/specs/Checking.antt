@@ -1,5 +1,5 @@
 -- How far a text is read and checked, in terms of what its lines say.
-use Rattle.std.specs.Prelude.{◌≡◌, ◌⊎◌, ℕ, ◌+◌, ◌<◌, ◌≤◌, List, [], ◌∷◌, ◌++◌, length, take, All}
+use Rattle.std.specs.Prelude.{◌≡◌, ◌⊎◌, ℕ, ◌+◌, ◌<◌, ◌≤◌, List, ◌∷◌, ◌++◌, length, take, All}
 use Rattle.std.specs.Prelude.{flat_map, sum_by, IsTrue, true, Result, Ok, Err}
 use Rattle.std.specs.List.{AllZip, list_any}
 use Rattle.std.specs.Global.{Vec}
@@ -30,7 +30,7 @@ pub record TextGives (text name : List ℕ) : Type 0 where
 -- the label to which a line jumps is among the lines, or in the rest of the text
 abbrev pub IsTarget : List Said → List ℕ → Said → Type 0
 IsTarget all rest (says.Label name) = Unit {0}
-IsTarget all rest (says.Whole i) = Unit {0}
+IsTarget all rest (says.Whole it) = Unit {0}
 IsTarget all rest (says.JumpTo kind name) = IsTrue (list_any (is_label name) all) ⊎ TextGives rest name
 
 -- the first lines are right, among all and a rest
@@ -48,7 +48,7 @@ pub record CountsSound (all : List Said) (rest : List ℕ) (count : ℕ) : Type 
 -- the label to which a line jumps is among the lines
 abbrev pub IsGiven : List Said → Said → Type 0
 IsGiven all (says.Label name) = Unit {0}
-IsGiven all (says.Whole i) = Unit {0}
+IsGiven all (says.Whole it) = Unit {0}
 IsGiven all (says.JumpTo kind name) = list_any (is_label name) all ≡ true
 
 -- the bytes that a line makes were appended; of a failed allocation nothing is said

@@ -33,10 +33,11 @@ impl From<NoMemory> for AsmEnd {
     }
 }
 
-/// The code of an assembler text. A line is `label NAME`, or the name of an instruction with its operand; lines end with
-/// LF, which the last may lack. The text has at most 4,194,304 bytes.
+/// The code of an assembler text, at most 32,768 bytes. A line is `label NAME`, or the name of an instruction with its
+/// operand; lines end with LF, which the last may lack. The text has at most 4,194,304 bytes.
 ///
-/// Errors: `BadLine` with the first line that is wrong, and `NoMemory`.
+/// Errors: `BadLine` with the first line that is wrong, and `NoMemory`, of which no clause says when it comes: the tests
+/// assemble where there is enough.
 pub fn assemble(alloc: Global, text: &[u8]) -> Result<Bytes, AsmEnd>
     requires { length text.now ≤ 4194304 }
     ensures assembled { AssemblesTo text.now result }

@@ -35,10 +35,11 @@ impl From<NoMemory> for DisasmEnd {
     }
 }
 
-/// The text of a code: a line for each instruction, numbers in decimal, jumps by the number of their place. It assembles
-/// to the same code. The code has at most 32,768 bytes.
+/// The text of a code: a line for each instruction, numbers in decimal, jumps by the number of their place. It
+/// assembles to the same code. The code has at most 32,768 bytes.
 ///
-/// Errors: `NoInstruction` with the first place at which no whole instruction stands, and `NoMemory`.
+/// Errors: `NoInstruction` with the first place at which no whole instruction stands, and `NoMemory`, of which no clause
+/// says when it comes: the tests disassemble where there is enough.
 pub fn disassemble(alloc: Global, code: &[u8]) -> Result<Bytes, DisasmEnd>
     requires { length code.now ≤ 32768 }
     ensures written { DisassemblesTo code.now result }

@@ -8,8 +8,8 @@ pub fn runs_end_once()
     ensures { RunsEndOnce }
 {}
 
-/// What stands in regions that the running layer may not read changes nothing: devices that agree on the secrets that may
-/// be read have equal ends.
+/// What stands in regions that the running layer may not read changes nothing: devices that agree on the secrets that
+/// may be read have equal ends. The code's numbers are bytes.
 pub fn runs_see_nothing_else()
     ensures { RunsSeeNothingElse }
 {}

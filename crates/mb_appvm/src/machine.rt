@@ -2,7 +2,8 @@
 
 ghost use Rattle.std.specs.Prelude.{◌≡◌, ◌+◌, ◌<◌, ◌≤◌, ◌++◌, ◌∷◌, [], ℕ, length};
 ghost use Rattle.arrayvec.specs.ArrayVec.{array_vec_len};
-ghost use Rattle.mb_appvm.specs.Application.{Surroundings, takes, leaves, plain_takes, plain_leaves};
+ghost use Rattle.mb_appvm.specs.Application.{Surroundings, takes, leaves};
+ghost use Rattle.mb_appvm.specs.Application.{plain_takes, plain_leaves};
 ghost use Rattle.mb_appvm.specs.Runs.{first_state};
 ghost use Rattle.mb_appvm.specs.Acting.{state_of, surroundings_of, DoesStep, DoesOn};
 ghost use Rattle.mb_appvm.specs.declared.instruction.Instruction.TheVariants as instruction;

@@ -31,10 +31,11 @@ pub enum AppEnd {
 }
 
 /// Runs a code on an input, as the code of a layer of a device with these layers and these regions of layers 2 and 3,
-/// for at most `steps` steps; an executed instruction is a step, also one that ends the run. The code and the input have
-/// at most 4,194,304 bytes each.
+/// for at most `steps` steps; an executed instruction is a step, also one that ends the run. The code and the input
+/// have at most 4,194,304 bytes each.
 ///
-/// Errors: `NoMemory`, if there is none for the output.
+/// Errors: `NoMemory`, if there is none for the output, of which no clause says when it comes: the tests run codes where
+/// there is enough.
 pub fn run_app(
     alloc: Global,
     code: &[u8],

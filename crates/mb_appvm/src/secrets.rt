@@ -1,6 +1,7 @@
 //! What `get` does.
 
-ghost use Rattle.std.specs.Prelude.{◌≡◌, ◌↔◌, ◌+◌, ◌<◌, ◌≤◌, ◌++◌, position, take, drop, length, IsTrue, IfSome, MatchOption};
+ghost use Rattle.std.specs.Prelude.{◌≡◌, ◌↔◌, ◌+◌, ◌<◌, ◌≤◌, ◌++◌, position, take, drop, length};
+ghost use Rattle.std.specs.Prelude.{IsTrue, IfSome, MatchOption};
 ghost use Rattle.arrayvec.specs.ArrayVec.{array_vec_len};
 ghost use Rattle.mb_model.specs.LayerEvents.{has_name};
 ghost use Rattle.mb_appvm.specs.Acting.{surroundings_of, DoesOn, LacksSecret, HasSecret};

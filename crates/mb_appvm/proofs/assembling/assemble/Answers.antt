@@ -1,11 +1,11 @@
-use Rattle.std.proofs.Common.{◌≡◌, ◌<◌, ◌≤◌, List, ℕ, length, arith, sym, ap, subst, ◌∙◌}
+use Rattle.std.proofs.Common.{◌<◌, List, ℕ, length, arith, sym, ap, subst, ◌∙◌}
 use Rattle.std.specs.Prelude.{All}
 use Rattle.std.proofs.lemmas.Bool.{eqb-true, eqb-false}
 use Rattle.std.proofs.lemmas.List.{nil_from_length}
 use Rattle.mb_appvm.specs.declared.lines.Said.{Said}
 use Rattle.mb_appvm.specs.Assembly.{IsSayable, Assembles}
 use Rattle.mb_appvm.specs.Checking.{IsGiven, CountsSound, IsCode}
-use Rattle.mb_appvm.proofs.Assemblies.{wrong_within, wrong_after, all_sayable, all_given, all_short, assembled}
+use Rattle.mb_appvm.proofs.Assemblies.{wrong_within, wrong_after, all_sayable, all_given, assembled}
 use Rattle.mb_appvm.proofs.assembling.assemble.Goals as goal
 
 pub returns-then-right-len-clause-assembled : goal.returns-then-right-len-clause-assembled

@@ -1,7 +1,6 @@
 use Rattle.std.proofs.Common.{◌<◌, length, arith, sym, ◌∙◌}
-use Rattle.std.proofs.lemmas.Bool.{eqb-true, eqb-false}
-use Rattle.std.proofs.lemmas.List.{nil_from_length}
-use Rattle.mb_appvm.proofs.ReadLines.{read_one, read_stop, read_all}
+use Rattle.std.proofs.lemmas.Bool.{eqb-false}
+use Rattle.mb_appvm.proofs.ReadLines.{read_one, read_stop}
 use Rattle.mb_appvm.proofs.assembling.read_lines.Goals as goal
 
 pub returns-in-None : goal.returns-in-None

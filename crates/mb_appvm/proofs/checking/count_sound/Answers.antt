@@ -1,8 +1,6 @@
-use Rattle.std.proofs.Common.{arith, ◌≡◌, ◌<◌, ◌≤◌, ◌^◌, ◌+◌, refl, length, take, ◌∙◌}
-use Rattle.std.specs.Prelude.{sum_by}
+use Rattle.std.proofs.Common.{arith, refl}
 use Rattle.std.proofs.lemmas.Bool.{false≢true}
-use Rattle.mb_appvm.specs.Assembly.{size_of}
-use Rattle.mb_appvm.proofs.Soundness.{one_more, sizes, sound_here, sound_stop, sound_all}
+use Rattle.mb_appvm.proofs.Soundness.{one_more, sizes, sound_here, sound_stop}
 use Rattle.mb_appvm.proofs.checking.count_sound.Goals as goal
 
 pub overflow_add-size : goal.overflow_add-size

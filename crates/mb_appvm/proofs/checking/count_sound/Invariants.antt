@@ -1,4 +1,4 @@
-use Rattle.std.proofs.Common.{◌≡◌, ◌≤◌, length}
+use Rattle.std.proofs.Common.{◌≡◌}
 use Rattle.std.specs.Prelude.{take, sum_by}
 use Rattle.mb_appvm.specs.Assembly.{size_of}
 use Rattle.mb_appvm.specs.Checking.{AreSound}

@@ -1,4 +1,4 @@
-use Rattle.std.proofs.Common.{List, ℕ, arith, sym, ap, subst, ◌∙◌}
+use Rattle.std.proofs.Common.{List, ℕ, arith, sym, subst}
 use Rattle.mb_appvm.specs.Assembly.{Assembles}
 use Rattle.mb_appvm.proofs.Listings.{list_one, lacks_here, goes_down, listed_all, assembles_again}
 use Rattle.mb_appvm.proofs.disassembling.disassemble.Goals as goal

@@ -1,6 +1,4 @@
-use Rattle.std.proofs.Common.{List, ℕ, ◌∙◌, subst}
-use Rattle.std.specs.Prelude.{length}
-use Rattle.mb_format.specs.Format.{SpelledAt}
+use Rattle.std.proofs.Common.{◌∙◌}
 use Rattle.mb_appvm.proofs.Fetches.{past, there, fetched, unfetched}
 use Rattle.mb_appvm.proofs.fetching.fetch.Goals as goal
 
