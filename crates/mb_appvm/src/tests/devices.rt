@@ -1,6 +1,6 @@
 //! Devices on which codes run.
 
-use mb_model::{Bytes, Items, Layer, Layers, Region, Secret, Secrets, Trust};
+use mb_model::{Bytes, Items, Layer, Layers, Region, Secret, Secrets, Trust, Trusts};
 use std::alloc::Global;
 use std::test::Fail;
 
@@ -31,7 +31,7 @@ fn layer_of(reliable: bool) -> Layer {
         owner: None,
         code: None,
         reliable,
-        trust: Trust::Never,
+        trust: Trusts::equal(Trust::Never),
     }
 }
 
