@@ -1,12 +1,16 @@
 -- When a board takes an answer. Is what a device acknowledges already stored, and nothing more than it says?
-use Rattle.std.specs.Prelude.{◌≡◌, ◌≢◌}
+use Rattle.std.specs.Prelude.{◌≡◌, ◌≢◌, ◌⊎◌, List, ◌∷◌, ◌++◌, All}
+use Rattle.mb_model.specs.declared.event.Answered.{Answered}
 use Rattle.mb_model.specs.declared.event.Event.{Event}
+use Rattle.mb_model.specs.declared.event.Event.TheVariants.{Tamper}
 use Rattle.mb_model.specs.declared.reply.Reply.{Reply}
+use Rattle.mb_model.specs.declared.reply.Reply.TheVariants.{Booted, Stopped}
 use Rattle.mb_model.specs.Board.{Held}
 use Rattle.mb_model.specs.Clean.{Clean}
 use Rattle.mb_model.specs.Machine.{World, Step, off}
 use Rattle.mb_model.specs.Meaning.{StandsFor}
 use Rattle.mb_model.specs.Regions.{KeptRightly}
+use Rattle.mb_model.specs.Valid.{Valid}
 
 -- what a board holds shows this world: the state for which its memory stands, its phase, and whether a power loss is
 -- armed
@@ -15,14 +19,44 @@ pub record Shows (held : Held) (world : World) : Type 0 where
   pub phase : world.phase ≡ held.phase
   pub armed : world.armed ≡ held.armed
 
+-- ---- what may lie in battery-backed memory
+
+-- no secret lies in a board's battery-backed memory but those of the state that the board shows
+pub record HoldsNoOther (held : Held) : Type 0 where
+  pub world : World
+  pub shown : Shows held world
+  pub clean : Clean held.memory.bbram world.state
+
+-- When no secret may lie in battery-backed memory after an answer but those of the state. The board held the one at the
+-- answer before, and holds the other now.
+pub data HasToBeClean (standing now : Held) (event : Event) (reply : Reply) : Type 0 where
+  -- power is on
+  powered : now.phase ≢ off → HasToBeClean standing now event reply
+  -- the device was tampered with
+  zeroed : event ≡ Tamper → HasToBeClean standing now event reply
+  -- no other secret lay there before, and power did not fail
+  left : HoldsNoOther standing → reply ≢ Stopped → HasToBeClean standing now event reply
+
+-- The device booted, or was tampered with, and no power loss has stopped it since the last time.
+pub record AreWiping (answered : List Answered) : Type 0 where
+  pub sooner : List Answered
+  pub wiping : Answered
+  pub later : List Answered
+  pub split : answered ≡ sooner ++ wiping ∷ later
+  pub wipes : (wiping.reply ≡ Booted) ⊎ (wiping.event ≡ Tamper)
+  pub unstopped : All (λ a. a.reply ≢ Stopped) later
+
+-- ---- an answer
+
 -- An event may be answered so, where the board held the one at the answer before and holds the other now: one step
--- leads from the world before to the world now. While power is on, no secret lies in the memory but those of the state;
--- and each secret and key of the state was kept rightly.
+-- leads from the world before to the world now, which a device can have. Each secret and key of the state was kept
+-- rightly, and no other lies in battery-backed memory where it has to be clean.
 pub record MayAnswer (standing now : Held) (event : Event) (reply : Reply) : Type 0 where
   pub before : World
   pub after : World
   pub stood : Shows standing before
   pub shown : Shows now after
   pub step : Step before event reply after
-  pub clean : now.phase ≢ off → Clean now.memory.bbram after.state
+  pub valid : Valid after.state
+  pub clean : HasToBeClean standing now event reply → Clean now.memory.bbram after.state
   pub kept : KeptRightly after.state

@@ -2,6 +2,7 @@
 -- and what it counts.
 use Rattle.std.specs.Prelude.{ℕ, zero, suc, ◌+◌, List, [], ◌++◌, length, take, drop, replicate, Bool, true, false}
 use Rattle.std.specs.Prelude.{Option, None, Some}
+use Rattle.mb_format.specs.Format.{IsBytes}
 use Rattle.mb_model.specs.declared.event.Event.{Event}
 use Rattle.mb_model.specs.declared.event.Event.TheVariants as event
 use Rattle.mb_model.specs.declared.event.Answered.{Answered}
@@ -19,6 +20,11 @@ image_of memory = memory.flash ++ memory.bbram
 -- both memories have the lengths of a loaded board's
 abbrev pub IsLoaded : Memory → Type 0
 IsLoaded memory = AreSized memory.flash memory.bbram
+
+-- what both memories hold are bytes
+pub record AreBytes (memory : Memory) : Type 0 where
+  pub flash : IsBytes memory.flash
+  pub bbram : IsBytes memory.bbram
 
 -- the memory with these bytes from the offset at on
 unfoldable pub put : ℕ → List ℕ → List ℕ → List ℕ

@@ -30,11 +30,11 @@ pub record AttachNames : Type 0 where
 abbrev pub entries_text : ℕ → List ℕ
 entries_text n = ended (codes "entries " ++ decimal n)
 
--- a chain is written, and the number of its entries is told
+-- bytes that spell a chain are written, and the number of its entries is printed
 unfoldable pub write_entries : List ℕ → Chain → Command
-write_entries out chain =
-    write (record { role = role.Out; name = out; bytes = chain_format.spelling chain })
-    (print (entries_text (length chain.entries)))
+write_entries out chain = find (λ bytes. Spells chain_format bytes chain) (λ bytes.
+    write (record { role = role.Out; name = out; bytes = bytes })
+    (print (entries_text (length chain.entries))))
 
 -- ---- chain
 

@@ -2,6 +2,7 @@
 -- with which status?
 use Rattle.std.specs.Prelude.{◌≡◌, ◌≢◌, ℕ, ◌≤◌, ◌⊎◌, Bool, true, false, List, [], ◌++◌, length, codes, Option, Some}
 use Rattle.std.specs.Fmt.{decimal}
+use Rattle.mb_format.specs.Format.{IsBytes}
 use Rattle.mb_model.specs.declared.event.Answered.{Answered}
 use Rattle.mb_model.specs.declared.role.Role.{Role}
 use Rattle.mb_model.specs.declared.role.Role.TheVariants as role
@@ -70,7 +71,7 @@ pub data Command : Type 1 where
   find : {A : Type 0} → (A → Type 0) → (A → Command) → Command
   -- where this holds it does the first, and else the second
   either : Type 0 → Command → Command → Command
-  -- it serves the board's events, so that this holds of what was answered and of what the board holds then
+  -- it serves the board's events, so that this holds of what was answered and of what the board held at the last answer
   serve : (List Answered → Held → Type 0) → (List Answered → Held → Command) → Command
   -- it writes an output
   write : Output → Command → Command
@@ -92,7 +93,7 @@ abbrev pub at_first : Past
 at_first = record { answered = []; wrote = false }
 
 -- A command from one of its steps to its end: what is outside before the step and after the end, the events that the
--- board has answered and what it holds then, and the status.
+-- board has answered and what it held at the last answer, and the status.
 pub record Ended : Type 0 where
   pub before : Outside
   pub after : Outside
@@ -126,6 +127,7 @@ input_line role what = codes "input " ++ role_word role ++ codes " " ++ what
 -- The file of this name was read: where the host tells its files it holds these bytes, and they are not too many.
 pub record HasRead (outside : Outside) (name bytes : List ℕ) : Type 0 where
   pub held : HoldsFile outside name bytes
+  pub are_bytes : IsBytes bytes
   pub fits : length bytes ≤ file_limit
 
 -- the command ends at an input

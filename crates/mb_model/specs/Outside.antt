@@ -95,7 +95,7 @@ pub record Prints (bytes : List ℕ) (before after : Outside) : Type 0 where
   pub stays : after ≡ record before { printed = after.printed; prints = raised before.prints }
   pub adds : Adds before after bytes
 
--- the bytes could not all be printed: some of the first of them were
+-- The call that prints the bytes failed. A prefix of them was printed, which may be empty or all of them.
 pub record FailsToPrint (bytes : List ℕ) (before after : Outside) : Type 0 where
   pub stays : after ≡ record before {
     printed = after.printed;

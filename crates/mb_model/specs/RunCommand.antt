@@ -1,12 +1,12 @@
 -- What the command `run` does. Do the answers and the new image tell of one and the same run?
-use Rattle.std.specs.Prelude.{◌≡◌, ◌≢◌, ℕ, List, map, Option}
+use Rattle.std.specs.Prelude.{◌≡◌, ◌≢◌, ◌⊎◌, ℕ, List, map, Option}
 use Rattle.mb_model.specs.declared.event.Event.{Event}
 use Rattle.mb_model.specs.declared.event.Answered.{Answered}
 use Rattle.mb_model.specs.declared.role.Role.TheVariants as role
 use Rattle.mb_model.specs.declared.state.State.{State}
 use Rattle.mb_model.specs.Machine.{World, Run, opening, off}
-use Rattle.mb_model.specs.Board.{Held, image_of}
-use Rattle.mb_model.specs.Acknowledged.{Shows}
+use Rattle.mb_model.specs.Board.{Held, AreBytes, image_of}
+use Rattle.mb_model.specs.Acknowledged.{Shows, AreWiping}
 use Rattle.mb_model.specs.Clean.{Clean}
 use Rattle.mb_model.specs.Regions.{KeptRightly}
 use Rattle.mb_model.specs.Runs.{IsSoundRun}
@@ -20,8 +20,8 @@ pub record RunNames : Type 0 where
   pub script : List ℕ
   pub noise : List ℕ
 
--- The events were answered, all and in order, by a run of the machine from the device's state. What the board holds
--- then shows the world to which that run led.
+-- The events were answered, all and in order, by a run of the machine from the device's state. What the board held at
+-- the last answer shows the world to which that run led.
 pub record IsServed
     (first : Option State)
     (events : List Event)
@@ -31,8 +31,10 @@ pub record IsServed
   pub last : World
   pub run : Run (opening first) answered last
   pub shown : Shows final last
-  -- while power is on, no secret lies in the memory but those of the state
-  pub clean : final.phase ≢ off → Clean final.memory.bbram last.state
+  pub bytes : AreBytes final.memory
+  -- No secret lies in battery-backed memory but those of the state, while power is on, and also while it is off if no
+  -- power loss has stopped the device since it last booted or was tampered with.
+  pub clean : (final.phase ≢ off) ⊎ AreWiping answered → Clean final.memory.bbram last.state
   -- each secret and key of the state was admitted by its layer at each change since it came into its region
   pub kept : KeptRightly last.state
   pub sound : IsSoundRun (opening first) answered last run

@@ -11,6 +11,7 @@ use Rattle.mb_model.specs.declared.event.Answered.{Answered}
 use Rattle.mb_model.specs.declared.region.RegionKey.{RegionKey}
 use Rattle.mb_model.specs.declared.reply.Reply.TheVariants as reply
 use Rattle.mb_model.specs.declared.state.Configuration.{Configuration}
+use Rattle.mb_model.specs.declared.state.Report.{Report}
 use Rattle.mb_model.specs.declared.state.State.{State}
 use Rattle.mb_model.specs.Merkle.{leaf_number}
 use Rattle.mb_model.specs.Layers.{is_upper}
@@ -19,7 +20,7 @@ use Rattle.mb_model.specs.Lives.{Alive, configuration, lives_of}
 use Rattle.mb_model.specs.Signing.{public_of}
 use Rattle.mb_model.specs.ChainFormat.{statement_format, chain_format}
 use Rattle.mb_model.specs.Attach.{stated_chain}
-use Rattle.mb_model.specs.Acceptance.{IsBornOf, KeyEntry, report_of, Accepts}
+use Rattle.mb_model.specs.Acceptance.{IsBornOf, Accepts}
 use Rattle.mb_model.specs.OrderStep.{region_of}
 use Rattle.mb_model.specs.Machine.{World, Run}
 use Rattle.mb_model.specs.Valid.{as_made, Valid}
@@ -99,14 +100,15 @@ pub record HoldsLivingKeys (live : State) (L : ℕ) : Type 0 where
 
 -- ---- statements
 
--- Bytes that spell the log with this statement attached to it are accepted for the key with the number n.
+-- The bytes spell a statement. Attached to the log it makes a chain that has a spelling, and that is accepted for the
+-- key with the number n.
 pub record StaysAccepted (maker : PublicKey) (log : List SignedEntry) (n : ℕ) (bytes : List ℕ) : Type 0 where
   pub statement : Statement
-  pub made : KeyEntry
-  pub is : bytes ≡ statement_format.spelling statement
-  pub accepted : (chain : List ℕ)
-      → Spells chain_format chain (stated_chain log statement)
-      → Accepts maker chain n (report_of (stated_chain log statement) n made)
+  pub spelled : Spells statement_format bytes statement
+  pub chain : List ℕ
+  pub attached : Spells chain_format chain (stated_chain log statement)
+  pub report : Report
+  pub accepted : Accepts maker chain n report
 
 -- in this world they are, wherever the maker signed the device's birth
 abbrev pub IsAcceptedIn : ℕ → List ℕ → World → Type 0

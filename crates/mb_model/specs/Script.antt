@@ -42,7 +42,8 @@ pub record IsCut (count : ℕ) (tear : Tear) (fill : List ℕ) : Type 0 where
   pub most : count ≤ 100000
   pub torn : IsTear tear fill
 
--- An event that a line of a script can give, with any draw of 32 bytes. The bytes of a command are any.
+-- An event that a line of a script can give, by the lengths and numbers that its words may have, with any draw of 32
+-- bytes. The bytes of a command are any.
 abbrev pub IsScriptEvent : Event → Type 0
 IsScriptEvent event.Boot = Unit {0}
 IsScriptEvent event.Off = Unit {0}
