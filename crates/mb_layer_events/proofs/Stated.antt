@@ -9,10 +9,5 @@ use Rattle.mb_model.specs.ChainFormat.{statement_format}
 use Rattle.mb_model.proofs.FormatBounds.{statement_short}
 use Rattle.mb_bytes.specs.Puts.{IsUnwritten}
 
-pub statement_allowed : (number : ℕ) (message signature : List ℕ) → number < limit w32 → length message ≤ 128 → length signature ≡ 2348
-    → statement_format.Allowed (record { number = number; message = message; signature = signature })
-unfolding statement_format
-statement_allowed number message signature small short long = (small, (((omega arith, short), refl), long))
-
 pub finds_room : (statement : Statement) {old new : Vec ℕ} → statement_format.Allowed statement → IsUnwritten (statement_format.spelling statement) old new → vec_len old ≡ 0 → 2481 ≤ vec_capacity old → ⊥
 finds_room statement {old} {new} allowed lacks empty room = omega (arith, statement_short.short statement allowed, lacks.no_room, empty, room)

@@ -26,6 +26,7 @@ pub mod Splits
 pub mod FaultLemmas
 pub mod FactoryLemmas
 pub mod ChainLemmas
+pub mod AttachLemmas
 pub mod OrderLemmas
 pub mod RefusalLemmas
 pub mod AuditLemmas

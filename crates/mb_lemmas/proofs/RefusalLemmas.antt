@@ -1,6 +1,6 @@
 -- A refusal leaves all but the phase of a dead device that is booted; the machine is a function.
 use Rattle.std.proofs.Common.{◌≡◌, ◌≤◌, ◌<◌, ℕ, ◌+◌, List, inl, inr, length, Option, None, Some, Bool, true, false, refl, sym, ap, subst, ◌∙◌, arith}
-use Rattle.std.specs.Prelude.{◌⊎◌, zero, suc, Result, Ok, Err, not, nat_lt, nat_le, ◌&&◌, ◌||◌, find, if◌then◌else◌}
+use Rattle.std.specs.Prelude.{◌⊎◌, zero, suc, IsTrue, Result, Ok, Err, not, nat_lt, nat_le, ◌&&◌, ◌||◌, find, if◌then◌else◌}
 use Rattle.std.specs.List.{list_any}
 use Rattle.mb_format.specs.Format.{IsBytes}
 use Rattle.mb_model.specs.declared.event.Event.{Event}
@@ -11,10 +11,10 @@ use Rattle.mb_model.specs.declared.reply.Reply.{Reply}
 use Rattle.mb_model.specs.declared.reply.Reply.TheVariants as reply
 use Rattle.mb_model.specs.declared.state.State.{State}
 use Rattle.mb_model.specs.Layers.{is_runnable}
-use Rattle.mb_model.specs.Refusals.{Refusal, wrong_phase, wrong_layer, refused}
+use Rattle.mb_model.specs.Refusals.{Refusal, wrong_phase, zeroised, wrong_layer, refused}
 use Rattle.mb_model.specs.OrderStep.{region_of, OrderStep, spells_none, fails_check, is_obeyed}
 use Rattle.mb_model.specs.LayerEvents.{Outcome, on_region, has_name, has_number, value_reply, put_event, get_event, drop_event, sign_with, sign_event}
-use Rattle.mb_model.specs.Machine.{Phase, off, dead, ratchet, World, Told, boot_event, awake, awake_in, status_of, status_event, go_event, region_event, CommandStep, Machine, Step, answered, lacks_memory, loses_power}
+use Rattle.mb_model.specs.Machine.{Phase, off, dead, ratchet, World, Told, boot_event, awake, awake_in, status_of, status_event, go_event, region_event, CommandStep, Machine, may_be_cut, Step, answered, lacks_memory, loses_power}
 use Rattle.mb_lemmas.specs.RefusalLaws.{Leaves, BringsBytes, IsPhase}
 use Rattle.mb_lemmas.proofs.OrderLemmas.{one_order_step, some_order_step, refused_order_leaves}
 
@@ -251,6 +251,87 @@ pub no_memory_leaves : (world : World) (given : Event) (next : World) → Step w
 no_memory_leaves world given next (answered x) = absurd ((machine_is_whole world given reply.NoMemory next x).0 refl)
 no_memory_leaves world given next (lacks_memory p) = p.stays
 no_memory_leaves world given next (loses_power p) = absurd (grind (arith, p.answered))
+
+-- ---- power after an event
+
+-- a device that is awake has power
+awake_is_on : (world : World) (on : ℕ × State) → awake_in world ≡ Ok on → world.phase ≡ off → ⊥
+awake_is_on world on is dark =
+    let dark_refused : awake off world.state ≡ Ok on = subst (λ (phase : Phase). awake phase world.state ≡ Ok on) dark is in
+    grind (arith, dark_refused)
+
+-- a reply that only an event which writes can have: power is on after it
+abbrev IsOnAfter : Reply → World → Type 0
+IsOnAfter answer next = may_be_cut answer ≡ true → next.phase ≡ off → ⊥
+
+quiet : (answer other : Reply) (next : World) → answer ≡ other → may_be_cut other ≡ false → IsOnAfter answer next
+quiet answer other next same uncut writes =
+    let clash : true ≡ false = sym writes ∙ ap may_be_cut same ∙ uncut in
+    absurd (grind (arith, clash))
+
+refuses : (refusal : Refusal) (next : World) → IsOnAfter (refused refusal) next
+refuses refusal next = quiet (refused refusal) (refused refusal) next refl refl
+
+told_on : (answer : Reply) (next : World) (told : Told) → ◌≡◌ {A = Told} (answer, next) told → IsOnAfter told.0 told.1 → IsOnAfter answer next
+told_on answer next told e on writes dark = on (sym (ap (λ (t : Told). may_be_cut t.0) e) ∙ writes) (sym (ap (λ (t : Told). t.1.phase) e) ∙ dark)
+
+boot_on : (world : World) (phase : Phase) (state : Option State) → IsOnAfter (boot_event world phase state).0 (boot_event world phase state).1
+boot_on world off (Some state) = λ writes dark. grind (arith, dark)
+boot_on world off None = refuses zeroised (record world { phase = dead })
+boot_on world dead state = refuses zeroised world
+boot_on world (ratchet r) state = refuses wrong_phase world
+
+status_on : (world : World) (on : Result (ℕ × State) Refusal) → awake_in world ≡ on → IsOnAfter (status_event world on).0 (status_event world on).1
+status_on world (Err refusal) is = refuses refusal world
+status_on world (Ok on) is = λ writes dark. awake_is_on world on is dark
+
+region_on : (world : World) (L : ℕ) (does : State → Outcome) (on : Result (ℕ × State) Refusal) → awake_in world ≡ on → IsOnAfter (region_event world L does on).0 (region_event world L does on).1
+region_on world L does (Err refusal) is = refuses refusal world
+region_on world L does (Ok on) is = λ writes dark. awake_is_on world on is dark
+
+either_on : (b : Bool) (x y : Told) → IsOnAfter x.0 x.1 → IsOnAfter y.0 y.1 → IsOnAfter (if b then x else y).0 (if b then x else y).1
+either_on true x y first second = first
+either_on false x y first second = second
+
+go_on : (world : World) (on : Result (ℕ × State) Refusal) → awake_in world ≡ on → IsOnAfter (go_event world on).0 (go_event world on).1
+go_on world (Err refusal) is = refuses refusal world
+go_on world (Ok on) is =
+    either_on (nat_lt 2 on.0) (refused wrong_phase, world) _ (refuses wrong_phase world)
+    (either_on (is_runnable on.1.layers (on.0 + 1)) (reply.At (on.0 + 1), record world { phase = ratchet (on.0 + 1) }) (refused wrong_layer, world)
+    (quiet (reply.At (on.0 + 1)) (reply.At (on.0 + 1)) (record world { phase = ratchet (on.0 + 1) }) refl refl) (refuses wrong_layer world))
+
+command_on : (world : World) (text draw : List ℕ) (on : Result (ℕ × State) Refusal) (answer : Reply) (next : World) → awake_in world ≡ on
+    → CommandStep world text draw on answer next → IsOnAfter answer next
+command_on world text draw (Err refusal) answer next is x = quiet answer (refused refusal) next x.0 refl
+command_on world text draw (Ok on) answer next is (inl x) = λ writes dark. awake_is_on world on is (sym (ap (λ (w : World). w.phase) x.1.2) ∙ dark)
+command_on world text draw (Ok on) answer next is (inr x) = quiet answer (refused wrong_phase) next x.1 refl
+
+machine_on : (world : World) (given : Event) (answer : Reply) (next : World) → Machine world given answer next → IsOnAfter answer next
+machine_on world event.Boot answer next x = told_on answer next (boot_event world world.phase world.state) x (boot_on world world.phase world.state)
+machine_on world event.Off answer next x = quiet answer reply.Off next x.0 refl
+machine_on world event.Tamper answer next x = quiet answer reply.Tampered next x.0 refl
+machine_on world (event.Cut count tear) answer next x = quiet answer reply.Armed next x.0 refl
+machine_on world event.Status answer next x = told_on answer next (status_event world (awake_in world)) x (status_on world (awake_in world) refl)
+machine_on world (event.Command text draw) answer next x = command_on world text draw (awake_in world) answer next refl x
+machine_on world event.Go answer next x = told_on answer next (go_event world (awake_in world)) x (go_on world (awake_in world) refl)
+machine_on world (event.Put L name value) answer next x = told_on answer next (region_event world L (put_event L name value) (awake_in world)) x (region_on world L (put_event L name value) (awake_in world) refl)
+machine_on world (event.Get L name) answer next x = told_on answer next (region_event world L (get_event L name) (awake_in world)) x (region_on world L (get_event L name) (awake_in world) refl)
+machine_on world (event.Drop L name) answer next x = told_on answer next (region_event world L (drop_event L name) (awake_in world)) x (region_on world L (drop_event L name) (awake_in world) refl)
+machine_on world (event.Sign L key message) answer next x = told_on answer next (region_event world L (sign_event L key message) (awake_in world)) x (region_on world L (sign_event L key message) (awake_in world) refl)
+
+-- power is on after an event that was answered as one that writes
+pub written_is_on : (world : World) (given : Event) (answer : Reply) (next : World) → Step world given answer next → may_be_cut answer ≡ true → next.phase ≡ off → ⊥
+written_is_on world given answer next (answered x) = machine_on world given answer next x
+written_is_on world given answer next (lacks_memory p) = quiet answer reply.NoMemory next p.answered refl
+written_is_on world given answer next (loses_power p) = quiet answer reply.Stopped next p.answered refl
+
+-- a device that was tampered with has no state
+pub tampered_is_dead : (world : World) (answer : Reply) (next : World) → Step world event.Tamper answer next → next.state ≡ None
+tampered_is_dead world answer next (answered x) = ap (λ (w : World). w.state) x.1
+tampered_is_dead world answer next (lacks_memory p) = absurd (grind (arith, p.wanted))
+tampered_is_dead world answer next (loses_power p) =
+    let clash : IsTrue (may_be_cut reply.Tampered) = subst (λ (r : Reply). IsTrue (may_be_cut r)) p.machine.0 p.writes in
+    absurd (grind (arith, clash))
 
 -- ---- the machine is a function
 

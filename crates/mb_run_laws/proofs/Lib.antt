@@ -8,3 +8,4 @@ pub mod KeyLemmas
 pub mod SpentLemmas
 pub mod StatementLemmas
 pub mod SoundLemmas
+pub mod CleanLemmas

@@ -17,13 +17,12 @@ use Rattle.mb_model.specs.Listing.{is_signed}
 use Rattle.mb_model.specs.ChainFormat.{statement_format}
 use Rattle.mb_model.specs.Machine.{Phase, off, dead, ratchet, World, Told, boot_event, awake_in, status_of, status_event, go_event, region_event, CommandStep, Machine, Step, answered, lacks_memory, loses_power}
 use Rattle.mb_lemmas.proofs.RefusalLemmas.{awake_state}
+use Rattle.mb_storing.proofs.StorableSteps.{found_number}
 use Rattle.mb_run_laws.proofs.KeptByRuns.{with_one_use}
 
--- a key of a region signs this in a state
-pub record SignsIn (state : State) (n index : ℕ) (statement : List ℕ) (after : State) : Type 0 where
-  pub L : ℕ
+-- a key of the region of layer L signs this of a message in a state
+pub record SignsIn (state : State) (L : ℕ) (message : List ℕ) (n index : ℕ) (statement : List ℕ) (after : State) : Type 0 where
   pub key : RegionKey
-  pub message : List ℕ
   pub within : Contains (region_of state L).keys key
   pub few : key.uses < 32
   pub number_is : key.number ≡ n
@@ -31,13 +30,16 @@ pub record SignsIn (state : State) (n index : ℕ) (statement : List ℕ) (after
   pub statement_is : statement ≡ statement_format.spelling (statement_of state key message)
   pub after_is : after ≡ with_one_use state L key.number
 
--- and so in a world
-pub record StepSigns (world : World) (n index : ℕ) (statement : List ℕ) (next : World) : Type 0 where
+-- and so in a world, at the event that asks for it
+pub record StepSigns (world : World) (given : Event) (n index : ℕ) (statement : List ℕ) (next : World) : Type 0 where
   pub state : State
   pub after : State
+  pub L : ℕ
+  pub message : List ℕ
+  pub asked : given ≡ event.Sign L n message
   pub was : world.state ≡ Some state
   pub is : next.state ≡ Some after
-  pub signs : SignsIn state n index statement after
+  pub signs : SignsIn state L message n index statement after
 
 -- ---- the event by which a layer signs
 
@@ -57,45 +59,47 @@ signed_parts a b c d s t e = (cc, cc, cc)
 fresh_is_few : (uses : ℕ) → nat_le 32 uses ≡ false → uses < 32
 fresh_is_few uses e = grind (arith, e)
 
--- where the outcome's reply is this statement, a key has signed it
-abbrev Signs : State → ℕ → ℕ → List ℕ → Outcome → Type 0
-Signs state n index statement outcome = outcome.0 ≡ reply.Signed n index statement → SignsIn state n index statement outcome.1
+-- where the outcome's reply is this statement, the key that was asked for has signed it
+abbrev Signs : State → ℕ → ℕ → List ℕ → ℕ → ℕ → List ℕ → Outcome → Type 0
+Signs state L number message n index statement outcome =
+    outcome.0 ≡ reply.Signed n index statement → (number ≡ n) × SignsIn state L message n index statement outcome.1
 
-either_signs : (state : State) (n index : ℕ) (statement : List ℕ) (b : Bool) (x y : Outcome)
-    → (b ≡ true → Signs state n index statement x) → (b ≡ false → Signs state n index statement y) → Signs state n index statement (if b then x else y)
-either_signs state n index statement true x y first second = first refl
-either_signs state n index statement false x y first second = second refl
+either_signs : (state : State) (L number : ℕ) (message : List ℕ) (n index : ℕ) (statement : List ℕ) (b : Bool) (x y : Outcome)
+    → (b ≡ true → Signs state L number message n index statement x) → (b ≡ false → Signs state L number message n index statement y)
+    → Signs state L number message n index statement (if b then x else y)
+either_signs state L number message n index statement true x y first second = first refl
+either_signs state L number message n index statement false x y first second = second refl
 
 sign_with_signs : (L : ℕ) (found : Option RegionKey) (number : ℕ) (message : List ℕ) (state : State) (n index : ℕ) (statement : List ℕ)
-    → find (has_number number) (region_of state L).keys ≡ found → Signs state n index statement (sign_with L found message state)
+    → find (has_number number) (region_of state L).keys ≡ found → Signs state L number message n index statement (sign_with L found message state)
 sign_with_signs L None number message state n index statement is = λ e. absurd (grind (arith, e))
 sign_with_signs L (Some key) number message state n index statement is =
     let stated : List ℕ = statement_format.spelling (statement_of state key message) in
-    either_signs state n index statement (nat_le 32 key.uses) (refused key_spent, state) (reply.Signed key.number key.uses stated, with_one_use state L key.number)
+    either_signs state L number message n index statement (nat_le 32 key.uses) (refused key_spent, state) (reply.Signed key.number key.uses stated, with_one_use state L key.number)
     (λ spent e. absurd (grind (arith, e)))
     (λ fresh e.
-    let parts = signed_parts key.number n key.uses index stated statement e in
-    record {
-      L = L;
-      key = key;
-      message = message;
-      within = found_within (has_number number) (region_of state L).keys key is;
-      few = fresh_is_few key.uses fresh;
-      number_is = parts.0;
-      index_is = parts.1;
-      statement_is = sym parts.2;
-      after_is = refl;
-    })
+    let parts = signed_parts key.number n key.uses index stated statement e in (
+      sym (found_number number (region_of state L).keys key is) ∙ parts.0,
+      record {
+        key = key;
+        within = found_within (has_number number) (region_of state L).keys key is;
+        few = fresh_is_few key.uses fresh;
+        number_is = parts.0;
+        index_is = parts.1;
+        statement_is = sym parts.2;
+        after_is = refl;
+      },
+    ))
 
-sign_signs : (L number : ℕ) (message : List ℕ) (state : State) (n index : ℕ) (statement : List ℕ) → Signs state n index statement (sign_event L number message state)
+sign_signs : (L number : ℕ) (message : List ℕ) (state : State) (n index : ℕ) (statement : List ℕ) → Signs state L number message n index statement (sign_event L number message state)
 unfolding sign_event
 sign_signs L number message state n index statement =
     sign_with_signs L (find (has_number number) (region_of state L).keys) number message state n index statement refl
 
 on_region_signs : (r L number : ℕ) (message : List ℕ) (state : State) (n index : ℕ) (statement : List ℕ)
-    → Signs state n index statement (on_region r L (sign_event L number message) state)
+    → Signs state L number message n index statement (on_region r L (sign_event L number message) state)
 on_region_signs r L number message state n index statement =
-    either_signs state n index statement (nat_lt L r || not (is_runnable state.layers L)) (refused wrong_layer, state) (sign_event L number message state)
+    either_signs state L number message n index statement (nat_lt L r || not (is_runnable state.layers L)) (refused wrong_layer, state) (sign_event L number message state)
     (λ past e. absurd (grind (arith, e)))
     (λ here. sign_signs L number message state n index statement)
 
@@ -172,21 +176,25 @@ command_unsigned world text draw (Ok on) answer next (inr x) = ap is_signed x.1
 -- ---- the step
 
 region_signs : (world : World) (L number : ℕ) (message : List ℕ) (on : Result (ℕ × State) Refusal) (n index : ℕ) (statement : List ℕ) (next : World) → awake_in world ≡ on
-    → ◌≡◌ {A = Told} (reply.Signed n index statement, next) (region_event world L (sign_event L number message) on) → StepSigns world n index statement next
+    → ◌≡◌ {A = Told} (reply.Signed n index statement, next) (region_event world L (sign_event L number message) on) → StepSigns world (event.Sign L number message) n index statement next
 region_signs world L number message (Err refusal) n index statement next is e = absurd (not_told n index statement next (refused refusal, world) refl e)
 region_signs world L number message (Ok on) n index statement next is e =
     let outcome : Outcome = on_region on.0 L (sign_event L number message) on.1 in
     let told : reply.Signed n index statement ≡ outcome.0 = ap (λ (t : Told). t.0) e in
+    let signs = on_region_signs on.0 L number message on.1 n index statement (sym told) in
     record {
       state = on.1;
       after = outcome.1;
+      L = L;
+      message = message;
+      asked = ap (λ m. event.Sign L m message) signs.0;
       was = awake_state world.phase world.state on is;
       is = ap (λ (t : Told). t.1.state) e;
-      signs = on_region_signs on.0 L number message on.1 n index statement (sym told);
+      signs = signs.1;
     }
 
 machine_signs : (world : World) (given : Event) (n index : ℕ) (statement : List ℕ) (next : World) → Machine world given (reply.Signed n index statement) next
-    → StepSigns world n index statement next
+    → StepSigns world given n index statement next
 machine_signs world event.Boot n index statement next x = absurd (not_told n index statement next _ (boot_unsigned world world.phase world.state) x)
 machine_signs world event.Off n index statement next x = absurd (not_signed n index statement reply.Off refl x.0)
 machine_signs world event.Tamper n index statement next x = absurd (not_signed n index statement reply.Tampered refl x.0)
@@ -204,7 +212,7 @@ machine_signs world (event.Drop L name) n index statement next x =
 machine_signs world (event.Sign L key message) n index statement next x = region_signs world L key message (awake_in world) n index statement next refl x
 
 pub step_signs : (world : World) (given : Event) (n index : ℕ) (statement : List ℕ) (next : World) → Step world given (reply.Signed n index statement) next
-    → StepSigns world n index statement next
+    → StepSigns world given n index statement next
 step_signs world given n index statement next (answered x) = machine_signs world given n index statement next x
 step_signs world given n index statement next (lacks_memory p) = absurd (not_signed n index statement reply.NoMemory refl p.answered)
 step_signs world given n index statement next (loses_power p) = absurd (not_signed n index statement reply.Stopped refl p.answered)

@@ -1,6 +1,6 @@
 -- A run from a state that a device can have is sound throughout.
 use Rattle.std.proofs.Common.{ℕ, List, [], ◌∷◌, ◌++◌, sym, ap, subst, ◌∙◌}
-use Rattle.std.specs.Prelude.{IsTrue}
+use Rattle.std.specs.Prelude.{IsTrue, All}
 use Rattle.std.proofs.lemmas.List.Elements.{All-weaker}
 use Rattle.mb_model.specs.declared.layer.Layers.{Layers}
 use Rattle.mb_model.specs.declared.entry.Entry.{Entry}
@@ -12,8 +12,10 @@ use Rattle.mb_model.specs.Lives.{configuration}
 use Rattle.mb_model.specs.Signing.{public_of}
 use Rattle.mb_model.specs.OrderStep.{region_of}
 use Rattle.mb_model.specs.Machine.{World, Run}
+use Rattle.mb_model.specs.Script.{IsScriptEvent}
 use Rattle.mb_model.specs.Valid.{IsValidRegion, Valid, IsValidState}
 use Rattle.mb_model.specs.Runs.{worlds_of, HoldsLivingKeys, IsSoundWorld, IsSoundRun}
+use Rattle.mb_storing.specs.Storable.{Storable}
 use Rattle.mb_lemmas.proofs.PresentLemmas.{alive_lives_now}
 use Rattle.mb_lemmas.proofs.FatedStates.{region_key_lives, living_key_stands}
 use Rattle.mb_lemmas.proofs.ValidStates.{valid_is_ruled, region_is_valid}
@@ -50,8 +52,9 @@ valid_is_sound world valid = record {
   once = λ live is. signs_entries_once live (subst Valid is valid);
 }
 
-pub run_is_sound : (world : World) (answered : List Answered) (next : World) (run : Run world answered next) → Valid world.state → IsSoundRun world answered next run
-run_is_sound world answered next run valid =
+pub run_is_sound : (world : World) (answered : List Answered) (next : World) (run : Run world answered next)
+    → All (λ this. IsScriptEvent this.event) answered → Valid world.state → Storable world.state → IsSoundRun world answered next run
+run_is_sound world answered next run scripts valid stored =
     let P : World → Type 0 = λ w. (part : List Answered) × Run world part w in
     record {
       sound = All-weaker P IsSoundWorld (λ w part. valid_is_sound w (run_valid world part.0 w valid part.1)) (worlds_of world answered next run)
@@ -59,5 +62,5 @@ run_is_sound world answered next run valid =
       logs = each_log_grows world answered next run;
       statements = indices_increase world answered next valid run;
       uses = λ live L key is within. indices_start world answered next live L key valid run is within;
-      accepted = statements_stay_accepted world answered next run valid;
+      accepted = statements_stay_accepted world answered next run scripts valid stored;
     }

@@ -239,10 +239,10 @@ signer_spent state L key valid within =
     })
     within
 
-signing_spends : (state : State) (n index : ℕ) (statement : List ℕ) (after : State) → IsValidState state → SignsIn state n index statement after → IsSpent n (index + 1) after
-signing_spends state n index statement after valid signs =
-    let next : State = with_one_use state signs.L signs.key.number in
-    let spent : IsSpent signs.key.number (signs.key.uses + 1) next = signer_spent state signs.L signs.key valid signs.within in
+signing_spends : (state : State) (L : ℕ) (message : List ℕ) (n index : ℕ) (statement : List ℕ) (after : State) → IsValidState state → SignsIn state L message n index statement after → IsSpent n (index + 1) after
+signing_spends state L message n index statement after valid signs =
+    let next : State = with_one_use state L signs.key.number in
+    let spent : IsSpent signs.key.number (signs.key.uses + 1) next = signer_spent state L signs.key valid signs.within in
     subst (IsSpent n (index + 1)) (sym signs.after_is)
     (subst (λ (m : ℕ). IsSpent m (index + 1) next) signs.number_is
     (subst (λ (i : ℕ). IsSpent signs.key.number (i + 1) next) signs.index_is spent))
@@ -252,10 +252,10 @@ region_by P true c two three x y = x
 region_by P false true two three x y = y
 region_by P false false two three x y = All-nil P
 
-signed_past : (n u index : ℕ) (statement : List ℕ) (state after : State) → IsSpent n u state → SignsIn state n index statement after → u ≤ index
-signed_past n u index statement state after spent signs =
-    let keys : List RegionKey = (region_of state signs.L).keys in
-    let all : All (IsUsed n u) keys = region_by (IsUsed n u) (signs.L == 2) (signs.L == 3) state.two state.three spent.two spent.three in
+signed_past : (n u L index : ℕ) (message statement : List ℕ) (state after : State) → IsSpent n u state → SignsIn state L message n index statement after → u ≤ index
+signed_past n u L index message statement state after spent signs =
+    let keys : List RegionKey = (region_of state L).keys in
+    let all : All (IsUsed n u) keys = region_by (IsUsed n u) (L == 2) (L == 3) state.two state.three spent.two spent.three in
     let used : IsUsed n u signs.key = All-contains (IsUsed n u) keys signs.key all signs.within in
     let less : u ≤ signs.key.uses = used signs.number_is in
     let at : signs.key.uses ≡ index = signs.index_is in
@@ -264,21 +264,21 @@ signed_past n u index statement state after spent signs =
 -- ---- steps that are answered by a statement
 
 -- the step, where its answer is this statement
-step_by : (world : World) (this : Answered) (next : World) (n index : ℕ) → Step world this.event this.reply next → (at : IsSignedAt n index this) → StepSigns world n index at.0 next
+step_by : (world : World) (this : Answered) (next : World) (n index : ℕ) → Step world this.event this.reply next → (at : IsSignedAt n index this) → StepSigns world this.event n index at.0 next
 step_by world this next n index step at = step_signs world this.event n index at.0 next (subst (λ (r : Reply). Step world this.event r next) at.1 step)
 
 at_least : (n u : ℕ) (world : World) (this : Answered) (next : World) → IsSpentIn n u world.state → Step world this.event this.reply next
     → (index : ℕ) → IsSignedAt n index this → u ≤ index
 at_least n u world this next spent step index at =
     let signs = step_by world this next n index step at in
-    signed_past n u index at.0 signs.state signs.after (subst (IsSpentIn n u) signs.was spent) signs.signs
+    signed_past n u signs.L index signs.message at.0 signs.state signs.after (subst (IsSpentIn n u) signs.was spent) signs.signs
 
 spent_after : (n : ℕ) (world : World) (this : Answered) (next : World) → Valid world.state → Step world this.event this.reply next
     → (index : ℕ) → IsSignedAt n index this → IsSpentIn n (index + 1) next.state
 spent_after n world this next valid step index at =
     let signs = step_by world this next n index step at in
     let here : IsValidState signs.state = subst Valid signs.was valid in
-    subst (IsSpentIn n (index + 1)) (sym signs.is) (signing_spends signs.state n index at.0 signs.after here signs.signs)
+    subst (IsSpentIn n (index + 1)) (sym signs.is) (signing_spends signs.state signs.L signs.message n index at.0 signs.after here signs.signs)
 
 -- ---- runs
 

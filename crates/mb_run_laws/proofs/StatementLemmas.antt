@@ -5,7 +5,8 @@ use Rattle.std.proofs.lemmas.Bool.{le-ltb}
 use Rattle.std.proofs.lemmas.List.{map-append}
 use Rattle.std.proofs.lemmas.List.Elements.{All-nil, All-cons, All-head, All-tail, All-append, All-map, All-weaker}
 use Rattle.std.proofs.lemmas.List.Sums.{sum_by-cons, take_while-cons}
-use Rattle.mb_format.specs.Format.{Spells}
+use Rattle.mb_format.specs.Format.{IsBytes, Spells, IsClearWhole}
+use Rattle.mb_format.proofs.Whole.{IsClearWhole-from_exact}
 use Rattle.mb_model.specs.declared.key.PublicKey.{PublicKey}
 use Rattle.mb_model.specs.declared.order.KeyKind.{KeyKind}
 use Rattle.mb_model.specs.declared.order.KeyKind.TheVariants as kinds
@@ -15,6 +16,8 @@ use Rattle.mb_model.specs.declared.entry.SignedEntry.{SignedEntry}
 use Rattle.mb_model.specs.declared.entry.Statement.{Statement}
 use Rattle.mb_model.specs.declared.event.Answered.{Answered}
 use Rattle.mb_model.specs.declared.event.Event.{Event}
+use Rattle.mb_model.specs.declared.event.Event.TheVariants as event
+use Rattle.mb_model.specs.declared.entry.Chain.{Chain}
 use Rattle.mb_model.specs.declared.region.RegionKey.{RegionKey}
 use Rattle.mb_model.specs.declared.reply.Reply.{Reply}
 use Rattle.mb_model.specs.declared.reply.Reply.TheVariants as reply
@@ -23,13 +26,15 @@ use Rattle.mb_model.specs.Merkle.{Verifies}
 use Rattle.mb_model.specs.Log.{entries_of, is_change, serial_in, last_of, number_of, serial_of, Ruled, RuledLog}
 use Rattle.mb_model.specs.Lives.{ends, Alive}
 use Rattle.mb_model.specs.Signing.{public_of, signature_of}
-use Rattle.mb_model.specs.ChainFormat.{chain_format}
+use Rattle.mb_model.specs.ChainFormat.{statement_format, chain_format}
+use Rattle.mb_model.specs.Script.{IsScriptEvent}
+use Rattle.mb_model.proofs.EntryFormatLaws.{statement_exact, chain_exact}
 use Rattle.mb_model.specs.SignedTexts.{statement_text}
 use Rattle.mb_model.specs.OrderStep.{region_of}
 use Rattle.mb_model.specs.LayerEvents.{statement_of}
 use Rattle.mb_model.specs.Machine.{World, Step, Run}
 use Rattle.mb_model.specs.Valid.{IsValidState, Valid}
-use Rattle.mb_model.specs.Acceptance.{AreGood, IsBornOf, KeyEntry, key_of, IsCurrent, report_of, Accepts}
+use Rattle.mb_model.specs.Acceptance.{AreGood, IsBornOf, KeyEntry, key_of, IsStated, IfStatement, IsCurrent, report_of, Accepts}
 use Rattle.mb_lemmas.proofs.LogLemmas.{last_of-more, RuledLog-front, number_of-append, number-le}
 use Rattle.mb_lemmas.proofs.ValidStates.{valid_is_ruled}
 use Rattle.mb_lemmas.proofs.ValidSteps.{step_valid, run_valid}
@@ -37,24 +42,36 @@ use Rattle.mb_lemmas.proofs.ReaderLemmas.{living_is_flagged, not_true}
 use Rattle.mb_lemmas.proofs.SignatureLemmas.{signature_verifies}
 use Rattle.mb_lemmas.proofs.Splits.{All-from_splits}
 use Rattle.mb_model.specs.Runs.{BeginsWith, worlds_of, StaysAccepted, IsAcceptedIn, StatementsStayAccepted}
-use Rattle.mb_model.specs.Attach.{is_change_above, cut_at, stated_chain}
+use Rattle.mb_model.specs.Attach.{is_change_above, bare_chain, cut_at, stated_chain}
+use Rattle.mb_lemmas.proofs.AttachLemmas.{stated_allowed}
+use Rattle.mb_storing.specs.Storable.{IsStorableState, Storable}
+use Rattle.mb_storing.proofs.StorableChains.{bare_allowed, statement_of-allowed}
+use Rattle.mb_storing.proofs.StorableSteps.{step_keeps_storable, run_keeps_storable}
 use Rattle.mb_run_laws.specs.StatementLaws.{IsStatedIn, entry_of}
 use Rattle.mb_run_laws.proofs.GrowthLemmas.{logs_grow}
 use Rattle.mb_run_laws.proofs.BirthLemmas.{log_is_good, key_of-split}
 use Rattle.mb_run_laws.proofs.KeyLemmas.{key_lives}
 use Rattle.mb_run_laws.proofs.SignedSteps.{step_signs}
-use Rattle.mb_run_laws.proofs.KeptByRuns.{runs_lead_there}
+
+-- the event is one that a script can give
+abbrev IsOfScript : Answered → Type 0
+IsOfScript this = IsScriptEvent this.event
+
+-- a run of such events leads from one world to the other
+abbrev LeadsTo : World → World → Type 0
+LeadsTo world later = (part : List Answered) × All IsOfScript part × Run world part later
 
 pub statement_of_key : (world : World) (given : Event) (n index : ℕ) (statement : List ℕ) (next : World) → Step world given (reply.Signed n index statement) next
-    → (state : State) × (world.state ≡ Some state) × (L : ℕ) × (key : RegionKey) × IsStatedIn state L key n index statement
+    → (state : State) × (world.state ≡ Some state) × (L : ℕ) × (message : List ℕ) × (given ≡ event.Sign L n message) × IsStatedIn state L message n index statement
 statement_of_key world given n index statement next step =
     let it = step_signs world given n index statement next step in (
       it.state,
       it.was,
-      it.signs.L,
-      it.signs.key,
+      it.L,
+      it.message,
+      it.asked,
       record {
-        message = it.signs.message;
+        key = it.signs.key;
         within = it.signs.within;
         number_is = it.signs.number_is;
         index_is = it.signs.index_is;
@@ -334,37 +351,89 @@ statement_accepted maker world answered next state later L key message bytes val
 
 -- what an event was answered by, with the log of a state to which a run leads from there
 accepted_there : (maker : PublicKey) (world : World) (given : Event) (n index : ℕ) (bytes : List ℕ) (mid : World) (answered : List Answered) (next : World)
-    → Valid world.state → Step world given (reply.Signed n index bytes) mid → Run mid answered next
+    → IsScriptEvent given → All IsOfScript answered → Valid world.state → Storable world.state
+    → Step world given (reply.Signed n index bytes) mid → Run mid answered next
     → (later : State) → next.state ≡ Some later → IsBornOf maker later.log → StaysAccepted maker later.log n bytes
-accepted_there maker world given n index bytes mid answered next valid step run later is born =
+accepted_there maker world given n index bytes mid answered next script scripts valid stored step run later is born =
     let it = step_signs world given n index bytes mid step in
     let key : RegionKey = it.signs.key in
-    let said : Statement = statement_of it.state key it.signs.message in
+    let said : Statement = statement_of it.state key it.message in
     let this : Answered = record { event = given; reply = reply.Signed n index bytes } in
+    let script_sign : IsScriptEvent (event.Sign it.L n it.message) = subst IsScriptEvent it.asked script in
+    let said_allowed : statement_format.Allowed said = statement_of-allowed it.state key it.message (subst Storable it.was stored) script_sign.2 in
+    let all : All IsOfScript (this ∷ answered) = All-cons IsOfScript this answered script scripts in
+    let whole : Run world (this ∷ answered) next = (mid, step, run) in
+    let later_stored : IsStorableState later = subst Storable is (run_keeps_storable world (this ∷ answered) next all valid stored whole) in
+    let later_valid : IsValidState later = subst Valid is (run_valid world (this ∷ answered) next valid whole) in
+    let attached : Spells chain_format (chain_format.spelling (stated_chain later.log said)) (stated_chain later.log said) =
+    record { allowed = stated_allowed (bare_chain later.log) said (bare_allowed later later_valid later_stored) said_allowed; whole = refl } in
     record {
       statement = said;
-      made = entry_of it.signs.L key;
-      is = it.signs.statement_is;
-      accepted = λ chain spelled.
-          subst (λ (m : ℕ). Accepts maker chain m (report_of (stated_chain later.log said) m (entry_of it.signs.L key))) it.signs.number_is
-          (statement_accepted maker world (this ∷ answered) next it.state later it.signs.L key it.signs.message chain valid it.was it.signs.within it.signs.few (mid, step, run) is born spelled);
+      spelled = record { allowed = said_allowed; whole = it.signs.statement_is };
+      chain = chain_format.spelling (stated_chain later.log said);
+      attached = attached;
+      report = report_of (stated_chain later.log said) n (entry_of it.L key);
+      accepted =
+          subst (λ (m : ℕ). Accepts maker (chain_format.spelling (stated_chain later.log said)) m (report_of (stated_chain later.log said) m (entry_of it.L key))) it.signs.number_is
+          (statement_accepted maker world (this ∷ answered) next it.state later it.L key it.message (chain_format.spelling (stated_chain later.log said)) valid it.was it.signs.within
+          it.signs.few whole is born attached);
     }
 
+-- worlds to which a run of events of a script leads
+scripted_worlds : (world : World) (answered : List Answered) (next : World) (run : Run world answered next) → All IsOfScript answered
+    → All (LeadsTo world) (worlds_of world answered next run)
+scripted_worlds world [] next run scripts = All-cons (LeadsTo world) world [] ([], scripts, refl) (All-nil (LeadsTo world))
+scripted_worlds world (this ∷ rest) next run scripts =
+    let first : IsOfScript this = All-head IsOfScript this rest scripts in
+    let more = scripted_worlds run.0 rest next run.2 (All-tail IsOfScript this rest scripts) in
+    All-cons (LeadsTo world) world (worlds_of run.0 rest next run.2) ([], All-nil IsOfScript, refl)
+    (All-weaker (LeadsTo run.0) (LeadsTo world) (λ w leads. (this ∷ leads.0, All-cons IsOfScript this leads.0 first leads.1, (run.0, run.1, leads.2))) (worlds_of run.0 rest next run.2) more)
+
 pub answer_stays_accepted : (world : World) (given : Event) (n index : ℕ) (bytes : List ℕ) (mid : World) (answered : List Answered) (next : World) (run : Run mid answered next)
-    → Valid world.state → Step world given (reply.Signed n index bytes) mid
+    → IsScriptEvent given → All IsOfScript answered → Valid world.state → Storable world.state → Step world given (reply.Signed n index bytes) mid
     → All (IsAcceptedIn n bytes) (worlds_of mid answered next run)
-answer_stays_accepted world given n index bytes mid answered next run valid step =
-    let Q : World → Type 0 = λ w. (part : List Answered) × Run mid part w in
-    All-weaker Q (IsAcceptedIn n bytes)
-    (λ w part maker later is born. accepted_there maker world given n index bytes mid part.0 w valid step part.1 later is born)
-    (worlds_of mid answered next run) (runs_lead_there mid answered next run)
+answer_stays_accepted world given n index bytes mid answered next run script scripts valid stored step =
+    All-weaker (LeadsTo mid) (IsAcceptedIn n bytes)
+    (λ w leads maker later is born. accepted_there maker world given n index bytes mid leads.0 w script leads.1 valid stored step leads.2 later is born)
+    (worlds_of mid answered next run) (scripted_worlds mid answered next run scripts)
 
 -- so it is for each statement of a run
-pub statements_stay_accepted : (world : World) (answered : List Answered) (next : World) (run : Run world answered next) → Valid world.state
+pub statements_stay_accepted : (world : World) (answered : List Answered) (next : World) (run : Run world answered next) → All IsOfScript answered → Valid world.state → Storable world.state
     → StatementsStayAccepted world answered next run
-statements_stay_accepted world [] next run valid = tt
-statements_stay_accepted world (this ∷ rest) next run valid = (
-  λ n index bytes is.
-      answer_stays_accepted world this.event n index bytes run.0 rest next run.2 valid (subst (λ (r : Reply). Step world this.event r run.0) is run.1),
-  statements_stay_accepted run.0 rest next run.2 (step_valid world this.event this.reply run.0 valid run.1),
-)
+statements_stay_accepted world [] next run scripts valid stored = tt
+statements_stay_accepted world (this ∷ rest) next run scripts valid stored =
+    let first : IsOfScript this = All-head IsOfScript this rest scripts in
+    let others : All IsOfScript rest = All-tail IsOfScript this rest scripts in (
+      λ n index bytes is.
+          answer_stays_accepted world this.event n index bytes run.0 rest next run.2 first others valid stored (subst (λ (r : Reply). Step world this.event r run.0) is run.1),
+      statements_stay_accepted run.0 rest next run.2 others (step_valid world this.event this.reply run.0 valid run.1)
+          (step_keeps_storable world this.event this.reply run.0 first valid stored run.1),
+    )
+
+-- ---- statements of other keys
+
+statement_clear : IsClearWhole statement_format
+statement_clear = IsClearWhole-from_exact statement_exact
+
+chain_clear : IsClearWhole chain_format
+chain_clear = IsClearWhole-from_exact chain_exact
+
+-- what a verifier has looked at, where the chain is this one
+current_in : (maker : PublicKey) (log : List SignedEntry) (n : ℕ) (statement : Statement) (chain : Chain) (made : KeyEntry) → chain ≡ stated_chain log statement
+    → key_of (entries_of chain.entries) n ≡ Some made → IfStatement chain.statement (IsCurrent (entries_of chain.entries) n made)
+    → (key_of (entries_of (cut_at statement.number log)) n ≡ Some made) × IsStated (entries_of (cut_at statement.number log)) n made.key statement
+current_in maker log n statement chain made is named current =
+    let here = subst (λ (c : Chain). IfStatement c.statement (IsCurrent (entries_of c.entries) n made)) is current in
+    (subst (λ (c : Chain). key_of (entries_of c.entries) n ≡ Some made) is named, here.signed)
+
+pub foreign_not_accepted : (maker : PublicKey) (log : List SignedEntry) (n : ℕ) (bytes : List ℕ) (statement : Statement) → IsBytes bytes → Spells statement_format bytes statement
+    → IsBytes (chain_format.spelling (stated_chain log statement))
+    → ((made : KeyEntry) → key_of (entries_of (cut_at statement.number log)) n ≡ Some made → IsStated (entries_of (cut_at statement.number log)) n made.key statement → ⊥)
+    → StaysAccepted maker log n bytes → ⊥
+foreign_not_accepted maker log n bytes statement are spelled chain_are foreign stays =
+    let same : stays.statement ≡ statement = statement_clear.one_value bytes stays.statement statement are stays.spelled spelled in
+    let attached : Spells chain_format stays.chain (stated_chain log statement) = subst (λ (s : Statement). Spells chain_format stays.chain (stated_chain log s)) same stays.attached in
+    let it = stays.accepted in
+    let one : it.chain ≡ stated_chain log statement = chain_clear.one_value stays.chain it.chain (stated_chain log statement) (subst IsBytes (sym attached.whole) chain_are) it.spelled attached in
+    let current = current_in maker log n statement it.chain it.made one it.named it.current in
+    foreign it.made current.0 current.1

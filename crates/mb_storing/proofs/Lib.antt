@@ -7,3 +7,4 @@ pub mod StorableSteps
 pub mod StorableMemories
 pub mod StorableRecords
 pub mod HoldingLemmas
+pub mod StorableChains

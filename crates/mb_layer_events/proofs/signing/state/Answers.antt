@@ -1,4 +1,5 @@
-use Rattle.mb_layer_events.proofs.Stated.{statement_allowed, finds_room}
+use Rattle.mb_lemmas.proofs.AttachLemmas.{statement_allowed}
+use Rattle.mb_layer_events.proofs.Stated.{finds_room}
 use Rattle.mb_layer_events.proofs.signing.state.Goals as goal
 
 pub write_statement-requires : goal.write_statement-requires

@@ -1,17 +1,23 @@
--- The chain to which a statement is attached has a spelling where the chain and the statement have one.
-use Rattle.std.proofs.Common.{◌≡◌, ◌≤◌, ℕ, List, [], ◌∷◌, ◌++◌, length, drop, refl, sym, subst, take-append-drop, lit≤, arith}
+-- Statements and the chains to which they are attached have spellings, where their parts have them.
+use Rattle.std.proofs.Common.{◌≡◌, ◌<◌, ◌≤◌, ℕ, List, [], ◌∷◌, ◌++◌, length, drop, refl, sym, subst, take-append-drop, lit≤, arith}
 use Rattle.std.specs.Prelude.{Bool, not, take_while}
 use Rattle.std.specs.List.{prefix_len}
+use Rattle.std.specs.Int.{w32}
 use Rattle.std.proofs.lemmas.List.Folds.{length-prefix_len}
 use Rattle.std.proofs.lemmas.List.Sums.{prefix_len-le-length}
 use Rattle.mb_format.specs.Format.{Format}
-use Rattle.mb_format.specs.Combinators.{items, times}
+use Rattle.mb_format.specs.Combinators.{items, times, limit}
 use Rattle.mb_model.specs.declared.entry.Chain.{Chain}
 use Rattle.mb_model.specs.declared.entry.SignedEntry.{SignedEntry}
 use Rattle.mb_model.specs.declared.entry.Statement.{Statement}
 use Rattle.mb_model.specs.EntryFormat.{signed_entry_format}
 use Rattle.mb_model.specs.ChainFormat.{statement_format, chain_format}
 use Rattle.mb_model.specs.Attach.{is_change_above, cut_at, stated_chain}
+
+pub statement_allowed : (number : ℕ) (message signature : List ℕ) → number < limit w32 → length message ≤ 128 → length signature ≡ 2348
+    → statement_format.Allowed (record { number = number; message = message; signature = signature })
+unfolding statement_format
+statement_allowed number message signature small short long = (small, (((omega arith, short), refl), long))
 
 -- the first of some items are allowed where all are
 front_allowed : {A : Type 0} (item : Format A) (xs ys : List A) → (times (length (xs ++ ys)) item).Allowed (xs ++ ys) → (times (length xs) item).Allowed xs
