@@ -5,4 +5,5 @@ pub mod Taken
 pub mod Uses
 pub mod Ordered
 pub mod Told
+pub mod Cleans
 pub mod Serves

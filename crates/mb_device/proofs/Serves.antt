@@ -1,20 +1,22 @@
 -- What holds while events are served.
-use Rattle.std.proofs.Common.{◌≡◌, List, [], ◌∷◌, ◌++◌, map, None, Some, refl, sym, ◌∙◌, ap, subst, append_assoc}
+use Rattle.std.proofs.Common.{◌≡◌, List, [], ◌∷◌, ◌++◌, length, map, None, Some, inl, inr, refl, sym, ◌∙◌, ap, subst, append_assoc, length-append, arith}
 use Rattle.std.specs.Prelude.{All}
 use Rattle.std.proofs.lemmas.List.{map-append, append-nil}
 use Rattle.std.proofs.lemmas.List.Elements.{All-head, All-tail}
 use Rattle.mb_model.specs.declared.event.Event.{Event}
 use Rattle.mb_model.specs.declared.event.Answered.{Answered}
 use Rattle.mb_model.specs.declared.reply.Reply.{Reply}
-use Rattle.mb_model.specs.Acknowledged.{Shows, MayAnswer}
-use Rattle.mb_model.specs.Board.{Held, Ledger}
+use Rattle.mb_model.specs.Acknowledged.{Shows, HasToBeClean, powered, zeroed, left, AreWiping, MayAnswer}
+use Rattle.mb_model.specs.Board.{Held, Ledger, AreBytes}
 use Rattle.mb_model.specs.Clean.{Clean}
-use Rattle.mb_model.specs.Machine.{World, Step, Run}
+use Rattle.mb_model.specs.Machine.{World, Step, Run, may_be_cut}
 use Rattle.mb_model.specs.Script.{IsScriptEvent}
+use Rattle.mb_lemmas.proofs.RefusalLemmas.{written_is_on}
 use Rattle.mb_lemmas.proofs.ValidStates.{kept_rightly}
 use Rattle.mb_device.specs.declared.device.Device.{Device}
 use Rattle.mb_device.specs.Sound.{IsSound, HasSound, taken, CanStep, Steps}
 use Rattle.mb_device.specs.Served.{IsServedFrom}
+use Rattle.mb_device.proofs.Cleans.{IsFramed, clean_after, WipesLast, at_boot, at_tamper, before, wiping_last}
 
 -- a run so far, from a world to that which the board holds
 pub record IsRunSo (world : World) (start : Ledger) (device : Device) (ledger : Ledger) (held : Held) : Type 0 where
@@ -24,6 +26,7 @@ pub record IsRunSo (world : World) (start : Ledger) (device : Device) (ledger : 
   pub last : World
   pub run : Run world more last
   pub sound : IsSound device held last
+  pub wiped : AreWiping more → Clean held.memory.bbram last.state
 
 -- between two events
 pub record Serves (start : Ledger) (first : Device) (at_first : Held) (device : Device) (ledger : Ledger) (held : Held) : Type 0 where
@@ -39,7 +42,15 @@ serves_first start first held none standing script some = record {
   standing = standing;
   script = script;
   some = some;
-  runs = λ world sound. record { more = []; grown = sym (append-nil start.answered); all = refl; last = world; run = refl; sound = sound };
+  runs = λ world sound. record {
+    more = [];
+    grown = sym (append-nil start.answered);
+    all = refl;
+    last = world;
+    run = refl;
+    sound = sound;
+    wiped = λ wiping. absurd (omega (arith, ap length wiping.split, length-append wiping.sooner (wiping.wiping ∷ wiping.later)));
+  };
 }
 
 pub can_step : (start : Ledger) (first : Device) (at_first : Held) (device : Device) (ledger : Ledger) (held now : Held) (e : Event) (rest : List Event) → Serves start first at_first device ledger held
@@ -59,8 +70,8 @@ run_more (answer ∷ answered) one first mid last run step = (run.0, run.1, run_
 -- what is asked of an answer
 pub may_answer : (start : Ledger) (first : Device) (at_first : Held) (device next : Device) (ledger out kept : Ledger) (held stepped : Held) (e : Event) (rest : List Event) (reply : Reply)
     → Serves start first at_first device ledger held → out ≡ record ledger { waiting = rest; out = Some e } → kept ≡ out
-    → ((world : World) → IsSound device held world → Steps world e reply next stepped) → MayAnswer kept.standing stepped e reply
-may_answer start first at_first device next ledger out kept held stepped e rest reply inv is_out is_kept steps =
+    → ((world : World) → IsSound device held world → Steps world e reply next stepped) → IsFramed held e reply stepped → MayAnswer kept.standing stepped e reply
+may_answer start first at_first device next ledger out kept held stepped e rest reply inv is_out is_kept steps framed =
     let has = inv.some in
     let done = steps has.world has.sound in
     let stood : kept.standing ≡ held = ap (λ (l : Ledger). l.standing) (is_kept ∙ is_out) ∙ inv.standing in
@@ -70,17 +81,28 @@ may_answer start first at_first device next ledger out kept held stepped e rest 
       stood = subst (λ (h : Held). Shows h has.world) (sym stood) has.sound.shown;
       shown = done.sound.shown;
       step = done.step;
-      clean = done.sound.clean;
+      valid = done.sound.valid;
+      clean = λ has_to_be.
+          clean_after has.world e reply next held stepped done framed (subst (λ (h : Held). HasToBeClean h stepped e reply) stood has_to_be);
       kept = kept_rightly done.next.state done.sound.valid;
     }
+
+-- after an event the memory has to be clean, where the answers leave it clean
+still_clean : {device : Device} (world : World) (e : Event) (reply : Reply) (next : Device) (held stepped : Held) (done : Steps world e reply next stepped) (more : List Answered)
+    → IsSound device held world → (AreWiping more → Clean held.memory.bbram world.state) → WipesLast more (record { event = e; reply = reply }) → HasToBeClean held stepped e reply
+still_clean world e reply next held stepped done more sound wiped (at_boot booted) =
+    powered (λ dark. written_is_on world e reply done.next done.step (ap may_be_cut booted) (done.sound.shown.phase ∙ dark))
+still_clean world e reply next held stepped done more sound wiped (at_tamper tampered) = zeroed tampered
+still_clean world e reply next held stepped done more sound wiped (before wiping unstopped) =
+    left (record { world = world; shown = sound.shown; clean = wiped wiping }) unstopped
 
 -- an event is taken, stepped and answered
 pub serves_more : (start : Ledger) (first : Device) (at_first : Held) (device next : Device) (ledger out kept after : Ledger) (held stepped now : Held) (e : Event) (rest : List Event) (reply : Reply)
     → Serves start first at_first device ledger held → ledger.waiting ≡ e ∷ rest → out ≡ record ledger { waiting = rest; out = Some e } → kept ≡ out
-    → ((world : World) → IsSound device held world → Steps world e reply next stepped)
+    → ((world : World) → IsSound device held world → Steps world e reply next stepped) → IsFramed held e reply stepped
     → after ≡ record kept { out = None; answered = kept.answered ++ record { event = e; reply = reply } ∷ []; standing = stepped } → now ≡ stepped
     → Serves start first at_first next after now
-serves_more start first at_first device next ledger out kept after held stepped now e rest reply inv waits is_out is_kept steps is_answered is_now =
+serves_more start first at_first device next ledger out kept after held stepped now e rest reply inv waits is_out is_kept steps framed is_answered is_now =
     let one : Answered = record { event = e; reply = reply } in
     let answered_is : after.answered ≡ ledger.answered ++ one ∷ [] = ap (λ (l : Ledger). l.answered) is_answered ∙ ap (λ (l : Ledger). l.answered ++ one ∷ []) (is_kept ∙ is_out) in
     let waiting_is : after.waiting ≡ rest = ap (λ (l : Ledger). l.waiting) is_answered ∙ ap (λ (l : Ledger). l.waiting) (is_kept ∙ is_out) in
@@ -105,13 +127,16 @@ serves_more start first at_first device next ledger out kept after held stepped 
             last = done.next;
             run = run_more so.more one world so.last done.next so.run done.step;
             sound = sound_now done.next done.sound;
+            wiped = λ wiping.
+                subst (λ (h : Held). Clean h.memory.bbram done.next.state) (sym is_now)
+                (clean_after so.last e reply next held stepped done framed (still_clean so.last e reply next held stepped done so.more so.sound so.wiped (wiping_last so.more one wiping)));
           });
     }
 
 -- nothing waits any more
 pub served : (start : Ledger) (first : Device) (at_first : Held) (device : Device) (ledger after : Ledger) (held now : Held) (world : World) → Serves start first at_first device ledger held
-    → IsSound first at_first world → ledger.waiting ≡ [] → after ≡ ledger → now ≡ held → IsServedFrom world start after now
-served start first at_first device ledger after held now world inv sound none is_after is_now =
+    → IsSound first at_first world → AreBytes now.memory → ledger.waiting ≡ [] → after ≡ ledger → now ≡ held → IsServedFrom world start after now
+served start first at_first device ledger after held now world inv sound bytes none is_after is_now =
     let so = inv.runs world sound in
     record {
       more = so.more;
@@ -119,10 +144,15 @@ served start first at_first device ledger after held now world inv sound none is
       all = sym (append-nil (map (λ a. a.event) so.more)) ∙ ap (λ (w : List Event). map (λ a. a.event) so.more ++ w) (sym none) ∙ so.all;
       none_waits = ap (λ (l : Ledger). l.waiting) is_after ∙ none;
       none_out = ap (λ (l : Ledger). l.out) is_after ∙ inv.none_out;
-      standing = ap (λ (l : Ledger). l.standing) is_after ∙ inv.standing ∙ sym is_now;
       last = so.last;
       run = so.run;
       shown = subst (λ (h : Held). Shows h so.last) (sym is_now) so.sound.shown;
       valid = so.sound.valid;
-      clean = λ on. subst (λ (h : Held). Clean h.memory.bbram so.last.state) (sym is_now) (so.sound.clean (λ e. on (ap (λ (h : Held). h.phase) is_now ∙ e)));
+      bytes = bytes;
+      clean = λ has_to_be.
+          subst (λ (h : Held). Clean h.memory.bbram so.last.state) (sym is_now)
+          (elim (has_to_be) [
+            | inl on ↦ so.sound.clean (λ e. on (ap (λ (h : Held). h.phase) is_now ∙ e))
+            | inr wiping ↦ so.wiped wiping
+          ]);
     }

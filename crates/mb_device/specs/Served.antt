@@ -1,8 +1,8 @@
 -- What serving the events of a board comes to. Is each event answered, once and in order, by one step of the machine?
-use Rattle.std.specs.Prelude.{◌≡◌, ◌≢◌, ◌++◌, List, [], map, None}
+use Rattle.std.specs.Prelude.{◌≡◌, ◌≢◌, ◌⊎◌, ◌++◌, List, [], map, None}
 use Rattle.mb_model.specs.declared.event.Answered.{Answered}
-use Rattle.mb_model.specs.Acknowledged.{Shows}
-use Rattle.mb_model.specs.Board.{Held, Ledger}
+use Rattle.mb_model.specs.Acknowledged.{Shows, AreWiping}
+use Rattle.mb_model.specs.Board.{Held, Ledger, AreBytes}
 use Rattle.mb_model.specs.Clean.{Clean}
 use Rattle.mb_model.specs.Machine.{World, Run, off}
 use Rattle.mb_model.specs.Valid.{Valid}
@@ -15,9 +15,11 @@ pub record IsServedFrom (world : World) (before after : Ledger) (held : Held) : 
   pub all : map (λ a. a.event) more ≡ before.waiting
   pub none_waits : after.waiting ≡ []
   pub none_out : after.out ≡ None
-  pub standing : after.standing ≡ held
   pub last : World
   pub run : Run world more last
   pub shown : Shows held last
   pub valid : Valid last.state
-  pub clean : held.phase ≢ off → Clean held.memory.bbram last.state
+  pub bytes : AreBytes held.memory
+  -- no secret lies in the memory but those of the state: while power is on, and while it is off if no power loss has
+  -- stopped the device since it last booted or was tampered with
+  pub clean : (held.phase ≢ off) ⊎ AreWiping more → Clean held.memory.bbram last.state

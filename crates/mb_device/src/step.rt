@@ -74,6 +74,7 @@ impl Device {
         requires sound { HasSound self (held_by (B.memory b.old) (B.power b.old) (B.level b.old) (B.meter b.old)) }
         ensures served { (world : World) → IsSound self (held_by (B.memory b.old) (B.power b.old) (B.level b.old) (B.meter b.old)) world
             → IsServedFrom world (B.ledger b.old) (B.ledger b.new) (held_by (B.memory b.new) (B.power b.new) (B.level b.new) (B.meter b.new)) }
+        ensures standing { (B.ledger b.new).standing ≡ held_by (B.memory b.new) (B.power b.new) (B.level b.new) (B.meter b.new) }
         ensures loaded { IsLoaded (B.memory b.new) }
     {
         let mut device = self;

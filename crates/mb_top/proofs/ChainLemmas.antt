@@ -1,10 +1,8 @@
 -- What carries out `verify`, `audit`, `chain` and `attach`.
-use Rattle.std.proofs.Common.{◌≡◌, ◌≢◌, ℕ, ◌≤◌, List, [], ◌∷◌, codes, length, Bool, false, is_some, true≢false, take, min, Option, None, Some, Result, Ok, Err, refl, sym, ◌∙◌, ap, subst, arith}
+use Rattle.std.proofs.Common.{◌≡◌, ◌≢◌, ℕ, List, [], ◌∷◌, codes, length, Bool, false, is_some, true≢false, take, min, Option, None, Some, Result, Ok, Err, refl, sym, ◌∙◌, ap, subst}
 use Rattle.std.proofs.lemmas.List.{take-map, take_min}
-use Rattle.std.proofs.lemmas.List.Elements.{recursion_from_All}
 use Rattle.std.specs.Prelude.{IfOk}
-use Rattle.mb_format.specs.Format.{IsBytes}
-use Rattle.mb_format.proofs.Compositions.{all_items}
+use Rattle.mb_format.specs.Format.{IsBytes, Spells}
 use Rattle.mb_model.specs.declared.key.PublicKey.{PublicKey}
 use Rattle.mb_model.specs.declared.entry.Chain.{Chain}
 use Rattle.mb_model.specs.declared.entry.Entry.{Entry}
@@ -14,10 +12,9 @@ use Rattle.mb_model.specs.declared.state.Configuration.{Configuration}
 use Rattle.mb_model.specs.declared.state.Report.{Report}
 use Rattle.mb_model.specs.declared.state.State.{State}
 use Rattle.mb_model.specs.declared.role.Role.TheVariants as role
-use Rattle.mb_model.specs.Log.{entries_of, last_of, serial_of, RuledLog}
+use Rattle.mb_model.specs.Log.{entries_of, RuledLog}
 use Rattle.mb_model.specs.Lives.{lives_of}
 use Rattle.mb_model.specs.Valid.{IsValidState}
-use Rattle.mb_model.specs.EntryFormat.{signed_entry_format}
 use Rattle.mb_model.specs.ChainFormat.{chain_format}
 use Rattle.mb_model.specs.Attach.{bare_chain, stated_chain}
 use Rattle.mb_model.specs.Texts.{ended}
@@ -29,7 +26,6 @@ use Rattle.mb_model.specs.Commands.{print, refuse, at_first}
 use Rattle.mb_model.specs.ChainCommands.{ChainNames, AttachNames, entries_text, write_entries, IsChainOf, chain_of, attach_statement}
 use Rattle.mb_model.specs.VerifyCommand.{VerifyNames, refused_line, tell_verdict, verify_chain}
 use Rattle.mb_model.specs.AuditCommand.{AuditNames, own_lives, IsAudited, compare, audit_chain}
-use Rattle.mb_storing.specs.Storable.{IsStorableState}
 use Rattle.mb_lemmas.proofs.ValidStates.{valid_is_ruled}
 use Rattle.mb_lemmas.proofs.AuditLemmas.{audited}
 use Rattle.mb_run_laws.proofs.BirthLemmas.{chain_is_of}
@@ -40,37 +36,24 @@ use Rattle.mb_top.specs.declared.end.Refusal.TheVariants as refusal
 use Rattle.mb_top.specs.Ending.{CarriesOutAfter, CarriesOut, end_line}
 use Rattle.mb_top.specs.Chains.{place_of, TellsRefusal}
 use Rattle.mb_top.specs.Outputs.{writes}
-use Rattle.mb_top.proofs.CommandLemmas.{goes_first, goes_second, finds, refuse_here, memory_here, memory_unfound, memory_chosen, memory_unprinted}
+use Rattle.mb_top.proofs.CommandLemmas.{goes_first, goes_second, finds, refuse_here, memory_unfound, memory_chosen, memory_unprinted}
 
 -- ---- a chain that is written
 
-pub entries_written : (out : List ℕ) (chain : Chain) (bytes text : List ℕ) (before now : Outside) (result : Result (Unit {0}) End)
+pub entries_written : (out : List ℕ) (chain : Chain) (bytes text : List ℕ) (before now : Outside) (result : Result (Unit {0}) End) → chain_format.Allowed chain
     → bytes ≡ chain_format.spelling chain → text ≡ entries_text (length chain.entries)
     → CarriesOutAfter (writes (record { role = role.Out; name = out; bytes = bytes } ∷ []) (print text)) before result now
     → CarriesOut (write_entries out chain) before result now
 unfolding writes write_entries
-entries_written out chain bytes text before now result is_bytes is_text carried = λ final.
-    (subst (λ b. CarriesOutAfter (writes (record { role = role.Out; name = out; bytes = b } ∷ []) (print (entries_text (length chain.entries)))) before result now) is_bytes
-    (subst (λ t. CarriesOutAfter (writes (record { role = role.Out; name = out; bytes = bytes } ∷ []) (print t)) before result now) is_text carried)) at_first final
+entries_written out chain bytes text before now result allowed is_bytes is_text carried = λ final.
+    finds (λ spelled. Spells chain_format spelled chain) _ at_first [] final before now bytes result (record { allowed = allowed; whole = is_bytes })
+    ((subst (λ t. CarriesOutAfter (writes (record { role = role.Out; name = out; bytes = bytes } ∷ []) (print t)) before result now) is_text carried) at_first final)
 
 pub entries_lack : (out : List ℕ) (chain : Chain) (before : Outside) → CarriesOut (write_entries out chain) before (Err end.NoMemory) before
 unfolding write_entries
-entries_lack out chain before = λ final. memory_here _ _ at_first [] final before refl refl
+entries_lack out chain before = λ final. memory_unfound (λ spelled. Spells chain_format spelled chain) _ at_first [] final before refl refl
 
 -- ---- the chain of a device
-
--- a log that names a serial has an entry
-serial_counts : (log : List SignedEntry) (serial : List ℕ) → serial_of (entries_of log) ≡ Some serial → 1 ≤ length log
-unfolding serial_of last_of
-serial_counts [] serial is = absurd (cc)
-serial_counts (signed ∷ rest) serial is = omega arith
-
--- the chain of a log that can be stored can be written
-pub bare_allowed : (state : State) → IsValidState state → IsStorableState state → chain_format.Allowed (bare_chain state.log)
-unfolding chain_format
-bare_allowed state valid stored =
-    let entries = all_items signed_entry_format (length state.log) state.log refl (recursion_from_All signed_entry_format.Allowed state.log stored.log) in
-    (tt, (((serial_counts state.log state.serial valid.serial, stored.few), entries), (tt, refl)))
 
 pub log_carried_out : (names : ChainNames) (state : State) (before now : Outside) (result : Result (Unit {0}) End) → IsValidState state
     → CarriesOut (write_entries names.out (bare_chain state.log)) before result now → CarriesOut (chain_of names (Some state)) before result now

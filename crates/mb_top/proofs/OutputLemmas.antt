@@ -1,5 +1,5 @@
 -- Outputs that are written one after another.
-use Rattle.std.proofs.Common.{◌≡◌, List, [], ◌∷◌, map, true, arith, Result, Ok, Err, refl, sym, subst, inl, inr}
+use Rattle.std.proofs.Common.{◌≡◌, List, [], ◌∷◌, map, true, Result, Ok, Err, refl, sym, subst, inl, inr}
 use Rattle.std.specs.Prelude.{IfErr}
 use Rattle.mb_model.specs.declared.event.Answered.{Answered}
 use Rattle.mb_model.specs.Outside.{Outside, Writes, FailsToWrite}

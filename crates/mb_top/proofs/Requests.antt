@@ -1,5 +1,5 @@
 -- From a command to what its words say; and that the words of a request are those of no other.
-use Rattle.std.proofs.Common.{◌≡◌, ℕ, ◌≤◌, List, [], ◌∷◌, codes, Option, None, Some, Result, Ok, Err, if◌then◌else◌, IsTrue, refl, sym, ◌∙◌, ap, subst, arith}
+use Rattle.std.proofs.Common.{◌≡◌, ℕ, ◌≤◌, List, [], ◌∷◌, codes, Option, None, Some, Result, Ok, Err, if◌then◌else◌, IsTrue, sym, ◌∙◌, ap, subst, arith}
 use Rattle.std.specs.Fmt.{decimal}
 use Rattle.mb_format.specs.Combinators.{same_bytes}
 use Rattle.mb_model.specs.declared.event.Answered.{Answered}
@@ -10,7 +10,6 @@ use Rattle.mb_model.specs.Board.{Held}
 use Rattle.mb_model.specs.Commands.{Ended, CommandEnds, HasInputsFor, IsFaultless, at_first}
 use Rattle.mb_top.specs.Top.{Request, runs, makes_key, signs, countersigns, makes_device, verifies, audits, shows_chain, attaches, generates, IsRequest, command_of, Ends, no_command, did}
 use Rattle.mb_top.specs.declared.end.End.{End}
-use Rattle.mb_top.specs.declared.end.End.TheVariants as end
 use Rattle.mb_top.specs.Ending.{CarriesOutRest, CarriesOut, CarriesOutWords}
 use Rattle.mb_top.proofs.Completing.{Completes, command_completes}
 use Rattle.mb_top.proofs.WordLemmas.{number_of_word, number_again}

@@ -1,12 +1,13 @@
 -- What carries out a part of a command, before the line of its status is printed. Does each end have its line and its
 -- status?
-use Rattle.std.specs.Prelude.{◌≡◌, ℕ, List, [], ◌++◌, codes, Option, None, Some, Result, Ok, Err}
+use Rattle.std.specs.Prelude.{◌≡◌, ℕ, Bool, List, [], ◌++◌, codes, Option, None, Some, Result, Ok, Err}
 use Rattle.std.specs.Fmt.{decimal}
 use Rattle.mb_model.specs.declared.event.Answered.{Answered}
 use Rattle.mb_model.specs.declared.role.Role.{Role}
 use Rattle.mb_model.specs.declared.role.Place.{Place}
 use Rattle.mb_model.specs.Outside.{Outside, HoldsTooMuch, read_once, FailsToRead}
-use Rattle.mb_model.specs.Board.{Held}
+use Rattle.mb_model.specs.Board.{Memory, Held, Ledger, Meter}
+use Rattle.mb_board.specs.Calls.{held_by}
 use Rattle.mb_model.specs.Commands.{Input, Command, Past, Ended, SaysLine, HasRead, CommandEnds, at_first, input_line}
 use Rattle.mb_model.specs.Commands.{role_word, place_words}
 use Rattle.mb_top.specs.Top.{Ends}
@@ -55,6 +56,10 @@ end_line (end.Refused why) = refusal_line why
 abbrev pub ended_at : Outside → List Answered → Held → Outside → ℕ → Ended
 ended_at before answered final after status =
     record { before = before; after = after; answered = answered; final = final; status = status }
+
+-- a board holds what it held at its last answer
+abbrev pub HoldsAnswered : Ledger → Memory → Bool → ℕ → Meter → Type 0
+HoldsAnswered ledger memory power level meter = ledger.standing ≡ held_by memory power level meter
 
 -- A part is done and has ended so, or it will have ended so, once the line of its end is printed.
 abbrev pub EndsOncePrinted : (Outside → ℕ → Type 0) → Result (Unit {0}) End → Outside → Type 0

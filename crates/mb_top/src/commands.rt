@@ -3,8 +3,7 @@
 ghost use Rattle.std.specs.Prelude.{◌≡◌, ◌<◌, ◌⊎◌, ℕ, List, Option, [], map, None, Some, false, string_bytes};
 ghost use Rattle.mb_model.specs.Commands.{HasInputsFor, ComesToRefusal, IsFaultless};
 ghost use Rattle.mb_top.specs.Top.{Request as Asked, IsRequest, command_of, Ends};
-ghost use Rattle.mb_board.specs.Calls.{held_by};
-ghost use Rattle.mb_top.specs.Ending.{CarriesOutWords};
+ghost use Rattle.mb_top.specs.Ending.{HoldsAnswered, CarriesOutWords};
 
 use crate::attach::attach;
 use crate::audit::audit;
@@ -35,9 +34,10 @@ fn command<H: Host, B: Board>(
     requires off { B.power board.old ≡ false }
     requires none_out { (B.ledger board.old).out ≡ None }
     requires none_answered { (B.ledger board.old).answered ≡ [] }
-    ensures { CarriesOutWords (map string_bytes words.now) (B.ledger board.new).answered
-        (held_by (B.memory board.new) (B.power board.new) (B.level board.new) (B.meter board.new))
+    ensures carried { CarriesOutWords (map string_bytes words.now) (B.ledger board.new).answered (B.ledger board.new).standing
         (H.outside host.old) result (H.outside host.new) }
+    ensures stays { HoldsAnswered (B.ledger board.old) (B.memory board.old) (B.power board.old) (B.level board.old) (B.meter board.old)
+        → HoldsAnswered (B.ledger board.new) (B.memory board.new) (B.power board.new) (B.level board.new) (B.meter board.new) }
 {
     counted_command::<H, B, Brand>(alloc, words, host, board, Blank::new(1))
 }
@@ -56,9 +56,10 @@ fn counted_command<H: Host, B: Board, L: Ledger>(
     requires off { B.power board.old ≡ false }
     requires none_out { (B.ledger board.old).out ≡ None }
     requires none_answered { (B.ledger board.old).answered ≡ [] }
-    ensures { CarriesOutWords (map string_bytes words.now) (B.ledger board.new).answered
-        (held_by (B.memory board.new) (B.power board.new) (B.level board.new) (B.meter board.new))
+    ensures carried { CarriesOutWords (map string_bytes words.now) (B.ledger board.new).answered (B.ledger board.new).standing
         (H.outside host.old) result (H.outside host.new) }
+    ensures stays { HoldsAnswered (B.ledger board.old) (B.memory board.old) (B.power board.old) (B.level board.old) (B.meter board.old)
+        → HoldsAnswered (B.ledger board.new) (B.memory board.new) (B.power board.new) (B.level board.new) (B.meter board.new) }
 {
     let mut steps = Steps::<L>::begin(alloc, blank);
     match request_in(words) {
@@ -86,13 +87,15 @@ pub fn top<H: Host, B: Board>(alloc: Global, words: &[String], host: &mut H, boa
       before = H.outside host.old;
       after = H.outside host.new;
       answered = (B.ledger board.new).answered;
-      final = held_by (B.memory board.new) (B.power board.new) (B.level board.new) (B.meter board.new);
+      final = (B.ledger board.new).standing;
       status = result;
     }) }
     ensures complete { (asked : Asked) → IsRequest (map string_bytes words.now) asked
         → (files : List ℕ → Option (List ℕ)) → (H.outside host.old).files ≡ Some files → HasInputsFor (command_of asked) files
         → IsFaultless (H.outside host.old) (H.outside host.new)
         → (result ≡ 0) ⊎ (result ≡ 6) ⊎ ((result ≡ 7) × ComesToRefusal (command_of asked) files) }
+    ensures stays { HoldsAnswered (B.ledger board.old) (B.memory board.old) (B.power board.old) (B.level board.old) (B.meter board.old)
+        → HoldsAnswered (B.ledger board.new) (B.memory board.new) (B.power board.new) (B.level board.new) (B.meter board.new) }
 {
     match command(alloc, words, host, board) {
         Ok(()) => 0,

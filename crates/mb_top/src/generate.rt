@@ -8,10 +8,9 @@ ghost use Rattle.mb_model.specs.Script.{IsScriptEvent};
 ghost use Rattle.mb_model.specs.Commands.{Past, at_first};
 ghost use Rattle.mb_model.specs.GenerateCommand.{generate, summarise};
 ghost use Rattle.mb_model.specs.Workload.{IsWorkload};
-ghost use Rattle.mb_board.specs.Calls.{held_by};
 ghost use Rattle.mb_generate.specs.Serving.{CanBeServed};
 ghost use Rattle.mb_top.specs.Words.{generate_files};
-ghost use Rattle.mb_top.specs.Ending.{CarriesOutRest};
+ghost use Rattle.mb_top.specs.Ending.{HoldsAnswered, CarriesOutRest};
 ghost use Rattle.mb_top.specs.Outputs.{WritesAll, StopsWriting};
 ghost use Rattle.mb_top.specs.Generated.{HasEvents, workload_outputs};
 
@@ -44,9 +43,10 @@ pub fn generate<H: Host, B: Board, L: Ledger>(
     requires off { B.power board.old ≡ false }
     requires none_out { (B.ledger board.old).out ≡ None }
     requires none_answered { (B.ledger board.old).answered ≡ [] }
-    ensures { CarriesOutRest (generate (generate_files names.now)) at_first (B.ledger board.new).answered
-        (held_by (B.memory board.new) (B.power board.new) (B.level board.new) (B.meter board.new))
+    ensures carried { CarriesOutRest (generate (generate_files names.now)) at_first (B.ledger board.new).answered (B.ledger board.new).standing
         (H.outside host.old) result (H.outside host.new) }
+    ensures stays { HoldsAnswered (B.ledger board.old) (B.memory board.old) (B.power board.old) (B.level board.old) (B.meter board.old)
+        → HoldsAnswered (B.ledger board.new) (B.memory board.new) (B.power board.new) (B.level board.new) (B.meter board.new) }
 {
     let Ok(files) = workload(alloc, names.number, names.rounds, steps) else {
         return Err(End::NoMemory);
@@ -92,9 +92,10 @@ fn load_workload<H: Host, B: Board, L: Ledger>(
     requires off { B.power board.old ≡ false }
     requires none_out { (B.ledger board.old).out ≡ None }
     requires none_answered { (B.ledger board.old).answered ≡ [] }
-    ensures { CarriesOutRest (generate (generate_files names.now)) at_first (B.ledger board.new).answered
-        (held_by (B.memory board.new) (B.power board.new) (B.level board.new) (B.meter board.new))
+    ensures carried { CarriesOutRest (generate (generate_files names.now)) at_first (B.ledger board.new).answered (B.ledger board.new).standing
         (H.outside host.old) result (H.outside host.new) }
+    ensures stays { HoldsAnswered (B.ledger board.old) (B.memory board.old) (B.power board.old) (B.level board.old) (B.meter board.old)
+        → HoldsAnswered (B.ledger board.new) (B.memory board.new) (B.power board.new) (B.level board.new) (B.meter board.new) }
 {
     match board.load(alloc, files.image.as_slice(), events) {
         Ok(()) => {}
@@ -138,11 +139,12 @@ fn write_files<H: Host>(
 /// now, for which the bytes make room. Where memory was wanted while the events were served, there is none.
 fn summarise<H: Host, B: Board>(mut image: Vec<u8>, host: &mut H, board: &B) -> Result<(), End>
     requires loaded { IsLoaded (B.memory board.now) }
+    requires answered { (B.ledger board.now).standing.memory ≡ B.memory board.now }
     requires room { length image.items ≡ 1077248 }
-    requires shown { (last : World) × Shows (held_by (B.memory board.now) (B.power board.now) (B.level board.now) (B.meter board.now)) last }
+    requires shown { (last : World) × Shows (B.ledger board.now).standing last }
     ensures { (past : Past) → past.answered ≡ (B.ledger board.now).answered
-        → CarriesOutRest (summarise (B.ledger board.now).answered (held_by (B.memory board.now) (B.power board.now) (B.level board.now) (B.meter board.now)))
-        past (B.ledger board.now).answered (held_by (B.memory board.now) (B.power board.now) (B.level board.now) (B.meter board.now))
+        → CarriesOutRest (summarise (B.ledger board.now).answered (B.ledger board.now).standing)
+        past (B.ledger board.now).answered (B.ledger board.now).standing
         (H.outside host.old) result (H.outside host.new) }
 {
     let answered = board.answered();

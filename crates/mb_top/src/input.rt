@@ -1,6 +1,7 @@
 //! The inputs of commands: read one after another, each checked before the next.
 
 ghost use Rattle.std.specs.Prelude.{◌≡◌, IfOk, IfErr, OnOk};
+ghost use Rattle.mb_format.specs.Format.{IsBytes};
 ghost use Rattle.mb_model.specs.Outside.{read_once};
 ghost use Rattle.mb_model.specs.Commands.{HasRead};
 ghost use Rattle.mb_model.specs.OrderFormat.{order_format};
@@ -30,12 +31,20 @@ pub fn read_input<H: Host>(
     ensures err { IfErr result (ReadStops role name.now (H.outside host.old) (H.outside host.new)) }
 {
     match host.read(alloc, name) {
-        Ok(bytes) => Ok(bytes),
+        Ok(bytes) => {
+            are_bytes(bytes.as_slice());
+            Ok(bytes)
+        }
         Err(HostEnd::TooLong) => Err(End::TooLong(role)),
         Err(HostEnd::Failed) => Err(End::NotRead(role)),
         Err(HostEnd::NoMemory) => Err(End::NoMemory),
     }
 }
+
+/// Each byte of an input is less than 256.
+fn are_bytes(bytes: &[u8])
+    ensures { IsBytes bytes.now }
+{}
 
 /// The noise of which an officer's key is made.
 pub fn read_key_noise<H: Host>(alloc: Global, host: &mut H, name: &str) -> Result<[u8; 32], End>

@@ -3,8 +3,7 @@
 ghost use Rattle.std.specs.Prelude.{◌≡◌, ◌↔◌, ◌∷◌, [], map, IfOk, IfErr, IsTrue, None, false, string_bytes};
 ghost use Rattle.mb_model.specs.Board.{Held};
 ghost use Rattle.mb_model.specs.Commands.{PrintEnds, Stops, at_first};
-ghost use Rattle.mb_board.specs.Calls.{held_by};
-ghost use Rattle.mb_top.specs.Ending.{ended_at, end_line, end_status};
+ghost use Rattle.mb_top.specs.Ending.{HoldsAnswered, ended_at, end_line, end_status};
 ghost use Rattle.mb_top.specs.Program.{ProgramEnds, end_without};
 
 use crate::commands::top;
@@ -79,13 +78,13 @@ pub fn program<H: Host, B: Board>(
     requires none_waiting { (B.ledger board.old).waiting ≡ [] }
     requires none_answered { (B.ledger board.old).answered ≡ [] }
     ensures words { IfOk words (λ words. ProgramEnds USAGE.now VERSION.now (map string_bytes words.items)
-        (ended_at (H.outside host.old) (B.ledger board.new).answered
-        (held_by (B.memory board.new) (B.power board.new) (B.level board.new) (B.meter board.new))
+        (ended_at (H.outside host.old) (B.ledger board.new).answered (B.ledger board.new).standing
         (H.outside host.new) result)) }
     ensures none { IfErr words (λ why. Stops (end_line (end_without why)) (end_status (end_without why)) at_first
-        (ended_at (H.outside host.old) (B.ledger board.new).answered
-        (held_by (B.memory board.new) (B.power board.new) (B.level board.new) (B.meter board.new))
+        (ended_at (H.outside host.old) (B.ledger board.new).answered (B.ledger board.new).standing
         (H.outside host.new) result)) }
+    ensures stays { HoldsAnswered (B.ledger board.old) (B.memory board.old) (B.power board.old) (B.level board.old) (B.meter board.old)
+        → HoldsAnswered (B.ledger board.new) (B.memory board.new) (B.power board.new) (B.level board.new) (B.meter board.new) }
 {
     match words {
         Ok(words) => answer(alloc, &words, host, board),
@@ -100,10 +99,11 @@ fn answer<H: Host, B: Board>(alloc: Global, words: &[String], host: &mut H, boar
     requires none_out { (B.ledger board.old).out ≡ None }
     requires none_waiting { (B.ledger board.old).waiting ≡ [] }
     requires none_answered { (B.ledger board.old).answered ≡ [] }
-    ensures { ProgramEnds USAGE.now VERSION.now (map string_bytes words.now)
-        (ended_at (H.outside host.old) (B.ledger board.new).answered
-        (held_by (B.memory board.new) (B.power board.new) (B.level board.new) (B.meter board.new))
+    ensures carried { ProgramEnds USAGE.now VERSION.now (map string_bytes words.now)
+        (ended_at (H.outside host.old) (B.ledger board.new).answered (B.ledger board.new).standing
         (H.outside host.new) result) }
+    ensures stays { HoldsAnswered (B.ledger board.old) (B.memory board.old) (B.power board.old) (B.level board.old) (B.meter board.old)
+        → HoldsAnswered (B.ledger board.new) (B.memory board.new) (B.power board.new) (B.level board.new) (B.meter board.new) }
 {
     if is_one_word(words, "--help") {
         tell(host, USAGE)

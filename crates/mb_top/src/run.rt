@@ -7,9 +7,8 @@ ghost use Rattle.mb_model.specs.Commands.{at_first};
 ghost use Rattle.mb_model.specs.Meaning.{IsWellFormed};
 ghost use Rattle.mb_model.specs.RunCommand.{run, read_script, read_noise, serve_events, write_image};
 ghost use Rattle.mb_model.specs.Script.{IsScriptEvent};
-ghost use Rattle.mb_board.specs.Calls.{held_by};
 ghost use Rattle.mb_top.specs.Words.{run_files};
-ghost use Rattle.mb_top.specs.Ending.{CarriesOutRest};
+ghost use Rattle.mb_top.specs.Ending.{HoldsAnswered, CarriesOutRest};
 
 use crate::end::End;
 use crate::output::{Output, finish};
@@ -35,9 +34,10 @@ pub fn run<H: Host, B: Board, L: Ledger>(
     requires off { B.power board.old ≡ false }
     requires none_out { (B.ledger board.old).out ≡ None }
     requires none_answered { (B.ledger board.old).answered ≡ [] }
-    ensures { CarriesOutRest (run (run_files names.now)) at_first (B.ledger board.new).answered
-        (held_by (B.memory board.new) (B.power board.new) (B.level board.new) (B.meter board.new))
+    ensures carried { CarriesOutRest (run (run_files names.now)) at_first (B.ledger board.new).answered (B.ledger board.new).standing
         (H.outside host.old) result (H.outside host.new) }
+    ensures stays { HoldsAnswered (B.ledger board.old) (B.memory board.old) (B.power board.old) (B.level board.old) (B.meter board.old)
+        → HoldsAnswered (B.ledger board.new) (B.memory board.new) (B.power board.new) (B.level board.new) (B.meter board.new) }
 {
     let image = read_image(alloc, host, names.image, steps)?;
     run_image(alloc, names, image.bytes, host, board, steps)
@@ -56,10 +56,11 @@ fn run_image<H: Host, B: Board, L: Ledger>(
     requires none_out { (B.ledger board.old).out ≡ None }
     requires none_answered { (B.ledger board.old).answered ≡ [] }
     requires image { (state : Option State) × IsWellFormed image.items state }
-    ensures { (state : Option State) → IsWellFormed image.items state
-        → CarriesOutRest (read_script (run_files names.now) state) at_first (B.ledger board.new).answered
-        (held_by (B.memory board.new) (B.power board.new) (B.level board.new) (B.meter board.new))
+    ensures carried { (state : Option State) → IsWellFormed image.items state
+        → CarriesOutRest (read_script (run_files names.now) state) at_first (B.ledger board.new).answered (B.ledger board.new).standing
         (H.outside host.old) result (H.outside host.new) }
+    ensures stays { HoldsAnswered (B.ledger board.old) (B.memory board.old) (B.power board.old) (B.level board.old) (B.meter board.old)
+        → HoldsAnswered (B.ledger board.new) (B.memory board.new) (B.power board.new) (B.level board.new) (B.meter board.new) }
 {
     let events = read_events(alloc, host, names.script)?;
     run_events(alloc, names, image, events, host, board, steps)
@@ -81,10 +82,11 @@ fn run_events<H: Host, B: Board, L: Ledger>(
     requires image { (state : Option State) × IsWellFormed image.items state }
     requires count { length events ≤ 65536 }
     requires events { All IsScriptEvent events }
-    ensures { (state : Option State) → IsWellFormed image.items state
-        → CarriesOutRest (read_noise (run_files names.now) state events) at_first (B.ledger board.new).answered
-        (held_by (B.memory board.new) (B.power board.new) (B.level board.new) (B.meter board.new))
+    ensures carried { (state : Option State) → IsWellFormed image.items state
+        → CarriesOutRest (read_noise (run_files names.now) state events) at_first (B.ledger board.new).answered (B.ledger board.new).standing
         (H.outside host.old) result (H.outside host.new) }
+    ensures stays { HoldsAnswered (B.ledger board.old) (B.memory board.old) (B.power board.old) (B.level board.old) (B.meter board.old)
+        → HoldsAnswered (B.ledger board.new) (B.memory board.new) (B.power board.new) (B.level board.new) (B.meter board.new) }
 {
     let drawn = read_draws(alloc, host, names.noise, events)?;
     run_drawn(alloc, names, image, drawn, host, board, steps)
@@ -106,10 +108,11 @@ fn run_drawn<H: Host, B: Board, L: Ledger>(
     requires image { (state : Option State) × IsWellFormed image.items state }
     requires count { length events ≤ 65536 }
     requires events { All IsScriptEvent events }
-    ensures { (state : Option State) → IsWellFormed image.items state
-        → CarriesOutRest (serve_events (run_files names.now) state events) at_first (B.ledger board.new).answered
-        (held_by (B.memory board.new) (B.power board.new) (B.level board.new) (B.meter board.new))
+    ensures carried { (state : Option State) → IsWellFormed image.items state
+        → CarriesOutRest (serve_events (run_files names.now) state events) at_first (B.ledger board.new).answered (B.ledger board.new).standing
         (H.outside host.old) result (H.outside host.new) }
+    ensures stays { HoldsAnswered (B.ledger board.old) (B.memory board.old) (B.power board.old) (B.level board.old) (B.meter board.old)
+        → HoldsAnswered (B.ledger board.new) (B.memory board.new) (B.power board.new) (B.level board.new) (B.meter board.new) }
 {
     match board.load(alloc, &image, events) {
         Ok(()) => {}
@@ -128,12 +131,11 @@ fn write_image<H: Host, B: Board>(
     board: &B,
 ) -> Result<(), End>
     requires loaded { IsLoaded (B.memory board.now) }
+    requires answered { (B.ledger board.now).standing.memory ≡ B.memory board.now }
     requires room { length image.items ≡ 1077248 }
     ensures { CarriesOutRest
-        (write_image (run_files names.now) (B.ledger board.now).answered
-        (held_by (B.memory board.now) (B.power board.now) (B.level board.now) (B.meter board.now)))
-        (record { answered = (B.ledger board.now).answered; wrote = false }) (B.ledger board.now).answered
-        (held_by (B.memory board.now) (B.power board.now) (B.level board.now) (B.meter board.now))
+        (write_image (run_files names.now) (B.ledger board.now).answered (B.ledger board.now).standing)
+        (record { answered = (B.ledger board.now).answered; wrote = false }) (B.ledger board.now).answered (B.ledger board.now).standing
         (H.outside host.old) result (H.outside host.new) }
 {
     let Ok(replies) = write_replies(alloc, board.answered()) else {

@@ -14,6 +14,6 @@ returns-in_default-entries_text g c = entries_lack c.args.out.now c.args.chain.n
 pub returns : goal.returns
 returns g c =
     let outside = g.H.Host.outside in
-    entries_written c.args.out.now c.args.chain.now c.deref.result.now c.as_bytes.result.now (outside c.args.host.now) (outside c.finish.new.host) c.finish.result
+    entries_written c.args.out.now c.args.chain.now c.deref.result.now c.as_bytes.result.now (outside c.args.host.now) (outside c.finish.new.host) c.finish.result c.requires
     (◌∙◌ {A = List ℕ} c.deref.ensures.value (◌∙◌ {A = List ℕ} c.in-Ok.ensures.items (ap (λ (old : List ℕ). old ++ chain_format.spelling c.args.chain.now) c.new-bytes.ensures.items)))
     (c.as_bytes.ensures.value ∙ c.in-Ok-entries_text.ensures ∙ ap (λ (log : List SignedEntry). entries_text (length log)) c.as_slice.ensures) c.finish.ensures

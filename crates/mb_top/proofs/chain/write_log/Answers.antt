@@ -1,5 +1,6 @@
 use Rattle.mb_top.specs.Words.{chain_files}
-use Rattle.mb_top.proofs.ChainLemmas.{bare_allowed, log_carried_out}
+use Rattle.mb_storing.proofs.StorableChains.{bare_allowed}
+use Rattle.mb_top.proofs.ChainLemmas.{log_carried_out}
 use Rattle.mb_top.proofs.chain.write_log.Goals as goal
 
 pub write_entries-requires : goal.write_entries-requires

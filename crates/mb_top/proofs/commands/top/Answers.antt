@@ -1,6 +1,5 @@
 use Rattle.std.proofs.Common.{map, string_bytes, sym, subst}
 use Rattle.mb_top.specs.Top.{Ends}
-use Rattle.mb_board.specs.Calls.{held_by}
 use Rattle.mb_top.specs.Ending.{ended_at}
 use Rattle.mb_top.proofs.Requests.{request_completes}
 use Rattle.mb_top.proofs.commands.top.Goals as goal
@@ -8,9 +7,8 @@ use Rattle.mb_top.proofs.commands.top.Goals as goal
 pub returns-in-Err-clause-ends : goal.returns-in-Err-clause-ends
 returns-in-Err-clause-ends g c =
     let board = c.command.new.board in
-    let held = held_by (g.B.Board.memory board) (g.B.Register.power board) (g.B.Register.level board) (g.B.Board.meter board) in
-    subst (λ s. Ends (map string_bytes c.args.words.now) (ended_at (g.H.Host.outside c.args.host.now) (g.B.Board.ledger board).answered held (g.H.Host.outside c.stop.new.host) s))
-    (sym c.stop.ensures.status) (c.in-Err.ensures (g.H.Host.outside c.stop.new.host) c.stop.ensures.says)
+    subst (λ s. Ends (map string_bytes c.args.words.now) (ended_at (g.H.Host.outside c.args.host.now) (g.B.Board.ledger board).answered (g.B.Board.ledger board).standing (g.H.Host.outside c.stop.new.host) s))
+    (sym c.stop.ensures.status) (c.in-Err.ensures.carried (g.H.Host.outside c.stop.new.host) c.stop.ensures.says)
 
 pub returns-in-Err-clause-complete : goal.returns-in-Err-clause-complete
 returns-in-Err-clause-complete g c = λ asked is files told has well. request_completes _ asked files _ is told has well (returns-in-Err-clause-ends g c)

@@ -1,17 +1,18 @@
-use Rattle.std.proofs.Common.{Some, ◌∙◌, ap}
+use Rattle.std.proofs.Common.{Some, ◌∙◌, sym, ap, subst}
 use Rattle.std.proofs.lemmas.Result.{err_from_is_err_and}
+use Rattle.mb_model.specs.Acknowledged.{Shows}
 use Rattle.mb_model.specs.Machine.{opening}
 use Rattle.mb_top.specs.Words.{generate_files}
-use Rattle.mb_top.proofs.RunLemmas.{loaded_shows, served_whole}
+use Rattle.mb_top.proofs.RunLemmas.{loaded_shows, loaded_holds, unloaded_holds, served_whole}
 use Rattle.mb_top.proofs.GenerateLemmas.{new_state, new_image, none_made, files_not_written, workload_served}
 use Rattle.mb_top.proofs.generate.load_workload.Goals as goal
 
-pub returns-in-Err : goal.returns-in-Err
-returns-in-Err g c =
+pub returns-in-Err-clause-carried : goal.returns-in-Err-clause-carried
+returns-in-Err-clause-carried g c =
     none_made (generate_files c.args.names.now) _ _ (g.H.Host.outside c.args.host.now) (ap (λ l. l.answered) c.in-Err.ensures.err_ledger ∙ c.requires.none_answered)
 
-pub returns-in_err-write_files : goal.returns-in_err-write_files
-returns-in_err-write_files g c =
+pub returns-in_err-write_files-clause-carried : goal.returns-in_err-write_files-clause-carried
+returns-in_err-write_files-clause-carried g c =
     let p = err_from_is_err_and c.from_residual.result c.from_residual.ensures.1 in
     let outside = g.H.Host.outside in
     rw (p.1, p.2) (files_not_written (generate_files c.args.names.now) c.args.files c.args.events _ _ (outside c.args.host.now) (outside c.write_files.new.host) c.in_err-write_files.field-0.0
@@ -36,10 +37,10 @@ summarise-requires-clause-shown g c =
     let shown = loaded_shows (g.B.Board.memory board) (g.B.Register.power board) (g.B.Register.level board) (g.B.Board.meter board) c.args.files.image state c.in-Ok.ensures.sized
     (c.in-Ok.ensures.image ∙ c.as_slice.ensures) c.load.ensures.power (ap (λ m. m.armed) c.in-Ok.ensures.meter) held in
     let served = c.serve-device.ensures.served (opening state) (c.start.ensures.started (opening state) shown held.valid) in
-    (served.last, served.shown)
+    (served.last, subst (λ h. Shows h served.last) (sym c.serve-device.ensures.standing) served.shown)
 
-pub returns : goal.returns
-returns g c =
+pub returns-clause-carried : goal.returns-clause-carried
+returns-clause-carried g c =
     let outside = g.H.Host.outside in
     let board = c.load.new.self in
     let names = c.args.names.now in
@@ -48,7 +49,19 @@ returns g c =
     let shown = loaded_shows (g.B.Board.memory board) (g.B.Register.power board) (g.B.Register.level board) (g.B.Board.meter board) c.args.files.image state c.in-Ok.ensures.sized
     (c.in-Ok.ensures.image ∙ c.as_slice.ensures) c.load.ensures.power (ap (λ m. m.armed) c.in-Ok.ensures.meter) held in
     let sound = c.start.ensures.started (opening state) shown held.valid in
-    let served = served_whole state c.args.events (g.B.Board.memory board) (g.B.Board.ledger board) (g.B.Board.ledger c.serve-device.new.b) _ held.valid c.in-Ok.ensures.ledger
-    (c.serve-device.ensures.served (opening state) sound) in
+    let served = served_whole c.args.files.image state c.args.events (g.B.Board.memory board) (g.B.Board.ledger board) (g.B.Board.ledger c.serve-device.new.b) _ held c.requires.each c.in-Ok.ensures.ledger
+    c.serve-device.ensures.standing (c.serve-device.ensures.served (opening state) sound) in
     workload_served (generate_files names) c.args.files c.args.events _ _ (outside c.args.host.now) (outside c.write_files.new.host) (outside c.summarise.new.host) c.summarise.result
     c.requires.generated c.requires.events c.in_ok-write_files.ensures.ok served c.summarise.ensures
+
+pub returns-in-Err-clause-stays : goal.returns-in-Err-clause-stays
+returns-in-Err-clause-stays g c = λ holds.
+    unloaded_holds (g.B.Board.memory c.args.board.now) (g.B.Board.memory c.load.new.self) (g.B.Board.ledger c.args.board.now) (g.B.Board.ledger c.load.new.self)
+    (g.B.Register.power c.args.board.now) (g.B.Register.power c.load.new.self) (g.B.Register.level c.args.board.now) (g.B.Register.level c.load.new.self) (g.B.Board.meter c.args.board.now) (g.B.Board.meter c.load.new.self)
+    c.in-Err.ensures.err_memory c.in-Err.ensures.err_ledger c.in-Err.ensures.err_meter c.requires.off c.load.ensures.power holds
+
+pub returns-in_err-write_files-clause-stays : goal.returns-in_err-write_files-clause-stays
+returns-in_err-write_files-clause-stays g c = λ holds.
+    let board = c.load.new.self in
+    loaded_holds (g.B.Board.memory board) c.args.events (g.B.Board.ledger board) (g.B.Register.power board) (g.B.Register.level board) (g.B.Board.meter board)
+    c.in-Ok.ensures.ledger c.load.ensures.power (ap (λ m. m.armed) c.in-Ok.ensures.meter)

@@ -7,17 +7,17 @@ use Rattle.mb_top.specs.Words.{run_files}
 use Rattle.mb_top.proofs.CommandLemmas.{input_carried_out, read_on}
 use Rattle.mb_top.proofs.run.run.Goals as goal
 
-pub returns-in_err-image : goal.returns-in_err-image
+pub returns-in_err-image-clause-carried : goal.returns-in_err-image-clause-carried
 unfolding run
-returns-in_err-image g c =
+returns-in_err-image-clause-carried g c =
     let p = err_from_is_err_and c.from_residual.result c.from_residual.ensures.1 in
     let outside = g.H.Host.outside in
     rw (p.1, p.2) (input_carried_out (image_input c.args.names.now.image.now) (read_script (run_files c.args.names.now)) at_first _ _ (outside c.args.host.now) (outside c.read_image.new.host) c.in_err-image.field-0.0 refl c.requires.none_answered c.in_err-image.ensures.err)
 
-pub returns : goal.returns
+pub returns-clause-carried : goal.returns-clause-carried
 unfolding run
-returns g c =
+returns-clause-carried g c =
     let outside = g.H.Host.outside in
     let image = c.in_ok-image.image in
     read_on (image_input c.args.names.now.image.now) (read_script (run_files c.args.names.now)) at_first _ _ (outside c.args.host.now) (outside c.read_image.new.host) (outside c.run_image.new.host) image.state
-    c.run_image.result c.in_ok-image.ensures.read (c.run_image.ensures image.state c.in_ok-image.ensures.form)
+    c.run_image.result c.in_ok-image.ensures.read (c.run_image.ensures.carried image.state c.in_ok-image.ensures.form)

@@ -1,6 +1,6 @@
-use Rattle.std.proofs.Common.{◌≡◌, length, refl, ◌∙◌, ap, arith, length-append}
+use Rattle.std.proofs.Common.{◌≡◌, length, refl, sym, ◌∙◌, ap, arith, length-append}
+use Rattle.mb_model.specs.Board.{image_of}
 use Rattle.mb_model.specs.Replies.{replies_text}
-use Rattle.mb_board.specs.Calls.{held_by}
 use Rattle.mb_top.specs.Words.{run_files}
 use Rattle.mb_top.proofs.CommandLemmas.{memory_here}
 use Rattle.mb_top.proofs.RunLemmas.{filled_whole, image_written}
@@ -17,7 +17,6 @@ returns g c =
     let image = c.copy_image.ensures in
     let sized : c.args.image.len ≡ length c.copy_image.new.out =
     omega (arith, c.requires.room, c.args.image.ok, ap length image, length-append memory.flash memory.bbram, c.requires.loaded.flash, c.requires.loaded.bbram) in
-    image_written (run_files c.args.names.now) (g.B.Board.ledger board).answered
-    (held_by memory (g.B.Register.power board) (g.B.Register.level board) (g.B.Board.meter board)) c.deref.result.now c.deref-2.result.now (outside c.args.host.now) (outside c.finish.new.host) c.finish.result
-    (c.deref.ensures.value ∙ filled_whole c.args.image.len c.copy_image.new.out c.args.image.items sized ∙ image)
+    image_written (run_files c.args.names.now) (g.B.Board.ledger board).answered (g.B.Board.ledger board).standing c.deref.result.now c.deref-2.result.now (outside c.args.host.now) (outside c.finish.new.host) c.finish.result
+    (c.deref.ensures.value ∙ filled_whole c.args.image.len c.copy_image.new.out c.args.image.items sized ∙ image ∙ ap image_of (sym c.requires.answered))
     (c.deref-2.ensures.value ∙ c.in-Ok.ensures ∙ ap replies_text c.answered.ensures) c.finish.ensures

@@ -1,5 +1,5 @@
 use Rattle.std.proofs.Common.{◌≡◌, ◌∙◌, sym, ap, subst, arith, length}
-use Rattle.mb_model.specs.Board.{Held, Ledger, Meter, IsLoaded}
+use Rattle.mb_model.specs.Board.{Held, Ledger, Meter, IsLoaded, AreBytes}
 use Rattle.mb_board.specs.Calls.{held_by}
 use Rattle.mb_device.proofs.Taken.{taken_by, same_parts}
 use Rattle.mb_device.proofs.Serves.{serves_first, can_step, may_answer, serves_more, served}
@@ -28,6 +28,10 @@ answer-requires-clause-step g c =
     (λ world sound. c.step-next.ensures.steps before world sound
     (taken_by c.in-Some.event (g.B.Board.memory c.events.b) (g.B.Board.memory c.take.new.self) (g.B.Register.power c.events.b) (g.B.Register.power c.take.new.self) (g.B.Register.level c.events.b) (g.B.Register.level c.take.new.self) (g.B.Board.meter c.events.b) (g.B.Board.meter c.take.new.self)
     c.in-Some.ensures.memory c.in-Some.ensures.power c.in-Some.ensures.level (ap (λ (m : Meter). m.armed) c.in-Some.ensures.meter)))
+    (record {
+      bytes = subst AreBytes c.in-Some.ensures.memory (record { flash = c.in-Some.ensures.flash_bytes; bbram = c.in-Some.ensures.bbram_bytes });
+      untold = λ quiet. (c.step-next.ensures.untold quiet).0 ∙ c.in-Some.ensures.memory;
+    })
 
 pub events-smaller : goal.events-smaller
 events-smaller g c =
@@ -46,6 +50,10 @@ events-preserved g c =
     (λ world sound. c.step-next.ensures.steps before world sound
     (taken_by c.in-Some.event (g.B.Board.memory c.events.b) (g.B.Board.memory c.take.new.self) (g.B.Register.power c.events.b) (g.B.Register.power c.take.new.self) (g.B.Register.level c.events.b) (g.B.Register.level c.take.new.self) (g.B.Board.meter c.events.b) (g.B.Board.meter c.take.new.self)
     c.in-Some.ensures.memory c.in-Some.ensures.power c.in-Some.ensures.level (ap (λ (m : Meter). m.armed) c.in-Some.ensures.meter)))
+    (record {
+      bytes = subst AreBytes c.in-Some.ensures.memory (record { flash = c.in-Some.ensures.flash_bytes; bbram = c.in-Some.ensures.bbram_bytes });
+      untold = λ quiet. (c.step-next.ensures.untold quiet).0 ∙ c.in-Some.ensures.memory;
+    })
     c.answer.ensures.ledger
     (same_parts (g.B.Board.memory c.step-next.new.b) (g.B.Board.memory c.answer.new.self) (g.B.Register.power c.step-next.new.b) (g.B.Register.power c.answer.new.self) (g.B.Register.level c.step-next.new.b) (g.B.Register.level c.answer.new.self) (g.B.Board.meter c.step-next.new.b) (g.B.Board.meter c.answer.new.self)
     c.answer.ensures.memory c.answer.ensures.power c.answer.ensures.level (ap (λ (m : Meter). m.armed) c.answer.ensures.meter))
@@ -53,8 +61,15 @@ events-preserved g c =
 pub returns-clause-served : goal.returns-clause-served
 returns-clause-served g c = λ world sound.
     served (g.B.Board.ledger c.args.b.now) c.args.self _ c.events.device (g.B.Board.ledger c.events.b) (g.B.Board.ledger c.take.new.self)
-    (held_by (g.B.Board.memory c.events.b) (g.B.Register.power c.events.b) (g.B.Register.level c.events.b) (g.B.Board.meter c.events.b)) _ world c.events.invariant sound c.in_default.ensures.none.0 c.in_default.ensures.none.1
+    (held_by (g.B.Board.memory c.events.b) (g.B.Register.power c.events.b) (g.B.Register.level c.events.b) (g.B.Board.meter c.events.b)) _ world c.events.invariant sound
+    (record { flash = c.in_default.ensures.flash_bytes; bbram = c.in_default.ensures.bbram_bytes }) c.in_default.ensures.none.0 c.in_default.ensures.none.1
     (same_parts (g.B.Board.memory c.events.b) (g.B.Board.memory c.take.new.self) (g.B.Register.power c.events.b) (g.B.Register.power c.take.new.self) (g.B.Register.level c.events.b) (g.B.Register.level c.take.new.self) (g.B.Board.meter c.events.b) (g.B.Board.meter c.take.new.self)
+    c.in_default.ensures.memory c.in_default.ensures.power c.in_default.ensures.level (ap (λ (m : Meter). m.armed) c.in_default.ensures.meter))
+
+pub returns-clause-standing : goal.returns-clause-standing
+returns-clause-standing g c =
+    ap (λ (l : Ledger). l.standing) c.in_default.ensures.none.1 ∙ c.events.invariant.standing
+    ∙ sym (same_parts (g.B.Board.memory c.events.b) (g.B.Board.memory c.take.new.self) (g.B.Register.power c.events.b) (g.B.Register.power c.take.new.self) (g.B.Register.level c.events.b) (g.B.Register.level c.take.new.self) (g.B.Board.meter c.events.b) (g.B.Board.meter c.take.new.self)
     c.in_default.ensures.memory c.in_default.ensures.power c.in_default.ensures.level (ap (λ (m : Meter). m.armed) c.in_default.ensures.meter))
 
 pub returns-clause-loaded : goal.returns-clause-loaded

@@ -1,0 +1,130 @@
+-- Where no secret lies in the memory but those of the state, after an event and after several.
+use Rattle.std.proofs.Common.{◌≡◌, ℕ, Bool, true, false, List, [], ◌∷◌, ◌++◌, Option, None, Some, length, inl, inr, refl, sym, ap, subst, ◌∙◌, append_assoc, length-append, arith}
+use Rattle.std.specs.Prelude.{◌⊎◌, ◌≢◌, All}
+use Rattle.std.proofs.lemmas.List.{append_cancel_left}
+use Rattle.std.proofs.lemmas.List.Elements.{All-pop}
+use Rattle.mb_model.specs.declared.event.Answered.{Answered}
+use Rattle.mb_model.specs.declared.event.Event.{Event}
+use Rattle.mb_model.specs.declared.event.Event.TheVariants as event
+use Rattle.mb_model.specs.declared.reply.Reply.{Reply}
+use Rattle.mb_model.specs.declared.reply.Reply.TheVariants as reply
+use Rattle.mb_model.specs.declared.state.State.{State}
+use Rattle.mb_model.specs.Acknowledged.{HoldsNoOther, HasToBeClean, powered, zeroed, left, AreWiping}
+use Rattle.mb_model.specs.Board.{Memory, Held, AreBytes, memory_after}
+use Rattle.mb_model.specs.Clean.{Clean}
+use Rattle.mb_model.specs.Machine.{World, Step, off, may_be_cut}
+use Rattle.mb_model.specs.Meaning.{HasMeaning, is_dead, is_live, StandsFor}
+use Rattle.mb_storing.specs.Answering.{may_have_written}
+use Rattle.mb_lemmas.proofs.LineLemmas.{cons_same}
+use Rattle.mb_lemmas.proofs.MeaningLemmas.{one_meaning}
+use Rattle.mb_lemmas.proofs.RefusalLemmas.{written_is_on, tampered_is_dead}
+use Rattle.mb_lemmas.proofs.Splits.{two_splits}
+use Rattle.mb_device.specs.declared.device.Device.{Device}
+use Rattle.mb_device.specs.Sound.{IsSound, Steps}
+
+-- ---- one event
+
+-- a memory that stands for a dead device is clean
+dead_is_clean : (flash bbram : List ℕ) → StandsFor flash bbram None → Clean bbram None
+dead_is_clean flash bbram stands = by stands.meaning
+  where
+    by : HasMeaning flash bbram None → Clean bbram None
+    by (is_dead blank same) = (stands.sized.bbram, blank)
+    by (is_live contents holds index same) = absurd (grind (arith, same))
+
+-- all events but a tamper are handed out with the memory as it is
+zeroed_or_left : (e : Event) → (e ≡ event.Tamper) ⊎ ((memory : Memory) → memory_after (Some e) memory ≡ memory)
+zeroed_or_left event.Tamper = inl refl
+zeroed_or_left event.Boot = inr (λ memory. refl)
+zeroed_or_left event.Off = inr (λ memory. refl)
+zeroed_or_left event.Status = inr (λ memory. refl)
+zeroed_or_left event.Go = inr (λ memory. refl)
+zeroed_or_left (event.Cut count tear) = inr (λ memory. refl)
+zeroed_or_left (event.Command text draw) = inr (λ memory. refl)
+zeroed_or_left (event.Put L name value) = inr (λ memory. refl)
+zeroed_or_left (event.Get L name) = inr (λ memory. refl)
+zeroed_or_left (event.Drop L name) = inr (λ memory. refl)
+zeroed_or_left (event.Sign L key message) = inr (λ memory. refl)
+
+written_or_stopped : (answer : Reply) → may_have_written answer ≡ true → answer ≢ reply.Stopped → may_be_cut answer ≡ true
+written_or_stopped reply.Stopped wrote unstopped = absurd (unstopped refl)
+written_or_stopped reply.Booted wrote unstopped = refl
+written_or_stopped (reply.Done number size) wrote unstopped = refl
+written_or_stopped reply.Kept wrote unstopped = refl
+written_or_stopped reply.Dropped wrote unstopped = refl
+written_or_stopped (reply.Signed key index statement) wrote unstopped = refl
+written_or_stopped reply.Off wrote unstopped = wrote
+written_or_stopped reply.Tampered wrote unstopped = wrote
+written_or_stopped reply.Armed wrote unstopped = wrote
+written_or_stopped (reply.At r) wrote unstopped = wrote
+written_or_stopped (reply.Value bytes) wrote unstopped = wrote
+written_or_stopped reply.Absent wrote unstopped = wrote
+written_or_stopped (reply.Status serial number size one two three) wrote unstopped = wrote
+written_or_stopped (reply.Refused refusal) wrote unstopped = wrote
+written_or_stopped reply.NoMemory wrote unstopped = wrote
+
+-- what was handed out are bytes, and they stay where nothing was written
+pub record IsFramed (held : Held) (e : Event) (answer : Reply) (stepped : Held) : Type 0 where
+  pub bytes : AreBytes (memory_after (Some e) held.memory)
+  pub untold : may_have_written answer ≡ false → stepped.memory ≡ memory_after (Some e) held.memory
+
+tampered_clean : (world : World) (e : Event) (answer : Reply) (device : Device) (stepped : Held) (done : Steps world e answer device stepped) → e ≡ event.Tamper
+    → Clean stepped.memory.bbram done.next.state
+tampered_clean world e answer device stepped done is =
+    let none : done.next.state ≡ None = tampered_is_dead world answer done.next (subst (λ (x : Event). Step world x answer done.next) is done.step) in
+    subst (Clean stepped.memory.bbram) (sym none)
+    (dead_is_clean stepped.memory.flash stepped.memory.bbram (subst (StandsFor stepped.memory.flash stepped.memory.bbram) none done.sound.shown.stands))
+
+-- the same bytes, clean before, are clean after
+left_clean : (held stepped : Held) (state : Option State) → HoldsNoOther held → stepped.memory ≡ held.memory → AreBytes stepped.memory
+    → StandsFor stepped.memory.flash stepped.memory.bbram state → Clean stepped.memory.bbram state
+left_clean held stepped state clean same bytes stands =
+    let before : StandsFor stepped.memory.flash stepped.memory.bbram clean.world.state =
+    subst (λ (m : Memory). StandsFor m.flash m.bbram clean.world.state) (sym same) clean.shown.stands in
+    let one : clean.world.state ≡ state = one_meaning stepped.memory.flash stepped.memory.bbram clean.world.state state bytes.flash bytes.bbram before stands in
+    subst (Clean stepped.memory.bbram) one (subst (λ (m : Memory). Clean m.bbram clean.world.state) (sym same) clean.clean)
+
+pub clean_after : (world : World) (e : Event) (answer : Reply) (device : Device) (held stepped : Held) (done : Steps world e answer device stepped) → IsFramed held e answer stepped
+    → HasToBeClean held stepped e answer → Clean stepped.memory.bbram done.next.state
+clean_after world e answer device held stepped done framed (powered on) = done.sound.clean on
+clean_after world e answer device held stepped done framed (zeroed is) = tampered_clean world e answer device stepped done is
+clean_after world e answer device held stepped done framed (left clean unstopped) = by (may_have_written answer) refl (zeroed_or_left e)
+  where
+    by : (wrote : Bool) → may_have_written answer ≡ wrote → (e ≡ event.Tamper) ⊎ ((memory : Memory) → memory_after (Some e) memory ≡ memory)
+        → Clean stepped.memory.bbram done.next.state
+    by true wrote any =
+        done.sound.clean
+        (λ dark. written_is_on world e answer done.next done.step (written_or_stopped answer wrote unstopped) (done.sound.shown.phase ∙ dark))
+    by false quiet (inl is) = tampered_clean world e answer device stepped done is
+    by false quiet (inr same) =
+        let stays : stepped.memory ≡ held.memory = framed.untold quiet ∙ same held.memory in
+        left_clean held stepped done.next.state clean stays (subst AreBytes (same held.memory ∙ sym stays) framed.bytes) done.sound.shown.stands
+
+-- ---- several events
+
+-- the last of several answers, where they leave the memory clean
+pub data WipesLast (sooner : List Answered) (last : Answered) : Type 0 where
+  at_boot : last.reply ≡ reply.Booted → WipesLast sooner last
+  at_tamper : last.event ≡ event.Tamper → WipesLast sooner last
+  before : AreWiping sooner → last.reply ≢ reply.Stopped → WipesLast sooner last
+
+pub wiping_last : (sooner : List Answered) (last : Answered) → AreWiping (sooner ++ last ∷ []) → WipesLast sooner last
+wiping_last sooner last wiping = by (two_splits sooner wiping.sooner last wiping.wiping [] wiping.later wiping.split)
+  where
+    by : ((sooner ≡ wiping.sooner) × (last ≡ wiping.wiping))
+        ⊎ (((more : List Answered) × (wiping.sooner ≡ sooner ++ last ∷ more)) ⊎ ((more : List Answered) × (sooner ≡ wiping.sooner ++ wiping.wiping ∷ more)))
+        → WipesLast sooner last
+    by (inl same) = elim (wiping.wipes) [
+      | inl booted ↦ at_boot (ap (λ (a : Answered). a.reply) same.1 ∙ booted)
+      | inr tampered ↦ at_tamper (ap (λ (a : Answered). a.event) same.1 ∙ tampered)
+    ]
+    by (inr (inl (more, past))) =
+        absurd (omega (arith, ap length wiping.split, ap length past, length-append sooner (last ∷ []), length-append wiping.sooner (wiping.wiping ∷ wiping.later), length-append sooner (last ∷ more)))
+    by (inr (inr (more, within))) =
+        let P : Answered → Type 0 = λ a. a.reply ≢ reply.Stopped in
+        let whole : (wiping.sooner ++ wiping.wiping ∷ more) ++ last ∷ [] ≡ wiping.sooner ++ wiping.wiping ∷ wiping.later = ap (λ (s : List Answered). s ++ last ∷ []) (sym within) ∙ wiping.split in
+        let tails : wiping.wiping ∷ more ++ last ∷ [] ≡ wiping.wiping ∷ wiping.later =
+        append_cancel_left wiping.sooner (wiping.wiping ∷ more ++ last ∷ []) (wiping.wiping ∷ wiping.later) (sym (append_assoc wiping.sooner (wiping.wiping ∷ more) (last ∷ [])) ∙ whole) in
+        let later : more ++ last ∷ [] ≡ wiping.later = (cons_same wiping.wiping wiping.wiping (more ++ last ∷ []) wiping.later tails).1 in
+        let unstopped = All-pop P (more ++ last ∷ []) more (Some last) refl (subst (All P) (sym later) wiping.unstopped) in
+        before (record { sooner = wiping.sooner; wiping = wiping.wiping; later = more; split = within; wipes = wiping.wipes; unstopped = unstopped.0 }) unstopped.1
