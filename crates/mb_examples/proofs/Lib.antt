@@ -9,3 +9,4 @@ pub mod StepProofs
 pub mod LayerProofs
 pub mod OrderProofs
 pub mod SignedOrderProofs
+pub mod MemoryCounterProofs

@@ -80,7 +80,7 @@ never_stops world given none next (answered x) = (machine_is_whole world given r
 never_stops world given none next (lacks_memory p) = absurd (grind (arith, p.answered))
 never_stops world given none next (loses_power p) = false≢true (sym (none p.told p.whole p.machine) ∙ p.writes)
 
-never_unarmed : (world : World) (given : Event) → world.armed ≡ false → NeverStops world given
+pub never_unarmed : (world : World) (given : Event) → world.armed ≡ false → NeverStops world given
 never_unarmed world given e next (answered x) = (machine_is_whole world given reply.Stopped next x).1 refl
 never_unarmed world given e next (lacks_memory p) = absurd (grind (arith, p.answered))
 never_unarmed world given e next (loses_power p) = false≢true (sym e ∙ p.armed)

@@ -10,3 +10,4 @@ pub mod StepExamples
 pub mod LayerExamples
 pub mod OrderExamples
 pub mod SignedOrder
+pub mod MemoryCounterExamples

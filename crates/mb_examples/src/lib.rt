@@ -5,6 +5,7 @@
 //! kit's crates whose functions these use.
 #![tactic(auto)]
 
+mod counter_examples;
 mod events;
 mod formats;
 mod orders;
@@ -13,6 +14,7 @@ mod rules;
 mod signing;
 mod texts;
 
+pub use counter_examples::{answer_counter_examples, memory_counter_examples};
 pub use events::{
     layer_examples, memory_examples, phase_examples, power_examples, stopped_examples,
 };
