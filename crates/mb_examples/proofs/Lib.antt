@@ -10,3 +10,4 @@ pub mod LayerProofs
 pub mod OrderProofs
 pub mod SignedOrderProofs
 pub mod MemoryCounterProofs
+pub mod RunCounterProofs

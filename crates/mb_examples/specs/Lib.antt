@@ -11,3 +11,4 @@ pub mod LayerExamples
 pub mod OrderExamples
 pub mod SignedOrder
 pub mod MemoryCounterExamples
+pub mod RunCounterExamples

@@ -1,8 +1,12 @@
 //! Values for which the definitions do not hold.
 
-ghost use Rattle.std.specs.Prelude.{List, ℕ};
+ghost use Rattle.std.specs.Prelude.{List, ℕ, Option};
+ghost use Rattle.mb_model.specs.declared.entry.SignedEntry.{SignedEntry};
+ghost use Rattle.mb_model.specs.declared.state.State.{State};
+ghost use Rattle.mb_model.specs.Machine.{World};
 ghost use Rattle.mb_model.specs.Board.{Held};
 ghost use Rattle.mb_examples.specs.MemoryCounterExamples.{AreaCounterExamples, MeaningCounterExamples, ImageCounterExamples, CleanCounterExamples, WipingCounterExamples, AnswerCounterExamples};
+ghost use Rattle.mb_examples.specs.RunCounterExamples.{OrderCounterExamples, StepCounterExamples, RunCounterExamples, ServedCounterExamples, LogCounterExamples, ChargeCounterExamples, IndexCounterExamples, AliveCounterExamples, RegionCounterExamples};
 
 /// Memories and images.
 pub fn memory_counter_examples()
@@ -16,4 +20,21 @@ pub fn memory_counter_examples()
 pub fn answer_counter_examples()
     ensures wiping { WipingCounterExamples }
     ensures answers { (standing now : Held) → AnswerCounterExamples standing now }
+{}
+
+/// Orders, steps and runs.
+pub fn run_counter_examples()
+    ensures orders { (state next : State) (text draw : List ℕ) → OrderCounterExamples state next text draw }
+    ensures steps { (world next : World) → StepCounterExamples world next }
+    ensures runs { (world next : World) → RunCounterExamples world next }
+    ensures served { (first : Option State) (final : Held) → ServedCounterExamples first final }
+{}
+
+/// Logs, keys and regions.
+pub fn log_counter_examples()
+    ensures logs { LogCounterExamples }
+    ensures charge { (log front : List SignedEntry) (namer signed : SignedEntry) → ChargeCounterExamples log front namer signed }
+    ensures indices { (signature : List ℕ) → IndexCounterExamples signature }
+    ensures alive { AliveCounterExamples }
+    ensures regions { (signature : List ℕ) → RegionCounterExamples signature }
 {}
