@@ -11,3 +11,4 @@ pub mod OrderProofs
 pub mod SignedOrderProofs
 pub mod MemoryCounterProofs
 pub mod RunCounterProofs
+pub mod ChainCounterProofs

@@ -12,3 +12,4 @@ pub mod OrderExamples
 pub mod SignedOrder
 pub mod MemoryCounterExamples
 pub mod RunCounterExamples
+pub mod ChainCounterExamples

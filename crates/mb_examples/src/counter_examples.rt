@@ -1,12 +1,14 @@
 //! Values for which the definitions do not hold.
 
 ghost use Rattle.std.specs.Prelude.{List, ℕ, Option};
+ghost use Rattle.mb_model.specs.declared.key.PublicKey.{PublicKey};
 ghost use Rattle.mb_model.specs.declared.entry.SignedEntry.{SignedEntry};
 ghost use Rattle.mb_model.specs.declared.state.State.{State};
 ghost use Rattle.mb_model.specs.Machine.{World};
 ghost use Rattle.mb_model.specs.Board.{Held};
 ghost use Rattle.mb_examples.specs.MemoryCounterExamples.{AreaCounterExamples, MeaningCounterExamples, ImageCounterExamples, CleanCounterExamples, WipingCounterExamples, AnswerCounterExamples};
 ghost use Rattle.mb_examples.specs.RunCounterExamples.{OrderCounterExamples, StepCounterExamples, RunCounterExamples, ServedCounterExamples, LogCounterExamples, ChargeCounterExamples, IndexCounterExamples, AliveCounterExamples, RegionCounterExamples};
+ghost use Rattle.mb_examples.specs.ChainCounterExamples.{ChainCounterExamples, VerdictCounterExamples, StatementCounterExamples, ForgedCounterExamples};
 
 /// Memories and images.
 pub fn memory_counter_examples()
@@ -37,4 +39,12 @@ pub fn log_counter_examples()
     ensures indices { (signature : List ℕ) → IndexCounterExamples signature }
     ensures alive { AliveCounterExamples }
     ensures regions { (signature : List ℕ) → RegionCounterExamples signature }
+{}
+
+/// Chains and statements.
+pub fn chain_counter_examples()
+    ensures chains { (maker : PublicKey) (n : ℕ) → ChainCounterExamples maker n }
+    ensures verdicts { (maker : PublicKey) (n : ℕ) (bytes : List ℕ) → VerdictCounterExamples maker n bytes }
+    ensures statements { (maker : PublicKey) (n : ℕ) → StatementCounterExamples maker n }
+    ensures forged { (maker : PublicKey) (birth forged : SignedEntry) → ForgedCounterExamples maker birth forged }
 {}

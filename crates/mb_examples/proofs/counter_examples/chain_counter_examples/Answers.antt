@@ -1,0 +1,10 @@
+use Rattle.mb_examples.proofs.ChainCounterProofs as examples
+use Rattle.mb_examples.proofs.counter_examples.chain_counter_examples.Goals as goal
+
+pub returns : goal.returns
+returns c = record {
+  chains = examples.chains;
+  verdicts = examples.verdicts;
+  statements = examples.statements;
+  forged = examples.forgeries;
+}
