@@ -12,3 +12,4 @@ pub mod SignedOrderProofs
 pub mod MemoryCounterProofs
 pub mod RunCounterProofs
 pub mod ChainCounterProofs
+pub mod CommandCounterProofs

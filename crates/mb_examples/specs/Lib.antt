@@ -13,3 +13,4 @@ pub mod SignedOrder
 pub mod MemoryCounterExamples
 pub mod RunCounterExamples
 pub mod ChainCounterExamples
+pub mod CommandCounterExamples

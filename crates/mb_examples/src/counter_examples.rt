@@ -8,7 +8,10 @@ ghost use Rattle.mb_model.specs.Machine.{World};
 ghost use Rattle.mb_model.specs.Board.{Held};
 ghost use Rattle.mb_examples.specs.MemoryCounterExamples.{AreaCounterExamples, MeaningCounterExamples, ImageCounterExamples, CleanCounterExamples, WipingCounterExamples, AnswerCounterExamples};
 ghost use Rattle.mb_examples.specs.RunCounterExamples.{OrderCounterExamples, StepCounterExamples, RunCounterExamples, ServedCounterExamples, LogCounterExamples, ChargeCounterExamples, IndexCounterExamples, AliveCounterExamples, RegionCounterExamples};
+ghost use Rattle.mb_model.specs.Outside.{Outside};
+ghost use Rattle.mb_model.specs.Commands.{Past, Ended};
 ghost use Rattle.mb_examples.specs.ChainCounterExamples.{ChainCounterExamples, VerdictCounterExamples, StatementCounterExamples, ForgedCounterExamples};
+ghost use Rattle.mb_examples.specs.CommandCounterExamples.{StatusCounterExamples, CommandCounterExamples, FileCounterExamples, HostCounterExamples};
 
 /// Memories and images.
 pub fn memory_counter_examples()
@@ -47,4 +50,12 @@ pub fn chain_counter_examples()
     ensures verdicts { (maker : PublicKey) (n : ℕ) (bytes : List ℕ) → VerdictCounterExamples maker n bytes }
     ensures statements { (maker : PublicKey) (n : ℕ) → StatementCounterExamples maker n }
     ensures forged { (maker : PublicKey) (birth forged : SignedEntry) → ForgedCounterExamples maker birth forged }
+{}
+
+/// Ends of commands.
+pub fn command_counter_examples()
+    ensures statuses { (past : Past) (e : Ended) → StatusCounterExamples past e }
+    ensures commands { (past : Past) (e : Ended) (text : List ℕ) → CommandCounterExamples past e text }
+    ensures files { (name text : List ℕ) (files : List ℕ → Option (List ℕ)) → FileCounterExamples name text files }
+    ensures hosts { (before after : Outside) (name bytes : List ℕ) → HostCounterExamples before after name bytes }
 {}

@@ -15,8 +15,8 @@ mod signing;
 mod texts;
 
 pub use counter_examples::{
-    answer_counter_examples, chain_counter_examples, log_counter_examples, memory_counter_examples,
-    run_counter_examples,
+    answer_counter_examples, chain_counter_examples, command_counter_examples, log_counter_examples,
+    memory_counter_examples, run_counter_examples,
 };
 pub use events::{
     layer_examples, memory_examples, phase_examples, power_examples, stopped_examples,
