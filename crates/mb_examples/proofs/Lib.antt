@@ -13,3 +13,4 @@ pub mod MemoryCounterProofs
 pub mod RunCounterProofs
 pub mod ChainCounterProofs
 pub mod CommandCounterProofs
+pub mod TextCounterProofs

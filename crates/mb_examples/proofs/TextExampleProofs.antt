@@ -44,7 +44,7 @@ abbrev lines_test : List (List ℕ) → Bool
 lines_test [] = true
 lines_test (line ∷ lines) = line_test line && lines_test lines
 
-lines_plain : (lines : List (List ℕ)) → lines_test lines ≡ true → All IsLine lines
+pub lines_plain : (lines : List (List ℕ)) → lines_test lines ≡ true → All IsLine lines
 lines_plain [] h = All-nil IsLine
 lines_plain (line ∷ lines) h =
     let parts = and_parts (line_test line) (lines_test lines) h in
@@ -223,7 +223,7 @@ two_lines first second lines (act.Load payload) e kind says = omega (arith, ap l
 two_lines first second lines (act.Emergency payload) e kind says = omega (arith, kind)
 two_lines first second lines (act.NewKey kind_of_key) e kind says = omega (arith, kind)
 
-half_load : (value : Order) → IsDraft (codes "order load 3" ∷ codes "version 258" ∷ codes "trust never" ∷ []) value → ⊥
+pub half_load : (value : Order) → IsDraft (codes "order load 3" ∷ codes "version 258" ∷ codes "trust never" ∷ []) value → ⊥
 half_load value is =
     let parts = cons_same (codes "order load 3") (head value.act value.layer) (codes "version 258" ∷ codes "trust never" ∷ []) (is.target_lines ++ is.act_lines) is.spelled in
     let kind = ap (letters_at 6) parts.0 ∙ head_letters value.act value.layer in

@@ -14,3 +14,4 @@ pub mod MemoryCounterExamples
 pub mod RunCounterExamples
 pub mod ChainCounterExamples
 pub mod CommandCounterExamples
+pub mod TextCounterExamples

@@ -12,6 +12,8 @@ ghost use Rattle.mb_model.specs.Outside.{Outside};
 ghost use Rattle.mb_model.specs.Commands.{Past, Ended};
 ghost use Rattle.mb_examples.specs.ChainCounterExamples.{ChainCounterExamples, VerdictCounterExamples, StatementCounterExamples, ForgedCounterExamples};
 ghost use Rattle.mb_examples.specs.CommandCounterExamples.{StatusCounterExamples, CommandCounterExamples, FileCounterExamples, HostCounterExamples};
+ghost use Rattle.mb_model.specs.declared.tools.Workload.{Workload};
+ghost use Rattle.mb_examples.specs.TextCounterExamples.{LineCounterExamples, ScriptCounterExamples, DraftCounterExamples, OrderLineCounterExamples, DrawCounterExamples, WorkloadCounterExamples, BirthCounterExamples};
 
 /// Memories and images.
 pub fn memory_counter_examples()
@@ -58,4 +60,19 @@ pub fn command_counter_examples()
     ensures commands { (past : Past) (e : Ended) (text : List ℕ) → CommandCounterExamples past e text }
     ensures files { (name text : List ℕ) (files : List ℕ → Option (List ℕ)) → FileCounterExamples name text files }
     ensures hosts { (before after : Outside) (name bytes : List ℕ) → HostCounterExamples before after name bytes }
+{}
+
+/// Texts.
+pub fn text_counter_examples()
+    ensures lines { LineCounterExamples }
+    ensures scripts { ScriptCounterExamples }
+    ensures drafts { DraftCounterExamples }
+    ensures orders { OrderLineCounterExamples }
+{}
+
+/// Draws, workloads and new devices.
+pub fn birth_counter_examples()
+    ensures draws { DrawCounterExamples }
+    ensures workloads { (number rounds : ℕ) (workload : Workload) → WorkloadCounterExamples number rounds workload }
+    ensures births { (state : State) (image : List ℕ) → BirthCounterExamples state image }
 {}

@@ -1,4 +1,4 @@
-//! The definitions at work: worked examples that the checker computes.
+//! The definitions at work: worked examples that the checker computes, and values for which they do not hold.
 //!
 //! This crate owns no type and does nothing when it runs, and no crate stands on it. Each example stands on a function
 //! with an empty body. It stands on `mb_model`, whose definitions it tries, on `mb_lemmas`, on `mb_format`, and on the
@@ -15,8 +15,9 @@ mod signing;
 mod texts;
 
 pub use counter_examples::{
-    answer_counter_examples, chain_counter_examples, command_counter_examples, log_counter_examples,
-    memory_counter_examples, run_counter_examples,
+    answer_counter_examples, birth_counter_examples, chain_counter_examples,
+    command_counter_examples, log_counter_examples, memory_counter_examples, run_counter_examples,
+    text_counter_examples,
 };
 pub use events::{
     layer_examples, memory_examples, phase_examples, power_examples, stopped_examples,
