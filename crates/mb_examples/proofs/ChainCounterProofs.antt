@@ -1,5 +1,6 @@
 -- The counterexamples of chains and statements, refuted.
-use Rattle.std.proofs.Common.{◌≡◌, ◌≢◌, ℕ, zero, suc, ◌≤◌, List, [], ◌∷◌, length, Option, Some, false, refl, sym, ap, subst, ◌∙◌, arith, lit<}
+use Rattle.std.proofs.Common.{◌≡◌, ◌≢◌, ℕ, zero, suc, ◌≤◌, List, [], ◌∷◌, length, Option, None, Some, false, refl, sym, ap, subst, ◌∙◌, arith, length-append, lit<}
+use Rattle.std.proofs.lemmas.List.{length-map}
 use Rattle.std.specs.Prelude.{Contains}
 use Rattle.std.proofs.lemmas.Bool.{false≢true}
 use Rattle.mb_format.specs.Format.{IsBytes, Spells, IsClearWhole}
@@ -12,14 +13,17 @@ use Rattle.mb_model.specs.declared.entry.Entry.{Entry}
 use Rattle.mb_model.specs.declared.entry.SignedEntry.{SignedEntry}
 use Rattle.mb_model.specs.declared.entry.Statement.{Statement}
 use Rattle.mb_model.specs.declared.state.Report.{Report}
+use Rattle.mb_model.specs.declared.state.State.{State}
 use Rattle.mb_model.specs.Log.{entries_of, number_of}
 use Rattle.mb_model.specs.ChainFormat.{statement_format, chain_format}
-use Rattle.mb_model.specs.Attach.{stated_chain}
-use Rattle.mb_model.specs.Acceptance.{ChainRefusal, KeyEntry, IfStatement, IsCurrent, Accepts, bad_signature, bad_order, key_ended}
+use Rattle.mb_model.specs.Attach.{cut_at, stated_chain}
+use Rattle.mb_model.specs.Acceptance.{ChainRefusal, KeyEntry, IfStatement, IsCurrent, key_of, Accepts, bad_signature, bad_order, key_ended}
+use Rattle.mb_model.specs.Runs.{StaysAccepted}
 use Rattle.mb_model.proofs.EntryFormatLaws.{statement_exact, chain_exact}
 use Rattle.mb_lemmas.proofs.ChainLemmas.{one_refusal, never_both, one_report}
+use Rattle.mb_lemmas.proofs.Splits.{none_is_some}
 use Rattle.mb_lemmas.proofs.LineLemmas.{cons_none}
-use Rattle.mb_examples.specs.ChainCounterExamples.{ChainCounterExamples, VerdictCounterExamples, StatementCounterExamples, ForgedCounterExamples}
+use Rattle.mb_examples.specs.ChainCounterExamples.{ChainCounterExamples, AuditCounterExamples, VerdictCounterExamples, StatementCounterExamples, ForgedCounterExamples}
 use Rattle.mb_examples.proofs.MemoryCounterProofs.{spells_none}
 use Rattle.mb_examples.proofs.RunCounterProofs.{two_owned}
 
@@ -80,12 +84,35 @@ no_empty_chain : (bytes : List ℕ) (statement : Statement) → Spells chain_for
 unfolding chain_format
 no_empty_chain bytes statement spelled = omega (arith, spelled.allowed.1.0.0.0)
 
+no_key : (maker : PublicKey) (n : ℕ) (log : List SignedEntry) (bytes : List ℕ) (stays : StaysAccepted maker log n bytes) → IsBytes stays.chain
+    → key_of (entries_of (cut_at stays.statement.number log)) n ≡ None → ⊥
+no_key maker n log bytes stays are none =
+    let clear : IsClearWhole chain_format = IsClearWhole-from_exact chain_exact in
+    let same : stays.accepted.chain ≡ stated_chain log stays.statement =
+    clear.one_value stays.chain stays.accepted.chain (stated_chain log stays.statement) are stays.accepted.spelled stays.attached in
+    none_is_some (key_of (entries_of (cut_at stays.statement.number log)) n) stays.accepted.made none
+    (sym (ap (λ (chain : Chain). key_of (entries_of chain.entries) n) same) ∙ stays.accepted.named)
+
 pub statements : (maker : PublicKey) (n : ℕ) → StatementCounterExamples maker n
 statements maker n = record {
   large_number = large_number;
   long_message = long_message;
   no_statement = λ log stays. no_statement stays.statement stays.spelled;
+  unmade = no_key maker n;
   no_log = λ bytes stays. no_empty_chain stays.chain stays.statement stays.attached;
+}
+
+pub audits : (state : State) (n : ℕ) (chain : Chain) (report : Report) → AuditCounterExamples state n chain report
+audits state n chain report = record {
+  longer = λ longer tells.
+      omega (
+        arith,
+        longer,
+        ap length tells.begins,
+        length-append (entries_of chain.entries) tells.later,
+        length-map state.log (λ (signed : SignedEntry). signed.entry),
+        length-map chain.entries (λ (signed : SignedEntry). signed.entry),
+      );
 }
 
 only_one : (one other : Entry) → Contains (one ∷ []) other → one ≡ other

@@ -21,7 +21,8 @@ use Rattle.mb_model.specs.Board.{Held}
 use Rattle.mb_model.specs.Meaning.{is_dead, is_live}
 use Rattle.mb_model.specs.Faults.{Fault, bad_length, bad_root, bad_public, bad_region_two, bad_region_three, bad_state, HasFault}
 use Rattle.mb_model.specs.Clean.{Clean}
-use Rattle.mb_model.specs.Acknowledged.{powered, zeroed, left}
+use Rattle.mb_model.specs.GenerateCommand.{log_length}
+use Rattle.mb_model.specs.Acknowledged.{Shows, powered, zeroed, left}
 use Rattle.mb_model.proofs.RecordFormatLaws.{region_exact}
 use Rattle.mb_lemmas.proofs.LineLemmas.{cons_same, cons_none}
 use Rattle.mb_lemmas.proofs.MeaningLemmas.{not_blank}
@@ -160,10 +161,17 @@ off_turns_off before after on (answered x) = absurd (grind (arith, sym (ap (λ (
 off_turns_off before after on (lacks_memory p) = absurd (grind (arith, p.answered))
 off_turns_off before after on (loses_power p) = absurd (grind (arith, p.answered))
 
+dead_log : (now : Held) (last : World) (entries : ℕ) → IsBlank now.memory.bbram → Shows now last → entries ≡ log_length last.state → entries ≡ 0
+dead_log now last entries blank shows e = elim shows.stands.meaning as (λ m. entries ≡ 0) [
+  | is_dead blank' none ↦ e ∙ ap log_length none
+  | is_live contents holds index some ↦ absurd (not_blank now.memory.bbram blank holds.root.alive)
+]
+
 pub answers : (standing now : Held) → AnswerCounterExamples standing now
 answers standing now = record {
   phase = λ world is_off is_dead shows. absurd (grind (arith, sym is_dead ∙ shows.phase ∙ is_off));
   left = λ offset life byte holds. not_clean now.memory.bbram offset life byte holds.world.state holds.clean;
+  dead_log = λ blank shows. omega (arith, dead_log now shows.last 5 blank shows.shown shows.entries_is);
   stop = λ given is_off untampered has. elim has as (λ h. ⊥) [
     | powered on ↦ on is_off
     | zeroed tampered ↦ untampered tampered

@@ -26,7 +26,8 @@ use Rattle.mb_model.specs.OrderFormat.{target_format, payload_format, body_forma
 use Rattle.mb_model.specs.Log.{device_in, last_of, layers_of}
 use Rattle.mb_model.specs.Lives.{MadeKey, splits, alive_keys, ends, Alive}
 use Rattle.mb_model.specs.Regions.{AdmittedSince}
-use Rattle.mb_model.specs.OrderStep.{spells_none, fails_check, is_obeyed}
+use Rattle.mb_model.specs.Rules.{IsFirstFailing}
+use Rattle.mb_model.specs.OrderStep.{TargetHoldsIn, IsCountersigned, spells_none, fails_check, is_obeyed}
 use Rattle.mb_model.specs.Machine.{Phase, World, Told, off, dead, ratchet, boot_event, awake_in, status_of, status_event, Step, answered, lacks_memory, loses_power}
 use Rattle.mb_model.specs.Acknowledged.{AreWiping}
 use Rattle.mb_model.specs.Board.{Held}
@@ -35,12 +36,12 @@ use Rattle.mb_model.proofs.OrderFormatLaws.{order_exact}
 use Rattle.mb_lemmas.proofs.AliveLemmas.{alive_is_listed}
 use Rattle.mb_lemmas.proofs.FateLemmas.{pairs_head}
 use Rattle.mb_lemmas.proofs.LineLemmas.{cons_same, cons_none}
-use Rattle.mb_lemmas.proofs.OrderLemmas.{refused_order_leaves}
+use Rattle.mb_lemmas.proofs.OrderLemmas.{passes_fail_nothing, refused_order_leaves}
 use Rattle.mb_lemmas.proofs.RefusalLemmas.{machine_is_whole}
 use Rattle.mb_lemmas.proofs.Splits.{some_same, none_is_some, All-split}
 use Rattle.mb_examples.specs.RuleExamples.{officer, at_birth, with_two, with_three, nobody, by_two, three_renewed, life}
 use Rattle.mb_examples.specs.Device.{signed_with, seed_of, token, key_one, after_uses}
-use Rattle.mb_examples.specs.RunCounterExamples.{OrderCounterExamples, StepCounterExamples, RunCounterExamples, ServedCounterExamples, booted, LogCounterExamples, ChargeCounterExamples, stated_at, IndexCounterExamples, betrayed_life, AliveCounterExamples, RegionCounterExamples}
+use Rattle.mb_examples.specs.RunCounterExamples.{OrderCounterExamples, RefusalCounterExamples, StepCounterExamples, RunCounterExamples, ServedCounterExamples, booted, turned_off, LogCounterExamples, ChargeCounterExamples, stated_at, IndexCounterExamples, betrayed_life, AliveCounterExamples, RegionCounterExamples}
 use Rattle.mb_examples.proofs.MemoryCounterProofs as memory
 use Rattle.mb_examples.proofs.MemoryCounterProofs.{not_clean}
 use Rattle.mb_examples.proofs.StepProofs.{stops}
@@ -73,6 +74,18 @@ orders state next text draw = record {
     | fails_check p ↦ absurd (grind (arith, p.answered))
     | is_obeyed p ↦ no_order p.order p.spelled
   ];
+}
+
+none_fails_first : {A : Type 0} (P : A → Type 0) (items : List A) (i : ℕ) (item : A) → items ≡ [] → IsFirstFailing P items i item → ⊥
+none_fails_first P items i item none first =
+    omega (arith, ap length (sym none ∙ first.split), length-append first.before (item ∷ first.rest))
+
+pub refusals : (state : State) (order : Order) → RefusalCounterExamples state order
+refusals state order = record {
+  no_target = λ i none fails. none_fails_first (TargetHoldsIn state) order.targets i fails.0 none fails.1;
+  no_countersignature = λ none fails.
+      none_fails_first (IsCountersigned state order) order.countersignatures fails.3.0 fails.3.1 none fails.3.3;
+  passing = λ refusal passes fails. passes_fail_nothing state order refusal passes fails;
 }
 
 off_is_no_boot : (world next : World) → Step world event.Off reply.Booted next → ⊥
@@ -129,6 +142,16 @@ runs world next = record {
 one_boot : AreWiping (booted ∷ [])
 one_boot = record { sooner = []; wiping = booted; later = []; split = refl; wipes = inl refl; unstopped = All-nil (λ a. a.reply ≢ reply.Stopped) }
 
+boot_and_off : AreWiping (booted ∷ turned_off ∷ [])
+boot_and_off = record {
+  sooner = [];
+  wiping = booted;
+  later = turned_off ∷ [];
+  split = refl;
+  wipes = inl refl;
+  unstopped = All-cons (λ a. a.reply ≢ reply.Stopped) turned_off [] (λ stopped. absurd (grind (arith, stopped))) (All-nil (λ a. a.reply ≢ reply.Stopped));
+}
+
 pub served : (first : Option State) (final : Held) → ServedCounterExamples first final
 served first final = record {
   unanswered = λ served. cons_none event.Boot [] served.all;
@@ -136,6 +159,7 @@ served first final = record {
   swapped = λ served. absurd (grind (arith, (cons_same event.Off event.Boot (event.Boot ∷ []) (event.Off ∷ []) served.all).0));
   still_on = λ on served. absurd (grind (arith, sym (ap (λ (world : World). world.phase) served.run) ∙ served.shown.phase ∙ on));
   unclean = λ offset life byte served. not_clean final.memory.bbram offset life byte served.last.state (served.clean (inr one_boot));
+  unclean_off = λ offset life byte served. not_clean final.memory.bbram offset life byte served.last.state (served.clean (inr boot_and_off));
   no_byte = λ high events answered served. omega (arith, high, served.bytes.flash 0);
 }
 

@@ -64,6 +64,7 @@ scripts = record {
   other_event = λ reads. absurd (grind (arith, (cons_same event.Boot event.Off [] [] (boots_only (event.Off ∷ []) reads)).0));
   left_out = λ reads. cons_none event.Boot [] (sym (boots_only [] reads));
   added = λ reads. omega (arith, ap length (boots_only (event.Boot ∷ event.Boot ∷ []) reads));
+  wrong_line = λ n fails. reads_and_fails IsScript boot_text (event.Boot ∷ []) n boots fails;
   no_call = λ tear is. omega (arith, is.1.least);
   region_one = λ name value is. false≢true is.0;
   large_key = λ message is. omega (arith, is.1);

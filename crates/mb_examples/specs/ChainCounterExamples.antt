@@ -1,18 +1,21 @@
 -- Chains and statements for which the definitions do not hold; the checker refutes each line. Is anything accepted that
 -- no device made?
-use Rattle.std.specs.Prelude.{◌≡◌, ◌≢◌, ℕ, ◌≤◌, List, [], ◌∷◌, length, drop, Some, true, false}
+use Rattle.std.specs.Prelude.{◌≡◌, ◌≢◌, ℕ, ◌<◌, ◌≤◌, List, [], ◌∷◌, length, drop, None, Some, true, false}
 use Rattle.mb_format.specs.Format.{IsBytes, Spells}
 use Rattle.mb_model.specs.declared.key.PublicKey.{PublicKey}
 use Rattle.mb_model.specs.declared.entry.Chain.{Chain}
 use Rattle.mb_model.specs.declared.entry.SignedEntry.{SignedEntry}
 use Rattle.mb_model.specs.declared.entry.Statement.{Statement}
 use Rattle.mb_model.specs.declared.state.Report.{Report}
+use Rattle.mb_model.specs.declared.state.State.{State}
 use Rattle.mb_model.specs.Merkle.{Verifies}
 use Rattle.mb_model.specs.Log.{entries_of, device_in, number_of}
+use Rattle.mb_model.specs.Attach.{cut_at}
 use Rattle.mb_model.specs.ChainFormat.{statement_format, chain_format}
 use Rattle.mb_model.specs.SignedTexts.{entry_text}
-use Rattle.mb_model.specs.Acceptance.{AreGood, Accepts, bad_signature, bad_order, key_unknown, key_ended}
+use Rattle.mb_model.specs.Acceptance.{AreGood, key_of, Accepts, bad_signature, bad_order, key_unknown, key_ended}
 use Rattle.mb_model.specs.Acceptance.{accepting, refusing, IsVerdict, Honest}
+use Rattle.mb_model.specs.AuditCommand.{TellsOfDevice}
 use Rattle.mb_model.specs.Runs.{StaysAccepted}
 use Rattle.mb_examples.specs.RuleExamples.{life}
 use Rattle.mb_examples.specs.Device.{signed_with}
@@ -51,8 +54,16 @@ pub record StatementCounterExamples (maker : PublicKey) (n : ℕ) : Type 0 where
       → Spells statement_format bytes statement → ⊥
   -- bytes that spell no statement, with any log
   pub no_statement : (log : List SignedEntry) → StaysAccepted maker log n [] → ⊥
+  -- a statement of a key that no entry of the chain makes
+  pub unmade : (log : List SignedEntry) (bytes : List ℕ) (stays : StaysAccepted maker log n bytes) → IsBytes stays.chain
+      → key_of (entries_of (cut_at stays.statement.number log)) n ≡ None → ⊥
   -- any bytes, where there is no log
   pub no_log : (bytes : List ℕ) → StaysAccepted maker [] n bytes → ⊥
+
+-- a chain does not tell of a device
+pub record AuditCounterExamples (state : State) (n : ℕ) (chain : Chain) (report : Report) : Type 0 where
+  -- it has more entries than the device's log
+  pub longer : length state.log < length chain.entries → TellsOfDevice state n chain report → ⊥
 
 -- a chain has a forged entry
 pub record ForgedCounterExamples (maker : PublicKey) (birth forged : SignedEntry) : Type 0 where

@@ -16,6 +16,7 @@ use Rattle.mb_model.specs.Board.{Held}
 use Rattle.mb_model.specs.Meaning.{HasMeaning, StandsFor, IsWellFormed}
 use Rattle.mb_model.specs.Faults.{Fault, bad_length, HasFault}
 use Rattle.mb_model.specs.Clean.{Clean}
+use Rattle.mb_model.specs.GenerateCommand.{ShowsLog}
 use Rattle.mb_model.specs.Acknowledged.{Shows, HoldsNoOther, HasToBeClean, AreWiping, MayAnswer}
 
 -- ---- what a memory holds
@@ -92,6 +93,8 @@ pub record AnswerCounterExamples (standing now : Held) : Type 0 where
   pub phase : (world : World) → now.phase ≡ off → world.phase ≡ dead → Shows now world → ⊥
   -- an old region is left in a device that is alive
   pub left : (offset : ℕ) → life_byte now.memory.bbram ≡ 0xA5 → IsLeft now.memory.bbram offset → HoldsNoOther now → ⊥
+  -- the log of a dead device has entries
+  pub dead_log : IsBlank now.memory.bbram → ShowsLog now 5 → ⊥
   -- after a stop the memory does not have to be clean, unless the event is a tamper
   pub stop : (given : Event) → now.phase ≡ off → given ≢ event.Tamper
       → HasToBeClean standing now given reply.Stopped → ⊥

@@ -6,6 +6,7 @@ use Rattle.mb_model.specs.declared.key.PublicKey.{PublicKey}
 use Rattle.mb_model.specs.declared.order.ChangeKind.TheVariants.{Load}
 use Rattle.mb_model.specs.declared.order.KeyKind.{KeyKind}
 use Rattle.mb_model.specs.declared.order.KeyKind.TheVariants.{Epoch}
+use Rattle.mb_model.specs.declared.order.Order.{Order}
 use Rattle.mb_model.specs.declared.entry.Entry.{Entry}
 use Rattle.mb_model.specs.declared.entry.Entry.TheVariants.{Change}
 use Rattle.mb_model.specs.declared.entry.SignedEntry.{SignedEntry}
@@ -15,10 +16,11 @@ use Rattle.mb_model.specs.declared.event.Event.TheVariants as event
 use Rattle.mb_model.specs.declared.reply.Reply.{Reply}
 use Rattle.mb_model.specs.declared.reply.Reply.TheVariants as reply
 use Rattle.mb_model.specs.declared.state.State.{State}
+use Rattle.mb_model.specs.Refusals.{Refusal, wrong_target, wrong_countersignature}
 use Rattle.mb_model.specs.Log.{device_in}
 use Rattle.mb_model.specs.Lives.{Alive}
 use Rattle.mb_model.specs.Regions.{empty_region, KeyAdmitted, RegionKeptRightly}
-use Rattle.mb_model.specs.OrderStep.{OrderStep}
+use Rattle.mb_model.specs.OrderStep.{Passes, Fails, OrderStep}
 use Rattle.mb_model.specs.Machine.{World, off, ratchet, LosesPower, Step, Run}
 use Rattle.mb_model.specs.Memory.{life_byte}
 use Rattle.mb_model.specs.Board.{Held}
@@ -44,7 +46,16 @@ pub record OrderCounterExamples (state next : State) (text draw : List ℕ) : Ty
   -- no bytes spell no order, and are not obeyed
   pub no_bytes : (number size : ℕ) → OrderStep state [] draw (reply.Done number size) next → ⊥
 
--- answers that no event has, and worlds to which none leads
+-- checks that an order does not fail
+pub record RefusalCounterExamples (state : State) (order : Order) : Type 0 where
+  -- a target, and it has none
+  pub no_target : (i : ℕ) → order.targets ≡ [] → Fails state order (wrong_target i) → ⊥
+  -- a countersignature of layer 3, and it has none
+  pub no_countersignature : order.countersignatures ≡ [] → Fails state order (wrong_countersignature 3) → ⊥
+  -- any check, and it passes all
+  pub passing : (refusal : Refusal) → Passes state order → Fails state order refusal → ⊥
+
+-- answers that no event has, and worlds to which no event leads
 pub record StepCounterExamples (world next : World) : Type 0 where
   -- `off` is answered as a boot is
   pub other_reply : Step world event.Off reply.Booted next → ⊥
@@ -72,7 +83,7 @@ turned_off = answered_by event.Off reply.Off
 pub record RunCounterExamples (world next : World) : Type 0 where
   -- nothing happens, and something has changed
   pub nothing : next ≢ world → Run world [] next → ⊥
-  -- two boots without power going off
+  -- the device boots twice, and power did not go off
   pub twice : Run world (booted ∷ booted ∷ []) next → ⊥
 
 -- how events are not served
@@ -86,6 +97,9 @@ pub record ServedCounterExamples (first : Option State) (final : Held) : Type 0 
   -- the device booted, and a byte of an old region is left
   pub unclean : (offset : ℕ) → life_byte final.memory.bbram ≡ 0xA5 → IsLeft final.memory.bbram offset
       → IsServed first (event.Boot ∷ []) (booted ∷ []) final → ⊥
+  -- and power went off after that
+  pub unclean_off : (offset : ℕ) → life_byte final.memory.bbram ≡ 0xA5 → IsLeft final.memory.bbram offset
+      → IsServed first (event.Boot ∷ event.Off ∷ []) (booted ∷ turned_off ∷ []) final → ⊥
   -- the flash begins with 300, which is no byte
   pub no_byte : get_or final.memory.flash 0 0 ≡ 300 → (events : List Event) (answered : List Answered)
       → IsServed first events answered final → ⊥
@@ -98,7 +112,7 @@ pub record LogCounterExamples : Type 0 where
   pub shortened : (earlier later : State) → length later.log < length earlier.log
       → LogGoesOn (world_at off earlier) (world_at off later) → ⊥
   pub rewritten : (birth other : SignedEntry) → other ≢ birth → BeginsWith (other ∷ []) (birth ∷ []) → ⊥
-  -- that of a dead device that lives again
+  -- a dead device lives again
   pub revived : (state : State) → LogGoesOn (dead_world off) (world_at off state) → ⊥
 
 -- an entry does not have the key of another in charge
@@ -133,7 +147,7 @@ betrayed_life = life ++ Change 2 8 7 Load 2 nobody three_renewed by_two None ∷
 -- a key that is alive, and keys that are not
 pub record AliveCounterExamples : Type 0 where
   pub alive : Alive life 1 3 Epoch (officer 11)
-  -- the same key after that load
+  -- the same key after the load of layer 2
   pub ended : Alive betrayed_life 1 3 Epoch (officer 11) → ⊥
   -- another number, another layer, another key
   pub other_number : (kind : KeyKind) (key : PublicKey) → Alive life 2 3 kind key → ⊥
@@ -146,6 +160,6 @@ pub record RegionCounterExamples (signature : List ℕ) : Type 0 where
   pub missing : HoldsLivingKeys (with_regions empty_region empty_region signature) 3 → ⊥
   -- the key of layer 3 stands in region 2
   pub misplaced : HoldsLivingKeys (with_regions (with_keys (key_one 0 ∷ [])) empty_region signature) 2 → ⊥
-  -- a key and a secret of region 3 outlive that load
+  -- a key and a secret of region 3 outlive the load of layer 2
   pub key_outlives : KeyAdmitted betrayed_life 3 1 → ⊥
   pub secret_outlives : RegionKeptRightly betrayed_life 3 (with_secrets (token ∷ [])) → ⊥

@@ -11,7 +11,7 @@ use Rattle.mb_model.specs.declared.state.State.{State}
 use Rattle.mb_model.specs.declared.tools.Workload.{Workload}
 use Rattle.mb_model.specs.Memory.{IsImage, IsBlank, selector_of}
 use Rattle.mb_model.specs.Factory.{IsBornWith}
-use Rattle.mb_model.specs.Lines.{HasLines, Reads}
+use Rattle.mb_model.specs.Lines.{HasLines, Reads, TextFailsAtLine}
 use Rattle.mb_model.specs.Script.{IsScriptEvent, IsScript}
 use Rattle.mb_model.specs.Drafts.{SaysTarget, IsDraft}
 use Rattle.mb_model.specs.OrderLines.{IsOrderLine, IsStatementLine}
@@ -38,6 +38,8 @@ pub record ScriptCounterExamples : Type 0 where
   pub other_event : Reads IsScript boot_text (event.Off ∷ []) → ⊥
   pub left_out : Reads IsScript boot_text [] → ⊥
   pub added : Reads IsScript boot_text (event.Boot ∷ event.Boot ∷ []) → ⊥
+  -- a line that is wrong in it
+  pub wrong_line : (n : ℕ) → TextFailsAtLine IsScript boot_text n → ⊥
   -- a power loss in no write call, a region of layer 1, a number of more than 32 bits
   pub no_call : (tear : Tear) → IsScriptEvent (event.Cut 0 tear) → ⊥
   pub region_one : (name value : List ℕ) → IsScriptEvent (event.Put 1 name value) → ⊥

@@ -3,14 +3,17 @@
 ghost use Rattle.std.specs.Prelude.{List, ℕ, Option};
 ghost use Rattle.mb_model.specs.declared.key.PublicKey.{PublicKey};
 ghost use Rattle.mb_model.specs.declared.entry.SignedEntry.{SignedEntry};
+ghost use Rattle.mb_model.specs.declared.entry.Chain.{Chain};
+ghost use Rattle.mb_model.specs.declared.order.Order.{Order};
+ghost use Rattle.mb_model.specs.declared.state.Report.{Report};
 ghost use Rattle.mb_model.specs.declared.state.State.{State};
 ghost use Rattle.mb_model.specs.Machine.{World};
 ghost use Rattle.mb_model.specs.Board.{Held};
 ghost use Rattle.mb_examples.specs.MemoryCounterExamples.{AreaCounterExamples, MeaningCounterExamples, ImageCounterExamples, CleanCounterExamples, WipingCounterExamples, AnswerCounterExamples};
-ghost use Rattle.mb_examples.specs.RunCounterExamples.{OrderCounterExamples, StepCounterExamples, RunCounterExamples, ServedCounterExamples, LogCounterExamples, ChargeCounterExamples, IndexCounterExamples, AliveCounterExamples, RegionCounterExamples};
+ghost use Rattle.mb_examples.specs.RunCounterExamples.{OrderCounterExamples, RefusalCounterExamples, StepCounterExamples, RunCounterExamples, ServedCounterExamples, LogCounterExamples, ChargeCounterExamples, IndexCounterExamples, AliveCounterExamples, RegionCounterExamples};
 ghost use Rattle.mb_model.specs.Outside.{Outside};
 ghost use Rattle.mb_model.specs.Commands.{Past, Ended};
-ghost use Rattle.mb_examples.specs.ChainCounterExamples.{ChainCounterExamples, VerdictCounterExamples, StatementCounterExamples, ForgedCounterExamples};
+ghost use Rattle.mb_examples.specs.ChainCounterExamples.{ChainCounterExamples, VerdictCounterExamples, StatementCounterExamples, AuditCounterExamples, ForgedCounterExamples};
 ghost use Rattle.mb_examples.specs.CommandCounterExamples.{StatusCounterExamples, CommandCounterExamples, FileCounterExamples, HostCounterExamples};
 ghost use Rattle.mb_model.specs.declared.tools.Workload.{Workload};
 ghost use Rattle.mb_examples.specs.TextCounterExamples.{LineCounterExamples, ScriptCounterExamples, DraftCounterExamples, OrderLineCounterExamples, DrawCounterExamples, WorkloadCounterExamples, BirthCounterExamples};
@@ -32,6 +35,7 @@ pub fn answer_counter_examples()
 /// Orders, steps and runs.
 pub fn run_counter_examples()
     ensures orders { (state next : State) (text draw : List ℕ) → OrderCounterExamples state next text draw }
+    ensures refusals { (state : State) (order : Order) → RefusalCounterExamples state order }
     ensures steps { (world next : World) → StepCounterExamples world next }
     ensures runs { (world next : World) → RunCounterExamples world next }
     ensures served { (first : Option State) (final : Held) → ServedCounterExamples first final }
@@ -51,6 +55,7 @@ pub fn chain_counter_examples()
     ensures chains { (maker : PublicKey) (n : ℕ) → ChainCounterExamples maker n }
     ensures verdicts { (maker : PublicKey) (n : ℕ) (bytes : List ℕ) → VerdictCounterExamples maker n bytes }
     ensures statements { (maker : PublicKey) (n : ℕ) → StatementCounterExamples maker n }
+    ensures audits { (state : State) (n : ℕ) (chain : Chain) (report : Report) → AuditCounterExamples state n chain report }
     ensures forged { (maker : PublicKey) (birth forged : SignedEntry) → ForgedCounterExamples maker birth forged }
 {}
 

@@ -6,5 +6,6 @@ returns c = record {
   chains = examples.chains;
   verdicts = examples.verdicts;
   statements = examples.statements;
+  audits = examples.audits;
   forged = examples.forgeries;
 }

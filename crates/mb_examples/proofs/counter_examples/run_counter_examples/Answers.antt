@@ -4,6 +4,7 @@ use Rattle.mb_examples.proofs.counter_examples.run_counter_examples.Goals as goa
 pub returns : goal.returns
 returns c = record {
   orders = examples.orders;
+  refusals = examples.refusals;
   steps = examples.steps;
   runs = examples.runs;
   served = examples.served;
