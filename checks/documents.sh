@@ -4,8 +4,8 @@
 # file of code that is named by its end; no line but that of a table has over 120 columns; each row of
 # docs/proved.md names public calls of its section's crate, and clauses that these calls have; each clause of each public
 # call has a row there, but for those that its table of common clauses has; and the table of crates in
-# docs/architecture.md has a row for each crate and for nothing else. Prints a line for each that is wrong, and nothing
-# where none is.
+# docs/architecture.md has a row for each crate and for nothing else. A method of a trait is a call of the type that
+# implements it where it has clauses of its own there. Prints a line for each that is wrong, and nothing where none is.
 set -u
 cd "$(dirname "$0")/.." || exit 2
 
@@ -73,7 +73,7 @@ def type_of(kind, rest):
     rest = re.sub(r"<[^<>]*(?:<[^<>]*>[^<>]*)*>", "", rest)
     names = re.findall(r"\w+", rest.split("{")[0].split(":")[0].split("where")[0])
     if kind == "impl" and "for" in names:
-        return None
+        names = names[names.index("for") + 1:]
     return names[0] if names else None
 
 
@@ -112,19 +112,22 @@ def calls_of(crate):
         if "tests" in path.parts or path.name == "tests.rt":
             continue
         lines = path.read_text().splitlines()
-        owner, in_trait = None, False
+        owner, in_trait, of_trait = None, False, False
         for at, line in enumerate(lines):
             if line.startswith("}"):
-                owner, in_trait = None, False
+                owner, in_trait, of_trait = None, False, False
             header = HEADER.match(line)
             if header:
                 owner, in_trait = type_of(*header.groups()), header[1] == "trait"
+                of_trait = header[1] == "impl" and " for " in line
             call = CALL.match(line)
-            if not call or not (call[1] or in_trait) or (owner or call[2]) not in exported:
+            if not call or not (call[1] or in_trait or of_trait) or (owner or call[2]) not in exported:
                 continue
-            clauses = [CLAUSE.match(part) for part in contract_from(lines, at)]
+            clauses = {c[1] or UNNAMED for c in map(CLAUSE.match, contract_from(lines, at)) if c}
+            if of_trait and not clauses:
+                continue
             name = f"{owner}::{call[2]}" if owner else call[2]
-            calls.setdefault(name, set()).update(c[1] or UNNAMED for c in clauses if c)
+            calls.setdefault(name, set()).update(clauses)
     return calls
 
 

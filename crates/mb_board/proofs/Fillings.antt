@@ -1,14 +1,15 @@
 -- The bytes that a tear fills with.
-use Rattle.std.proofs.Common.{◌≡◌, ℕ, ◌+◌, ◌-◌, ◌%◌, ◌≤◌, List, [], ◌∷◌, ◌++◌, length, take, drop, get_or, refl, ap, sym, ◌∙◌, min, inl, inr, arith, append_assoc, length-append, subst, Result, Err}
+use Rattle.std.proofs.Common.{◌≡◌, ℕ, ◌+◌, ◌-◌, ◌%◌, ◌≤◌, List, [], ◌∷◌, ◌++◌, length, take, drop, get_or, refl, ap, sym, ◌∙◌, min, inl, inr, arith, append_assoc, length-append}
 use Rattle.std.proofs.Math.Seq.{take-add}
 use Rattle.std.proofs.lemmas.List.{take-take, take_all, length-take, append-nil}
 use Rattle.std.proofs.lemmas.Bool.{cases_lt}
 use Rattle.std.proofs.lemmas.List.FromFn.{length-map-range_with_len, map-range_with_len_more}
 use Rattle.mb_model.specs.declared.event.Tear.{Tear}
+use Rattle.mb_board.specs.declared.fuse.Cut.{Cut}
 use Rattle.mb_model.specs.Pieces.{part}
 use Rattle.mb_model.specs.Board.{put}
 use Rattle.mb_model.proofs.Places.{length-part, part-put, put-put}
-use Rattle.mb_board.specs.Cuts.{filling, torn_by, KeepsAll}
+use Rattle.mb_board.specs.Cuts.{filling, torn_by, LeavesWhatItKeeps}
 use Rattle.mb_board.specs.Shown.{Contents}
 
 pub length-filling : (tear : Tear) (n : ℕ) → length (filling tear n) ≡ n
@@ -76,12 +77,12 @@ torn_write tear at count bytes old written new spoils writes sized within =
     let with_bytes : List ℕ → Contents = λ all. record old { bytes = all } in
     spoils ∙ (ap spoiled writes ∙ ap with_bytes (torn_by-put tear at count bytes old.bytes sized within))
 
--- a tear that keeps all leaves the write complete
-pub left_whole : (passed : Result (Unit {0}) Tear) (tear : Tear) (at : ℕ) (bytes before after : List ℕ) → Err tear ≡ passed → after ≡ put at (torn_by tear bytes) before → KeepsAll passed (length bytes) → after ≡ put at bytes before
+-- a tear that keeps all of the bytes leaves them
+pub leaves_what_it_keeps : (cut : Cut) → LeavesWhatItKeeps cut
 unfolding torn_by
-left_whole passed tear at bytes before after fails left keeps =
-    let keeps_tear : KeepsAll (Err tear) (length bytes) = subst (λ (result : Result (Unit {0}) Tear). KeepsAll result (length bytes)) (sym fails) keeps in
-    let all : take tear.keep bytes ≡ bytes = take_all tear.keep bytes keeps_tear in
+leaves_what_it_keeps cut bytes keeps =
+    let tear : Tear = cut.tear in
+    let all : take tear.keep bytes ≡ bytes = take_all tear.keep bytes keeps in
     let none : length bytes - tear.keep ≡ 0 = omega arith in
     let rest : filling tear (length bytes - tear.keep) ≡ [] = ap (filling tear) none ∙ filling_none tear in
     let nothing : bytes ++ [] ≡ bytes = append-nil bytes in

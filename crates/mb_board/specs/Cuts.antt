@@ -7,6 +7,7 @@ use Rattle.mb_model.specs.declared.event.Event.{Event}
 use Rattle.mb_model.specs.declared.event.Event.TheVariants as event
 use Rattle.mb_model.specs.declared.event.Tear.{Tear}
 use Rattle.mb_model.specs.Board.{Meter}
+use Rattle.mb_board.specs.Calls.{one_more, stops_by}
 use Rattle.mb_board.specs.declared.fuse.Cut.{Cut}
 
 -- a tear has 1 to 16 bytes to fill with
@@ -52,7 +53,12 @@ cut_left (Err stop) cut = None
 cut_left (Ok value) None = None
 cut_left (Ok value) (Some cut) = Some (record cut { count = cut.count - 1 })
 
--- and the one that is armed after an event was handed out
+-- what is armed and counted after a call: a stop is counted, and so is each call
+abbrev pub fuse_after : {A E : Type 0} → Result A E → Armed → Armed
+fuse_after result fuse =
+    record { cut = cut_left result fuse.cut; stops = stops_by result fuse.stops; writes = one_more fuse.writes }
+
+-- the power loss that is armed after an event was handed out
 abbrev pub cut_after : Option Event → Option Cut → Option Cut
 cut_after (Some (event.Cut count tear)) cut = Some (record { count = count; tear = tear })
 cut_after _ cut = cut
@@ -88,7 +94,6 @@ abbrev pub left_by : Result (Unit {0}) Tear → List ℕ → List ℕ
 left_by (Ok passed) bytes = bytes
 left_by (Err tear) bytes = torn_by tear bytes
 
--- a tear keeps all of so many bytes
-abbrev pub KeepsAll : Result (Unit {0}) Tear → ℕ → Type 0
-KeepsAll (Ok passed) n = Unit {0}
-KeepsAll (Err tear) n = n ≤ tear.keep
+-- a write whose bytes a power loss keeps is complete
+abbrev pub LeavesWhatItKeeps : Cut → Type 0
+LeavesWhatItKeeps cut = (bytes : List ℕ) → length bytes ≤ cut.tear.keep → torn_by cut.tear bytes ≡ bytes

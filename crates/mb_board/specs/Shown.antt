@@ -1,7 +1,8 @@
 -- What is seen of a board that simulates a device.
-use Rattle.std.specs.Prelude.{ℕ, List, [], Bool}
+use Rattle.std.specs.Prelude.{ℕ, List, [], Bool, Result}
 use Rattle.mb_model.specs.Board.{Memory, Ledger}
-use Rattle.mb_board.specs.Cuts.{Armed}
+use Rattle.mb_board.specs.Calls.{power_of, level_of}
+use Rattle.mb_board.specs.Cuts.{Armed, fuse_after}
 
 -- one of its memories: the bytes, and what they were when they were last kept
 pub record Contents : Type 0 where
@@ -32,3 +33,12 @@ rest_of board = record { memory = board.memory; ledger = board.ledger; fuse = bo
 -- both memories are empty
 abbrev pub unloaded : Memory
 unloaded = record { flash = []; bbram = [] }
+
+-- The board after a write call that ended so and left this memory: its events and answers stay.
+abbrev pub board_after : {A E : Type 0} → Result A E → Memory → Shown → Shown
+board_after result memory board = record board {
+  power = power_of result;
+  level = level_of result board.level;
+  memory = memory;
+  fuse = fuse_after result board.fuse;
+}

@@ -1,8 +1,7 @@
 //! When power fails.
 
-ghost use Rattle.std.specs.Prelude.{◌≡◌, Some, None, true, IfErr, OnErr};
-ghost use Rattle.mb_board.specs.Calls.{metered};
-ghost use Rattle.mb_board.specs.Cuts.{FallsInItsCall, HasFill, unused, meter_of, is_armed, passes, cut_left};
+ghost use Rattle.std.specs.Prelude.{◌≡◌, Some, None, IfErr};
+ghost use Rattle.mb_board.specs.Cuts.{FallsInItsCall, LeavesWhatItKeeps, HasFill, unused, is_armed, passes, fuse_after};
 
 use mb_model::Tear;
 use std::marker::Model;
@@ -23,6 +22,11 @@ impl Cut {
     /// A power loss falls into the write call that it is set for, and into no other.
     pub fn falls_in_its_call(&self)
         ensures { FallsInItsCall self.now }
+    {}
+
+    /// A power loss leaves a write complete if it keeps all of its bytes.
+    pub fn leaves_what_it_keeps(&self)
+        ensures { LeavesWhatItKeeps self.now }
     {}
 }
 
@@ -89,9 +93,7 @@ impl Fuse {
     /// One more write call. It fails where power fails in it, and then says what that leaves of the write.
     pub fn pass(&mut self) -> Result<(), Tear>
         ensures exact { result ≡ passes self.old }
-        ensures cut { self.new.cut ≡ cut_left result self.old.cut }
-        ensures meter { meter_of self.new ≡ metered result (meter_of self.old) }
-        ensures armed { OnErr result (is_armed self.old.cut ≡ true) }
+        ensures fuse { self.new ≡ fuse_after result self.old }
         ensures fill { IfErr result HasFill }
     {
         if self.writes < COUNTED_WRITES {

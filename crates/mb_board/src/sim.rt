@@ -1,15 +1,17 @@
 //! A board that simulates a device in memory.
 
-ghost use Rattle.std.specs.Prelude.{◌≡◌, ◌+◌, ◌*◌, ◌-◌, ◌/◌, ◌<◌, ◌≤◌, ◌++◌, ◌∷◌, [], List, Some, None, true, false, length, IfOk, IfSome, IfNone, OnOk, OnErr, vec_len, vec_capacity};
+ghost use Rattle.std.specs.Prelude.{◌≡◌, ◌+◌, ◌*◌, ◌-◌, ◌/◌, ◌<◌, ◌≤◌, ◌++◌, ◌∷◌, [], List, Some, None, true, false, length, IfOk, IfSome, IfNone, OnOk, OnErr, All, vec_len, vec_capacity};
 ghost use Rattle.std.specs.Result.{is_ok};
 ghost use Rattle.std.proofs.Common.{ap};
 ghost use Rattle.mb_format.specs.Format.{IsBytes};
+ghost use Rattle.mb_model.specs.Pieces.{part};
 ghost use Rattle.mb_model.specs.Script.{IsScriptEvent};
-ghost use Rattle.mb_model.specs.Board.{loaded, put, erased, power_after, memory_after, armed_after};
-ghost use Rattle.mb_board.specs.Calls.{power_of, level_of, metered, Torn};
-ghost use Rattle.mb_board.specs.Cuts.{unused, passes, left_by, KeepsAll, cut_left, cut_after, meter_of, is_armed};
+ghost use Rattle.mb_model.specs.Board.{IsLoaded, image_of, loaded, put, erased, power_after, memory_after, armed_after};
+ghost use Rattle.mb_model.specs.Acknowledged.{MayAnswer};
+ghost use Rattle.mb_board.specs.Calls.{Torn, held_by};
+ghost use Rattle.mb_board.specs.Cuts.{unused, passes, left_by, cut_after, meter_of, is_armed};
 ghost use Rattle.mb_board.specs.Reach.{Reached};
-ghost use Rattle.mb_board.specs.Shown.{Rest, Shown, rest_of, unloaded};
+ghost use Rattle.mb_board.specs.Shown.{Rest, Shown, board_after, rest_of, unloaded};
 
 use crate::bank::{Bank, are_bytes};
 use crate::board::{Board, Stopped};
@@ -111,128 +113,6 @@ impl SimBoard {
         }
     }
 
-    /// What `flash_erase` does, and besides when it is stopped, and what a stop leaves of the sector.
-    pub fn erase_sector(&mut self, sector: u16) -> Result<(), Stopped>
-        requires on { self.old.power ≡ true }
-        requires within { 4096 * sector + 4096 ≤ length self.old.memory.flash }
-        ensures passes { is_ok result ≡ is_ok (passes self.old.fuse) }
-        ensures left { self.new.memory.flash ≡ put (4096 * sector) (left_by (passes self.old.fuse) (erased 4096)) self.old.memory.flash }
-        ensures whole { KeepsAll (passes self.old.fuse) 4096 → self.new.memory.flash ≡ put (4096 * sector) (erased 4096) self.old.memory.flash }
-        ensures cut { self.new.fuse.cut ≡ cut_left result self.old.fuse.cut }
-        ensures erased { OnOk result (self.new.memory.flash ≡ put (4096 * sector) (erased 4096) self.old.memory.flash) }
-        ensures torn { Torn (4096 * sector) 4096 self.old.memory.flash self.new.memory.flash }
-        ensures bbram { self.new.memory.bbram ≡ self.old.memory.bbram }
-        ensures power { self.new.power ≡ power_of result }
-        ensures level { self.new.level ≡ level_of result self.old.level }
-        ensures ledger { self.new.ledger ≡ self.old.ledger }
-        ensures meter { meter_of self.new.fuse ≡ metered result (meter_of self.old.fuse) }
-        ensures stopped { OnErr result (is_armed self.old.fuse.cut ≡ true) }
-    {
-        match self.fuse.pass() {
-            Ok(()) => {
-                self.flash.erase(sector);
-                Ok(())
-            }
-            Err(tear) => {
-                self.flash.erase_torn(sector, &tear);
-                self.is_on = false;
-                self.level = 0;
-                Err(Stopped)
-            }
-        }
-    }
-
-    /// What `flash_program` does, and besides when it is stopped, and what a stop leaves of the range.
-    pub fn program(&mut self, at: u32, bytes: &[u8]) -> Result<(), Stopped>
-        requires on { self.old.power ≡ true }
-        requires some { 0 < length bytes.now }
-        requires within { at + length bytes.now ≤ length self.old.memory.flash }
-        requires one_sector { at / 4096 ≡ (at + length bytes.now - 1) / 4096 }
-        ensures passes { is_ok result ≡ is_ok (passes self.old.fuse) }
-        ensures left { self.new.memory.flash ≡ put at (left_by (passes self.old.fuse) bytes.now) self.old.memory.flash }
-        ensures whole { KeepsAll (passes self.old.fuse) (length bytes.now) → self.new.memory.flash ≡ put at bytes.now self.old.memory.flash }
-        ensures cut { self.new.fuse.cut ≡ cut_left result self.old.fuse.cut }
-        ensures stored { OnOk result (self.new.memory.flash ≡ put at bytes.now self.old.memory.flash) }
-        ensures torn { Torn at (length bytes.now) self.old.memory.flash self.new.memory.flash }
-        ensures bbram { self.new.memory.bbram ≡ self.old.memory.bbram }
-        ensures power { self.new.power ≡ power_of result }
-        ensures level { self.new.level ≡ level_of result self.old.level }
-        ensures ledger { self.new.ledger ≡ self.old.ledger }
-        ensures meter { meter_of self.new.fuse ≡ metered result (meter_of self.old.fuse) }
-        ensures stopped { OnErr result (is_armed self.old.fuse.cut ≡ true) }
-    {
-        match self.fuse.pass() {
-            Ok(()) => {
-                self.flash.write(at as usize, bytes);
-                Ok(())
-            }
-            Err(tear) => {
-                self.flash.write_torn(at as usize, bytes, &tear);
-                self.is_on = false;
-                self.level = 0;
-                Err(Stopped)
-            }
-        }
-    }
-
-    /// What `bbram_write` does, and besides when it is stopped, and what a stop leaves of the range.
-    pub fn write_bbram(&mut self, at: u16, bytes: &[u8]) -> Result<(), Stopped>
-        requires on { self.old.power ≡ true }
-        requires some { 0 < length bytes.now }
-        requires within { at + length bytes.now ≤ length self.old.memory.bbram }
-        requires reached { Reached self.old.level at (length bytes.now) }
-        ensures passes { is_ok result ≡ is_ok (passes self.old.fuse) }
-        ensures left { self.new.memory.bbram ≡ put at (left_by (passes self.old.fuse) bytes.now) self.old.memory.bbram }
-        ensures whole { KeepsAll (passes self.old.fuse) (length bytes.now) → self.new.memory.bbram ≡ put at bytes.now self.old.memory.bbram }
-        ensures cut { self.new.fuse.cut ≡ cut_left result self.old.fuse.cut }
-        ensures stored { OnOk result (self.new.memory.bbram ≡ put at bytes.now self.old.memory.bbram) }
-        ensures torn { Torn at (length bytes.now) self.old.memory.bbram self.new.memory.bbram }
-        ensures flash { self.new.memory.flash ≡ self.old.memory.flash }
-        ensures power { self.new.power ≡ power_of result }
-        ensures level { self.new.level ≡ level_of result self.old.level }
-        ensures ledger { self.new.ledger ≡ self.old.ledger }
-        ensures meter { meter_of self.new.fuse ≡ metered result (meter_of self.old.fuse) }
-        ensures stopped { OnErr result (is_armed self.old.fuse.cut ≡ true) }
-    {
-        match self.fuse.pass() {
-            Ok(()) => {
-                self.bbram.write(at as usize, bytes);
-                Ok(())
-            }
-            Err(tear) => {
-                self.bbram.write_torn(at as usize, bytes, &tear);
-                self.is_on = false;
-                self.level = 0;
-                Err(Stopped)
-            }
-        }
-    }
-
-    /// What `take` does, and besides which power loss is armed then.
-    pub fn take_event(&mut self) -> Option<Event>
-        requires { self.old.ledger.out ≡ None }
-        ensures fuse { self.new.fuse ≡ record self.old.fuse { cut = cut_after result self.old.fuse.cut; writes = 0 } }
-        ensures none { IfNone result ((self.old.ledger.waiting ≡ []) × (self.new.ledger ≡ self.old.ledger)) }
-        ensures some { IfSome result (λ event. (rest : List Event) × (self.old.ledger.waiting ≡ event ∷ rest)
-            × (self.new.ledger ≡ record self.old.ledger { waiting = rest; out = Some event })) }
-        ensures power { self.new.power ≡ power_after result self.old.power }
-        ensures level { self.new.level ≡ self.old.level }
-        ensures memory { self.new.memory ≡ memory_after result self.old.memory }
-        ensures armed { is_armed self.new.fuse.cut ≡ armed_after result (is_armed self.old.fuse.cut) }
-        ensures flash_bytes { IsBytes self.new.memory.flash }
-        ensures bbram_bytes { IsBytes self.new.memory.bbram }
-    {
-        self.fuse.restart();
-        let event = self.waiting.pop_front();
-        if let Some(event) = &event {
-            self.out = self.copies.pop_front();
-            self.meet(event);
-        }
-        are_bytes(self.flash.as_slice());
-        are_bytes(self.bbram.as_slice());
-        event
-    }
-
     /// What an event does to the board as it is handed out.
     fn meet(&mut self, event: &Event)
         requires { IsScriptEvent event.now }
@@ -278,6 +158,8 @@ impl Register for SimBoard {
     }
 }
 
+// Where a call has clauses here, they say more than the trait's: which write call is stopped, what its range holds then,
+// and that nothing else changes the power loss that is armed. `torn` follows from `left`; the check wants it written out.
 impl Board for SimBoard {
     ghost memory = { λ board. board.memory };
 
@@ -290,12 +172,55 @@ impl Board for SimBoard {
         out.copy_from_slice(&self.flash.as_slice()[start..start + out.len()]);
     }
 
-    fn flash_erase(&mut self, sector: u16) -> Result<(), Stopped> {
-        self.erase_sector(sector)
+    fn flash_erase(&mut self, sector: u16) -> Result<(), Stopped>
+        requires on { self.old.power ≡ true }
+        requires within { 4096 * sector + 4096 ≤ length self.old.memory.flash }
+        ensures passes { is_ok result ≡ is_ok (passes self.old.fuse) }
+        ensures left { self.new.memory ≡ record self.old.memory {
+          flash = put (4096 * sector) (left_by (passes self.old.fuse) (erased 4096)) self.old.memory.flash;
+        } }
+        ensures after { self.new ≡ board_after result self.new.memory self.old }
+        ensures torn { Torn (4096 * sector) 4096 self.old.memory.flash self.new.memory.flash }
+    {
+        match self.fuse.pass() {
+            Ok(()) => {
+                self.flash.erase(sector);
+                Ok(())
+            }
+            Err(tear) => {
+                self.flash.erase_torn(sector, &tear);
+                self.is_on = false;
+                self.level = 0;
+                Err(Stopped)
+            }
+        }
     }
 
-    fn flash_program(&mut self, at: u32, bytes: &[u8]) -> Result<(), Stopped> {
-        self.program(at, bytes)
+    fn flash_program(&mut self, at: u32, bytes: &[u8]) -> Result<(), Stopped>
+        requires on { self.old.power ≡ true }
+        requires some { 0 < length bytes.now }
+        requires within { at + length bytes.now ≤ length self.old.memory.flash }
+        requires one_sector { at / 4096 ≡ (at + length bytes.now - 1) / 4096 }
+        requires blank { part at (length bytes.now) self.old.memory.flash ≡ erased (length bytes.now) }
+        ensures passes { is_ok result ≡ is_ok (passes self.old.fuse) }
+        ensures left { self.new.memory ≡ record self.old.memory {
+          flash = put at (left_by (passes self.old.fuse) bytes.now) self.old.memory.flash;
+        } }
+        ensures after { self.new ≡ board_after result self.new.memory self.old }
+        ensures torn { Torn at (length bytes.now) self.old.memory.flash self.new.memory.flash }
+    {
+        match self.fuse.pass() {
+            Ok(()) => {
+                self.flash.write(at as usize, bytes);
+                Ok(())
+            }
+            Err(tear) => {
+                self.flash.write_torn(at as usize, bytes, &tear);
+                self.is_on = false;
+                self.level = 0;
+                Err(Stopped)
+            }
+        }
     }
 
     fn bbram_read(&self, at: u16, out: &mut [u8]) {
@@ -303,11 +228,45 @@ impl Board for SimBoard {
         out.copy_from_slice(&self.bbram.as_slice()[start..start + out.len()]);
     }
 
-    fn bbram_write(&mut self, at: u16, bytes: &[u8]) -> Result<(), Stopped> {
-        self.write_bbram(at, bytes)
+    fn bbram_write(&mut self, at: u16, bytes: &[u8]) -> Result<(), Stopped>
+        requires on { self.old.power ≡ true }
+        requires some { 0 < length bytes.now }
+        requires within { at + length bytes.now ≤ length self.old.memory.bbram }
+        requires reached { Reached self.old.level at (length bytes.now) }
+        ensures passes { is_ok result ≡ is_ok (passes self.old.fuse) }
+        ensures left { self.new.memory ≡ record self.old.memory {
+          bbram = put at (left_by (passes self.old.fuse) bytes.now) self.old.memory.bbram;
+        } }
+        ensures after { self.new ≡ board_after result self.new.memory self.old }
+        ensures torn { Torn at (length bytes.now) self.old.memory.bbram self.new.memory.bbram }
+    {
+        match self.fuse.pass() {
+            Ok(()) => {
+                self.bbram.write(at as usize, bytes);
+                Ok(())
+            }
+            Err(tear) => {
+                self.bbram.write_torn(at as usize, bytes, &tear);
+                self.is_on = false;
+                self.level = 0;
+                Err(Stopped)
+            }
+        }
     }
 
-    fn load(&mut self, alloc: Global, image: &[u8], events: Events) -> Result<(), NoMemory> {
+    fn load(&mut self, alloc: Global, image: &[u8], events: Events) -> Result<(), NoMemory>
+        requires image { length image.now ≡ 1077248 }
+        requires count { length events ≤ 65536 }
+        requires events { All IsScriptEvent events }
+        requires off { self.old.power ≡ false }
+        requires none_out { self.old.ledger.out ≡ None }
+        ensures power { self.new.power ≡ false }
+        ensures sized { OnOk result (IsLoaded self.new.memory) }
+        ensures image { OnOk result (image_of self.new.memory ≡ image.now) }
+        ensures ledger { OnOk result (self.new.ledger ≡ loaded self.new.memory events) }
+        ensures fuse { OnOk result (self.new.fuse ≡ record self.old.fuse { cut = None; writes = 0 }) }
+        ensures failed { OnErr result (self.new ≡ self.old) }
+    {
         let (flash, bbram) = image.split_at(FLASH_LENGTH);
         let flash = Bank::from_slice(alloc, flash)?;
         let bbram = Bank::from_slice(alloc, bbram)?;
@@ -328,11 +287,41 @@ impl Board for SimBoard {
         self.waiting.len() as u32
     }
 
-    fn take(&mut self) -> Option<Event> {
-        self.take_event()
+    fn take(&mut self) -> Option<Event>
+        requires { self.old.ledger.out ≡ None }
+        ensures fuse { self.new.fuse ≡ record self.old.fuse { cut = cut_after result self.old.fuse.cut; writes = 0 } }
+        ensures none { IfNone result ((self.old.ledger.waiting ≡ []) × (self.new.ledger ≡ self.old.ledger)) }
+        ensures some { IfSome result (λ event. (rest : List Event) × (self.old.ledger.waiting ≡ event ∷ rest)
+            × (self.new.ledger ≡ record self.old.ledger { waiting = rest; out = Some event })) }
+        ensures power { self.new.power ≡ power_after result self.old.power }
+        ensures level { self.new.level ≡ self.old.level }
+        ensures memory { self.new.memory ≡ memory_after result self.old.memory }
+        ensures flash_bytes { IsBytes self.new.memory.flash }
+        ensures bbram_bytes { IsBytes self.new.memory.bbram }
+    {
+        self.fuse.restart();
+        let event = self.waiting.pop_front();
+        if let Some(event) = &event {
+            self.out = self.copies.pop_front();
+            self.meet(event);
+        }
+        are_bytes(self.flash.as_slice());
+        are_bytes(self.bbram.as_slice());
+        event
     }
 
-    fn answer(&mut self, event: Event, reply: Reply) {
+    fn answer(&mut self, event: Event, reply: Reply)
+        requires out { self.old.ledger.out ≡ Some event }
+        requires step { MayAnswer self.old.ledger.standing
+            (held_by self.old.memory self.old.power self.old.level (meter_of self.old.fuse)) event reply }
+        ensures { self.new ≡ record self.old {
+          ledger = record self.old.ledger {
+            out = None;
+            answered = self.old.ledger.answered ++ record { event = event; reply = reply } ∷ [];
+            standing = held_by self.old.memory self.old.power self.old.level (meter_of self.old.fuse);
+          };
+        } }
+    {
         self.flash.keep();
         self.bbram.keep();
         self.standing = Standing {

@@ -2,8 +2,9 @@
 
 ghost use Rattle.std.specs.Prelude.{◌≡◌, ◌∷◌, ◌≤◌, [], length, true, false, All, IfOk, None};
 ghost use Rattle.mb_model.specs.Memory.{IsBlank};
+ghost use Rattle.mb_model.specs.Pieces.{part};
 ghost use Rattle.mb_model.specs.Script.{IsScriptEvent};
-ghost use Rattle.mb_model.specs.Board.{IsLoaded, image_of, loaded};
+ghost use Rattle.mb_model.specs.Board.{IsLoaded, erased, image_of, loaded};
 ghost use Rattle.mb_board.specs.Calls.{power_of, level_of};
 ghost use Rattle.mb_board.specs.Cuts.{is_armed};
 
@@ -61,7 +62,19 @@ enum Kind {
     Write,
 }
 
-// A write call of this kind.
+// Whether the flash is erased where the tests program it.
+#[tactic(auto, unfolding(mb_model::specs::Board::erased))]
+fn is_erased(board: &SimBoard) -> bool
+    requires on { board.now.power ≡ true }
+    requires loaded { IsLoaded board.now.memory }
+    ensures { result ≡ true → part 4096 5 board.now.memory.flash ≡ erased 5 }
+{
+    let mut bytes = [0; 5];
+    board.flash_read(4096, &mut bytes);
+    bytes == [0xFF; 5]
+}
+
+// A write call of this kind; none where flash would be programmed that is not erased.
 fn call(board: &mut SimBoard, kind: Kind) -> Result<(), Stopped>
     requires on { board.old.power ≡ true }
     requires level { board.old.level ≡ 1 }
@@ -72,7 +85,8 @@ fn call(board: &mut SimBoard, kind: Kind) -> Result<(), Stopped>
 {
     match kind {
         Kind::Erase => board.flash_erase(1),
-        Kind::Program => board.program(4096, &[1, 2, 3, 4, 5]),
+        Kind::Program if is_erased(board) => board.flash_program(4096, &[1, 2, 3, 4, 5]),
+        Kind::Program => Ok(()),
         Kind::Write => board.bbram_write(4096, &[1, 2, 3, 4, 5]),
     }
 }
@@ -127,7 +141,7 @@ const STOPPED: &[(u16, Kind, Kind, Kind, [u8; 6])] = &[
     ),
     (
         4095,
-        Kind::Program,
+        Kind::Write,
         Kind::Write,
         Kind::Erase,
         [0xFF, 0xFF, 0xFF, 0xAA, 0, 0],

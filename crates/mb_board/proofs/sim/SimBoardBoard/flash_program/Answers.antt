@@ -1,9 +1,9 @@
 use Rattle.std.proofs.Common.{ap, refl, ◌∙◌}
 use Rattle.mb_model.specs.Board.{put}
-use Rattle.mb_board.specs.Cuts.{torn_by, passes}
+use Rattle.mb_board.specs.Cuts.{torn_by}
 use Rattle.mb_board.specs.Shown.{Contents, Shown}
-use Rattle.mb_board.proofs.Fillings.{length-torn_by, left_whole}
-use Rattle.mb_board.proofs.sim.SimBoard.program.Goals as goal
+use Rattle.mb_board.proofs.Fillings.{length-torn_by}
+use Rattle.mb_board.proofs.sim.SimBoardBoard.flash_program.Goals as goal
 
 pub returns-in-Ok-clause-torn : goal.returns-in-Ok-clause-torn
 returns-in-Ok-clause-torn c = record {
@@ -22,9 +22,3 @@ returns-in-Err-clause-torn c = record {
       ap (λ (bank : Contents). bank.bytes) c.write_torn.ensures
       ∙ ap (λ (board : Shown). put c.args.at (torn_by c.in-Err.tear c.args.bytes.now) board.memory.flash) c.self.view_is;
 }
-
-pub returns-in-Err-clause-whole : goal.returns-in-Err-clause-whole
-returns-in-Err-clause-whole c = λ keeps.
-    left_whole _ c.in-Err.tear c.args.at c.args.bytes.now _ _
-    (c.in-Err.ensures.exact ∙ ap (λ (board : Shown). passes board.fuse) c.self.view_is) (returns-in-Err-clause-torn c).whole
-    keeps
