@@ -1,20 +1,47 @@
--- What a host in memory shows: its files, what was printed, and its counts.
-use Rattle.std.specs.Prelude.{◌≡◌, ◌≢◌, ℕ, Bool, List, Option, Some, option_map}
-use Rattle.std.specs.List.{find}
+-- What a host in memory shows: its files, what was printed, which of its calls fail, and its counts.
+use Rattle.std.specs.Prelude.{◌≡◌, ◌≢◌, ◌==◌, ℕ, Bool, List, [], Option, Some, option_map}
+use Rattle.std.specs.List.{find, list_any}
 use Rattle.std.specs.Str.{bytes_eq}
 use Rattle.mb_model.specs.declared.items.File.{File}
-use Rattle.mb_model.specs.Outside.{Outside}
+use Rattle.mb_model.specs.Outside.{Outside, raised}
 
 -- where two files have one name the first counts
 pub record Shown : Type 0 where
   pub files : List File
   pub printed : List ℕ
+  -- the numbers of the calls that fail, and the number of the next call
+  pub failing : List ℕ
+  pub calls : ℕ
   pub read_faults : ℕ
   pub absences : ℕ
   pub write_faults : ℕ
   pub reads : ℕ
   pub writes : ℕ
   pub prints : ℕ
+
+-- a host with these files, nothing printed and no call yet, whose calls of these numbers fail
+abbrev pub host_of : List File → List ℕ → Shown
+host_of files failing = record {
+  files = files;
+  printed = [];
+  failing = failing;
+  calls = 0;
+  read_faults = 0;
+  absences = 0;
+  write_faults = 0;
+  reads = 0;
+  writes = 0;
+  prints = 0;
+}
+
+-- the next call is one of those that fail
+abbrev pub next_fails : Shown → Bool
+next_fails host = list_any (λ number. number == host.calls) host.failing
+
+-- Reads, writes and prints are numbered together: a call takes the next number, and the list stays.
+pub record IsNumbered (before after : Shown) : Type 0 where
+  pub next : after.calls ≡ raised before.calls
+  pub list : after.failing ≡ before.failing
 
 -- the file has this name
 abbrev pub is_named : List ℕ → File → Bool

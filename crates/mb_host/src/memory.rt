@@ -1,8 +1,10 @@
 //! A host whose files and whose output are in memory, and whose calls fail where they are told to.
 
-ghost use Rattle.std.specs.Prelude.{◌≡◌, [], Some, IfOk, OnOk, OnErr, option_copied};
+ghost use Rattle.std.specs.Prelude.{◌≡◌, ◌≤◌, Some, true, false, IfOk, OnOk, OnErr, IsErr, IsErrOf, vec_len, option_copied};
 ghost use Rattle.std.specs.List.{position};
-ghost use Rattle.mb_host.specs.Memory.{Stores, content_of, is_named, told};
+ghost use Rattle.mb_model.specs.Outside.{HoldsFile, HoldsTooMuch, read_once, FailsToRead};
+ghost use Rattle.mb_model.specs.Outside.{Writes, FailsToWrite, Prints, FailsToPrint, raised as raised_count};
+ghost use Rattle.mb_host.specs.Memory.{IsNumbered, Stores, content_of, host_of, is_named, next_fails, told};
 
 use crate::count::raised;
 use crate::host::{Host, HostEnd, HostFailed};
@@ -34,6 +36,8 @@ impl Model for MemoryHost {
     ghost view = { λ host. record {
       files = host.files.items;
       printed = host.printed.items;
+      failing = host.failing;
+      calls = host.calls;
       read_faults = host.read_faults;
       absences = host.absences;
       write_faults = host.write_faults;
@@ -49,16 +53,7 @@ impl MemoryHost {
     ///
     /// `NoMemory` where an allocation fails, which no clause rules out: the tests show that a host is made.
     pub fn new(alloc: Global, files: Files, failing: Calls) -> Result<MemoryHost, NoMemory>
-        ensures { IfOk result (λ host. told host ≡ record {
-          files = Some (content_of files);
-          printed = Some [];
-          read_faults = 0;
-          absences = 0;
-          write_faults = 0;
-          reads = 0;
-          writes = 0;
-          prints = 0;
-        }) }
+        ensures { IfOk result (λ host. host ≡ host_of files failing) }
     {
         Ok(MemoryHost {
             alloc,
@@ -131,10 +126,10 @@ impl MemoryHost {
         self.prints
     }
 
-    // Numbers a call, and says whether it is one of those that fail. No contract sees the number of a call, so which
-    // calls fail is tested.
+    // Numbers a call, and says whether it is one of those that fail.
     fn call_fails(&mut self) -> bool
-        ensures { self.new ≡ self.old }
+        ensures fails { result ≡ next_fails self.old }
+        ensures numbered { self.new ≡ record self.old { calls = raised_count self.old.calls } }
     {
         let fails = self.failing.as_slice().contains(&self.calls);
         self.calls = raised(self.calls);
@@ -145,9 +140,19 @@ impl MemoryHost {
 impl Host for MemoryHost {
     ghost outside = { told };
 
-    fn read(&mut self, alloc: Global, name: &str) -> Result<Vec<u8>, HostEnd> {
+    fn read(&mut self, alloc: Global, name: &str) -> Result<Vec<u8>, HostEnd>
+        ensures listed { next_fails self.old ≡ true → IsErrOf result HostEnd.Failed }
+        ensures unlisted { next_fails self.old ≡ false → self.new.read_faults ≡ self.old.read_faults }
+        ensures numbered { IsNumbered self.old self.new }
+        ensures whole { IfOk result (λ bytes. HoldsFile (told self.old) name.now bytes.items) }
+        ensures short { IfOk result (λ bytes. vec_len bytes ≤ 4194304) }
+        ensures too_long { IsErrOf result HostEnd.TooLong → HoldsTooMuch (told self.old) name.now }
+        ensures failed { IsErrOf result HostEnd.Failed → FailsToRead name.now (told self.old) (told self.new) }
+        ensures counted { (IsErrOf result HostEnd.Failed → ⊥) → told self.new ≡ read_once (told self.old) }
+    {
+        let fails = self.call_fails();
         self.reads = raised(self.reads);
-        if self.call_fails() {
+        if fails {
             self.read_faults = raised(self.read_faults);
             return Err(HostEnd::Failed);
         }
@@ -161,7 +166,12 @@ impl Host for MemoryHost {
         Vec::from_slice(alloc, bytes).map_err(|_| HostEnd::NoMemory)
     }
 
-    fn write(&mut self, name: &str, bytes: &[u8]) -> Result<(), HostFailed> {
+    fn write(&mut self, name: &str, bytes: &[u8]) -> Result<(), HostFailed>
+        ensures listed { next_fails self.old ≡ true → IsErr result }
+        ensures numbered { IsNumbered self.old self.new }
+        ensures done { OnOk result (Writes name.now bytes.now (told self.old) (told self.new)) }
+        ensures failed { OnErr result (FailsToWrite name.now (told self.old) (told self.new)) }
+    {
         self.writes = raised(self.writes);
         if self.call_fails() || store(&mut self.files, self.alloc, name, bytes).is_err() {
             self.write_faults = raised(self.write_faults);
@@ -170,7 +180,12 @@ impl Host for MemoryHost {
         Ok(())
     }
 
-    fn print(&mut self, bytes: &[u8]) -> Result<(), HostFailed> {
+    fn print(&mut self, bytes: &[u8]) -> Result<(), HostFailed>
+        ensures listed { next_fails self.old ≡ true → IsErr result }
+        ensures numbered { IsNumbered self.old self.new }
+        ensures done { OnOk result (Prints bytes.now (told self.old) (told self.new)) }
+        ensures failed { OnErr result (FailsToPrint bytes.now (told self.old) (told self.new)) }
+    {
         self.prints = raised(self.prints);
         if self.call_fails() || self.printed.extend_from_slice(bytes).is_err() {
             self.write_faults = raised(self.write_faults);

@@ -1,4 +1,4 @@
-//! What no clause says: which calls fail, that calls succeed, and that the system's files are reached.
+//! What no clause says: that calls succeed which are not to fail, and that the system's files are reached.
 
 use mb_host::{Host, HostEnd, HostFailed, MemoryHost, RealHost};
 use mb_model::{Bytes, Calls, File, Files, NoMemory};
