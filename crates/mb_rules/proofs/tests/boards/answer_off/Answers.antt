@@ -5,11 +5,11 @@ use Rattle.mb_model.specs.declared.event.Event.{Event}
 use Rattle.mb_model.specs.declared.event.Event.TheVariants as event
 use Rattle.mb_model.specs.declared.reply.Reply.TheVariants as reply
 use Rattle.mb_model.specs.Memory.{IsBlank}
-use Rattle.mb_model.specs.Board.{Memory, Held, Ledger, Meter, IsLoaded, held_at_load, phase_at, power_after, memory_after, armed_after}
+use Rattle.mb_model.specs.Board.{Memory, Held, Ledger, IsLoaded, held_at_load, phase_at, power_after, memory_after}
 use Rattle.mb_model.specs.Meaning.{is_dead}
 use Rattle.mb_model.specs.Machine.{World, off, answered}
 use Rattle.mb_model.specs.Acknowledged.{Shows, MayAnswer}
-use Rattle.mb_board.specs.Cuts.{is_armed}
+use Rattle.mb_board.specs.Cuts.{Armed, cut_after, is_armed}
 use Rattle.mb_rules.proofs.tests.boards.answer_off.Goals as goal
 
 -- a dead device whose power is off
@@ -49,6 +49,6 @@ answer-requires-clause-step c =
     (ap (λ (ledger : Ledger). ledger.standing) c.in-Some.ensures.some.2 ∙ ap (λ (ledger : Ledger). ledger.standing) c.requires.waits)
     (c.in-Some.ensures.memory ∙ ap (λ (given : Event). memory_after (Some given) board.memory) event)
     (c.in-Some.ensures.power ∙ ap (λ (given : Event). power_after (Some given) board.power) event)
-    (ap (λ (meter : Meter). meter.armed) c.in-Some.ensures.meter
-    ∙ (ap (λ (given : Event). armed_after (Some given) (is_armed board.fuse.cut)) event ∙ c.requires.unarmed))
+    (ap (λ (fuse : Armed). is_armed fuse.cut) c.in-Some.ensures.fuse
+    ∙ (ap (λ (given : Event). is_armed (cut_after (Some given) board.fuse.cut)) event ∙ c.requires.unarmed))
     event
