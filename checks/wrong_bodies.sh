@@ -3,8 +3,9 @@
 # edits, a folder for each crate, which the gate does not try, for its time. The prover has to refuse each, in a copy of
 # its crate. Prints a line for each that is proved, for each that does not apply, and for each that is refused only at a
 # proof that was written by hand, which shows nothing of the contract: such an edit is tried again without the answers
-# that no longer fit, and the line says where the search stops then. The last line counts. Fails where one is proved or
-# does not apply. It takes half a minute of a processor for each edit, over crates that are proved, and more for others.
+# that no longer fit, and the line says where the search stops then. An edit with a line `test: CRATE TEST` is one that no
+# clause can refuse: that test of that crate has to fail over it. The last line counts. Fails where one is proved or does
+# not apply. It takes half a minute of a processor for each edit, over crates that are proved, and more for others.
 set -u
 cd "$(dirname "$0")/.." || exit 2
 
@@ -29,6 +30,7 @@ TRIES = 8
 
 SAID = re.compile(r"rt: must-fail ([a-z_0-9]+)/(\S+)\.edit: (.*)")
 AT_A_PROOF = re.compile(r"(?:\./)?(proofs/\S+?):(\d+):\d+: error: (.*)")
+BY_TEST = re.compile(r"^test: (\w+) (\w+)$", re.M)
 AT_A_CLAUSE = re.compile(r"note: (src/\S+: .*)")
 
 counts = {"refused": 0, "refused at a proof": 0, "proved": 0, "not applied": 0, "not judged": 0}
@@ -129,12 +131,36 @@ def judge(own, name, said):
     return "refused", ""
 
 
+def try_by_test(own, edit):
+    """What the test that an edit names says of it, and what to print of that."""
+    crate, test = BY_TEST.search(edit.read_text()).groups()
+    for path, old, new in pairs_of(edit):
+        text = (own / path).read_text()
+        if text.count(old) != 1:
+            return "not applied", f"not once in {path}: {old}"
+        (own / path).write_text(text.replace(old, new))
+    ran = subprocess.run(["rt", "try", "--test"], cwd=own.parent / crate, capture_output=True, text=True, errors="replace")
+    shutil.rmtree(own / "src")
+    shutil.copytree(TOP / "crates" / own.name / "src", own / "src")
+    ended = re.search(rf"^test (?:\S+::)?{test} \.\.\. (ok|FAILED)", ran.stdout + ran.stderr, re.M)
+    if not ended:
+        return "not judged", f"{crate} ran no test {test}"
+    return ("proved", f"{test} of {crate} passes") if ended[1] == "ok" else ("refused", "")
+
+
 def try_crate(crate):
     with tempfile.TemporaryDirectory() as work:
         own = room_for(crate, pathlib.Path(work))
+        for edit in sorted((own / "must-fail").glob("*.edit")):
+            if BY_TEST.search(edit.read_text()):
+                kept = edit.rename(pathlib.Path(work) / edit.name)
+                what, text = try_by_test(own, kept)
+                counts[what] += 1
+                if text:
+                    print(f"{crate}/{edit.stem}: {text}", flush=True)
         ran = subprocess.run(["rt", "must-fail", crate], cwd=work, capture_output=True, text=True, errors="replace")
         found = SAID.findall(ran.stdout + ran.stderr)
-        names = {edit.stem for edit in (EDITS / crate).glob("*.edit")}
+        names = {edit.stem for edit in (own / "must-fail").glob("*.edit")}
         for name in sorted(names - {name for _, name, _ in found}):
             counts["not judged"] += 1
             print(f"{crate}/{name}: not judged", flush=True)
