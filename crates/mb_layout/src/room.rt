@@ -1,7 +1,8 @@
 //! The buffers in which a device works.
 
-ghost use Rattle.std.specs.Prelude.{◌≡◌, ◌≤◌, [], length, vec_len, vec_capacity, IfOk};
-ghost use Rattle.mb_layout.specs.Rooms.{HasRoom};
+ghost use Rattle.std.specs.Prelude.{◌≡◌, ◌≤◌, length, vec_len, vec_capacity, IfOk};
+ghost use Rattle.mb_model.specs.Memory.{IsBlank};
+ghost use Rattle.mb_layout.specs.Rooms.{HasRoom, IsEmpty};
 
 use mb_model::NoMemory;
 use std::alloc::Global;
@@ -27,7 +28,7 @@ impl Room {
     /// Empty buffers with their room. `NoMemory` where an allocation fails, of which no clause says when.
     pub fn new(alloc: Global) -> Result<Room, NoMemory>
         ensures room { IfOk result (λ room. HasRoom room) }
-        ensures empty { IfOk result (λ room. room.public.items ≡ []) }
+        ensures empty { IfOk result (λ room. IsEmpty room) }
     {
         let public = Vec::with_capacity(alloc, PUBLIC_ROOM)?;
         let area = Vec::with_capacity(alloc, AREA_ROOM)?;
@@ -40,12 +41,14 @@ impl Room {
     }
 }
 
-/// Gives a buffer with room for an area of the battery-backed memory the length of one, 4,096 bytes.
+/// Replaces the bytes of a buffer that has room for an area of the battery-backed memory by a blank one: 4,096 zeros.
 pub fn make_area(buffer: &mut Vec<u8>)
     requires { 4096 ≤ vec_capacity buffer.old }
+    ensures blank { IsBlank buffer.new.items }
     ensures length { length buffer.new.items ≡ 4096 }
     ensures len { vec_len buffer.new ≡ 4096 }
     ensures capacity { vec_capacity buffer.old ≤ vec_capacity buffer.new }
 {
+    buffer.clear();
     let _ = buffer.resize(AREA_ROOM, 0);
 }
