@@ -1,7 +1,7 @@
 -- What the writes of a sector, and of several, leave.
 use Rattle.std.proofs.Common.{◌≡◌, ℕ, ◌+◌, ◌*◌, ◌/◌, ◌<◌, ◌≤◌, ◌⊎◌, inl, inr, List, [], ◌∷◌, ◌++◌, length, take, drop, refl, ap, sym, ◌∙◌, arith, length-append}
-use Rattle.std.proofs.Math.Seq.{take-add}
-use Rattle.std.proofs.lemmas.List.{take-take, take-replicate, drop-drop, append-nil}
+use Rattle.std.proofs.Math.Seq.{take-add, take-append_seam, drop-append_seam}
+use Rattle.std.proofs.lemmas.List.{take-take, take-replicate, drop-drop, drop-take, append-nil}
 use Rattle.mb_model.specs.Pieces.{part}
 use Rattle.mb_model.specs.Board.{put, erased}
 use Rattle.mb_model.proofs.Places.{length-erased, part-put}
@@ -82,3 +82,31 @@ both_stand first mid after piece rest bytes whole most full same within stood la
     let stays : part at (length piece) after ≡ part at (length piece) mid =
     apart_same at (length piece) (4096 * (first + 1)) (4096 * ((length rest + 4095) / 4096)) mid after same (omega arith) (inl (omega arith)) in
     joined at after piece rest bytes whole full (stays ∙ stood) (ap (λ k. part k (length rest) after) (sym next) ∙ later)
+
+-- ---- what stands already
+
+-- where bytes stand, the first piece of them does
+pub piece_stands : (at : ℕ) (flash piece rest bytes : List ℕ) → bytes ≡ piece ++ rest → part at (length bytes) flash ≡ bytes → part at (length piece) flash ≡ piece
+piece_stands at flash piece rest bytes whole stands =
+    sym (take-take (length piece) (length bytes) (drop at flash) (omega (arith, ap length whole, length-append piece rest)))
+    ∙ ap (take (length piece)) (stands ∙ whole) ∙ take-append_seam piece rest
+
+-- and what comes after it, where it fills its sector or nothing does
+pub rest_stands : (at : ℕ) (flash piece rest bytes : List ℕ) → bytes ≡ piece ++ rest → (length piece ≡ 4096) ⊎ (length rest ≡ 0)
+    → part at (length bytes) flash ≡ bytes → part (at + 4096) (length rest) flash ≡ rest
+rest_stands at flash piece rest bytes whole (inl full) stands =
+    let count : length bytes ≡ length piece + length rest = ap length whole ∙ length-append piece rest in
+    let next : drop (length piece) (drop at flash) ≡ drop (at + 4096) flash = drop-drop (length piece) at flash ∙ ap (λ n. drop (at + n) flash) full in
+    ap (take (length rest)) (sym next)
+    ∙ sym (drop-take (length piece) (length rest) (drop at flash))
+    ∙ ap (λ n. drop (length piece) (take n (drop at flash))) (sym count)
+    ∙ ap (drop (length piece)) (stands ∙ whole)
+    ∙ drop-append_seam piece rest
+rest_stands at flash piece rest bytes whole (inr none) stands = rw (no_items rest none) refl
+
+-- so it does in the next sector
+pub next_stands : (first : ℕ) (flash piece rest bytes : List ℕ) → bytes ≡ piece ++ rest → (length piece ≡ 4096) ⊎ (length rest ≡ 0)
+    → part (4096 * first) (length bytes) flash ≡ bytes → part (4096 * (first + 1)) (length rest) flash ≡ rest
+next_stands first flash piece rest bytes whole full stands =
+    let next : 4096 * (first + 1) ≡ 4096 * first + 4096 = omega arith in
+    ap (λ k. part k (length rest) flash) next ∙ rest_stands (4096 * first) flash piece rest bytes whole full stands

@@ -1,6 +1,6 @@
 //! A record at the start of an area of the flash.
 
-ghost use Rattle.std.specs.Prelude.{◌≡◌, ◌+◌, ◌-◌, ◌*◌, ◌≤◌, ◌++◌, ◌⊎◌, length, take, true, OnOk};
+ghost use Rattle.std.specs.Prelude.{◌≡◌, ◌+◌, ◌-◌, ◌*◌, ◌≤◌, ◌++◌, ◌⊎◌, length, take, true, OnOk, Ok};
 ghost use Rattle.std.specs.Int.{w32, to_be_bytes};
 ghost use Rattle.mb_model.specs.Pieces.{part};
 ghost use Rattle.mb_model.specs.Board.{IsLoaded};
@@ -33,13 +33,15 @@ fn fill_first(count: u32, head: &[u8], piece: &mut [u8])
 /// Makes the area, 0 or 1, begin with this record, of at most 470,000 bytes: its length, and the record. What follows it is
 /// any. Where power fails, the other area is as it was. There are at most two write calls for each sector that the record
 /// needs, and none for a sector that holds its bytes already.
-#[tactic(auto, using(crate::proofs::Areas::begins, crate::proofs::Areas::other_kept))]
+#[tactic(auto, using(crate::proofs::Areas::begins, crate::proofs::Areas::other_kept, crate::proofs::Areas::stands_there))]
 pub fn write_area<B: Board>(b: &mut B, area: u16, bytes: &[u8]) -> Result<(), Stopped>
     requires on { B.power b.old ≡ true }
     requires loaded { IsLoaded (B.memory b.old) }
     requires area { area ≤ 1 }
     requires short { length bytes.now ≤ 470000 }
     ensures written { OnOk result (BeginsArea (flash_area (B.memory b.new).flash area) bytes.now) }
+    ensures idle { BeginsArea (flash_area (B.memory b.old).flash area) bytes.now
+        → (result ≡ Ok tt) × (B.memory b.new ≡ B.memory b.old) × (B.meter b.new ≡ B.meter b.old) }
     ensures other { flash_area (B.memory b.new).flash (1 - area) ≡ flash_area (B.memory b.old).flash (1 - area) }
     ensures same { IsSameOutside (524288 * area) 524288 (B.memory b.old).flash (B.memory b.new).flash }
     ensures sized { IsLoaded (B.memory b.new) }
@@ -60,6 +62,9 @@ fn write_lengthened<B: Board>(b: &mut B, area: u16, bytes: &[u8]) -> Result<(), 
     requires short { length bytes.now ≤ 470000 }
     ensures stored { OnOk result (part (524288 * area) (4 + length bytes.now) (B.memory b.new).flash
         ≡ to_be_bytes w32 (length bytes.now) ++ bytes.now) }
+    ensures idle { part (524288 * area) (4 + length bytes.now) (B.memory b.old).flash
+        ≡ to_be_bytes w32 (length bytes.now) ++ bytes.now
+        → (result ≡ Ok tt) × (B.memory b.new ≡ B.memory b.old) × (B.meter b.new ≡ B.meter b.old) }
     ensures same { IsSameOutside (524288 * area) 524288 (B.memory b.old).flash (B.memory b.new).flash }
     ensures sized { IsLoaded (B.memory b.new) }
     ensures bbram { (B.memory b.new).bbram ≡ (B.memory b.old).bbram }

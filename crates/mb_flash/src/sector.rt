@@ -1,6 +1,6 @@
 //! The bytes of one sector, and of several.
 
-ghost use Rattle.std.specs.Prelude.{◌≡◌, ℕ, ◌+◌, ◌*◌, ◌<◌, ◌≤◌, ◌++◌, ◌⊎◌, length, true, IsTrue, OnOk, Ok};
+ghost use Rattle.std.specs.Prelude.{◌≡◌, ℕ, ◌+◌, ◌*◌, ◌<◌, ◌≤◌, ◌++◌, ◌⊎◌, ◌↔◌, length, true, IsTrue, OnOk, Ok};
 ghost use Rattle.mb_model.specs.Pieces.{part};
 ghost use Rattle.mb_model.specs.Board.{IsLoaded, erased};
 ghost use Rattle.mb_board.specs.Calls.{power_of, level_of, IsMetered};
@@ -16,7 +16,7 @@ fn begins_with<B: Board>(b: &B, sector: u16, bytes: &[u8]) -> bool
     requires loaded { IsLoaded (B.memory b.now) }
     requires sector { sector < 256 }
     requires bytes { length bytes.now ≤ 4096 }
-    ensures { IsTrue result → part (4096 * sector) (length bytes.now) (B.memory b.now).flash ≡ bytes.now }
+    ensures { IsTrue result ↔ (part (4096 * sector) (length bytes.now) (B.memory b.now).flash ≡ bytes.now) }
 {
     let mut held = [0; SECTOR_LENGTH];
     let held = &mut held[..bytes.len()];
@@ -68,6 +68,8 @@ pub fn write_sector<B: Board>(b: &mut B, sector: u16, bytes: &[u8]) -> Result<()
     requires some { 0 < length bytes.now }
     requires bytes { length bytes.now ≤ 4096 }
     ensures written { OnOk result (part (4096 * sector) (length bytes.now) (B.memory b.new).flash ≡ bytes.now) }
+    ensures idle { part (4096 * sector) (length bytes.now) (B.memory b.old).flash ≡ bytes.now
+        → (result ≡ Ok tt) × (B.memory b.new ≡ B.memory b.old) × (B.meter b.new ≡ B.meter b.old) }
     ensures same { IsSameOutside (4096 * sector) 4096 (B.memory b.old).flash (B.memory b.new).flash }
     ensures sized { IsLoaded (B.memory b.new) }
     ensures bbram { (B.memory b.new).bbram ≡ (B.memory b.old).bbram }
@@ -103,6 +105,8 @@ pub fn write_sectors<B: Board>(b: &mut B, first: u16, bytes: &[u8]) -> Result<()
     requires loaded { IsLoaded (B.memory b.old) }
     requires within { first + sectors_for (length bytes.now) ≤ 256 }
     ensures written { OnOk result (part (4096 * first) (length bytes.now) (B.memory b.new).flash ≡ bytes.now) }
+    ensures idle { part (4096 * first) (length bytes.now) (B.memory b.old).flash ≡ bytes.now
+        → (result ≡ Ok tt) × (B.memory b.new ≡ B.memory b.old) × (B.meter b.new ≡ B.meter b.old) }
     ensures same { IsSameOutside (4096 * first) (4096 * sectors_for (length bytes.now)) (B.memory b.old).flash (B.memory b.new).flash }
     ensures sized { IsLoaded (B.memory b.new) }
     ensures bbram { (B.memory b.new).bbram ≡ (B.memory b.old).bbram }
