@@ -3,6 +3,7 @@
 ghost use Rattle.std.specs.Prelude.{◌≡◌, ◌≤◌, ◌⊎◌, length, OnOk, IfOk, IsOk, true, vec_capacity};
 ghost use Rattle.mb_model.specs.declared.region.Region.{Region};
 ghost use Rattle.mb_model.specs.declared.state.State.{State};
+ghost use Rattle.mb_model.specs.declared.stored.Fate.TheVariants.{Keep};
 ghost use Rattle.mb_model.specs.Board.{IsLoaded};
 ghost use Rattle.mb_model.specs.Memory.{IsBlank, current, other};
 ghost use Rattle.mb_model.specs.Meaning.{HoldsRegion};
@@ -133,6 +134,8 @@ pub fn apply_fate<S: Reaches<L>, L: Named, B: Board>(
     ensures done { OnOk result (AppliesFate L.place fate.now (B.memory b.old) (B.memory b.new)) }
     ensures either { KeepsOrApplies L.place fate.now (B.memory b.old) (B.memory b.new) }
     ensures meaning { (state : State) → Means (B.memory b.old) state → Means (B.memory b.new) state }
+    ensures idle { fate.now ≡ Keep
+        → IsOk result × (B.memory b.new ≡ B.memory b.old) × (B.meter b.new ≡ B.meter b.old) }
     ensures besides { AgreeBesides L.place (B.memory b.old).bbram (B.memory b.new).bbram }
     ensures rest { IsSameBut L.place (B.memory b.old).bbram (B.memory b.new).bbram }
     ensures sized { IsLoaded (B.memory b.new) }

@@ -1,8 +1,9 @@
 //! Regions by the number of their slot.
 
-ghost use Rattle.std.specs.Prelude.{◌≡◌, ◌≤◌, ◌⊎◌, length, OnOk, IfOk, vec_capacity};
+ghost use Rattle.std.specs.Prelude.{◌≡◌, ◌≤◌, ◌⊎◌, length, OnOk, IfOk, Ok, vec_capacity};
 ghost use Rattle.mb_format.specs.Format.{IsBytes};
 ghost use Rattle.mb_model.specs.declared.region.Region.{Region};
+ghost use Rattle.mb_model.specs.declared.stored.Fate.TheVariants.{Keep};
 ghost use Rattle.mb_model.specs.Board.{IsLoaded};
 ghost use Rattle.mb_model.specs.Memory.{current, other, HoldsInArea};
 ghost use Rattle.mb_model.specs.Meaning.{HoldsRegion, fated};
@@ -167,6 +168,8 @@ pub(crate) fn finish_fate<B: Board>(
     requires room { HasRoom room.old }
     ensures done { OnOk result (AppliesFate slot fate.now (B.memory b.old) (B.memory b.new)) }
     ensures either { KeepsOrApplies slot fate.now (B.memory b.old) (B.memory b.new) }
+    ensures idle { fate.now ≡ Keep
+        → (result ≡ Ok tt) × (B.memory b.new ≡ B.memory b.old) × (B.meter b.new ≡ B.meter b.old) }
     ensures besides { AgreeBesides slot (B.memory b.old).bbram (B.memory b.new).bbram }
     ensures rest { IsSameBut slot (B.memory b.old).bbram (B.memory b.new).bbram }
     ensures sized { IsLoaded (B.memory b.new) }
