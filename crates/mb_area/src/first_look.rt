@@ -48,6 +48,7 @@ pub fn look<B: Board>(up: Up<R1>, b: &mut B, room: &mut Room) -> Result<Looked, 
     ensures ledger { B.ledger b.new ≡ B.ledger b.old }
     ensures meter { B.meter b.new ≡ B.meter b.old }
     ensures room { HasRoom room.new }
+    ensures public { room.new.public ≡ room.old.public }
 {
     let root = read_root(b, room);
     if root.pending.is_some() {

@@ -119,6 +119,7 @@ pub fn commit_root<B: Board>(
     ensures ledger { B.ledger b.new ≡ B.ledger b.old }
     ensures meter { IsMetered 2 result (B.meter b.old) (B.meter b.new) }
     ensures room { HasRoom room.new }
+    ensures public { room.new.public ≡ room.old.public }
 {
     match store_root(b, root, room) {
         Ok(()) => Ok(Unsettled { up }),
@@ -162,6 +163,7 @@ pub fn finish_root<B: Board>(u: Unsettled, b: &mut B, room: &mut Room) -> Result
     ensures ledger { B.ledger b.new ≡ B.ledger b.old }
     ensures meter { IsMetered 2 result (B.meter b.old) (B.meter b.new) }
     ensures room { HasRoom room.new }
+    ensures public { room.new.public ≡ room.old.public }
 {
     let root = settled_root(&read_root(b, room));
     match store_root(b, &root, room) {
