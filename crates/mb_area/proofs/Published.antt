@@ -32,6 +32,13 @@ flash_kept root before after small only same bbram = record {
       subst (λ (xs : List ℕ). HoldsContents after.flash xs contents) (sym bbram) (other_flash before.flash before.bbram after.flash contents here holds));
 }
 
+-- the area that the root in force names was not written
+pub in_force_kept : (before after : List ℕ) (area : ℕ) (root any : Root) → area ≡ 1 - root.area → root.area ≤ 1 → any ≡ root
+    → flash_area after (1 - area) ≡ flash_area before (1 - area) → flash_area after any.area ≡ flash_area before any.area
+in_force_kept before after area root any there small same kept =
+    let is : 1 - area ≡ any.area = ap (λ (n : ℕ). 1 - n) there ∙ turned_twice root.area small ∙ sym (ap (λ (r : Root). r.area) same) in
+    subst (λ (n : ℕ). flash_area after n ≡ flash_area before n) is kept
+
 -- a record needs at most 115 sectors
 pub few_writes : {A E : Type 0} (n : ℕ) (result : Result A E) (before after : Meter) → n ≤ 470000 → IsMetered (2 * sectors_for (4 + n)) result before after → IsMetered 230 result before after
 few_writes n result before after most metered = record { armed = metered.armed; stops = metered.stops; writes = omega (arith, metered.writes); cut = metered.cut }
@@ -60,3 +67,9 @@ pub written_to : (flash bytes stored : List ℕ) (area : ℕ) (root any : Root) 
 written_to flash bytes stored area root any there same is begins =
     let turned : area ≡ 1 - any.area = there ∙ sym (ap (λ (r : Root). 1 - r.area) same) in
     subst (λ (n : ℕ). BeginsArea (flash_area flash n) bytes) turned (subst (λ (xs : List ℕ). BeginsArea (flash_area flash area) xs) is begins)
+
+-- that area began with the record already
+pub there_already : (flash bytes stored : List ℕ) (area : ℕ) (root any : Root) → area ≡ 1 - root.area → any ≡ root → stored ≡ bytes → BeginsArea (flash_area flash (1 - any.area)) bytes → BeginsArea (flash_area flash area) stored
+there_already flash bytes stored area root any there same is begins =
+    let turned : 1 - any.area ≡ area = ap (λ (r : Root). 1 - r.area) same ∙ sym there in
+    subst (λ (xs : List ℕ). BeginsArea (flash_area flash area) xs) (sym is) (subst (λ (n : ℕ). BeginsArea (flash_area flash n) bytes) turned begins)

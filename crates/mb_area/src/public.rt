@@ -1,6 +1,6 @@
 //! The public record in the flash.
 
-ghost use Rattle.std.specs.Prelude.{◌≡◌, ◌≤◌, ◌-◌, ℕ, List, length, OnOk, true};
+ghost use Rattle.std.specs.Prelude.{◌≡◌, ◌≤◌, ◌-◌, ℕ, List, length, OnOk, IsOk, true};
 ghost use Rattle.mb_model.specs.declared.stored.Root.{Root};
 ghost use Rattle.mb_model.specs.Flash.{flash_area, BeginsArea};
 ghost use Rattle.mb_model.specs.Meaning.{RootIn};
@@ -37,6 +37,11 @@ pub fn write_public<S: Reaches<One>, B: Board>(s: S, b: &mut B, room: &mut Room)
     ensures contents { KeepsContents (B.memory b.old) (B.memory b.new) }
     ensures written { (root : Root) → RootIn (B.memory b.old).bbram root
         → OnOk result (BeginsArea (flash_area (B.memory b.new).flash (1 - root.area)) room.old.public.items) }
+    ensures rest { (root : Root) → RootIn (B.memory b.old).bbram root
+        → flash_area (B.memory b.new).flash root.area ≡ flash_area (B.memory b.old).flash root.area }
+    ensures idle { (root : Root) → RootIn (B.memory b.old).bbram root
+        → BeginsArea (flash_area (B.memory b.old).flash (1 - root.area)) room.old.public.items
+        → IsOk result × (B.memory b.new ≡ B.memory b.old) × (B.meter b.new ≡ B.meter b.old) }
     ensures sized { IsLoaded (B.memory b.new) }
     ensures bbram { (B.memory b.new).bbram ≡ (B.memory b.old).bbram }
     ensures power { B.power b.new ≡ power_of result }
