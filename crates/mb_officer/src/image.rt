@@ -2,7 +2,7 @@
 
 ghost use Rattle.std.specs.Prelude.{◌≤◌, length};
 ghost use Rattle.mb_bytes.specs.Puts.{Puts};
-ghost use Rattle.mb_officer.specs.NewImage.{filled, new_flash, new_bbram, new_image};
+ghost use Rattle.mb_officer.specs.NewImage.{filled, memory_head, new_flash, new_bbram, new_image};
 
 use mb_bytes::{put_after_u16, put_after_u32, put_slice};
 use mb_model::{BBRAM_LENGTH, FLASH_LENGTH, NoMemory};
@@ -38,6 +38,13 @@ fn put_flash(out: &mut Vec<u8>, stored: &[u8]) -> Result<(), NoMemory>
     put_filled(out, FLASH_LENGTH - 4 - stored.len(), ERASED)
 }
 
+/// Appends the life byte and the selectors of a new device.
+fn put_head(out: &mut Vec<u8>) -> Result<(), NoMemory>
+    ensures { Puts memory_head out.old result out.new }
+{
+    put_slice(out, &HEAD)
+}
+
 #[tactic(auto, unfolding(crate::specs::NewImage::new_bbram, mb_format::specs::Combinators::number_bytes))]
 /// Appends the battery-backed memory of a new device: the life byte, selectors and spare bytes, and the root's record
 /// after its length; all bytes after it are zero.
@@ -45,7 +52,7 @@ fn put_bbram(out: &mut Vec<u8>, root: &[u8]) -> Result<(), NoMemory>
     requires { length root.now ≤ 4094 }
     ensures { Puts (new_bbram root.now) out.old result out.new }
 {
-    put_slice(out, &HEAD)?;
+    put_head(out)?;
     put_filled(out, ROOT_AREA - 4, 0)?;
     put_after_u16(out, root)?;
     put_filled(out, BBRAM_LENGTH - ROOT_AREA - 2 - root.len(), 0)

@@ -7,5 +7,5 @@ pub returns : goal.returns
 unfolding new_bbram number_bytes
 returns c =
     let last = c.put_filled-2 in
-    puts_both _ _ last.result c.in_ok-put_slice.ensures.puts
+    puts_both _ _ last.result c.in_ok-put_head.ensures
     (puts_both _ _ last.result c.in_ok-put_filled.ensures (puts_both _ _ last.result c.in_ok-put_after_u16.ensures last.ensures))
