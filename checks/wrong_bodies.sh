@@ -4,8 +4,10 @@
 # its crate. Prints a line for each that is proved, for each that does not apply, and for each that is refused only at a
 # proof that was written by hand, which shows nothing of the contract: such an edit is tried again without the answers
 # that no longer fit, and the line says where the search stops then. An edit with a line `test: CRATE TEST` is one that no
-# clause can refuse: that test of that crate has to fail over it. The last line counts. Fails where one is proved or does
-# not apply. It takes half a minute of a processor for each edit, over crates that are proved, and more for others.
+# clause can refuse: that test of that crate has to fail over it. One with a line `free: REASON` gives an answer that
+# every contract leaves free, and has to be proved. The last line counts. Fails where any other is proved, where a free
+# one is refused, or where one does not apply. It takes half a minute of a processor for each edit, over crates that are
+# proved, and more for others.
 set -u
 cd "$(dirname "$0")/.." || exit 2
 
@@ -31,9 +33,10 @@ TRIES = 8
 SAID = re.compile(r"rt: must-fail ([a-z_0-9]+)/(\S+)\.edit: (.*)")
 AT_A_PROOF = re.compile(r"(?:\./)?(proofs/\S+?):(\d+):\d+: error: (.*)")
 BY_TEST = re.compile(r"^test: (\w+) (\w+)$", re.M)
+FREE = re.compile(r"^free: (.+)$", re.M)
 AT_A_CLAUSE = re.compile(r"note: (src/\S+: .*)")
 
-counts = {"refused": 0, "refused at a proof": 0, "proved": 0, "not applied": 0, "not judged": 0}
+counts = {"refused": 0, "refused at a proof": 0, "free": 0, "proved": 0, "not applied": 0, "not judged": 0}
 
 
 def room_for(crate, room):
@@ -121,8 +124,11 @@ def try_without_answers(own, edit):
 
 def judge(own, name, said):
     """What became of an edit, and what to print of it."""
+    free = FREE.search((own / "must-fail" / f"{name}.edit").read_text())
     if "NOT REFUSED" in said:
-        return "proved", "it is proved"
+        return ("free", f"proved, and may be: {free[1]}") if free else ("proved", "it is proved")
+    if free:
+        return "not judged", f"refused, though it is said to be free: {said}"
     if "BAD EDIT" in said:
         return "not applied", said
     if "only because a proof file" in said or re.search(r"it must be: (\./)?proofs/", said):
