@@ -1,9 +1,9 @@
 #!/usr/bin/env bash
-# What the documents say of the tree. Each link in README.md, docs/ and peers/ leads to a file that is there, and to a
-# heading where it names one; each path in backquotes that begins in a folder of the repository is there, and so is each
-# file of code that is named by its end; no line but that of a table has over 120 columns; each row of
-# docs/proved.md names public calls of its section's crate, and clauses that these calls have; each clause of each public
-# call has a row there, but for those that its table of common clauses has; and the table of crates in
+# What the documents say of the tree. Each link in the pages at the top, in docs/ and in peers/ leads to a file that is
+# there, and to a heading where it names one; each path in backquotes that begins in a folder of the repository is
+# there, and so is each file of code that is named by its end; no line but that of a table has over 120 columns; each row
+# of docs/proved.md names public calls of its section's crate, and clauses that these calls have; each clause of each
+# public call has a row there, but for those that its table of common clauses has; and the table of crates in
 # docs/architecture.md has a row for each crate and for nothing else. A method of a trait is a call of the type that
 # implements it where it has clauses of its own there. Prints a line for each that is wrong, and nothing where none is.
 set -u
@@ -198,7 +198,8 @@ def check_crates(path):
         report(path, 1, f"no row for the crate {name}")
 
 
-documents = [pathlib.Path("README.md"), *sorted(pathlib.Path("docs").glob("*.md")), *sorted(pathlib.Path("peers").glob("*.md"))]
+folders = [".", "docs", "peers"]
+documents = [page for folder in folders for page in sorted(pathlib.Path(folder).glob("*.md"))]
 for document in documents:
     check_links(document)
 check_proved(pathlib.Path("docs/proved.md"))
