@@ -4,8 +4,9 @@
 # there, and so is each file of code that is named by its end; no line but that of a table has over 120 columns; each row
 # of docs/proved.md names public calls of its section's crate, and clauses that these calls have; each clause of each
 # public call has a row there, but for those that its table of common clauses has; and the table of crates in
-# docs/architecture.md has a row for each crate and for nothing else. A method of a trait is a call of the type that
-# implements it where it has clauses of its own there. Prints a line for each that is wrong, and nothing where none is.
+# docs/architecture.md has a row for each crate and for nothing else, and names those on which each stands as crates.txt
+# does. A method of a trait is a call of the type that implements it where it has clauses of its own there. Prints a line
+# for each that is wrong, and nothing where none is.
 set -u
 cd "$(dirname "$0")/.." || exit 2
 
@@ -181,16 +182,26 @@ def check_proved(path):
 
 # ---- the table of crates
 
+def crates_listed(path):
+    """The crates of a list of crates, with those on which each stands."""
+    rows = (line.split("#")[0].partition(":") for line in path.read_text().splitlines())
+    return {name.strip(): set(others.split()) for name, colon, others in rows if colon}
+
+
 def check_crates(path):
     crates = {p.name for p in pathlib.Path("crates").iterdir() if (p / "src").is_dir()}
+    listed = crates_listed(pathlib.Path("crates.txt"))
     inside, rows = False, {}
     for number, line in enumerate(path.read_text().splitlines(), 1):
         if line.startswith("## "):
             inside = line == "## The crates"
         elif inside and line.startswith("|") and "---" not in line:
             name = cells_of(line)[0].strip("`")
-            if name != "crate":
-                rows[name] = number
+            if name == "crate":
+                continue
+            rows[name] = number
+            if set(re.findall(r"`(\w+)`", cells_of(line)[-1])) != listed.get(name, set()):
+                report(path, number, f"{name} stands on others by crates.txt")
     for name, number in rows.items():
         if name not in crates:
             report(path, number, f"no crate {name}")
