@@ -33,7 +33,8 @@ may_answer loaded memory standing power level armed given sized blank stood same
       stood = shows_dead loaded sized blank;
       shown = shows_dead loaded sized blank;
       step = answered (refl, refl);
-      clean = λ on. absurd (on refl);
+      valid = tt;
+      clean = λ has_to_be. (sized.bbram, blank);
       kept = tt;
     }
 
