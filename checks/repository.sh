@@ -31,7 +31,7 @@ wide=$(find crates -path '*/specs/*.antt' -not -path '*/out/*' \
 check 'definitions over 120 columns' "$wide"
 
 # Every other call hashes on the count of its caller.
-begun=$(grep -rlE 'Blank::new|Steps(::<[^>]*>)?::begin\(' crates --include='*.rt' |
+begun=$(grep -rlE 'Blank::new|HashCount(::<[^>]*>)?::begin\(' crates --include='*.rt' |
     grep -Ev '^crates/[a-z0-9_]+/out/|^crates/mb_top/src/|^crates/[a-z0-9_]+/src/tests(\.rt$|/)')
 check 'begins a count of hashes, outside mb_top and tests' "$begun"
 

@@ -16,7 +16,7 @@ use crate::work::settle;
 use mb_area::{LookEnd, Looked, Unsettled, look, wipe_root};
 use mb_board::Board;
 use mb_layout::Room;
-use mb_lms::Steps;
+use mb_lms::HashCount;
 use mb_model::NoMemory;
 use mb_ratchet::{Dead, Off, R1, Three, Two, Up, Zero};
 use mb_region::wipe_region;
@@ -51,7 +51,7 @@ fn settle_and_wipe<B: Board, L: Ledger>(
     u: Unsettled,
     b: &mut B,
     room: &mut Room,
-    steps: &mut Steps<L>,
+    hashes: &mut HashCount<L>,
 ) -> Result<Up<R1>, Off>
     requires on { B.power b.old ≡ true }
     requires level { B.level b.old ≡ 1 }
@@ -66,9 +66,9 @@ fn settle_and_wipe<B: Board, L: Ledger>(
     ensures ledger { B.ledger b.new ≡ B.ledger b.old }
     ensures meter { IsMetered 237 result (B.meter b.old) (B.meter b.new) }
     ensures room { HasRoom room.new }
-    ensures cost { steps.new ≤ steps.old + 70946 }
+    ensures cost { hashes.new ≤ hashes.old + 70946 }
 {
-    let w = settle(u, b, room, steps)?;
+    let w = settle(u, b, room, hashes)?;
     let up = wipe_root(w, b)?;
     Ok(up)
 }
@@ -80,7 +80,7 @@ fn bring_to_rest<B: Board, L: Ledger>(
     looked: Looked,
     b: &mut B,
     room: &mut Room,
-    steps: &mut Steps<L>,
+    hashes: &mut HashCount<L>,
 ) -> Result<Up<R1>, Off>
     requires on { B.power b.old ≡ true }
     requires level { B.level b.old ≡ 1 }
@@ -97,12 +97,12 @@ fn bring_to_rest<B: Board, L: Ledger>(
     ensures ledger { B.ledger b.new ≡ B.ledger b.old }
     ensures meter { IsMetered 237 result (B.meter b.old) (B.meter b.new) }
     ensures room { HasRoom room.new }
-    ensures cost { steps.new ≤ steps.old + 70946 }
+    ensures cost { hashes.new ≤ hashes.old + 70946 }
 {
     match looked {
         Looked::Settled(up) => Ok(up),
         Looked::Unwiped(w) => wipe_root(w, b),
-        Looked::Unsettled(u) => settle_and_wipe(u, b, room, steps),
+        Looked::Unsettled(u) => settle_and_wipe(u, b, room, hashes),
     }
 }
 
@@ -134,7 +134,7 @@ fn come_up<B: Board, L: Ledger>(
     up: Up<R1>,
     b: &mut B,
     room: &mut Room,
-    steps: &mut Steps<L>,
+    hashes: &mut HashCount<L>,
 ) -> Result<Up<R1>, Off>
     requires on { B.power b.old ≡ true }
     requires level { B.level b.old ≡ 1 }
@@ -150,26 +150,26 @@ fn come_up<B: Board, L: Ledger>(
     ensures ledger { B.ledger b.new ≡ B.ledger b.old }
     ensures meter { IsMetered 239 result (B.meter b.old) (B.meter b.new) }
     ensures room { HasRoom room.new }
-    ensures cost { steps.new ≤ steps.old + 70946 }
+    ensures cost { hashes.new ≤ hashes.old + 70946 }
 {
     let looked = match look(up, b, room) {
         Ok(looked) => looked,
         Err(LookEnd::NoMemory(_up)) => unreachable!(),
     };
-    let up = bring_to_rest(looked, b, room, steps)?;
+    let up = bring_to_rest(looked, b, room, hashes)?;
     let up = wipe_regions(up, b)?;
     Ok(up)
 }
 
 /// Does what a committed order has left to be done, and wipes what it replaced. The memory stands for the same state
 /// wherever power fails, and afterwards it is clean. The memory stands for a state that a device can have. There are at
-/// most 239 write calls, and 70,946 steps.
+/// most 239 write calls, and 70,946 hashes.
 #[tactic(auto, using(crate::proofs::Booted::cleaned, mb_storing::proofs::HoldingLemmas::contents_keep, mb_storing::proofs::HoldingLemmas::keeps_then))]
 pub fn finish_order<B: Board, L: Ledger>(
     u: Unsettled,
     b: &mut B,
     room: &mut Room,
-    steps: &mut Steps<L>,
+    hashes: &mut HashCount<L>,
 ) -> Result<Up<R1>, Off>
     requires on { B.power b.old ≡ true }
     requires level { B.level b.old ≡ 1 }
@@ -184,9 +184,9 @@ pub fn finish_order<B: Board, L: Ledger>(
     ensures ledger { B.ledger b.new ≡ B.ledger b.old }
     ensures meter { IsMetered 239 result (B.meter b.old) (B.meter b.new) }
     ensures room { HasRoom room.new }
-    ensures cost { steps.new ≤ steps.old + 70946 }
+    ensures cost { hashes.new ≤ hashes.old + 70946 }
 {
-    let up = settle_and_wipe(u, b, room, steps)?;
+    let up = settle_and_wipe(u, b, room, hashes)?;
     let up = wipe_regions(up, b)?;
     Ok(up)
 }
@@ -228,7 +228,7 @@ fn give_up<B: Board>(up: Up<R1>, b: &mut B) -> Off
 
 /// Brings a device up to level 1, where nothing is pending and its battery-backed memory is clean, with the buffers in
 /// which it works. Wherever power fails, the memory stands for what it stood for. Nothing is written to a clean memory.
-/// There are at most 239 write calls, and 70,946 steps.
+/// There are at most 239 write calls, and 70,946 hashes.
 ///
 /// Errors: `Zeroised` exactly where the device is dead; `Stopped` where power failed; `NoMemory` where an allocation
 /// failed, of which no clause says when, before anything was written.
@@ -237,7 +237,7 @@ pub fn boot<B: Board, L: Ledger>(
     alloc: Global,
     off: Off,
     b: &mut B,
-    steps: &mut Steps<L>,
+    hashes: &mut HashCount<L>,
 ) -> Result<(Up<R1>, Room), BootEnd>
     requires off { B.power b.old ≡ false }
     requires stands { StandsForValid (B.memory b.old) }
@@ -252,7 +252,7 @@ pub fn boot<B: Board, L: Ledger>(
     ensures ledger { B.ledger b.new ≡ B.ledger b.old }
     ensures meter { IsMetered 239 (stop_of result) (B.meter b.old) (B.meter b.new) }
     ensures room { IfOk result (λ up. HasRoom up.1) }
-    ensures cost { steps.new ≤ steps.old + 70946 }
+    ensures cost { hashes.new ≤ hashes.old + 70946 }
 {
     let zero = wake(off, b);
     if is_dead(b) {
@@ -263,7 +263,7 @@ pub fn boot<B: Board, L: Ledger>(
         Ok(room) => room,
         Err(NoMemory) => return Err(BootEnd::NoMemory(give_up(up, b))),
     };
-    match come_up(up, b, &mut room, steps) {
+    match come_up(up, b, &mut room, hashes) {
         Ok(up) => Ok((up, room)),
         Err(off) => Err(BootEnd::Stopped(off)),
     }

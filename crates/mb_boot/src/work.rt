@@ -12,7 +12,7 @@ use mb_area::{Unsettled, Unwiped, finish_root, read_public, read_root, write_pub
 use mb_board::Board;
 use mb_completion::sign_pending;
 use mb_layout::Room;
-use mb_lms::Steps;
+use mb_lms::HashCount;
 use mb_model::{Fate, Root};
 use mb_ratchet::{Off, Three, Two};
 use mb_region::apply_fate;
@@ -70,7 +70,7 @@ fn apply_fates<B: Board>(
 
 /// Replaces `public` of the room by the record in force with every entry signed.
 #[tactic(auto, using(crate::proofs::Settled::some_record))]
-fn sign_record<B: Board, L: Ledger>(b: &B, root: &Root, room: &mut Room, steps: &mut Steps<L>)
+fn sign_record<B: Board, L: Ledger>(b: &B, root: &Root, room: &mut Room, hashes: &mut HashCount<L>)
     requires on { B.power b.now ≡ true }
     requires loaded { IsLoaded (B.memory b.now) }
     requires live { IsLive (B.memory b.now) }
@@ -79,10 +79,10 @@ fn sign_record<B: Board, L: Ledger>(b: &B, root: &Root, room: &mut Room, steps: 
     ensures signed { SpellsSigned (B.memory b.now) room.new.public.items }
     ensures short { length room.new.public.items ≤ 470000 }
     ensures room { HasRoom room.new }
-    ensures cost { steps.new ≤ steps.old + 70946 }
+    ensures cost { hashes.new ≤ hashes.old + 70946 }
 {
     read_public(b, root.area, room);
-    sign_pending(root, &mut room.public, steps);
+    sign_pending(root, &mut room.public, hashes);
 }
 
 /// Writes the public record with every entry signed into the flash area that is not in force.
@@ -92,7 +92,7 @@ fn write_signed<B: Board, L: Ledger>(
     b: &mut B,
     root: &Root,
     room: &mut Room,
-    steps: &mut Steps<L>,
+    hashes: &mut HashCount<L>,
 ) -> Result<Unsettled, Off>
     requires on { B.power b.old ≡ true }
     requires level { B.level b.old ≡ 1 }
@@ -109,22 +109,22 @@ fn write_signed<B: Board, L: Ledger>(
     ensures ledger { B.ledger b.new ≡ B.ledger b.old }
     ensures meter { IsMetered 230 result (B.meter b.old) (B.meter b.new) }
     ensures room { HasRoom room.new }
-    ensures cost { steps.new ≤ steps.old + 70946 }
+    ensures cost { hashes.new ≤ hashes.old + 70946 }
 {
-    sign_record(b, root, room, steps);
+    sign_record(b, root, room, hashes);
     let u = write_public(u, b, room)?;
     Ok(u)
 }
 
 /// Does the pending work: what is to be done to the regions, and the signatures that are still to be made, each entry
 /// being signed once. The memory stands for the same state wherever power fails, and afterwards nothing is pending. The
-/// memory stands for a state that a device can have. There are at most 236 write calls, and 70,946 steps.
+/// memory stands for a state that a device can have. There are at most 236 write calls, and 70,946 hashes.
 #[tactic(auto, using(crate::proofs::Settled::some_root, crate::proofs::Settled::only_root, crate::proofs::Settled::live_still, mb_storing::proofs::HoldingLemmas::contents_keep, crate::proofs::Settled::finish_keeps, mb_storing::proofs::HoldingLemmas::keeps_then, crate::proofs::Settled::settled))]
 pub fn settle<B: Board, L: Ledger>(
     u: Unsettled,
     b: &mut B,
     room: &mut Room,
-    steps: &mut Steps<L>,
+    hashes: &mut HashCount<L>,
 ) -> Result<Unwiped, Off>
     requires on { B.power b.old ≡ true }
     requires level { B.level b.old ≡ 1 }
@@ -139,11 +139,11 @@ pub fn settle<B: Board, L: Ledger>(
     ensures ledger { B.ledger b.new ≡ B.ledger b.old }
     ensures meter { IsMetered 236 result (B.meter b.old) (B.meter b.new) }
     ensures room { HasRoom room.new }
-    ensures cost { steps.new ≤ steps.old + 70946 }
+    ensures cost { hashes.new ≤ hashes.old + 70946 }
 {
     let root = read_root(b, room);
     let u = apply_fates(u, b, &root, room)?;
-    let u = write_signed(u, b, &root, room, steps)?;
+    let u = write_signed(u, b, &root, room, hashes)?;
     let w = finish_root(u, b, room)?;
     Ok(w)
 }

@@ -14,7 +14,7 @@ use mb_area::{commit_root, write_public};
 use mb_board::Board;
 use mb_boot::finish_order;
 use mb_layout::Room;
-use mb_lms::Steps;
+use mb_lms::HashCount;
 use mb_model::Root;
 use mb_ratchet::{Off, R1, Up};
 use std::sync::ledger::Ledger;
@@ -22,14 +22,14 @@ use std::sync::ledger::Ledger;
 /// Commits an order whose root this is and whose public record stands in the room, and does all that it leaves to be
 /// done: the record is written into the flash area that is not in force, the root is put in force, and then the order
 /// counts. Where power fails, the memory stands for the state before the order or for the state after it. There are at
-/// most 471 write calls, and 70,946 steps. No memory is taken.
+/// most 471 write calls, and 70,946 hashes. No memory is taken.
 #[tactic(auto, using(crate::proofs::Committed::root_there))]
 pub fn commit<B: Board, L: Ledger>(
     up: Up<R1>,
     b: &mut B,
     root: &Root,
     room: &mut Room,
-    steps: &mut Steps<L>,
+    hashes: &mut HashCount<L>,
 ) -> Result<Up<R1>, Off>
     requires on { B.power b.old ≡ true }
     requires level { B.level b.old ≡ 1 }
@@ -48,10 +48,10 @@ pub fn commit<B: Board, L: Ledger>(
     ensures ledger { B.ledger b.new ≡ B.ledger b.old }
     ensures meter { IsMetered 471 result (B.meter b.old) (B.meter b.new) }
     ensures room { HasRoom room.new }
-    ensures cost { steps.new ≤ steps.old + 70946 }
+    ensures cost { hashes.new ≤ hashes.old + 70946 }
 {
     let up = write_public(up, b, room)?;
     let unsettled = commit_root(up, b, root, room)?;
-    let up = finish_order(unsettled, b, room, steps)?;
+    let up = finish_order(unsettled, b, room, hashes)?;
     Ok(up)
 }

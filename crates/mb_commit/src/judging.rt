@@ -21,7 +21,7 @@ use mb_area::read_root;
 use mb_board::Board;
 use mb_command::{OrderEnd, read_order};
 use mb_layout::Room;
-use mb_lms::Steps;
+use mb_lms::HashCount;
 use mb_model::{NoMemory, Order, Reply, Root, View};
 use mb_orders::{JudgeEnd, Plan, judge};
 use mb_ratchet::{R1, Three, Two, Up};
@@ -135,7 +135,7 @@ pub fn judge_text<B: Board, L: Ledger>(
     text: &[u8],
     draw: &[u8; 32],
     room: &mut Room,
-    steps: &mut Steps<L>,
+    hashes: &mut HashCount<L>,
 ) -> Result<Judged, Reply>
     requires on { B.power b.now ≡ true }
     requires level { B.level b.now ≡ 1 }
@@ -147,7 +147,7 @@ pub fn judge_text<B: Board, L: Ledger>(
         → JudgesText state text.now draw.now result }
     ensures root { IfOk result (λ judged. IsOnlyRoot (B.memory b.now).bbram judged.root) }
     ensures room { HasRoom room.new }
-    ensures cost { steps.new ≤ steps.old + 68798 }
+    ensures cost { hashes.new ≤ hashes.old + 68798 }
 {
     let order = read_text(alloc, text)?;
     let root = read_root(b, room);
@@ -155,7 +155,7 @@ pub fn judge_text<B: Board, L: Ledger>(
         Ok(view) => view,
         Err(NoMemory) => return Err(Reply::NoMemory),
     };
-    match judge(alloc, &view, &order, draw, steps) {
+    match judge(alloc, &view, &order, draw, hashes) {
         Ok(plan) => Ok(Judged { order, plan, root }),
         Err(end) => Err(refusal(end)),
     }

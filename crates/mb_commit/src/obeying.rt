@@ -17,7 +17,7 @@ use crate::planning::plan_commit;
 use crate::remembering::Known;
 use mb_board::Board;
 use mb_layout::Room;
-use mb_lms::Steps;
+use mb_lms::HashCount;
 use mb_model::{NoMemory, Reply};
 use mb_ratchet::{Off, R1, Up};
 use std::alloc::Global;
@@ -26,7 +26,7 @@ use std::sync::ledger::Ledger;
 /// Answers an order, which these bytes spell or do not spell: refuses it, or obeys it, with a draw of which the keys
 /// are made that it makes. A device that has answered is ready, and remembers its state. Where power fails, the memory
 /// stands for the state before the order or for the state after it. Nothing is written of an order that is refused, and
-/// nothing where an allocation fails, which is answered so. There are at most 471 write calls, and 139,744 steps.
+/// nothing where an allocation fails, which is answered so. There are at most 471 write calls, and 139,744 hashes.
 /// `NoMemory` where an allocation fails, of which no clause says when.
 #[tactic(auto, using(crate::proofs::Answered::has_passed))]
 pub fn obey<B: Board, L: Ledger>(
@@ -37,7 +37,7 @@ pub fn obey<B: Board, L: Ledger>(
     text: &[u8],
     draw: &[u8; 32],
     room: &mut Room,
-    steps: &mut Steps<L>,
+    hashes: &mut HashCount<L>,
 ) -> Result<(Up<R1>, Reply), Off>
     requires on { B.power b.old ≡ true }
     requires level { B.level b.old ≡ 1 }
@@ -54,9 +54,9 @@ pub fn obey<B: Board, L: Ledger>(
     ensures ledger { B.ledger b.new ≡ B.ledger b.old }
     ensures meter { IsMetered 471 result (B.meter b.old) (B.meter b.new) }
     ensures room { HasRoom room.new }
-    ensures cost { steps.new ≤ steps.old + 139744 }
+    ensures cost { hashes.new ≤ hashes.old + 139744 }
 {
-    let judged = match judge_text(alloc, &up, b, known, text, draw, room, steps) {
+    let judged = match judge_text(alloc, &up, b, known, text, draw, room, hashes) {
         Ok(judged) => judged,
         Err(reply) => return Ok((up, reply)),
     };
@@ -64,7 +64,7 @@ pub fn obey<B: Board, L: Ledger>(
         Ok(planned) => planned,
         Err(NoMemory) => return Ok((up, Reply::NoMemory)),
     };
-    let up = commit(up, b, &planned.root, room, steps)?;
+    let up = commit(up, b, &planned.root, room, hashes)?;
     *known = planned.known;
     let reply = Reply::Done {
         number: known.figures.number,

@@ -6,7 +6,7 @@ ghost use Rattle.mb_model.specs.StoredLog.{unsigned_by, outgoing_of};
 ghost use Rattle.mb_completion.specs.Completions.{LastIsSigned, LastTwoAreSigned, PendingIsSigned};
 
 use mb_layout::{complete_record, two_unsigned_entries, unsigned_entry};
-use mb_lms::Steps;
+use mb_lms::HashCount;
 use mb_model::{KeySeed, Root};
 use mb_signer::{Uses, sign, take_index};
 use std::sync::ledger::Ledger;
@@ -23,26 +23,26 @@ fn sign_entry<L: Ledger>(
     index: u32,
     entry: &[u8],
     signature: &mut [u8; SIGNATURE_LENGTH],
-    steps: &mut Steps<L>,
+    hashes: &mut HashCount<L>,
 )
     requires { index ≤ 31 }
     ensures signature { signature.new ≡ signature_of key.now index (ENTRY ∷ entry.now) }
-    ensures cost { steps.new ≤ steps.old + 35473 }
+    ensures cost { hashes.new ≤ hashes.old + 35473 }
 {
     let mut uses = Uses::stored(index);
     let Some(right) = take_index(&mut uses) else {
         unreachable!();
     };
-    sign(right, key, &[ENTRY], entry, signature, steps);
+    sign(right, key, &[ENTRY], entry, signature, hashes);
 }
 
 /// Signs the one unsigned entry of the record.
-fn sign_last<L: Ledger>(key: &KeySeed, index: u32, bytes: &mut Vec<u8>, steps: &mut Steps<L>)
+fn sign_last<L: Ledger>(key: &KeySeed, index: u32, bytes: &mut Vec<u8>, hashes: &mut HashCount<L>)
     requires index { index ≤ 31 }
     requires room { vec_len bytes.old + 2348 ≤ vec_capacity bytes.old }
     requires short { vec_len bytes.old ≤ 4194304 }
     ensures signed { LastIsSigned key.now index bytes.old bytes.new }
-    ensures cost { steps.new ≤ steps.old + 35473 }
+    ensures cost { hashes.new ≤ hashes.old + 35473 }
 {
     let mut signatures = [[0; SIGNATURE_LENGTH]];
     sign_entry(
@@ -50,7 +50,7 @@ fn sign_last<L: Ledger>(key: &KeySeed, index: u32, bytes: &mut Vec<u8>, steps: &
         index,
         unsigned_entry(bytes.as_slice()),
         &mut signatures[0],
-        steps,
+        hashes,
     );
     complete_record(bytes, &signatures);
 }
@@ -62,45 +62,45 @@ fn sign_last_two<L: Ledger>(
     index: u32,
     device: &KeySeed,
     bytes: &mut Vec<u8>,
-    steps: &mut Steps<L>,
+    hashes: &mut HashCount<L>,
 )
     requires index { index ≤ 31 }
     requires room { vec_len bytes.old + 4696 ≤ vec_capacity bytes.old }
     requires short { vec_len bytes.old ≤ 4194304 }
     ensures signed { LastTwoAreSigned outgoing.now index device.now bytes.old bytes.new }
-    ensures cost { steps.new ≤ steps.old + 70946 }
+    ensures cost { hashes.new ≤ hashes.old + 70946 }
 {
     let mut signatures = [[0; SIGNATURE_LENGTH]; 2];
     let (first, second) = two_unsigned_entries(bytes.as_slice());
-    sign_entry(outgoing, index, first, &mut signatures[0], steps);
-    sign_entry(device, 0, second, &mut signatures[1], steps);
+    sign_entry(outgoing, index, first, &mut signatures[0], hashes);
+    sign_entry(device, 0, second, &mut signatures[1], hashes);
     complete_record(bytes, &signatures);
 }
 
 /// Completes the public record in place: each entry that the root leaves unsigned is signed once, by the key and at the
-/// index that the root names, in at most 70,946 steps. Nothing is said where the bytes are no public record with as many
+/// index that the root names, in at most 70,946 hashes. Nothing is said where the bytes are no public record with as many
 /// unsigned entries as the root says. There is room for the signatures.
-pub fn sign_pending<L: Ledger>(root: &Root, bytes: &mut Vec<u8>, steps: &mut Steps<L>)
+pub fn sign_pending<L: Ledger>(root: &Root, bytes: &mut Vec<u8>, hashes: &mut HashCount<L>)
     requires uses { root.now.uses ≤ 32 }
     requires outgoing { IfSome (outgoing_of root.now.pending) (λ outgoing. outgoing.uses ≤ 32) }
     requires few { unsigned_by root.now.pending ≤ 2 }
     requires room { vec_len bytes.old + 4696 ≤ vec_capacity bytes.old }
     requires short { vec_len bytes.old ≤ 4194304 }
     ensures signed { PendingIsSigned root.now bytes.old bytes.new }
-    ensures cost { steps.new ≤ steps.old + 70946 }
+    ensures cost { hashes.new ≤ hashes.old + 70946 }
 {
     let Some(pending) = &root.pending else {
         return;
     };
     match (&pending.outgoing, pending.unsigned) {
-        (None, _) => sign_last(&root.device, last_of(root.uses), bytes, steps),
-        (Some(outgoing), 1) => sign_last(&outgoing.seed, last_of(outgoing.uses), bytes, steps),
+        (None, _) => sign_last(&root.device, last_of(root.uses), bytes, hashes),
+        (Some(outgoing), 1) => sign_last(&outgoing.seed, last_of(outgoing.uses), bytes, hashes),
         (Some(outgoing), 2) => sign_last_two(
             &outgoing.seed,
             last_of(outgoing.uses),
             &root.device,
             bytes,
-            steps,
+            hashes,
         ),
         _ => {}
     }

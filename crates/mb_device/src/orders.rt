@@ -11,7 +11,7 @@ use crate::device::{Device, Running};
 use crate::refusal::Refusal;
 use mb_board::Board;
 use mb_commit::obey;
-use mb_lms::Steps as HashCount;
+use mb_lms::HashCount;
 use mb_model::Reply;
 use mb_ratchet::{R1, Up};
 use std::alloc::Global;
@@ -25,7 +25,7 @@ fn take_order<B: Board, L: Ledger>(
     b: &mut B,
     text: &[u8],
     draw: &[u8; 32],
-    steps: &mut HashCount<L>,
+    hashes: &mut HashCount<L>,
 ) -> (Device, Reply)
     requires flash_bytes { IsBytes (B.memory b.old).flash }
     requires bbram_bytes { IsBytes (B.memory b.old).bbram }
@@ -35,11 +35,11 @@ fn take_order<B: Board, L: Ledger>(
     ensures untold { IfNothingTold result.1 (B.memory b.old) (B.memory b.new) (B.meter b.old) (B.meter b.new) }
     ensures ledger { B.ledger b.new ≡ B.ledger b.old }
     ensures meter { IsMetered 471 (stop_told result.1) (B.meter b.old) (B.meter b.new) }
-    ensures cost { steps.new ≤ steps.old + 139744 }
+    ensures cost { hashes.new ≤ hashes.old + 139744 }
 {
     let mut known = running.known;
     let mut room = running.room;
-    match obey(alloc, up, b, &mut known, text, draw, &mut room, steps) {
+    match obey(alloc, up, b, &mut known, text, draw, &mut room, hashes) {
         Ok((up, reply)) => (Device::One(up, Running { known, room }), reply),
         Err(off) => (Device::Off(off), Reply::Stopped),
     }
@@ -53,7 +53,7 @@ impl Device {
         b: &mut B,
         text: &[u8],
         draw: &[u8; 32],
-        steps: &mut HashCount<L>,
+        hashes: &mut HashCount<L>,
     ) -> (Device, Reply)
         requires flash_bytes { IsBytes (B.memory b.old).flash }
         requires bbram_bytes { IsBytes (B.memory b.old).bbram }
@@ -63,12 +63,12 @@ impl Device {
         ensures untold { IfNothingTold result.1 (B.memory b.old) (B.memory b.new) (B.meter b.old) (B.meter b.new) }
         ensures ledger { B.ledger b.new ≡ B.ledger b.old }
         ensures meter { IsMetered 471 (stop_told result.1) (B.meter b.old) (B.meter b.new) }
-        ensures cost { steps.new ≤ steps.old + 139744 }
+        ensures cost { hashes.new ≤ hashes.old + 139744 }
     {
         match self {
             Device::Off(off) => (Device::Off(off), Refusal::Off.reply()),
             Device::Dead(dead) => (Device::Dead(dead), Refusal::Zeroised.reply()),
-            Device::One(up, running) => take_order(alloc, up, running, b, text, draw, steps),
+            Device::One(up, running) => take_order(alloc, up, running, b, text, draw, hashes),
             Device::Two(up, running) => (Device::Two(up, running), Refusal::Phase.reply()),
             Device::Three(up, running) => (Device::Three(up, running), Refusal::Phase.reply()),
         }

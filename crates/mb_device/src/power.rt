@@ -12,7 +12,7 @@ use crate::refusal::Refusal;
 use mb_board::Board;
 use mb_boot::{BootEnd, boot};
 use mb_commit::remember;
-use mb_lms::Steps as HashCount;
+use mb_lms::HashCount;
 use mb_model::Reply;
 use mb_ratchet::Off;
 use std::alloc::Global;
@@ -23,7 +23,7 @@ fn come_up<B: Board, L: Ledger>(
     alloc: Global,
     off: Off,
     b: &mut B,
-    steps: &mut HashCount<L>,
+    hashes: &mut HashCount<L>,
 ) -> (Device, Reply)
     requires sound { HasSound (Device.Off off) (held_by (B.memory b.old) (B.power b.old) (B.level b.old) (B.meter b.old)) }
     ensures steps { StepsFrom (Device.Off off) (held_by (B.memory b.old) (B.power b.old) (B.level b.old) (B.meter b.old)) event.Boot result
@@ -32,9 +32,9 @@ fn come_up<B: Board, L: Ledger>(
     ensures untold { IfNothingTold result.1 (B.memory b.old) (B.memory b.new) (B.meter b.old) (B.meter b.new) }
     ensures ledger { B.ledger b.new ≡ B.ledger b.old }
     ensures meter { IsMetered 239 (stop_told result.1) (B.meter b.old) (B.meter b.new) }
-    ensures cost { steps.new ≤ steps.old + 70946 }
+    ensures cost { hashes.new ≤ hashes.old + 70946 }
 {
-    match boot(alloc, off, b, steps) {
+    match boot(alloc, off, b, hashes) {
         Ok((up, room)) => {
             let mut room = room;
             let known = remember(&up, b, &mut room);
@@ -52,7 +52,7 @@ impl Device {
         self,
         alloc: Global,
         b: &mut B,
-        steps: &mut HashCount<L>,
+        hashes: &mut HashCount<L>,
     ) -> (Device, Reply)
         requires sound { HasSound self (held_by (B.memory b.old) (B.power b.old) (B.level b.old) (B.meter b.old)) }
         ensures steps { StepsFrom self (held_by (B.memory b.old) (B.power b.old) (B.level b.old) (B.meter b.old)) event.Boot result
@@ -61,10 +61,10 @@ impl Device {
         ensures untold { IfNothingTold result.1 (B.memory b.old) (B.memory b.new) (B.meter b.old) (B.meter b.new) }
         ensures ledger { B.ledger b.new ≡ B.ledger b.old }
         ensures meter { IsMetered 239 (stop_told result.1) (B.meter b.old) (B.meter b.new) }
-        ensures cost { steps.new ≤ steps.old + 70946 }
+        ensures cost { hashes.new ≤ hashes.old + 70946 }
     {
         match self {
-            Device::Off(off) => come_up(alloc, off, b, steps),
+            Device::Off(off) => come_up(alloc, off, b, hashes),
             Device::Dead(dead) => (Device::Dead(dead), Refusal::Zeroised.reply()),
             Device::One(up, running) => (Device::One(up, running), Refusal::Phase.reply()),
             Device::Two(up, running) => (Device::Two(up, running), Refusal::Phase.reply()),

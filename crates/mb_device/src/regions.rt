@@ -21,7 +21,7 @@ use crate::device::{Device, Running};
 use crate::refusal::Refusal;
 use mb_board::Board;
 use mb_layer_events::{drop_secret, get_secret, put_secret, sign_message};
-use mb_lms::Steps as HashCount;
+use mb_lms::HashCount;
 use mb_model::{Event, Reply};
 use mb_ratchet::{Off, R1, R2, R3, Reaches, Three, Two, Up};
 use mb_region::Named;
@@ -35,7 +35,7 @@ fn ask<S: Reaches<L>, L: Named, B: Board, C: Ledger>(
     running: &mut Running,
     b: &mut B,
     event: &Event,
-    steps: &mut HashCount<C>,
+    hashes: &mut HashCount<C>,
 ) -> Result<(S, Reply), Off>
     requires on { B.power b.old ≡ true }
     requires level { B.level b.old ≡ S.stage }
@@ -56,7 +56,7 @@ fn ask<S: Reaches<L>, L: Named, B: Board, C: Ledger>(
     ensures level { B.level b.new ≡ level_of result (B.level b.old) }
     ensures ledger { B.ledger b.new ≡ B.ledger b.old }
     ensures meter { IsMetered 3 result (B.meter b.old) (B.meter b.new) }
-    ensures cost { steps.new ≤ steps.old + 35473 }
+    ensures cost { hashes.new ≤ hashes.old + 35473 }
 {
     let number = running.known.figures.number;
     let serial = running.known.serial;
@@ -71,7 +71,7 @@ fn ask<S: Reaches<L>, L: Named, B: Board, C: Ledger>(
         }
         Event::Drop { name, .. } => drop_secret::<S, L, B>(alloc, s, b, name, room),
         Event::Sign { key, message, .. } => {
-            sign_message::<S, L, B, C>(alloc, s, b, *key, message, &serial, number, room, steps)
+            sign_message::<S, L, B, C>(alloc, s, b, *key, message, &serial, number, room, hashes)
         }
         _ => unreachable!(),
     }
@@ -84,7 +84,7 @@ fn use_region<S: Reaches<L>, L: Named, B: Board, C: Ledger>(
     running: &mut Running,
     b: &mut B,
     event: &Event,
-    steps: &mut HashCount<C>,
+    hashes: &mut HashCount<C>,
 ) -> Result<(S, Reply), Off>
     requires on { B.power b.old ≡ true }
     requires level { B.level b.old ≡ S.stage }
@@ -104,9 +104,9 @@ fn use_region<S: Reaches<L>, L: Named, B: Board, C: Ledger>(
     ensures ledger { B.ledger b.new ≡ B.ledger b.old }
     ensures stopped { IsMetered 3 result (B.meter b.old) (B.meter b.new) }
     ensures told { IfOk result (λ used. stop_told used.1 ≡ Ok tt) }
-    ensures cost { steps.new ≤ steps.old + 35473 }
+    ensures cost { hashes.new ≤ hashes.old + 35473 }
 {
-    ask::<S, L, B, C>(alloc, s, running, b, event, steps)
+    ask::<S, L, B, C>(alloc, s, running, b, event, hashes)
 }
 
 /// Answers a layer's use of its region while layer 1 runs.
@@ -117,7 +117,7 @@ fn use_at_one<B: Board, C: Ledger>(
     b: &mut B,
     region: u8,
     event: &Event,
-    steps: &mut HashCount<C>,
+    hashes: &mut HashCount<C>,
 ) -> (Device, Reply)
     requires bytes { IsBytes (B.memory b.old).bbram }
     requires event { IsLayerEvent event.now }
@@ -129,17 +129,17 @@ fn use_at_one<B: Board, C: Ledger>(
     ensures untold { IfNothingTold result.1 (B.memory b.old) (B.memory b.new) (B.meter b.old) (B.meter b.new) }
     ensures ledger { B.ledger b.new ≡ B.ledger b.old }
     ensures meter { IsMetered 3 (stop_told result.1) (B.meter b.old) (B.meter b.new) }
-    ensures cost { steps.new ≤ steps.old + 35473 }
+    ensures cost { hashes.new ≤ hashes.old + 35473 }
 {
     let mut running = running;
     if running.may_run(region) {
         if region == 2 {
-            match use_region::<Up<R1>, Two, B, C>(alloc, up, &mut running, b, event, steps) {
+            match use_region::<Up<R1>, Two, B, C>(alloc, up, &mut running, b, event, hashes) {
                 Ok((up, reply)) => (Device::One(up, running), reply),
                 Err(off) => (Device::Off(off), Reply::Stopped),
             }
         } else {
-            match use_region::<Up<R1>, Three, B, C>(alloc, up, &mut running, b, event, steps) {
+            match use_region::<Up<R1>, Three, B, C>(alloc, up, &mut running, b, event, hashes) {
                 Ok((up, reply)) => (Device::One(up, running), reply),
                 Err(off) => (Device::Off(off), Reply::Stopped),
             }
@@ -157,7 +157,7 @@ fn use_at_two<B: Board, C: Ledger>(
     b: &mut B,
     region: u8,
     event: &Event,
-    steps: &mut HashCount<C>,
+    hashes: &mut HashCount<C>,
 ) -> (Device, Reply)
     requires bytes { IsBytes (B.memory b.old).bbram }
     requires event { IsLayerEvent event.now }
@@ -169,17 +169,17 @@ fn use_at_two<B: Board, C: Ledger>(
     ensures untold { IfNothingTold result.1 (B.memory b.old) (B.memory b.new) (B.meter b.old) (B.meter b.new) }
     ensures ledger { B.ledger b.new ≡ B.ledger b.old }
     ensures meter { IsMetered 3 (stop_told result.1) (B.meter b.old) (B.meter b.new) }
-    ensures cost { steps.new ≤ steps.old + 35473 }
+    ensures cost { hashes.new ≤ hashes.old + 35473 }
 {
     let mut running = running;
     if running.may_run(region) {
         if region == 2 {
-            match use_region::<Up<R2>, Two, B, C>(alloc, up, &mut running, b, event, steps) {
+            match use_region::<Up<R2>, Two, B, C>(alloc, up, &mut running, b, event, hashes) {
                 Ok((up, reply)) => (Device::Two(up, running), reply),
                 Err(off) => (Device::Off(off), Reply::Stopped),
             }
         } else {
-            match use_region::<Up<R2>, Three, B, C>(alloc, up, &mut running, b, event, steps) {
+            match use_region::<Up<R2>, Three, B, C>(alloc, up, &mut running, b, event, hashes) {
                 Ok((up, reply)) => (Device::Two(up, running), reply),
                 Err(off) => (Device::Off(off), Reply::Stopped),
             }
@@ -197,7 +197,7 @@ fn use_at_three<B: Board, C: Ledger>(
     b: &mut B,
     region: u8,
     event: &Event,
-    steps: &mut HashCount<C>,
+    hashes: &mut HashCount<C>,
 ) -> (Device, Reply)
     requires bytes { IsBytes (B.memory b.old).bbram }
     requires event { IsLayerEvent event.now }
@@ -209,14 +209,14 @@ fn use_at_three<B: Board, C: Ledger>(
     ensures untold { IfNothingTold result.1 (B.memory b.old) (B.memory b.new) (B.meter b.old) (B.meter b.new) }
     ensures ledger { B.ledger b.new ≡ B.ledger b.old }
     ensures meter { IsMetered 3 (stop_told result.1) (B.meter b.old) (B.meter b.new) }
-    ensures cost { steps.new ≤ steps.old + 35473 }
+    ensures cost { hashes.new ≤ hashes.old + 35473 }
 {
     let mut running = running;
     if region == 2 {
         return (Device::Three(up, running), Refusal::Layer.reply());
     }
     if running.may_run(region) {
-        match use_region::<Up<R3>, Three, B, C>(alloc, up, &mut running, b, event, steps) {
+        match use_region::<Up<R3>, Three, B, C>(alloc, up, &mut running, b, event, hashes) {
             Ok((up, reply)) => (Device::Three(up, running), reply),
             Err(off) => (Device::Off(off), Reply::Stopped),
         }
@@ -233,7 +233,7 @@ impl Device {
         b: &mut B,
         region: u8,
         event: &Event,
-        steps: &mut HashCount<C>,
+        hashes: &mut HashCount<C>,
     ) -> (Device, Reply)
         requires bytes { IsBytes (B.memory b.old).bbram }
         requires event { IsLayerEvent event.now }
@@ -245,14 +245,16 @@ impl Device {
         ensures untold { IfNothingTold result.1 (B.memory b.old) (B.memory b.new) (B.meter b.old) (B.meter b.new) }
         ensures ledger { B.ledger b.new ≡ B.ledger b.old }
         ensures meter { IsMetered 3 (stop_told result.1) (B.meter b.old) (B.meter b.new) }
-        ensures cost { steps.new ≤ steps.old + 35473 }
+        ensures cost { hashes.new ≤ hashes.old + 35473 }
     {
         match self {
             Device::Off(off) => (Device::Off(off), Refusal::Off.reply()),
             Device::Dead(dead) => (Device::Dead(dead), Refusal::Zeroised.reply()),
-            Device::One(up, running) => use_at_one(alloc, up, running, b, region, event, steps),
-            Device::Two(up, running) => use_at_two(alloc, up, running, b, region, event, steps),
-            Device::Three(up, running) => use_at_three(alloc, up, running, b, region, event, steps),
+            Device::One(up, running) => use_at_one(alloc, up, running, b, region, event, hashes),
+            Device::Two(up, running) => use_at_two(alloc, up, running, b, region, event, hashes),
+            Device::Three(up, running) => use_at_three(
+                alloc, up, running, b, region, event, hashes,
+            ),
         }
     }
 }

@@ -13,7 +13,7 @@ ghost use Rattle.mb_device.specs.Served.{IsServedFrom};
 
 use crate::device::Device;
 use mb_board::Board;
-use mb_lms::Steps as HashCount;
+use mb_lms::HashCount;
 use mb_model::{Event, Reply};
 use std::alloc::Global;
 use std::sync::ledger::Ledger;
@@ -22,13 +22,13 @@ impl Device {
     /// Answers an event that the board has handed out. Together with the handing out, the answer is one step of the
     /// machine, from the world that the board held before. Nothing is written for an event that is refused, for which an
     /// allocation fails, or whose answer tells of no change; and nothing for the boot of a clean memory. There are at most
-    /// 471 write calls, and 139,744 steps. `Stopped` is answered exactly where a write call was stopped.
+    /// 471 write calls, and 139,744 hashes. `Stopped` is answered exactly where a write call was stopped.
     pub fn step<B: Board, L: Ledger>(
         self,
         alloc: Global,
         b: &mut B,
         event: &Event,
-        steps: &mut HashCount<L>,
+        hashes: &mut HashCount<L>,
     ) -> (Device, Reply)
         requires flash_bytes { IsBytes (B.memory b.old).flash }
         requires bbram_bytes { IsBytes (B.memory b.old).bbram }
@@ -40,10 +40,10 @@ impl Device {
         ensures quiet { IfBoot event.now (IsQuiet (B.memory b.old) (B.memory b.new) (B.meter b.old) (B.meter b.new)) }
         ensures ledger { B.ledger b.new ≡ B.ledger b.old }
         ensures meter { IsMetered 471 (stop_told result.1) (B.meter b.old) (B.meter b.new) }
-        ensures cost { steps.new ≤ steps.old + 139744 }
+        ensures cost { hashes.new ≤ hashes.old + 139744 }
     {
         match event {
-            Event::Boot => self.boot(alloc, b, steps),
+            Event::Boot => self.boot(alloc, b, hashes),
             Event::Off => (self.power_off(b), Reply::Off),
             Event::Tamper => (self.power_off(b), Reply::Tampered),
             Event::Cut { .. } => (self, Reply::Armed),
@@ -52,11 +52,11 @@ impl Device {
                 (self, reply)
             }
             Event::Go => self.go(b),
-            Event::Command { text, draw } => self.command(alloc, b, text.as_slice(), draw, steps),
-            Event::Put { region, .. } => self.use_region(alloc, b, *region, event, steps),
-            Event::Get { region, .. } => self.use_region(alloc, b, *region, event, steps),
-            Event::Drop { region, .. } => self.use_region(alloc, b, *region, event, steps),
-            Event::Sign { region, .. } => self.use_region(alloc, b, *region, event, steps),
+            Event::Command { text, draw } => self.command(alloc, b, text.as_slice(), draw, hashes),
+            Event::Put { region, .. } => self.use_region(alloc, b, *region, event, hashes),
+            Event::Get { region, .. } => self.use_region(alloc, b, *region, event, hashes),
+            Event::Drop { region, .. } => self.use_region(alloc, b, *region, event, hashes),
+            Event::Sign { region, .. } => self.use_region(alloc, b, *region, event, hashes),
         }
     }
 
@@ -66,7 +66,7 @@ impl Device {
         self,
         alloc: Global,
         b: &mut B,
-        steps: &mut HashCount<L>,
+        hashes: &mut HashCount<L>,
     ) -> Device
         requires none_out { (B.ledger b.old).out ≡ None }
         requires events { All IsScriptEvent (B.ledger b.old).waiting }
@@ -79,7 +79,7 @@ impl Device {
     {
         let mut device = self;
         'events: while let Some(event) = b.take() {
-            let (next, reply) = device.step(alloc, b, &event, steps);
+            let (next, reply) = device.step(alloc, b, &event, hashes);
             b.answer(event, reply);
             device = next;
         }

@@ -12,7 +12,7 @@ ghost use Rattle.mb_generate.specs.Serving.{CanBeServed};
 use crate::draws::{Drawn, draw_all};
 use crate::officers::Officers;
 use crate::script::script_of;
-use mb_lms::Steps;
+use mb_lms::HashCount;
 use mb_model::{Bytes, Keyfile, NoMemory, Workload};
 use mb_officer::{SignEnd, factory, make_key};
 use mb_signer::public;
@@ -20,7 +20,7 @@ use std::alloc::Global;
 use std::sync::ledger::Ledger;
 
 /// The workload of a number with so many rounds, 1 to 24: the image of a new device, a script in which officers load
-/// each layer in turn, and the noise of the script's commands. In at most 350,434 steps and 106,419 for each round.
+/// each layer in turn, and the noise of the script's commands. In at most 350,434 hashes and 106,419 for each round.
 ///
 /// The script can be read, its noise has 32 bytes for each of its commands, and neither is longer than an input may be.
 ///
@@ -29,18 +29,18 @@ pub fn workload<L: Ledger>(
     alloc: Global,
     number: u32,
     rounds: u32,
-    steps: &mut Steps<L>,
+    hashes: &mut HashCount<L>,
 ) -> Result<Workload, NoMemory>
     requires least { 1 ≤ rounds }
     requires most { rounds ≤ 24 }
     ensures made { IfOk result (IsWorkload number rounds) }
     ensures served { IfOk result CanBeServed }
-    ensures cost { steps.new ≤ steps.old + 350434 + 106419 * rounds }
+    ensures cost { hashes.new ≤ hashes.old + 350434 + 106419 * rounds }
 {
     let drawn = draw_all(alloc, number, rounds)?;
     let mut officers = officers_of(&drawn);
-    let image = image_of(alloc, &drawn, &officers.one, steps)?;
-    let script = script_of(alloc, &drawn, &mut officers, steps)?;
+    let image = image_of(alloc, &drawn, &officers.one, hashes)?;
+    let script = script_of(alloc, &drawn, &mut officers, hashes)?;
     Ok(Workload {
         image: Bytes::from_vec(image),
         script: Bytes::from_vec(script),
@@ -64,16 +64,16 @@ fn image_of<L: Ledger>(
     alloc: Global,
     drawn: &Drawn,
     officer: &Keyfile,
-    steps: &mut Steps<L>,
+    hashes: &mut HashCount<L>,
 ) -> Result<Vec<u8>, NoMemory>
     requires { length drawn.now.code_one ≤ 32768 }
     ensures image { IfOk result (λ image. IsFactoryImage (officer_key drawn.now.root) 0 (public_of officer.now.seed) drawn.now.code_one drawn.now.factory image.items) }
-    ensures cost { steps.new ≤ steps.old + 104271 }
+    ensures cost { hashes.new ≤ hashes.old + 104271 }
 {
     let mut maker = make_key(&drawn.root);
-    let owner = public(&officer.seed, steps);
+    let owner = public(&officer.seed, hashes);
     let code = drawn.code_one.as_slice();
-    match factory(alloc, &mut maker, &owner, code, &drawn.factory, steps) {
+    match factory(alloc, &mut maker, &owner, code, &drawn.factory, hashes) {
         Ok(image) => Ok(image),
         Err(SignEnd::NoMemory) => Err(NoMemory),
         Err(SignEnd::Spent) => unreachable!(),

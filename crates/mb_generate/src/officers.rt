@@ -10,7 +10,7 @@ ghost use Rattle.mb_model.specs.SignedOrders.{used_once, signed_order, countersi
 ghost use Rattle.mb_model.specs.Workload.{plan, plan_payload, round_plan};
 ghost use Rattle.mb_generate.specs.Orders.{HaveUsed, targeted, CanBeOrdered, SignsPlan};
 
-use mb_lms::Steps;
+use mb_lms::HashCount;
 use mb_model::{
     Act, Bytes, Countersignatures, Items, Keyfile, NoMemory, Order, Payload, Target, Trust, Trusts,
 };
@@ -32,7 +32,7 @@ pub(crate) fn round_order<L: Ledger>(
     round: u32,
     code: &[u8],
     officers: &mut Officers,
-    steps: &mut Steps<L>,
+    hashes: &mut HashCount<L>,
 ) -> Result<Order, NoMemory>
     requires round { round ≤ 24 }
     requires code { length code.now ≤ 32768 }
@@ -40,13 +40,13 @@ pub(crate) fn round_order<L: Ledger>(
     ensures signs { SignsPlan (5 + round) (round_plan round code.now) officers.old result officers.new }
     ensures spelled { IfOk result order_format.Allowed }
     ensures used { OnOk result (HaveUsed (6 + round) officers.new) }
-    ensures cost { steps.new ≤ steps.old + 106419 }
+    ensures cost { hashes.new ≤ hashes.old + 106419 }
 {
     let load = load_of(alloc, 1 + round, code)?;
     match round % 3 {
-        1 => load_three(alloc, 5 + round, load, officers, steps),
-        2 => load_two(alloc, 5 + round, load, officers, steps),
-        _ => load_one(alloc, 5 + round, load, officers, steps),
+        1 => load_three(alloc, 5 + round, load, officers, hashes),
+        2 => load_two(alloc, 5 + round, load, officers, hashes),
+        _ => load_one(alloc, 5 + round, load, officers, hashes),
     }
 }
 
@@ -67,7 +67,7 @@ fn load_three<L: Ledger>(
     count: u32,
     load: Payload,
     officers: &mut Officers,
-    steps: &mut Steps<L>,
+    hashes: &mut HashCount<L>,
 ) -> Result<Order, NoMemory>
     requires count { count ≤ 30 }
     requires able { CanBeOrdered 3 (act.Load load) }
@@ -75,10 +75,10 @@ fn load_three<L: Ledger>(
     ensures signs { SignsPlan count (plan 3 (act.Load load) []) officers.old result officers.new }
     ensures spelled { IfOk result order_format.Allowed }
     ensures used { OnOk result (HaveUsed (count + 1) officers.new) }
-    ensures cost { steps.new ≤ steps.old + 106419 }
+    ensures cost { hashes.new ≤ hashes.old + 106419 }
 {
     let mut order = targeted(alloc, 3, count, Act::Load(load))?;
-    sign(alloc, &mut officers.three, &mut order, steps)?;
+    sign(alloc, &mut officers.three, &mut order, hashes)?;
     Ok(order)
 }
 
@@ -88,7 +88,7 @@ fn load_two<L: Ledger>(
     count: u32,
     load: Payload,
     officers: &mut Officers,
-    steps: &mut Steps<L>,
+    hashes: &mut HashCount<L>,
 ) -> Result<Order, NoMemory>
     requires count { count ≤ 30 }
     requires able { CanBeOrdered 2 (act.Load load) }
@@ -96,11 +96,11 @@ fn load_two<L: Ledger>(
     ensures signs { SignsPlan count (plan 2 (act.Load load) (3 ∷ [])) officers.old result officers.new }
     ensures spelled { IfOk result order_format.Allowed }
     ensures used { OnOk result (HaveUsed (count + 1) officers.new) }
-    ensures cost { steps.new ≤ steps.old + 106419 }
+    ensures cost { hashes.new ≤ hashes.old + 106419 }
 {
     let mut order = targeted(alloc, 2, count, Act::Load(load))?;
-    sign(alloc, &mut officers.two, &mut order, steps)?;
-    agree(alloc, &mut officers.three, 3, &mut order, steps)?;
+    sign(alloc, &mut officers.two, &mut order, hashes)?;
+    agree(alloc, &mut officers.three, 3, &mut order, hashes)?;
     Ok(order)
 }
 
@@ -110,7 +110,7 @@ fn load_one<L: Ledger>(
     count: u32,
     load: Payload,
     officers: &mut Officers,
-    steps: &mut Steps<L>,
+    hashes: &mut HashCount<L>,
 ) -> Result<Order, NoMemory>
     requires count { count ≤ 30 }
     requires able { CanBeOrdered 1 (act.Load load) }
@@ -118,12 +118,12 @@ fn load_one<L: Ledger>(
     ensures signs { SignsPlan count (plan 1 (act.Load load) (2 ∷ 3 ∷ [])) officers.old result officers.new }
     ensures spelled { IfOk result order_format.Allowed }
     ensures used { OnOk result (HaveUsed (count + 1) officers.new) }
-    ensures cost { steps.new ≤ steps.old + 106419 }
+    ensures cost { hashes.new ≤ hashes.old + 106419 }
 {
     let mut order = targeted(alloc, 1, count, Act::Load(load))?;
-    sign(alloc, &mut officers.one, &mut order, steps)?;
-    agree(alloc, &mut officers.two, 2, &mut order, steps)?;
-    agree(alloc, &mut officers.three, 3, &mut order, steps)?;
+    sign(alloc, &mut officers.one, &mut order, hashes)?;
+    agree(alloc, &mut officers.two, 2, &mut order, hashes)?;
+    agree(alloc, &mut officers.three, 3, &mut order, hashes)?;
     Ok(order)
 }
 
@@ -149,16 +149,16 @@ pub(crate) fn sign<L: Ledger>(
     alloc: Global,
     officer: &mut Keyfile,
     order: &mut Order,
-    steps: &mut Steps<L>,
+    hashes: &mut HashCount<L>,
 ) -> Result<(), NoMemory>
     requires left { officer.old.next < 32 }
     requires spelled { order_format.Allowed order.old }
     ensures signed { OnOk result (order.new ≡ signed_order officer.old order.old) }
     ensures used { OnOk result (officer.new ≡ used_once officer.old) }
     ensures spelled { OnOk result (order_format.Allowed order.new) }
-    ensures cost { steps.new ≤ steps.old + 35473 }
+    ensures cost { hashes.new ≤ hashes.old + 35473 }
 {
-    match sign_order(alloc, officer, order, steps) {
+    match sign_order(alloc, officer, order, hashes) {
         Ok(_) => Ok(()),
         Err(SignEnd::NoMemory) => Err(NoMemory),
         Err(SignEnd::Spent) => unreachable!(),
@@ -172,7 +172,7 @@ fn agree<L: Ledger>(
     officer: &mut Keyfile,
     layer: u8,
     order: &mut Order,
-    steps: &mut Steps<L>,
+    hashes: &mut HashCount<L>,
 ) -> Result<(), NoMemory>
     requires left { officer.old.next < 32 }
     requires spelled { order_format.Allowed order.old }
@@ -181,9 +181,9 @@ fn agree<L: Ledger>(
     ensures signed { OnOk result (order.new ≡ countersigned_order officer.old layer order.old) }
     ensures used { OnOk result (officer.new ≡ used_once officer.old) }
     ensures spelled { OnOk result (order_format.Allowed order.new) }
-    ensures cost { steps.new ≤ steps.old + 35473 }
+    ensures cost { hashes.new ≤ hashes.old + 35473 }
 {
-    match countersign(alloc, officer, layer, order, steps) {
+    match countersign(alloc, officer, layer, order, hashes) {
         Ok(_) => Ok(()),
         Err(SignEnd::NoMemory) => Err(NoMemory),
         Err(SignEnd::Spent) => unreachable!(),

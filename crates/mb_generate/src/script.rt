@@ -18,7 +18,7 @@ ghost use Rattle.mb_generate.specs.Scripts.{puts_text, first_orders_text, sign_l
 
 use crate::draws::{Drawn, RoundDrawn};
 use crate::officers::{Officers, load_of, round_order, sign, targeted};
-use mb_lms::Steps;
+use mb_lms::HashCount;
 use mb_model::{Act, Bytes, KeyKind, Keyfile, NoMemory, Order, Trust, Trusts};
 use mb_officer::write_order_line;
 use mb_signer::public;
@@ -30,20 +30,20 @@ pub(crate) fn script_of<L: Ledger>(
     alloc: Global,
     drawn: &Drawn,
     officers: &mut Officers,
-    steps: &mut Steps<L>,
+    hashes: &mut HashCount<L>,
 ) -> Result<Vec<u8>, NoMemory>
     requires rounds { length drawn.now.rounds ≤ 24 }
     requires fit { CodesFit (draws_of drawn.now) }
     requires officers { AreOfficers (draws_of drawn.now) [] officers.old }
     ensures text { IfOk result (λ script. script.items ≡ text_of (workload_lines (draws_of drawn.now))) }
-    ensures cost { steps.new ≤ steps.old + 246163 + 106419 * length drawn.now.rounds }
+    ensures cost { hashes.new ≤ hashes.old + 246163 + 106419 * length drawn.now.rounds }
 {
     let mut script = Vec::new(alloc);
     script.extend_from_slice(b"boot\n")?;
-    put_first_orders(alloc, drawn, officers, &mut script, steps)?;
+    put_first_orders(alloc, drawn, officers, &mut script, hashes)?;
     let mut number = 1;
     for round in drawn.rounds.as_slice() {
-        put_round(alloc, number, round, officers, &mut script, steps)?;
+        put_round(alloc, number, round, officers, &mut script, hashes)?;
         number += 1;
     }
     script.extend_from_slice(b"off\n")?;
@@ -56,17 +56,17 @@ fn put_first_orders<L: Ledger>(
     drawn: &Drawn,
     officers: &mut Officers,
     script: &mut Vec<u8>,
-    steps: &mut Steps<L>,
+    hashes: &mut HashCount<L>,
 ) -> Result<(), NoMemory>
     requires fit { CodesFit (draws_of drawn.now) }
     requires officers { AreOfficers (draws_of drawn.now) [] officers.old }
     ensures text { OnOk result (script.new.items ≡ script.old.items ++ first_orders_text (draws_of drawn.now)) }
     ensures officers { OnOk result (AreOfficers (draws_of drawn.now) (first_plans (draws_of drawn.now)) officers.new) }
     ensures used { OnOk result (HaveUsed 6 officers.new) }
-    ensures cost { steps.new ≤ steps.old + 246163 }
+    ensures cost { hashes.new ≤ hashes.old + 246163 }
 {
-    let two = establish_of(&officers.two, steps);
-    let three = establish_of(&officers.three, steps);
+    let two = establish_of(&officers.two, hashes);
+    let three = establish_of(&officers.three, hashes);
     let code_two = load_of(alloc, 1, drawn.code_two.as_slice())?;
     let code_three = load_of(alloc, 1, drawn.code_three.as_slice())?;
     let key = Act::NewKey {
@@ -77,35 +77,35 @@ fn put_first_orders<L: Ledger>(
         &mut officers.one,
         targeted(alloc, 2, 1, two)?,
         script,
-        steps,
+        hashes,
     )?;
     put_order(
         alloc,
         &mut officers.two,
         targeted(alloc, 3, 2, three)?,
         script,
-        steps,
+        hashes,
     )?;
     let two = targeted(alloc, 2, 3, Act::Emergency(code_two))?;
-    put_order(alloc, &mut officers.one, two, script, steps)?;
+    put_order(alloc, &mut officers.one, two, script, hashes)?;
     let three = targeted(alloc, 3, 4, Act::Emergency(code_three))?;
-    put_order(alloc, &mut officers.two, three, script, steps)?;
+    put_order(alloc, &mut officers.two, three, script, hashes)?;
     put_order(
         alloc,
         &mut officers.three,
         targeted(alloc, 3, 5, key)?,
         script,
-        steps,
+        hashes,
     )
 }
 
 /// What gives a layer this officer as its owner, and lets it trust what is countersigned.
-fn establish_of<L: Ledger>(officer: &Keyfile, steps: &mut Steps<L>) -> Act
+fn establish_of<L: Ledger>(officer: &Keyfile, hashes: &mut HashCount<L>) -> Act
     ensures act { result ≡ act.Establish (public_of officer.now.seed) (equal_trusts Countersigned) }
-    ensures cost { steps.new ≡ steps.old + 34399 }
+    ensures cost { hashes.new ≡ hashes.old + 34399 }
 {
     Act::Establish {
-        owner: public(&officer.seed, steps),
+        owner: public(&officer.seed, hashes),
         trust: Trusts::equal(Trust::Countersigned),
     }
 }
@@ -116,16 +116,16 @@ fn put_order<L: Ledger>(
     officer: &mut Keyfile,
     order: Order,
     script: &mut Vec<u8>,
-    steps: &mut Steps<L>,
+    hashes: &mut HashCount<L>,
 ) -> Result<(), NoMemory>
     requires left { officer.old.next < 32 }
     requires spelled { order_format.Allowed order }
     ensures text { OnOk result (script.new.items ≡ script.old.items ++ ended (order_line (signed_order officer.old order))) }
     ensures used { OnOk result (officer.new ≡ used_once officer.old) }
-    ensures cost { steps.new ≤ steps.old + 35473 }
+    ensures cost { hashes.new ≤ hashes.old + 35473 }
 {
     let mut order = order;
-    sign(alloc, officer, &mut order, steps)?;
+    sign(alloc, officer, &mut order, hashes)?;
     let line = write_order_line(alloc, &order)?;
     script.extend_from_slice(line.as_slice())?;
     Ok(())
@@ -138,7 +138,7 @@ fn put_round<L: Ledger>(
     round: &RoundDrawn,
     officers: &mut Officers,
     script: &mut Vec<u8>,
-    steps: &mut Steps<L>,
+    hashes: &mut HashCount<L>,
 ) -> Result<(), NoMemory>
     requires least { 1 ≤ number }
     requires most { number ≤ 24 }
@@ -148,9 +148,9 @@ fn put_round<L: Ledger>(
     ensures text { OnOk result (AppendsRound number (round_of round.now) officers.old script.old.items script.new.items) }
     ensures officers { OnOk result (SignsRound number (round_of round.now) officers.old officers.new) }
     ensures used { OnOk result (HaveUsed (6 + number) officers.new) }
-    ensures cost { steps.new ≤ steps.old + 106419 }
+    ensures cost { hashes.new ≤ hashes.old + 106419 }
 {
-    let order = round_order(alloc, number, round.code.as_slice(), officers, steps)?;
+    let order = round_order(alloc, number, round.code.as_slice(), officers, hashes)?;
     let line = write_order_line(alloc, &order)?;
     script.extend_from_slice(b"off\nboot\n")?;
     script.extend_from_slice(line.as_slice())?;

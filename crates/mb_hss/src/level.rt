@@ -9,7 +9,7 @@ ghost use Rattle.mb_hss.specs.MakerKeys.{level_key, prefix_at, index_at, key_at}
 
 use crate::maker::Maker;
 use mb_bytes::put_at;
-use mb_lms::{Steps, hash, key_bytes};
+use mb_lms::{HashCount, hash, key_bytes};
 use mb_model::KeySeed;
 use mb_signer::{KeptTree, Uses, public_kept, sign_kept, take_index};
 use std::sync::ledger::Ledger;
@@ -44,17 +44,17 @@ pub(crate) fn level_key<L: Ledger>(
     seed: &[u8; 32],
     level: u8,
     prefix: u64,
-    steps: &mut Steps<L>,
+    hashes: &mut HashCount<L>,
 ) -> KeySeed
     ensures key { result ≡ level_key seed.now level prefix }
-    ensures counted { steps.new ≡ steps.old + 2 }
+    ensures counted { hashes.new ≡ hashes.old + 2 }
 {
     let whose = level_and_prefix(level, prefix);
     let mut identifier = [0; 16];
-    identifier.copy_from_slice(&hash(&[IDENTIFIER], seed, &whose, steps)[..16]);
+    identifier.copy_from_slice(&hash(&[IDENTIFIER], seed, &whose, hashes)[..16]);
     KeySeed {
         identifier,
-        seed: hash(&[SEED], seed, &whose, steps),
+        seed: hash(&[SEED], seed, &whose, hashes),
     }
 }
 
@@ -74,18 +74,18 @@ impl Level {
         maker: &Maker,
         number: u64,
         level: u8,
-        steps: &mut Steps<L>,
+        hashes: &mut HashCount<L>,
     ) -> Level
         requires level { level < maker.now.levels }
         requires most { maker.now.levels ≤ 8 }
         ensures seed { result.seed ≡ key_at maker.now number level }
         ensures index { result.index ≡ index_at maker.now.levels number level }
-        ensures counted { steps.new ≡ steps.old + 34401 }
+        ensures counted { hashes.new ≡ hashes.old + 34401 }
     {
         let prefix = without_digits(number, maker.levels - level);
         let index = (without_digits(number, maker.levels - level - 1) % 32) as u32;
-        let seed = level_key(&maker.seed, level, prefix, steps);
-        let tree = KeptTree::build(&seed, steps);
+        let seed = level_key(&maker.seed, level, prefix, hashes);
+        let tree = KeptTree::build(&seed, hashes);
         Level { seed, tree, index }
     }
 
@@ -101,10 +101,10 @@ impl Level {
         &self,
         head: &[u8],
         body: &[u8],
-        steps: &mut Steps<L>,
+        hashes: &mut HashCount<L>,
     ) -> [u8; 2348]
         ensures signature { result ≡ signature_of self.now.seed self.now.index (head.now ++ body.now) }
-        ensures cost { steps.new ≤ steps.old + 1074 }
+        ensures cost { hashes.new ≤ hashes.old + 1074 }
     {
         let mut uses = Uses::stored(self.index);
         let Some(right) = take_index(&mut uses) else {
@@ -118,7 +118,7 @@ impl Level {
             head,
             body,
             &mut signature,
-            steps,
+            hashes,
         );
         signature
     }

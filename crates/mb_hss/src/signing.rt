@@ -10,7 +10,7 @@ use crate::key::HssKey;
 use crate::level::{Level, level_key};
 use crate::maker::{Maker, number_count};
 use mb_bytes::put_slice;
-use mb_lms::Steps;
+use mb_lms::HashCount;
 use mb_model::NoMemory;
 use mb_signer::public as public_of_seed;
 use std::alloc::AllocError;
@@ -44,15 +44,15 @@ impl From<AllocError> for HssEnd {
 /// The maker's public key, in 34,401 hashes: two derive the key of the first level, and its tree takes the others (RFC
 /// 8554, section 6.1).
 #[tactic(auto, unfolding(crate::specs::MakerKeys::maker_key))]
-pub fn public<L: Ledger>(maker: &Maker, steps: &mut Steps<L>) -> HssKey
+pub fn public<L: Ledger>(maker: &Maker, hashes: &mut HashCount<L>) -> HssKey
     requires { IsMaker maker.now }
     ensures key { result ≡ maker_key maker.now }
-    ensures counted { steps.new ≡ steps.old + 34401 }
+    ensures counted { hashes.new ≡ hashes.old + 34401 }
 {
-    let seed = level_key(&maker.seed, 0, 0, steps);
+    let seed = level_key(&maker.seed, 0, 0, hashes);
     HssKey {
         levels: maker.levels,
-        top: public_of_seed(&seed, steps),
+        top: public_of_seed(&seed, hashes),
     }
 }
 
@@ -85,23 +85,23 @@ fn put_signature<L: Ledger>(
     head: &[u8],
     body: &[u8],
     out: &mut Vec<u8>,
-    steps: &mut Steps<L>,
+    hashes: &mut HashCount<L>,
 )
     requires maker { IsMaker maker.now }
     requires room { vec_len out.old + (2404 * maker.now.levels - 52) ≤ vec_capacity out.old }
     ensures signature { Appends (maker_signature maker.now number (head.now ++ body.now)) out.old out.new }
-    ensures cost { steps.new ≤ steps.old + 35475 * maker.now.levels }
+    ensures cost { hashes.new ≤ hashes.old + 35475 * maker.now.levels }
 {
     append(out, &u32::from(maker.levels - 1).to_be_bytes());
-    let mut level = Level::at(maker, number, 0, steps);
+    let mut level = Level::at(maker, number, 0, hashes);
     for above in 0..maker.levels - 1 {
-        let below = Level::at(maker, number, above + 1, steps);
+        let below = Level::at(maker, number, above + 1, hashes);
         let key = below.public_bytes();
-        append(out, &level.sign(&key, &[], steps));
+        append(out, &level.sign(&key, &[], hashes));
         append(out, &key);
         level = below;
     }
-    append(out, &level.sign(head, body, steps));
+    append(out, &level.sign(head, body, hashes));
 }
 
 /// Signs `head` followed by `body` with the maker's next number, which is answered and raised, and appends the
@@ -114,7 +114,7 @@ pub fn sign<L: Ledger>(
     head: &[u8],
     body: &[u8],
     out: &mut Vec<u8>,
-    steps: &mut Steps<L>,
+    hashes: &mut HashCount<L>,
 ) -> Result<u64, HssEnd>
     requires { IsMaker maker.old }
     ensures number { IfOk result (λ number. number ≡ maker.old.next) }
@@ -122,16 +122,16 @@ pub fn sign<L: Ledger>(
     ensures spent { IsErrOf result HssEnd.Spent ↔ (maker.old.next ≡ 32 ^ maker.old.levels) }
     ensures room { IsErrOf result HssEnd.NoMemory
         → HasNoRoom (maker_signature maker.old maker.old.next (head.now ++ body.now)) out.old }
-    ensures unchanged { OnErr result (IsUnsigned maker.old maker.new out.old out.new steps.old steps.new) }
+    ensures unchanged { OnErr result (IsUnsigned maker.old maker.new out.old out.new hashes.old hashes.new) }
     ensures valid { IsMaker maker.new }
-    ensures cost { steps.new ≤ steps.old + 35475 * maker.old.levels }
+    ensures cost { hashes.new ≤ hashes.old + 35475 * maker.old.levels }
 {
     let number = maker.next;
     if number == number_count(maker.levels) {
         return Err(HssEnd::Spent);
     }
     out.reserve(signature_length(maker.levels))?;
-    put_signature(maker, number, head, body, out, steps);
+    put_signature(maker, number, head, body, out, hashes);
     maker.next = number + 1;
     Ok(number)
 }

@@ -7,7 +7,7 @@ use crate::level::level_key;
 use crate::*;
 use hex::FromHex;
 use mb_bytes::put_at;
-use mb_lms::Steps;
+use mb_lms::HashCount;
 use mb_model::KeySeed;
 use std::alloc::Global;
 use std::marker::Brand;
@@ -70,7 +70,12 @@ fn level_key_counted<L: Ledger>(
     requires parts { blank.parts ≡ L.parts }
     requires some { 0 < blank.parts }
 {
-    level_key(seed, level, prefix, &mut Steps::<L>::begin(alloc, blank))
+    level_key(
+        seed,
+        level,
+        prefix,
+        &mut HashCount::<L>::begin(alloc, blank),
+    )
 }
 
 /// The maker's public key, on a count of its own.
@@ -86,7 +91,7 @@ fn public_counted<L: Ledger>(alloc: Global, maker: &Maker, blank: Blank) -> HssK
     requires parts { blank.parts ≡ L.parts }
     requires some { 0 < blank.parts }
 {
-    public(maker, &mut Steps::<L>::begin(alloc, blank))
+    public(maker, &mut HashCount::<L>::begin(alloc, blank))
 }
 
 /// Signs the root by the maker's next number, on a count of its own.
@@ -118,6 +123,6 @@ fn endorse_counted<L: Ledger>(
         &HEAD,
         root,
         out,
-        &mut Steps::<L>::begin(alloc, blank),
+        &mut HashCount::<L>::begin(alloc, blank),
     )
 }

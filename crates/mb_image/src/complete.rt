@@ -7,7 +7,7 @@ ghost use Rattle.mb_model.specs.StoredLog.{signed_for, outgoing_of, completed};
 ghost use Rattle.mb_signer.specs.Tree.{IsTreeOf};
 
 use mb_layout::write_entry;
-use mb_lms::Steps;
+use mb_lms::HashCount;
 use mb_model::{Entry, KeySeed, Log, NoMemory, Outgoing, Root, SignedEntry};
 use mb_signer::{KeptTree, Uses, sign_kept, take_index};
 use std::alloc::Global;
@@ -25,20 +25,20 @@ pub(crate) fn completed<L: Ledger>(
     tree: &KeptTree,
     signed: Log,
     unsigned: &[Entry],
-    steps: &mut Steps<L>,
+    hashes: &mut HashCount<L>,
 ) -> Result<Log, NoMemory>
     requires tree { IsTreeOf root.now.device tree.now }
     requires uses { root.now.uses ≤ 32 }
     requires outgoing { IfSome (outgoing_of root.now.pending) (λ outgoing. outgoing.uses ≤ 32) }
     requires spelled { All entry_format.Allowed unsigned.now }
     ensures log { IfOk result (λ log. log ≡ completed root.now signed unsigned.now) }
-    ensures cost { steps.new ≤ steps.old + 34399 + 1074 * length unsigned.now }
+    ensures cost { hashes.new ≤ hashes.old + 34399 + 1074 * length unsigned.now }
 {
     let mut log = signed;
     match outgoing_of(root) {
         None => {
             let last = root.uses.saturating_sub(1);
-            push_signed(alloc, &mut log, &root.device, tree, last, unsigned, steps)?;
+            push_signed(alloc, &mut log, &root.device, tree, last, unsigned, hashes)?;
         }
         Some(outgoing) => {
             push_handed_over(
@@ -48,7 +48,7 @@ pub(crate) fn completed<L: Ledger>(
                 &root.device,
                 tree,
                 unsigned,
-                steps,
+                hashes,
             )?;
         }
     }
@@ -74,22 +74,22 @@ fn push_handed_over<L: Ledger>(
     device: &KeySeed,
     tree: &KeptTree,
     entries: &[Entry],
-    steps: &mut Steps<L>,
+    hashes: &mut HashCount<L>,
 ) -> Result<(), NoMemory>
     requires tree { IsTreeOf device.now tree.now }
     requires uses { outgoing.now.uses ≤ 32 }
     requires spelled { All entry_format.Allowed entries.now }
     ensures log { (uses : ℕ) → OnOk result (log.new ≡ log.old ++ signed_for device.now uses (Some outgoing.now) entries.now) }
-    ensures cost { steps.new ≤ steps.old + 34399 + 1074 * length entries.now }
+    ensures cost { hashes.new ≤ hashes.old + 34399 + 1074 * length entries.now }
 {
     if entries.is_empty() {
         return Ok(());
     }
     let (first, others) = entries.split_at(1);
     let last = outgoing.uses.saturating_sub(1);
-    let own = KeptTree::build(&outgoing.seed, steps);
-    push_signed(alloc, log, &outgoing.seed, &own, last, first, steps)?;
-    push_signed(alloc, log, device, tree, 0, others, steps)
+    let own = KeptTree::build(&outgoing.seed, hashes);
+    push_signed(alloc, log, &outgoing.seed, &own, last, first, hashes)?;
+    push_signed(alloc, log, device, tree, 0, others, hashes)
 }
 
 /// Adds the entries, each signed by the key, whose tree is given, at the index.
@@ -100,16 +100,16 @@ fn push_signed<L: Ledger>(
     tree: &KeptTree,
     index: u32,
     entries: &[Entry],
-    steps: &mut Steps<L>,
+    hashes: &mut HashCount<L>,
 ) -> Result<(), NoMemory>
     requires tree { IsTreeOf key.now tree.now }
     requires index { index ≤ 31 }
     requires spelled { All entry_format.Allowed entries.now }
     ensures log { OnOk result (log.new ≡ log.old ++ map (signed_by key.now index) entries.now) }
-    ensures cost { steps.new ≤ steps.old + 1074 * length entries.now }
+    ensures cost { hashes.new ≤ hashes.old + 1074 * length entries.now }
 {
     for entry in entries {
-        log.push(signed_by(alloc, key, tree, index, entry, steps)?)?;
+        log.push(signed_by(alloc, key, tree, index, entry, hashes)?)?;
     }
     Ok(())
 }
@@ -122,13 +122,13 @@ fn signed_by<L: Ledger>(
     tree: &KeptTree,
     index: u32,
     entry: &Entry,
-    steps: &mut Steps<L>,
+    hashes: &mut HashCount<L>,
 ) -> Result<SignedEntry, NoMemory>
     requires tree { IsTreeOf key.now tree.now }
     requires index { index ≤ 31 }
     requires spelled { entry_format.Allowed entry.now }
     ensures signed { IfOk result (λ signed. signed ≡ signed_by key.now index entry.now) }
-    ensures cost { steps.new ≤ steps.old + 1074 }
+    ensures cost { hashes.new ≤ hashes.old + 1074 }
 {
     let mut spelling = Vec::new(alloc);
     write_entry(entry, &mut spelling)?;
@@ -144,7 +144,7 @@ fn signed_by<L: Ledger>(
         &[ENTRY],
         spelling.as_slice(),
         &mut signature,
-        steps,
+        hashes,
     );
     Ok(SignedEntry {
         entry: *entry,

@@ -8,7 +8,7 @@ ghost use Rattle.mb_image.specs.Ends.{fault_of};
 use crate::memory::{is_blank, memories, root_of};
 use crate::sound::sound_state;
 use crate::stored::stored_in;
-use mb_lms::Steps;
+use mb_lms::HashCount;
 use mb_model::{NoMemory, State};
 use std::alloc::Global;
 use std::sync::ledger::Ledger;
@@ -45,18 +45,18 @@ impl From<NoMemory> for ImageEnd {
 }
 
 /// The state for which an image of any bytes stands, `None` being that of a dead device, or its first fault, in at most
-/// 621,330 steps: those of the public keys of the device and of sixteen keys of regions, each made once, and of the
+/// 621,330 hashes: those of the public keys of the device and of sixteen keys of regions, each made once, and of the
 /// signatures that are still to be made.
 ///
 /// Errors: those of `ImageEnd`. `NoMemory` where an allocation fails, of which no clause says when.
 pub fn stand_for<L: Ledger>(
     alloc: Global,
     image: &[u8],
-    steps: &mut Steps<L>,
+    hashes: &mut HashCount<L>,
 ) -> Result<Option<State>, ImageEnd>
     ensures stands { IfOk result (λ state. IsWellFormed image.now state) }
     ensures fault { IfErr result (λ end. IfSome (fault_of end) (λ fault. HasFault image.now fault)) }
-    ensures cost { steps.new ≤ steps.old + 621330 }
+    ensures cost { hashes.new ≤ hashes.old + 621330 }
 {
     let Some((flash, bbram)) = memories(image) else {
         return Err(ImageEnd::Length);
@@ -68,7 +68,7 @@ pub fn stand_for<L: Ledger>(
         return Err(ImageEnd::Root);
     };
     let stored = stored_in(alloc, flash, bbram, root)?;
-    match sound_state(alloc, stored, steps)? {
+    match sound_state(alloc, stored, hashes)? {
         Some(state) => Ok(Some(state)),
         None => Err(ImageEnd::State),
     }

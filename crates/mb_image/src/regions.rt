@@ -9,7 +9,7 @@ ghost use Rattle.mb_image.specs.Keys.{as_listed, listed};
 ghost use Rattle.mb_image.specs.Losses.{loss};
 
 use crate::alive::{MadeKey, alive_keys};
-use mb_lms::Steps;
+use mb_lms::HashCount;
 use mb_log::{Figures, ends};
 use mb_model::{Entry, KeyKind, Layers, NoMemory, Region, RegionKey, Secret, SignedEntry};
 use mb_signer::public;
@@ -27,13 +27,13 @@ pub(crate) fn is_valid_region<L: Ledger>(
     figures: &Figures,
     layer: u8,
     region: &Region,
-    steps: &mut Steps<L>,
+    hashes: &mut HashCount<L>,
 ) -> Result<bool, NoMemory>
     requires ruled { RuledLog (entries_of log.now) }
     requires number { figures.now.number ≡ number_of (entries_of log.now) }
     requires layer { IsTrue (is_upper layer) }
     ensures valid { IfOk result (λ valid. IsTrue valid ↔ IsValidRegion (entries_of log.now) figures.now.layers layer region.now) }
-    ensures cost { steps.new ≤ steps.old + 275192 }
+    ensures cost { hashes.new ≤ hashes.old + 275192 }
 {
     if !may_be_there(&figures.layers, layer, region) || region.keys.as_slice().len() > MOST_KEYS {
         return Ok(false);
@@ -42,7 +42,7 @@ pub(crate) fn is_valid_region<L: Ledger>(
         return Ok(false);
     }
     let alive = alive_keys(alloc, log, layer)?;
-    Ok(are_alive(region.keys.as_slice(), &alive, steps))
+    Ok(are_alive(region.keys.as_slice(), &alive, hashes))
 }
 
 /// Whether the region is empty or its layer reliable.
@@ -119,15 +119,15 @@ fn loss(layer: u8, entry: &Entry) -> u32
 }
 
 /// Whether the keys are those that are alive, in order.
-fn are_alive<L: Ledger>(keys: &[RegionKey], alive: &[MadeKey], steps: &mut Steps<L>) -> bool
+fn are_alive<L: Ledger>(keys: &[RegionKey], alive: &[MadeKey], hashes: &mut HashCount<L>) -> bool
     ensures alive { IsTrue result ↔ (map as_made keys.now ≡ listed alive.now) }
-    ensures cost { steps.new ≤ steps.old + 34399 * length keys.now }
+    ensures cost { hashes.new ≤ hashes.old + 34399 * length keys.now }
 {
     if keys.len() != alive.len() {
         return false;
     }
     for at in 0..keys.len() {
-        if !is_same(&keys[at], &alive[at], steps) {
+        if !is_same(&keys[at], &alive[at], hashes) {
             return false;
         }
     }
@@ -135,9 +135,9 @@ fn are_alive<L: Ledger>(keys: &[RegionKey], alive: &[MadeKey], steps: &mut Steps
 }
 
 /// Whether the key has the number, the kind and the public key of an entry.
-fn is_same<L: Ledger>(key: &RegionKey, made: &MadeKey, steps: &mut Steps<L>) -> bool
+fn is_same<L: Ledger>(key: &RegionKey, made: &MadeKey, hashes: &mut HashCount<L>) -> bool
     ensures same { IsTrue result ↔ (as_made key.now ≡ as_listed made.now) }
-    ensures cost { steps.new ≤ steps.old + 34399 }
+    ensures cost { hashes.new ≤ hashes.old + 34399 }
 {
-    key.number == made.number && key.kind == made.kind && public(&key.seed, steps) == made.key
+    key.number == made.number && key.kind == made.kind && public(&key.seed, hashes) == made.key
 }

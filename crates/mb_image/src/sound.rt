@@ -12,7 +12,7 @@ use crate::complete::completed;
 use crate::fates::fated;
 use crate::stored::Stored;
 use crate::validity::is_valid;
-use mb_lms::Steps;
+use mb_lms::HashCount;
 use mb_log::layers_of;
 use mb_model::{Fate, NoMemory, Pending, Root, State};
 use mb_signer::{KeptTree, public_kept};
@@ -24,19 +24,19 @@ use std::sync::ledger::Ledger;
 pub(crate) fn sound_state<L: Ledger>(
     alloc: Global,
     stored: Stored,
-    steps: &mut Steps<L>,
+    hashes: &mut HashCount<L>,
 ) -> Result<Option<State>, NoMemory>
     requires { CanBeCompleted (contents_of stored) }
     ensures state { IfOk result (λ state. MatchOption state (AreSound (contents_of stored) → ⊥) (λ s. AreSound (contents_of stored) × (s ≡ meant (contents_of stored)))) }
-    ensures cost { steps.new ≤ steps.old + 621330 }
+    ensures cost { hashes.new ≤ hashes.old + 621330 }
 {
     if !has_index(&stored.root) {
         return Ok(None);
     }
-    let tree = KeptTree::build(&stored.root.device, steps);
+    let tree = KeptTree::build(&stored.root.device, hashes);
     let device = public_kept(&tree, &stored.root.device);
-    let state = state_of(alloc, stored, &tree, steps)?;
-    if is_valid(alloc, &state, &device, steps)? {
+    let state = state_of(alloc, stored, &tree, hashes)?;
+    if is_valid(alloc, &state, &device, hashes)? {
         Ok(Some(state))
     } else {
         Ok(None)
@@ -59,12 +59,12 @@ fn state_of<L: Ledger>(
     alloc: Global,
     stored: Stored,
     tree: &KeptTree,
-    steps: &mut Steps<L>,
+    hashes: &mut HashCount<L>,
 ) -> Result<State, NoMemory>
     requires contents { CanBeCompleted (contents_of stored) }
     requires tree { IsTreeOf stored.root.device tree.now }
     ensures state { IfOk result (λ state. state ≡ meant (contents_of stored)) }
-    ensures cost { steps.new ≤ steps.old + 36547 }
+    ensures cost { hashes.new ≤ hashes.old + 36547 }
 {
     let Stored {
         root,
@@ -74,7 +74,7 @@ fn state_of<L: Ledger>(
         two,
         three,
     } = stored;
-    let log = completed(alloc, &root, tree, signed, unsigned.as_slice(), steps)?;
+    let log = completed(alloc, &root, tree, signed, unsigned.as_slice(), hashes)?;
     let two = fated(alloc, &fate_of_two(&root.pending), two)?;
     let three = fated(alloc, &fate_of_three(&root.pending), three)?;
     Ok(State {

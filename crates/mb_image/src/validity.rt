@@ -10,7 +10,7 @@ ghost use Rattle.mb_log.specs.Figures.{figures_of};
 use crate::codes::are_named;
 use crate::log::figures_of;
 use crate::regions::is_valid_region;
-use mb_lms::Steps;
+use mb_lms::HashCount;
 use mb_log::{Figures, serial_of};
 use mb_model::{NoMemory, PublicKey, SignedEntry, State};
 use std::alloc::Global;
@@ -22,14 +22,14 @@ pub(crate) fn is_valid<L: Ledger>(
     alloc: Global,
     state: &State,
     device: &PublicKey,
-    steps: &mut Steps<L>,
+    hashes: &mut HashCount<L>,
 ) -> Result<bool, NoMemory>
     requires spelled { All (λ signed. entry_format.Allowed signed.entry) state.now.log }
     requires short { length state.now.log < 2 ^ 32 - 1 }
     requires layers { state.now.layers ≡ layers_of (entries_of state.now.log) }
     requires device { device.now ≡ public_of state.now.device }
     ensures valid { IfOk result (λ valid. IsTrue valid ↔ IsValidState state.now) }
-    ensures cost { steps.new ≤ steps.old + 550384 }
+    ensures cost { hashes.new ≤ hashes.old + 550384 }
 {
     let log = state.log.as_slice();
     let Some(figures) = figures_of(alloc, log)? else {
@@ -38,10 +38,10 @@ pub(crate) fn is_valid<L: Ledger>(
     if !is_device(log, &figures, state, device) || !are_named(&state.layers, &state.codes) {
         return Ok(false);
     }
-    if !is_valid_region(alloc, log, &figures, 2, &state.two, steps)? {
+    if !is_valid_region(alloc, log, &figures, 2, &state.two, hashes)? {
         return Ok(false);
     }
-    is_valid_region(alloc, log, &figures, 3, &state.three, steps)
+    is_valid_region(alloc, log, &figures, 3, &state.three, hashes)
 }
 
 /// Whether the serial is that of the birth, the device key the one that is named last, and its uses those that the log

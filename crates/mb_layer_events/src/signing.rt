@@ -17,7 +17,7 @@ ghost use Rattle.mb_layer_events.specs.Statements.{IsPrepared, stated};
 use mb_board::Board;
 use mb_cert::{Statement, write_statement};
 use mb_layout::Room;
-use mb_lms::Steps;
+use mb_lms::HashCount;
 use mb_model::{Bytes, KeySeed, NoMemory, Reply};
 use mb_outbound::{BindEnd, bind, state_text};
 use mb_ratchet::{Off, Reaches};
@@ -63,12 +63,12 @@ fn state<Lg: Ledger>(
     serial: &[u8; 16],
     number: u32,
     prepared: Prepared,
-    steps: &mut Steps<Lg>,
+    hashes: &mut HashCount<Lg>,
 ) -> Bytes
     requires short { length prepared.message ≤ 128 }
     requires prepared { IsPrepared prepared.message prepared }
     ensures statement { result ≡ stated seed.now right key serial.now number prepared.message }
-    ensures cost { steps.new ≤ steps.old + 35473 }
+    ensures cost { hashes.new ≤ hashes.old + 35473 }
 {
     let mut signature = [0; 2348];
     let Prepared { message, mut bytes } = prepared;
@@ -80,7 +80,7 @@ fn state<Lg: Ledger>(
         number,
         message.as_slice(),
         &mut signature,
-        steps,
+        hashes,
     );
     let statement = Statement {
         number,
@@ -96,7 +96,7 @@ fn state<Lg: Ledger>(
 /// Answers a request to sign: the statement of the message by the key with this number at its next index, or a refusal
 /// where the region has no such key or none of its indices is left. The layer may run, and serial and number are those
 /// of the device. One more use of the key is stored before it signs, so no index signs twice; where power fails, the
-/// use is stored or not. There are at most three write calls, and 35,473 steps. `NoMemory` where an allocation fails,
+/// use is stored or not. There are at most three write calls, and 35,473 hashes. `NoMemory` where an allocation fails,
 /// of which no clause says when.
 pub fn sign_message<S: Reaches<L>, L: Named, B: Board, Lg: Ledger>(
     alloc: Global,
@@ -107,7 +107,7 @@ pub fn sign_message<S: Reaches<L>, L: Named, B: Board, Lg: Ledger>(
     serial: &[u8; 16],
     number: u32,
     room: &mut Room,
-    steps: &mut Steps<Lg>,
+    hashes: &mut HashCount<Lg>,
 ) -> Result<(S, Reply), Off>
     requires on { B.power b.old ≡ true }
     requires level { B.level b.old ≡ S.stage }
@@ -128,7 +128,7 @@ pub fn sign_message<S: Reaches<L>, L: Named, B: Board, Lg: Ledger>(
     ensures meter { IsMetered 3 result (B.meter b.old) (B.meter b.new) }
     ensures room { HasRoom room.new }
     ensures public { room.new.public ≡ room.old.public }
-    ensures cost { steps.new ≤ steps.old + 35473 }
+    ensures cost { hashes.new ≤ hashes.old + 35473 }
 {
     let prepared = match prepare(alloc, message) {
         Ok(prepared) => prepared,
@@ -137,7 +137,7 @@ pub fn sign_message<S: Reaches<L>, L: Named, B: Board, Lg: Ledger>(
     match bind::<S, L, B>(s, b, key, room) {
         Ok((s, right, seed)) => {
             let index = right.index();
-            let statement = state(right, &seed, key, serial, number, prepared, steps);
+            let statement = state(right, &seed, key, serial, number, prepared, hashes);
             Ok((
                 s,
                 Reply::Signed {

@@ -46,7 +46,7 @@ enum Content {
     Sevens(usize),
 }
 
-/// Steps over one host.
+/// HashCount over one host.
 struct Play {
     /// The numbers of the host's calls that fail.
     failing: &'static [u64],
@@ -136,7 +136,7 @@ fn go_through(
     parts: &[&[Step]],
 ) -> Result<(), Fail> {
     for steps in parts {
-        go_on(rt, host, steps)?;
+        go_on(rt, host, hashes)?;
     }
     Ok(())
 }

@@ -12,17 +12,17 @@
 
 mod bytes;
 mod checker;
+mod hash_count;
 mod key;
 mod one_time;
 mod parameters;
 mod signature;
-mod steps;
 mod tree;
 
 pub use checker::{Checker, verify};
+pub use hash_count::{HashCount, hash};
 pub use key::{key_bytes, key_hash, parse_key};
 pub use one_time::{chain_prefix, digit, digits_of};
-pub use steps::{Steps, hash};
 
 #[cfg(test)]
 mod tests;

@@ -9,7 +9,7 @@ ghost use Rattle.mb_log.specs.Additions.{needed_with, names_next, HasRoom, next_
 
 use crate::keys::born;
 use mb_authority::renews;
-use mb_lms::Steps;
+use mb_lms::HashCount;
 use mb_model::{
     Bodies, Entries, Entry, Fact, KeyKind, KeySeed, NoMemory, Outgoing, PublicKey, RegionKey, View,
 };
@@ -35,7 +35,7 @@ pub fn needed(uses: u32, names_next: bool) -> u32
     }
 }
 
-/// What the fact adds to a device, whose keys are made of the draw, in at most 68,798 steps: those of two public keys.
+/// What the fact adds to a device, whose keys are made of the draw, in at most 68,798 hashes: those of two public keys.
 ///
 /// Errors: `NoMemory`, of which no clause says when it comes, but before any step.
 pub fn bodies<L: Ledger>(
@@ -43,20 +43,20 @@ pub fn bodies<L: Ledger>(
     view: &View,
     fact: &Fact,
     draw: &[u8; 32],
-    steps: &mut Steps<L>,
+    hashes: &mut HashCount<L>,
 ) -> Result<Bodies, NoMemory>
     requires uses { view.now.uses ≤ 31 }
     requires room { HasRoom view.now fact.now }
     requires number { view.now.number ≤ 128 }
     requires keys_made { view.now.keys_made ≤ 128 }
     ensures bodies { (state : State) (order : Order) → view.now ≡ view_of state → fact.now ≡ fact_of state order order.act → IfOk result (λ bodies. bodies ≡ bodies_for state order draw.now) }
-    ensures cost { steps.new ≤ steps.old + 68798 }
-    ensures unhashed { OnErr result (steps.new ≡ steps.old) }
+    ensures cost { hashes.new ≤ hashes.old + 68798 }
+    ensures unhashed { OnErr result (hashes.new ≡ hashes.old) }
 {
     let mut entries = Vec::with_capacity(alloc, MOST)?;
     let next_named = names_next(fact);
-    let ready = make_ready(view, next_named, draw, &mut entries, steps);
-    let own = own_addition(&ready, fact, draw, steps);
+    let ready = make_ready(view, next_named, draw, &mut entries, hashes);
+    let own = own_addition(&ready, fact, draw, hashes);
     put(&mut entries, own.entry);
     Ok(Bodies {
         entries: Entries::from_vec(entries),
@@ -96,7 +96,7 @@ fn make_ready<L: Ledger>(
     names_next: bool,
     draw: &[u8; 32],
     entries: &mut Vec<Entry>,
-    steps: &mut Steps<L>,
+    hashes: &mut HashCount<L>,
 ) -> View
     requires empty { vec_len entries.old ≡ 0 }
     requires capacity { MOST ≤ vec_capacity entries.old }
@@ -105,12 +105,12 @@ fn make_ready<L: Ledger>(
     ensures ready { result ≡ ready_by view.now names_next draw.now }
     ensures entries { entries.new.items ≡ entries.old.items ++ first_by view.now names_next draw.now }
     ensures room { vec_len entries.new < vec_capacity entries.new }
-    ensures cost { steps.new ≤ steps.old + 34399 }
+    ensures cost { hashes.new ≤ hashes.old + 34399 }
 {
     if needed(view.uses, names_next) == 1 {
         return *view;
     }
-    let next = make_key(view, draw, steps);
+    let next = make_key(view, draw, hashes);
     let succession = Entry::Succession {
         position: view.length,
         key: next.public,
@@ -133,15 +133,15 @@ struct MadeKey {
 }
 
 /// The key that the device makes next.
-fn make_key<L: Ledger>(view: &View, draw: &[u8; 32], steps: &mut Steps<L>) -> MadeKey
+fn make_key<L: Ledger>(view: &View, draw: &[u8; 32], hashes: &mut HashCount<L>) -> MadeKey
     ensures seed { result.seed ≡ next_by view.now draw.now }
     ensures public { result.public ≡ public_of (next_by view.now draw.now) }
-    ensures counted { steps.new ≡ steps.old + 34399 }
+    ensures counted { hashes.new ≡ hashes.old + 34399 }
 {
     let seed = born(draw, &view.serial, view.keys_made);
     MadeKey {
         seed,
-        public: public(&seed, steps),
+        public: public(&seed, hashes),
     }
 }
 
@@ -160,13 +160,13 @@ fn device_after<L: Ledger>(
     names_next: bool,
     view: &View,
     draw: &[u8; 32],
-    steps: &mut Steps<L>,
+    hashes: &mut HashCount<L>,
 ) -> DeviceKey
     requires { view.now.uses ≤ 31 }
     ensures named { result.named ≡ next_public names_next view.now draw.now }
     ensures seed { result.seed ≡ (if names_next then next_by view.now draw.now else view.now.device) }
     ensures uses { result.uses ≡ (if names_next then 0 else view.now.uses + 1) }
-    ensures cost { steps.new ≤ steps.old + 34399 }
+    ensures cost { hashes.new ≤ hashes.old + 34399 }
 {
     if !names_next {
         return DeviceKey {
@@ -175,7 +175,7 @@ fn device_after<L: Ledger>(
             uses: view.uses + 1,
         };
     }
-    let next = make_key(view, draw, steps);
+    let next = make_key(view, draw, hashes);
     DeviceKey {
         named: Some(next.public),
         seed: next.seed,
@@ -200,7 +200,7 @@ fn own_addition<L: Ledger>(
     view: &View,
     fact: &Fact,
     draw: &[u8; 32],
-    steps: &mut Steps<L>,
+    hashes: &mut HashCount<L>,
 ) -> Addition
     requires uses { view.now.uses ≤ 31 }
     requires number { view.now.number ≤ 128 }
@@ -208,7 +208,7 @@ fn own_addition<L: Ledger>(
     ensures device { result.device ≡ device_by view.now fact.now draw.now }
     ensures uses { result.uses ≡ uses_by view.now fact.now }
     ensures key { result.key ≡ key_by view.now fact.now draw.now }
-    ensures cost { steps.new ≤ steps.old + 34399 }
+    ensures cost { hashes.new ≤ hashes.old + 34399 }
 {
     match *fact {
         Fact::Change {
@@ -218,7 +218,7 @@ fn own_addition<L: Ledger>(
             layers,
             kept,
         } => {
-            let device = device_after(renews(Some(kind), layer), view, draw, steps);
+            let device = device_after(renews(Some(kind), layer), view, draw, hashes);
             let entry = Entry::Change {
                 version: 2,
                 position: view.length,
@@ -237,7 +237,7 @@ fn own_addition<L: Ledger>(
                 key: None,
             }
         }
-        Fact::NewKey { layer, kind } => key_addition(view, layer, kind, draw, steps),
+        Fact::NewKey { layer, kind } => key_addition(view, layer, kind, draw, hashes),
     }
 }
 
@@ -247,16 +247,16 @@ fn key_addition<L: Ledger>(
     layer: u8,
     kind: KeyKind,
     draw: &[u8; 32],
-    steps: &mut Steps<L>,
+    hashes: &mut HashCount<L>,
 ) -> Addition
     requires { view.now.uses ≤ 31 }
     ensures entry { result.entry ≡ entry_by view.now (Fact.NewKey layer kind) draw.now }
     ensures device { result.device ≡ view.now.device }
     ensures uses { result.uses ≡ view.now.uses + 1 }
     ensures key { result.key ≡ key_by view.now (Fact.NewKey layer kind) draw.now }
-    ensures cost { steps.new ≤ steps.old + 34399 }
+    ensures cost { hashes.new ≤ hashes.old + 34399 }
 {
-    let made = make_key(view, draw, steps);
+    let made = make_key(view, draw, hashes);
     Addition {
         entry: Entry::NewKey {
             position: view.length,

@@ -9,7 +9,7 @@ use Rattle.mb_model.specs.Board.{Held, AreBytes, image_of}
 use Rattle.mb_model.specs.Acknowledged.{Shows, AreWiping}
 use Rattle.mb_model.specs.Clean.{Clean}
 use Rattle.mb_model.specs.Regions.{KeptRightly}
-use Rattle.mb_model.specs.Runs.{IsSoundRun}
+use Rattle.mb_model.specs.Runs.{IsSoundRun, StatementsStayAccepted}
 use Rattle.mb_model.specs.Replies.{replies_text}
 use Rattle.mb_model.specs.Inputs.{image_input, script_input, draws_input}
 use Rattle.mb_model.specs.Commands.{Command, read, serve, write, print}
@@ -38,6 +38,7 @@ pub record IsServed
   -- each secret and key of the state was admitted by its layer at each change since it came into its region
   pub kept : KeptRightly last.state
   pub sound : IsSoundRun (opening first) answered last run
+  pub accepted : StatementsStayAccepted (opening first) answered last run
 
 -- the new image is written over the old one, and then the replies are printed
 abbrev pub write_image : RunNames → List Answered → Held → Command

@@ -134,8 +134,8 @@ pub record IsSoundWorld (world : World) : Type 0 where
   pub keys : (live : State) (L : ℕ) → world.state ≡ Some live → IsTrue (is_upper L) → HoldsLivingKeys live L
   pub once : (live : State) → world.state ≡ Some live → SignsEntriesOnce live.log
 
--- What a run tells: each of its worlds is sound, each log begins each later one, no key of a region signs two
--- statements with one index, nor with one that was used before the run, and each statement stays accepted.
+-- What a run tells, whatever its events: each of its worlds is sound, each log begins each later one, and no key of a
+-- region signs two statements with one index, nor with one that was used before the run.
 pub record IsSoundRun
     (world : World)
     (answered : List Answered)
@@ -145,4 +145,3 @@ pub record IsSoundRun
   pub logs : AllPairs LogGoesOn (worlds_of world answered next run)
   pub statements : SignsStatementsOnce answered
   pub uses : SignsAfterUses world.state answered
-  pub accepted : StatementsStayAccepted world answered next run

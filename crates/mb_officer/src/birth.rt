@@ -18,7 +18,7 @@ use crate::image::put_image;
 use crate::keyfile::NONE_LEFT;
 use crate::signing::{SignEnd, sign_next, use_up};
 use mb_layout::{write_entry, write_public_parts, write_root};
-use mb_lms::Steps;
+use mb_lms::HashCount;
 use mb_log::born;
 use mb_model::{
     Bytes, CodeName, Codes, Entry, IMAGE_LENGTH, KeySeed, Keyfile, Layer, Layers, NoMemory,
@@ -58,7 +58,7 @@ pub(crate) struct Device {
 }
 
 /// The image of a new device, made of the noise, whose layer 1 has this owner and this code, of at most 32,768 bytes.
-/// The maker's key signs the device's birth at its next index, which is at most 32, in at most 69,872 steps.
+/// The maker's key signs the device's birth at its next index, which is at most 32, in at most 69,872 hashes.
 ///
 /// Errors: `Spent` exactly where the next index is 32, and `NoMemory`, of which no clause says when it comes.
 pub fn factory<L: Ledger>(
@@ -67,7 +67,7 @@ pub fn factory<L: Ledger>(
     owner: &PublicKey,
     code: &[u8],
     noise: &[u8; 48],
-    steps: &mut Steps<L>,
+    hashes: &mut HashCount<L>,
 ) -> Result<Vec<u8>, SignEnd>
     requires next { k.old.next ≤ 32 }
     requires code { length code.now ≤ 32768 }
@@ -76,8 +76,8 @@ pub fn factory<L: Ledger>(
     ensures used { OnOk result (k.new ≡ used_once k.old) }
     ensures spent { IsErrOf result SignEnd.Spent ↔ (k.old.next ≡ 32) }
     ensures countersignable { IsErrOf result SignEnd.NotCountersignable → ⊥ }
-    ensures unchanged { OnErr result ((k.new ≡ k.old) × (steps.new ≡ steps.old)) }
-    ensures cost { steps.new ≤ steps.old + 69872 }
+    ensures unchanged { OnErr result ((k.new ≡ k.old) × (hashes.new ≡ hashes.old)) }
+    ensures cost { hashes.new ≤ hashes.old + 69872 }
 {
     if k.next == NONE_LEFT {
         return Err(SignEnd::Spent);
@@ -89,8 +89,8 @@ pub fn factory<L: Ledger>(
     let text = room(alloc, MOST_ENTRY)?;
     let mut stored = room(alloc, MOST_PUBLIC)?;
     let mut image = room(alloc, IMAGE_LENGTH)?;
-    let birth = birth_of(&device, owner, code, steps);
-    let log = [sign_birth(k, birth, text, steps)];
+    let birth = birth_of(&device, owner, code, hashes);
+    let log = [sign_birth(k, birth, text, hashes)];
     store(&codes, &log, &mut stored);
     let Ok(()) = put_image(&mut image, &stored, &root) else {
         unreachable!();
@@ -165,10 +165,10 @@ fn birth_of<L: Ledger>(
     device: &Device,
     owner: &PublicKey,
     code: &[u8],
-    steps: &mut Steps<L>,
+    hashes: &mut HashCount<L>,
 ) -> Entry
     ensures birth { result ≡ entry.Birth 2 device.now.serial (public_of device.now.key) (layers_at_birth owner.now code.now) }
-    ensures cost { steps.new ≡ steps.old + 34399 }
+    ensures cost { hashes.new ≡ hashes.old + 34399 }
 {
     let name = CodeName {
         hash: Sha256::digest(code),
@@ -183,7 +183,7 @@ fn birth_of<L: Ledger>(
     Entry::Birth {
         version: 2,
         serial: device.serial,
-        key: public(&device.key, steps),
+        key: public(&device.key, hashes),
         layers: Layers {
             one,
             two: UNOWNED,
@@ -197,14 +197,14 @@ fn sign_birth<L: Ledger>(
     k: &Keyfile,
     birth: Entry,
     text: Vec<u8>,
-    steps: &mut Steps<L>,
+    hashes: &mut HashCount<L>,
 ) -> SignedEntry
     requires next { k.now.next ≤ 31 }
     requires spelled { entry_format.Allowed birth }
     requires empty { text.items ≡ [] }
     requires room { vec_len text + 358 ≤ vec_capacity text }
     ensures signed { result ≡ signed_by k.now.seed k.now.next birth }
-    ensures cost { steps.new ≤ steps.old + 35473 }
+    ensures cost { hashes.new ≤ hashes.old + 35473 }
 {
     let mut text = text;
     let Ok(()) = write_entry(&birth, &mut text) else {
@@ -212,7 +212,7 @@ fn sign_birth<L: Ledger>(
     };
     SignedEntry {
         entry: birth,
-        signature: sign_next(k, &[ENTRY], &text, steps),
+        signature: sign_next(k, &[ENTRY], &text, hashes),
     }
 }
 

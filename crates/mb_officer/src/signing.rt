@@ -9,7 +9,7 @@ ghost use Rattle.mb_model.specs.Rules.{kind_of, change_of, is_load};
 
 use crate::keyfile::NONE_LEFT;
 use mb_command::{COUNTERSIGNATURE_HEAD, ORDER_HEAD, signed_part};
-use mb_lms::Steps;
+use mb_lms::HashCount;
 use mb_model::{Act, Bytes, Countersignature, Countersignatures, Keyfile, NoMemory, Order};
 use mb_signer::{Uses, sign, take_index};
 use std::alloc::Global;
@@ -37,14 +37,14 @@ impl From<NoMemory> for SignEnd {
 }
 
 /// Signs the order by the key, in place of the signature that it has, and answers the index of the signature, in at
-/// most 35,473 steps. The order has a spelling, and the key's next index is at most 32.
+/// most 35,473 hashes. The order has a spelling, and the key's next index is at most 32.
 ///
 /// Errors: `Spent` exactly where the next index is 32, and `NoMemory`, of which no clause says when it comes.
 pub fn sign_order<L: Ledger>(
     alloc: Global,
     k: &mut Keyfile,
     order: &mut Order,
-    steps: &mut Steps<L>,
+    hashes: &mut HashCount<L>,
 ) -> Result<u32, SignEnd>
     requires next { k.old.next ≤ 32 }
     requires spelled { order_format.Allowed order.old }
@@ -52,20 +52,20 @@ pub fn sign_order<L: Ledger>(
     ensures spelled { OnOk result (order_format.Allowed order.new) }
     ensures spent { IsErrOf result SignEnd.Spent ↔ (k.old.next ≡ 32) }
     ensures countersignable { IsErrOf result SignEnd.NotCountersignable → ⊥ }
-    ensures unchanged { OnErr result ((k.new ≡ k.old) × (order.new ≡ order.old) × (steps.new ≡ steps.old)) }
-    ensures cost { steps.new ≤ steps.old + 35473 }
+    ensures unchanged { OnErr result ((k.new ≡ k.old) × (order.new ≡ order.old) × (hashes.new ≡ hashes.old)) }
+    ensures cost { hashes.new ≤ hashes.old + 35473 }
 {
     if k.next == NONE_LEFT {
         return Err(SignEnd::Spent);
     }
     let body = signed_part(alloc, order)?;
     let room = signature_room(alloc)?;
-    order.signature = signature_at(k, &[ORDER_HEAD], body.as_slice(), room, steps);
+    order.signature = signature_at(k, &[ORDER_HEAD], body.as_slice(), room, hashes);
     Ok(use_up(k))
 }
 
 /// Adds the countersignature by the key of the owner of the layer, 2 or 3, in its place by layers, and answers the
-/// index of the signature, in at most 35,473 steps. The order has a spelling, and the key's next index is at most 32.
+/// index of the signature, in at most 35,473 hashes. The order has a spelling, and the key's next index is at most 32.
 ///
 /// Errors: `NotCountersignable` exactly where the order is no load, the layer is not above the order's, or that layer's
 /// countersignature is there; else `Spent` exactly where the next index is 32; and `NoMemory`, of which no clause says
@@ -75,7 +75,7 @@ pub fn countersign<L: Ledger>(
     k: &mut Keyfile,
     layer: u8,
     order: &mut Order,
-    steps: &mut Steps<L>,
+    hashes: &mut HashCount<L>,
 ) -> Result<u32, SignEnd>
     requires next { k.old.next ≤ 32 }
     requires spelled { order_format.Allowed order.old }
@@ -84,8 +84,8 @@ pub fn countersign<L: Ledger>(
     ensures spelled { OnOk result (order_format.Allowed order.new) }
     ensures countersignable { IsErrOf result SignEnd.NotCountersignable ↔ (IsCountersignable order.old layer → ⊥) }
     ensures spent { IsErrOf result SignEnd.Spent ↔ (IsCountersignable order.old layer × (k.old.next ≡ 32)) }
-    ensures unchanged { OnErr result ((k.new ≡ k.old) × (order.new ≡ order.old) × (steps.new ≡ steps.old)) }
-    ensures cost { steps.new ≤ steps.old + 35473 }
+    ensures unchanged { OnErr result ((k.new ≡ k.old) × (order.new ≡ order.old) × (hashes.new ≡ hashes.old)) }
+    ensures cost { hashes.new ≤ hashes.old + 35473 }
 {
     if !is_countersignable(order, layer) {
         return Err(SignEnd::NotCountersignable);
@@ -101,7 +101,7 @@ pub fn countersign<L: Ledger>(
         signature: empty,
     })?;
     let head = [COUNTERSIGNATURE_HEAD, layer];
-    let signature = signature_at(k, &head, body.as_slice(), own_room, steps);
+    let signature = signature_at(k, &head, body.as_slice(), own_room, hashes);
     put_in_place(
         &mut order.countersignatures,
         Countersignature { layer, signature },
@@ -169,16 +169,16 @@ fn signature_at<L: Ledger>(
     head: &[u8],
     body: &[u8],
     room: Vec<u8>,
-    steps: &mut Steps<L>,
+    hashes: &mut HashCount<L>,
 ) -> Bytes
     requires next { k.now.next ≤ 31 }
     requires room { length room.items ≡ 2348 }
     ensures signature { result ≡ signature_of k.now.seed k.now.next (head.now ++ body.now) }
     ensures length { length result ≡ 2348 }
-    ensures cost { steps.new ≤ steps.old + 35473 }
+    ensures cost { hashes.new ≤ hashes.old + 35473 }
 {
     let mut room = room;
-    let signature = sign_next(k, head, body, steps);
+    let signature = sign_next(k, head, body, hashes);
     room.copy_from_slice(&signature);
     Bytes::from_vec(room)
 }
@@ -188,17 +188,17 @@ pub(crate) fn sign_next<L: Ledger>(
     k: &Keyfile,
     head: &[u8],
     body: &[u8],
-    steps: &mut Steps<L>,
+    hashes: &mut HashCount<L>,
 ) -> [u8; 2348]
     requires { k.now.next ≤ 31 }
     ensures signature { result ≡ signature_of k.now.seed k.now.next (head.now ++ body.now) }
-    ensures cost { steps.new ≤ steps.old + 35473 }
+    ensures cost { hashes.new ≤ hashes.old + 35473 }
 {
     let mut uses = Uses::stored(k.next);
     let Some(right) = take_index(&mut uses) else {
         unreachable!();
     };
     let mut signature = [0; 2348];
-    sign(right, &k.seed, head, body, &mut signature, steps);
+    sign(right, &k.seed, head, body, &mut signature, hashes);
     signature
 }

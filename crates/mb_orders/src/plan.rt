@@ -10,7 +10,7 @@ ghost use Rattle.mb_orders.specs.ByFigures.{LogHasRoomBy, change_fact_by, fact_b
 ghost use Rattle.mb_orders.specs.Judging.{plan_of};
 
 use mb_authority::{admits, after, kept_regions, layer_of, placed};
-use mb_lms::Steps;
+use mb_lms::HashCount;
 use mb_log::bodies;
 use mb_model::{
     Act, Bodies, ChangeKind, Fact, Fate, Layers, NoMemory, Order, Pair, RegionKey, View,
@@ -129,18 +129,18 @@ pub fn make_plan<L: Ledger>(
     view: &View,
     order: &Order,
     draw: &[u8; 32],
-    steps: &mut Steps<L>,
+    hashes: &mut HashCount<L>,
 ) -> Result<Plan, NoMemory>
     requires uses { view.now.uses ≤ 31 }
     requires number { view.now.number ≤ 128 }
     requires keys_made { view.now.keys_made ≤ 128 }
     requires room { LogHasRoomBy view.now order.now }
     ensures planned { (state : State) → view.now ≡ view_of state → IfOk result (λ plan. plan ≡ plan_of state order.now draw.now) }
-    ensures cost { steps.new ≤ steps.old + 68798 }
-    ensures unhashed { OnErr result (steps.new ≡ steps.old) }
+    ensures cost { hashes.new ≤ hashes.old + 68798 }
+    ensures unhashed { OnErr result (hashes.new ≡ hashes.old) }
 {
     let fact = fact_of(&view.layers, order);
-    let bodies = bodies(alloc, view, &fact, draw, steps)?;
+    let bodies = bodies(alloc, view, &fact, draw, hashes)?;
     Ok(Plan {
         layers: layers_after(&view.layers, &fact),
         two: fate_of(&view.layers, &fact, bodies.key, 2),

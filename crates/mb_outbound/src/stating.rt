@@ -6,7 +6,7 @@ ghost use Rattle.mb_model.specs.Signing.{signature_of};
 ghost use Rattle.mb_model.specs.SignedTexts.{statement_text};
 
 use mb_bytes::put_at;
-use mb_lms::Steps;
+use mb_lms::HashCount;
 use mb_model::KeySeed;
 use mb_signer::{OneUse, sign};
 use std::sync::ledger::Ledger;
@@ -28,7 +28,7 @@ fn statement_head(serial: &[u8; 16], key: u32, number: u32) -> [u8; 25]
 }
 
 /// Signs a statement: what the key with this number states of a message, in the device with this serial and at this
-/// configuration number. The seed is the key's, and the right is spent. At most 35,473 steps are taken, and no memory.
+/// configuration number. The seed is the key's, and the right is spent. At most 35,473 hashes are taken, and no memory.
 pub fn state_text<L: Ledger>(
     right: OneUse,
     seed: &KeySeed,
@@ -37,11 +37,11 @@ pub fn state_text<L: Ledger>(
     number: u32,
     message: &[u8],
     out: &mut [u8; 2348],
-    steps: &mut Steps<L>,
+    hashes: &mut HashCount<L>,
 )
     ensures signature { out.new ≡ signature_of seed.now right (statement_text serial.now key number message.now) }
-    ensures cost { steps.new ≤ steps.old + 35473 }
+    ensures cost { hashes.new ≤ hashes.old + 35473 }
 {
     let head = statement_head(serial, key, number);
-    sign(right, seed, &head, message, out, steps);
+    sign(right, seed, &head, message, out, hashes);
 }

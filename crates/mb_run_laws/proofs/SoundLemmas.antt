@@ -12,10 +12,8 @@ use Rattle.mb_model.specs.Lives.{configuration}
 use Rattle.mb_model.specs.Signing.{public_of}
 use Rattle.mb_model.specs.OrderStep.{region_of}
 use Rattle.mb_model.specs.Machine.{World, Run}
-use Rattle.mb_model.specs.Script.{IsScriptEvent}
 use Rattle.mb_model.specs.Valid.{IsValidRegion, Valid, IsValidState}
 use Rattle.mb_model.specs.Runs.{worlds_of, HoldsLivingKeys, IsSoundWorld, IsSoundRun}
-use Rattle.mb_storing.specs.Storable.{Storable}
 use Rattle.mb_lemmas.proofs.PresentLemmas.{alive_lives_now}
 use Rattle.mb_lemmas.proofs.FatedStates.{region_key_lives, living_key_stands}
 use Rattle.mb_lemmas.proofs.ValidStates.{valid_is_ruled, region_is_valid}
@@ -23,7 +21,6 @@ use Rattle.mb_lemmas.proofs.ValidSteps.{run_valid}
 use Rattle.mb_run_laws.proofs.IndexLemmas.{signs_entries_once}
 use Rattle.mb_run_laws.proofs.GrowthLemmas.{each_log_grows}
 use Rattle.mb_run_laws.proofs.SpentLemmas.{indices_increase, indices_start}
-use Rattle.mb_run_laws.proofs.StatementLemmas.{statements_stay_accepted}
 use Rattle.mb_run_laws.proofs.KeptByRuns.{runs_lead_there}
 
 -- the region of an upper layer holds the keys that are alive
@@ -53,8 +50,8 @@ valid_is_sound world valid = record {
 }
 
 pub run_is_sound : (world : World) (answered : List Answered) (next : World) (run : Run world answered next)
-    → All (λ this. IsScriptEvent this.event) answered → Valid world.state → Storable world.state → IsSoundRun world answered next run
-run_is_sound world answered next run scripts valid stored =
+    → Valid world.state → IsSoundRun world answered next run
+run_is_sound world answered next run valid =
     let P : World → Type 0 = λ w. (part : List Answered) × Run world part w in
     record {
       sound = All-weaker P IsSoundWorld (λ w part. valid_is_sound w (run_valid world part.0 w valid part.1)) (worlds_of world answered next run)
@@ -62,5 +59,4 @@ run_is_sound world answered next run scripts valid stored =
       logs = each_log_grows world answered next run;
       statements = indices_increase world answered next valid run;
       uses = λ live L key is within. indices_start world answered next live L key valid run is within;
-      accepted = statements_stay_accepted world answered next run scripts valid stored;
     }

@@ -6,7 +6,7 @@ use Rattle.mb_model.specs.Board.{Held}
 use Rattle.mb_model.specs.Machine.{World, Run}
 use Rattle.mb_model.specs.Script.{IsScriptEvent}
 use Rattle.mb_model.specs.Valid.{Valid}
-use Rattle.mb_model.specs.Runs.{worlds_of, LogGoesOn, IsSoundRun}
+use Rattle.mb_model.specs.Runs.{worlds_of, LogGoesOn, StatementsStayAccepted, IsSoundRun}
 use Rattle.mb_storing.specs.Storable.{Storable}
 
 -- The log of each world of a run begins that of each later one.
@@ -20,12 +20,19 @@ abbrev pub LogsGrowOverRuns : Type 0
 LogsGrowOverRuns =
     (world : World) (answered : List Answered) (next : World) → Run world answered next → LogGoesOn world next
 
--- A run of events of a script, from a state that a device can have and that can be stored, is sound throughout.
+-- A run from a state that a device can have is sound throughout, whatever its events.
 abbrev pub RunsAreSound : Type 0
 RunsAreSound =
     (world : World) (answered : List Answered) (next : World) (run : Run world answered next)
+    → Valid world.state → IsSoundRun world answered next run
+
+-- Each statement that is answered stays accepted, where a script can give the events, and the first state can be stored:
+-- a longer message has no statement that spells it.
+abbrev pub StatementsOfRunsStayAccepted : Type 0
+StatementsOfRunsStayAccepted =
+    (world : World) (answered : List Answered) (next : World) (run : Run world answered next)
     → All (λ this. IsScriptEvent this.event) answered → Valid world.state → Storable world.state
-    → IsSoundRun world answered next run
+    → StatementsStayAccepted world answered next run
 
 -- ---- what a board holds at its answers
 

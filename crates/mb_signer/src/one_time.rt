@@ -7,7 +7,7 @@ ghost use Rattle.mb_model.specs.Signing.{private_value, randomizer_of, public_en
 
 use crate::bytes::marked;
 use mb_bytes::put_at;
-use mb_lms::{Steps, chain_prefix, hash};
+use mb_lms::{HashCount, chain_prefix, hash};
 use mb_model::KeySeed;
 use std::sync::ledger::Ledger;
 
@@ -35,39 +35,48 @@ fn chain_step<L: Ledger>(
     prefix: &[u8; 22],
     step: u8,
     value: &[u8; 32],
-    steps: &mut Steps<L>,
+    hashes: &mut HashCount<L>,
 ) -> [u8; 32]
     ensures value { (id : List ℕ) (q chain : ℕ) → prefix.now ≡ id ++ to_be_bytes w32 q ++ to_be_bytes w16 chain → result ≡ chain_step id q chain step value.now }
-    ensures counted { steps.new ≡ steps.old + 1 }
+    ensures counted { hashes.new ≡ hashes.old + 1 }
 {
     let mut text = [0; 55];
     put_at(&mut text, 0, prefix);
     put_at(&mut text, 22, &[step]);
     put_at(&mut text, 23, value);
-    hash(&text, &[], &[], steps)
+    hash(&text, &[], &[], hashes)
 }
 
 /// The private value with the number `number` of leaf `q` (RFC 8554, appendix A).
 #[tactic(auto, unfolding(mb_model::specs::Winternitz::chain_step, mb_model::specs::Signing::private_value))]
-fn private_value<L: Ledger>(seed: &KeySeed, q: u32, number: u16, steps: &mut Steps<L>) -> [u8; 32]
+fn private_value<L: Ledger>(
+    seed: &KeySeed,
+    q: u32,
+    number: u16,
+    hashes: &mut HashCount<L>,
+) -> [u8; 32]
     ensures value { result ≡ private_value seed.now q number }
-    ensures counted { steps.new ≡ steps.old + 1 }
+    ensures counted { hashes.new ≡ hashes.old + 1 }
 {
     chain_step(
         &chain_prefix(&seed.identifier, q, number),
         SEED,
         &seed.seed,
-        steps,
+        hashes,
     )
 }
 
 /// C of the signature at leaf `q`.
 #[tactic(auto, unfolding(mb_model::specs::Signing::randomizer_of))]
-pub(crate) fn randomizer_at<L: Ledger>(seed: &KeySeed, q: u32, steps: &mut Steps<L>) -> [u8; 32]
+pub(crate) fn randomizer_at<L: Ledger>(
+    seed: &KeySeed,
+    q: u32,
+    hashes: &mut HashCount<L>,
+) -> [u8; 32]
     ensures value { result ≡ randomizer_of seed.now q }
-    ensures counted { steps.new ≡ steps.old + 1 }
+    ensures counted { hashes.new ≡ hashes.old + 1 }
 {
-    private_value(seed, q, RANDOMIZER, steps)
+    private_value(seed, q, RANDOMIZER, hashes)
 }
 
 /// A chain's private value, taken through its first `last` steps (RFC 8554, sections 4.3 and 4.5).
@@ -77,15 +86,15 @@ pub(crate) fn chain_value<L: Ledger>(
     q: u32,
     chain: u16,
     last: u8,
-    steps: &mut Steps<L>,
+    hashes: &mut HashCount<L>,
 ) -> [u8; 32]
     ensures value { result ≡ taken seed.now.identifier q chain 0 last (private_value seed.now q chain) }
-    ensures counted { steps.new ≡ steps.old + 1 + last }
+    ensures counted { hashes.new ≡ hashes.old + 1 + last }
 {
     let prefix = chain_prefix(&seed.identifier, q, chain);
-    let mut link = private_value(seed, q, chain, steps);
+    let mut link = private_value(seed, q, chain, hashes);
     for step in 0..last {
-        link = chain_step(&prefix, step, &link, steps);
+        link = chain_step(&prefix, step, &link, hashes);
     }
     link
 }
@@ -97,13 +106,13 @@ fn no_ends() -> [u8; 2144] {
 
 /// The ends of all chains of leaf `q` (RFC 8554, section 4.3).
 #[tactic(auto, using(crate::proofs::Chains::end_rules))]
-fn public_ends<L: Ledger>(seed: &KeySeed, q: u32, steps: &mut Steps<L>) -> [u8; 2144]
+fn public_ends<L: Ledger>(seed: &KeySeed, q: u32, hashes: &mut HashCount<L>) -> [u8; 2144]
     ensures value { result ≡ public_ends seed.now q CHAINS }
-    ensures counted { steps.new ≡ steps.old + 1072 }
+    ensures counted { hashes.new ≡ hashes.old + 1072 }
 {
     let mut ends = no_ends();
     for chain in 0..CHAINS {
-        let end = chain_value(seed, q, chain, CHAIN_STEPS, steps);
+        let end = chain_value(seed, q, chain, CHAIN_STEPS, hashes);
         put_at(&mut ends, 32 * usize::from(chain), &end);
     }
     ends
@@ -111,16 +120,20 @@ fn public_ends<L: Ledger>(seed: &KeySeed, q: u32, steps: &mut Steps<L>) -> [u8; 
 
 /// K of leaf `q`, its one-time public key (RFC 8554, section 4.3).
 #[tactic(auto, unfolding(mb_model::specs::Signing::one_time_public))]
-pub(crate) fn one_time_public<L: Ledger>(seed: &KeySeed, q: u32, steps: &mut Steps<L>) -> [u8; 32]
+pub(crate) fn one_time_public<L: Ledger>(
+    seed: &KeySeed,
+    q: u32,
+    hashes: &mut HashCount<L>,
+) -> [u8; 32]
     ensures value { result ≡ one_time_public seed.now q }
-    ensures counted { steps.new ≡ steps.old + 1073 }
+    ensures counted { hashes.new ≡ hashes.old + 1073 }
 {
-    let ends = public_ends(seed, q, steps);
+    let ends = public_ends(seed, q, hashes);
     hash(
         &marked(&seed.identifier, q, ONE_TIME_KEY_MARK),
         &ends,
         &[],
-        steps,
+        hashes,
     )
 }
 
@@ -132,13 +145,13 @@ pub(crate) fn message_hash<L: Ledger>(
     randomizer: &[u8; 32],
     head: &[u8],
     body: &[u8],
-    steps: &mut Steps<L>,
+    hashes: &mut HashCount<L>,
 ) -> [u8; 32]
     ensures value { result ≡ message_hash seed.now.identifier q randomizer.now (head.now ++ body.now) }
-    ensures counted { steps.new ≡ steps.old + 1 }
+    ensures counted { hashes.new ≡ hashes.old + 1 }
 {
     let mut start = [0; 54];
     put_at(&mut start, 0, &marked(&seed.identifier, q, MESSAGE_MARK));
     put_at(&mut start, 22, randomizer);
-    hash(&start, head, body, steps)
+    hash(&start, head, body, hashes)
 }

@@ -9,7 +9,7 @@ use crate::one_time::{CHAINS, chain_value, message_hash, randomizer_at};
 use crate::tree::{KeptTree, LEAVES};
 use crate::uses::OneUse;
 use mb_bytes::put_at;
-use mb_lms::{Steps, digit, digits_of};
+use mb_lms::{HashCount, digit, digits_of};
 use mb_model::{Chains, KeySeed, PublicKey, Tree};
 use std::sync::ledger::Ledger;
 
@@ -34,12 +34,12 @@ const TREE_TYPE_AT: usize = 2184;
 /// Where the path begins in a signature.
 const PATH_AT: usize = 2188;
 
-/// The public key that belongs to the seed, in as many steps as its tree takes (RFC 8554, section 5.3).
-pub fn public<L: Ledger>(seed: &KeySeed, steps: &mut Steps<L>) -> PublicKey
+/// The public key that belongs to the seed, in as many hashes as its tree takes (RFC 8554, section 5.3).
+pub fn public<L: Ledger>(seed: &KeySeed, hashes: &mut HashCount<L>) -> PublicKey
     ensures key { result ≡ public_of seed.now }
-    ensures counted { steps.new ≡ steps.old + 34399 }
+    ensures counted { hashes.new ≡ hashes.old + 34399 }
 {
-    public_kept(&KeptTree::build(seed, steps), seed)
+    public_kept(&KeptTree::build(seed, hashes), seed)
 }
 
 /// The public key that belongs to the seed, by the key's tree, in no step (RFC 8554, section 5.3).
@@ -56,7 +56,7 @@ pub fn public_kept(tree: &KeptTree, seed: &KeySeed) -> PublicKey
     }
 }
 
-/// Writes the one signature of `head` followed by `body` at the right's index, in at most 35,473 steps: those of the
+/// Writes the one signature of `head` followed by `body` at the right's index, in at most 35,473 hashes: those of the
 /// key's tree, and those of signing by it (RFC 8554, section 5.4.1).
 pub fn sign<L: Ledger>(
     right: OneUse,
@@ -64,21 +64,21 @@ pub fn sign<L: Ledger>(
     head: &[u8],
     body: &[u8],
     out: &mut [u8; 2348],
-    steps: &mut Steps<L>,
+    hashes: &mut HashCount<L>,
 )
     ensures signature { out.new ≡ signature_of seed.now right (head.now ++ body.now) }
-    ensures cost { steps.new ≤ steps.old + 35473 }
+    ensures cost { hashes.new ≤ hashes.old + 35473 }
 {
-    let tree = KeptTree::build(seed, steps);
-    sign_kept(right, &tree, seed, head, body, out, steps);
+    let tree = KeptTree::build(seed, hashes);
+    sign_kept(right, &tree, seed, head, body, out, hashes);
 }
 
 /// Writes the one signature of `head` followed by `body` at the right's index, by the key's tree, in at most 1,074
-/// steps: 67 private values, at most 1,005 steps of chains, C, and the hash of the text (RFC 8554, section 5.4.1).
+/// hashes: 67 private values, at most 1,005 steps of chains, C, and the hash of the text (RFC 8554, section 5.4.1).
 ///
-/// A step is a `mb_lms::hash` on the caller's count, and this crate makes hashes by no other call. So the clause
+/// Each hash is a `mb_lms::hash` on the caller's count, and this crate makes hashes by no other call. So the clause
 /// `cost` excludes a body that builds a tree again, which takes 34,399. A body can't begin a count beside the
-/// caller's: `Steps::begin` wants an allocator, and no call here is given one. The clause doesn't exclude a SHA-256
+/// caller's: `HashCount::begin` wants an allocator, and no call here is given one. The clause doesn't exclude a SHA-256
 /// that is written out here, nor a call of `verify` or `key_hash`, which count nothing and can't give a node of a
 /// tree.
 pub fn sign_kept<L: Ledger>(
@@ -88,19 +88,19 @@ pub fn sign_kept<L: Ledger>(
     head: &[u8],
     body: &[u8],
     out: &mut [u8; 2348],
-    steps: &mut Steps<L>,
+    hashes: &mut HashCount<L>,
 )
     requires { IsTreeOf seed.now tree.now }
     ensures signature { out.new ≡ signature_of seed.now right (head.now ++ body.now) }
-    ensures cost { steps.new ≤ steps.old + 1074 }
+    ensures cost { hashes.new ≤ hashes.old + 1074 }
 {
     let q = right.spent();
-    let randomizer = randomizer_at(seed, q, steps);
-    let hash = message_hash(seed, q, &randomizer, head, body, steps);
+    let randomizer = randomizer_at(seed, q, hashes);
+    let hash = message_hash(seed, q, &randomizer, head, body, hashes);
     put_at(out, 0, &q.to_be_bytes());
     put_at(out, CHAINS_TYPE_AT, &CHAINS_TYPE.to_be_bytes());
     put_at(out, RANDOMIZER_AT, &randomizer);
-    put_values(out, seed, q, &digits_of(Chains::W4, &hash), steps);
+    put_values(out, seed, q, &digits_of(Chains::W4, &hash), hashes);
     put_at(out, TREE_TYPE_AT, &TREE_TYPE.to_be_bytes());
     put_path(out, tree, q);
 }
@@ -111,13 +111,13 @@ fn put_values<L: Ledger>(
     seed: &KeySeed,
     q: u32,
     digits: &[u8; 34],
-    steps: &mut Steps<L>,
+    hashes: &mut HashCount<L>,
 )
     ensures values { take TREE_TYPE_AT out.new ≡ take VALUES_AT out.old ++ signed_values seed.now q digits.now CHAINS }
-    ensures cost { steps.new ≤ steps.old + 1072 }
+    ensures cost { hashes.new ≤ hashes.old + 1072 }
 {
     for chain in 0..CHAINS {
-        let value = chain_value(seed, q, chain, digit(Chains::W4, digits, chain), steps);
+        let value = chain_value(seed, q, chain, digit(Chains::W4, digits, chain), hashes);
         put_at(out, VALUES_AT + 32 * usize::from(chain), &value);
     }
 }

@@ -8,7 +8,7 @@ ghost use Rattle.mb_signer.specs.Tree.{node_at, joined_above, IsFilled, IsTreeOf
 
 use crate::bytes::marked;
 use crate::one_time::one_time_public;
-use mb_lms::{Steps, hash};
+use mb_lms::{HashCount, hash};
 use mb_model::KeySeed;
 use std::marker::Model;
 use std::sync::ledger::Ledger;
@@ -40,15 +40,15 @@ impl Model for KeptTree {
 }
 
 impl KeptTree {
-    /// The tree of a key, in 34,399 steps: 1,074 for each leaf, and one for each of the 31 nodes above.
-    pub fn build<L: Ledger>(seed: &KeySeed, steps: &mut Steps<L>) -> KeptTree
+    /// The tree of a key, in 34,399 hashes: 1,074 for each leaf, and one for each of the 31 nodes above.
+    pub fn build<L: Ledger>(seed: &KeySeed, hashes: &mut HashCount<L>) -> KeptTree
         ensures tree { IsTreeOf seed.now result }
-        ensures counted { steps.new ≡ steps.old + 34399 }
+        ensures counted { hashes.new ≡ hashes.old + 34399 }
     {
         let mut nodes = no_nodes();
         for q in 0..LEAVES {
-            let leaf = leaf_node(seed, q, steps);
-            place(seed, &mut nodes, LEAVES + q, &leaf, steps);
+            let leaf = leaf_node(seed, q, hashes);
+            place(seed, &mut nodes, LEAVES + q, &leaf, hashes);
         }
         KeptTree { nodes }
     }
@@ -69,17 +69,17 @@ fn no_nodes() -> [[u8; 32]; 63] {
 }
 
 /// Leaf `q`, as the node with the number 32 + q.
-fn leaf_node<L: Ledger>(seed: &KeySeed, q: u32, steps: &mut Steps<L>) -> [u8; 32]
+fn leaf_node<L: Ledger>(seed: &KeySeed, q: u32, hashes: &mut HashCount<L>) -> [u8; 32]
     requires { q < LEAVES }
     ensures value { result ≡ node_of seed.now (32 + q) }
-    ensures counted { steps.new ≡ steps.old + 1074 }
+    ensures counted { hashes.new ≡ hashes.old + 1074 }
 {
-    let key = one_time_public(seed, q, steps);
+    let key = one_time_public(seed, q, hashes);
     hash(
         &marked(&seed.identifier, LEAVES + q, LEAF_MARK),
         &key,
         &[],
-        steps,
+        hashes,
     )
 }
 
@@ -90,16 +90,16 @@ fn inner_node<L: Ledger>(
     number: u32,
     left: &[u8; 32],
     right: &[u8; 32],
-    steps: &mut Steps<L>,
+    hashes: &mut HashCount<L>,
 ) -> [u8; 32]
     ensures value { result ≡ inner_node seed.now.identifier number left.now right.now }
-    ensures counted { steps.new ≡ steps.old + 1 }
+    ensures counted { hashes.new ≡ hashes.old + 1 }
 {
     hash(
         &marked(&seed.identifier, number, INNER_MARK),
         left,
         right,
-        steps,
+        hashes,
     )
 }
 
@@ -109,18 +109,18 @@ fn place<L: Ledger>(
     nodes: &mut [[u8; 32]; 63],
     number: u32,
     node: &[u8; 32],
-    steps: &mut Steps<L>,
+    hashes: &mut HashCount<L>,
 )
     requires first { 1 ≤ number }
     requires last { number < 64 }
     ensures filled { (n : ℕ) → 2 ^ n ≤ number → number < 2 * 2 ^ n → node.now ≡ node_of seed.now number → IsFilled seed.now nodes.old n number → IsFilled seed.now nodes.new n (number + 1) }
-    ensures counted { (n : ℕ) → 2 ^ n ≤ number → number < 2 * 2 ^ n → steps.new + joined_above n number ≡ steps.old + joined_above n (number + 1) }
+    ensures counted { (n : ℕ) → 2 ^ n ≤ number → number < 2 * 2 ^ n → hashes.new + joined_above n number ≡ hashes.old + joined_above n (number + 1) }
     ensures kept { (r : ℕ) → number < r → r < 64 → node_at nodes.new r ≡ node_at nodes.old r }
 {
     let at = number as usize - 1;
     nodes[at] = *node;
     if number > 1 && number % 2 == 1 {
-        let parent = inner_node(seed, number / 2, &nodes[at - 1], node, steps);
-        place(seed, nodes, number / 2, &parent, steps);
+        let parent = inner_node(seed, number / 2, &nodes[at - 1], node, hashes);
+        place(seed, nodes, number / 2, &parent, hashes);
     }
 }

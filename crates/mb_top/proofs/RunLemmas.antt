@@ -22,6 +22,7 @@ use Rattle.mb_lemmas.proofs.FaultLemmas.{image_parts}
 use Rattle.mb_lemmas.proofs.LineLemmas.{cons_same}
 use Rattle.mb_lemmas.proofs.ValidStates.{kept_rightly}
 use Rattle.mb_run_laws.proofs.SoundLemmas.{run_is_sound}
+use Rattle.mb_run_laws.proofs.StatementLemmas.{statements_stay_accepted}
 use Rattle.mb_top.specs.declared.end.End.{End}
 use Rattle.mb_top.specs.Ending.{HoldsAnswered, CarriesOutAfter, CarriesOutRest}
 use Rattle.mb_top.specs.Outputs.{writes}
@@ -88,7 +89,8 @@ served_whole image state events memory before after held formed scripts is stand
       bytes = from.bytes;
       clean = from.clean;
       kept = kept_rightly from.last.state from.valid;
-      sound = run_is_sound (opening state) from.more from.last from.run (all_scripted from.more events all scripts) formed.valid (image_stored image state formed);
+      sound = run_is_sound (opening state) from.more from.last from.run formed.valid;
+      accepted = statements_stay_accepted (opening state) from.more from.last from.run (all_scripted from.more events all scripts) formed.valid (image_stored image state formed);
     }))
 
 pub events_served : (names : RunNames) (state : Option State) (events : List Event) (answered : List Answered) (final : Held) (before now : Outside) (result : Result (Unit {0}) End)

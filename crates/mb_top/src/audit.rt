@@ -15,7 +15,7 @@ use crate::run_input::read_image;
 use crate::verify::end_of;
 use crate::words::AuditNames;
 use mb_host::Host;
-use mb_lms::Steps;
+use mb_lms::HashCount;
 use mb_log::lives;
 use mb_model::{Configuration, Lives, NoMemory, PublicKey, State};
 use mb_verifier::{Report, verify as judge};
@@ -28,11 +28,11 @@ pub fn audit<H: Host, L: Ledger>(
     alloc: Global,
     names: &AuditNames<'_>,
     host: &mut H,
-    steps: &mut Steps<L>,
+    hashes: &mut HashCount<L>,
 ) -> Result<(), End>
     ensures { CarriesOut (audit (audit_files names.now)) (H.outside host.old) result (H.outside host.new) }
 {
-    let image = read_image(alloc, host, names.image, steps)?;
+    let image = read_image(alloc, host, names.image, hashes)?;
     audit_device(alloc, names, image.state, host)
 }
 

@@ -14,7 +14,7 @@ use crate::run_input::read_image;
 use crate::words::ChainNames;
 use mb_cert::write_chain;
 use mb_host::Host;
-use mb_lms::Steps;
+use mb_lms::HashCount;
 use mb_model::{Chain, NoMemory, Role, State};
 use std::alloc::Global;
 use std::sync::ledger::Ledger;
@@ -24,11 +24,11 @@ pub fn chain<H: Host, L: Ledger>(
     alloc: Global,
     names: &ChainNames<'_>,
     host: &mut H,
-    steps: &mut Steps<L>,
+    hashes: &mut HashCount<L>,
 ) -> Result<(), End>
     ensures { CarriesOut (chain (chain_files names.now)) (H.outside host.old) result (H.outside host.new) }
 {
-    let image = read_image(alloc, host, names.image, steps)?;
+    let image = read_image(alloc, host, names.image, hashes)?;
     chain_of(alloc, names, image.state, host)
 }
 

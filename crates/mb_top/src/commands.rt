@@ -19,7 +19,7 @@ use crate::verify::verify;
 use crate::words::{Request, request_in};
 use mb_board::Board;
 use mb_host::Host;
-use mb_lms::Steps;
+use mb_lms::HashCount;
 use std::alloc::Global;
 use std::marker::Brand;
 use std::sync::ledger::{Blank, Ledger};
@@ -61,18 +61,18 @@ fn counted_command<H: Host, B: Board, L: Ledger>(
     ensures stays { HoldsAnswered (B.ledger board.old) (B.memory board.old) (B.power board.old) (B.level board.old) (B.meter board.old)
         → HoldsAnswered (B.ledger board.new) (B.memory board.new) (B.power board.new) (B.level board.new) (B.meter board.new) }
 {
-    let mut steps = Steps::<L>::begin(alloc, blank);
+    let mut hashes = HashCount::<L>::begin(alloc, blank);
     match request_in(words) {
-        Some(Request::Run(names)) => run(alloc, &names, host, board, &mut steps),
+        Some(Request::Run(names)) => run(alloc, &names, host, board, &mut hashes),
         Some(Request::Verify(names)) => verify(alloc, &names, host),
-        Some(Request::Audit(names)) => audit(alloc, &names, host, &mut steps),
-        Some(Request::Chain(names)) => chain(alloc, &names, host, &mut steps),
+        Some(Request::Audit(names)) => audit(alloc, &names, host, &mut hashes),
+        Some(Request::Chain(names)) => chain(alloc, &names, host, &mut hashes),
         Some(Request::Attach(names)) => attach(alloc, &names, host),
-        Some(Request::Factory(names)) => factory(alloc, &names, host, &mut steps),
-        Some(Request::Keygen(names)) => keygen(alloc, &names, host, &mut steps),
-        Some(Request::Sign(names)) => sign(alloc, &names, host, &mut steps),
-        Some(Request::Countersign(names)) => countersign(alloc, &names, host, &mut steps),
-        Some(Request::Generate(names)) => generate(alloc, &names, host, board, &mut steps),
+        Some(Request::Factory(names)) => factory(alloc, &names, host, &mut hashes),
+        Some(Request::Keygen(names)) => keygen(alloc, &names, host, &mut hashes),
+        Some(Request::Sign(names)) => sign(alloc, &names, host, &mut hashes),
+        Some(Request::Countersign(names)) => countersign(alloc, &names, host, &mut hashes),
+        Some(Request::Generate(names)) => generate(alloc, &names, host, board, &mut hashes),
         None => Err(End::Words),
     }
 }

@@ -13,7 +13,7 @@ use crate::output::{Output, finish};
 use crate::sign::end_of;
 use crate::words::FactoryNames;
 use mb_host::Host;
-use mb_lms::Steps;
+use mb_lms::HashCount;
 use mb_model::{Keyfile, NoMemory, PublicKey, Role};
 use mb_officer::{factory as make_image, write_keyfile};
 use std::alloc::Global;
@@ -25,12 +25,12 @@ pub fn factory<H: Host, L: Ledger>(
     alloc: Global,
     names: &FactoryNames<'_>,
     host: &mut H,
-    steps: &mut Steps<L>,
+    hashes: &mut HashCount<L>,
 ) -> Result<(), End>
     ensures { CarriesOut (factory (factory_files names.now)) (H.outside host.old) result (H.outside host.new) }
 {
     let noise = read_birth_noise(alloc, host, names.noise)?;
-    factory_drawn(alloc, names, &noise, host, steps)
+    factory_drawn(alloc, names, &noise, host, hashes)
 }
 
 /// Makes a device of this noise.
@@ -39,12 +39,12 @@ fn factory_drawn<H: Host, L: Ledger>(
     names: &FactoryNames<'_>,
     noise: &[u8; 48],
     host: &mut H,
-    steps: &mut Steps<L>,
+    hashes: &mut HashCount<L>,
 ) -> Result<(), End>
     ensures { CarriesOut (factory_drawn (factory_files names.now) noise.now) (H.outside host.old) result (H.outside host.new) }
 {
     let key = read_key(alloc, host, names.key)?;
-    factory_keyed(alloc, names, noise, key, host, steps)
+    factory_keyed(alloc, names, noise, key, host, hashes)
 }
 
 /// Makes a device whose birth this key signs.
@@ -54,13 +54,13 @@ fn factory_keyed<H: Host, L: Ledger>(
     noise: &[u8; 48],
     key: Keyfile,
     host: &mut H,
-    steps: &mut Steps<L>,
+    hashes: &mut HashCount<L>,
 ) -> Result<(), End>
     requires { key.next ≤ 32 }
     ensures { CarriesOut (factory_keyed (factory_files names.now) noise.now key) (H.outside host.old) result (H.outside host.new) }
 {
     let owner = read_owner(alloc, host, names.owner)?;
-    factory_owned(alloc, names, noise, key, &owner, host, steps)
+    factory_owned(alloc, names, noise, key, &owner, host, hashes)
 }
 
 /// Makes a device with this owner.
@@ -71,13 +71,13 @@ fn factory_owned<H: Host, L: Ledger>(
     mut key: Keyfile,
     owner: &PublicKey,
     host: &mut H,
-    steps: &mut Steps<L>,
+    hashes: &mut HashCount<L>,
 ) -> Result<(), End>
     requires { key.next ≤ 32 }
     ensures { CarriesOut (factory_owned (factory_files names.now) noise.now key owner.now) (H.outside host.old) result (H.outside host.new) }
 {
     let code = read_code(alloc, host, names.code)?;
-    match make_image(alloc, &mut key, owner, &code, noise, steps) {
+    match make_image(alloc, &mut key, owner, &code, noise, hashes) {
         Ok(image) => write_device(alloc, names, noise, &key, image, host),
         Err(end) => Err(end_of(end)),
     }

@@ -23,7 +23,7 @@ use mb_device::Device;
 use mb_generate::workload;
 use mb_host::Host;
 use mb_image::log_length;
-use mb_lms::Steps;
+use mb_lms::HashCount;
 use mb_model::{Events, NoMemory, Role, Workload};
 use mb_script::{ScriptEnd, ShortNoise, place_draws, read_script};
 use sha2::{Digest, Sha256};
@@ -36,7 +36,7 @@ pub fn generate<H: Host, B: Board, L: Ledger>(
     names: &GenerateNames<'_>,
     host: &mut H,
     board: &mut B,
-    steps: &mut Steps<L>,
+    hashes: &mut HashCount<L>,
 ) -> Result<(), End>
     requires least { 1 ≤ names.now.rounds }
     requires most { names.now.rounds ≤ 24 }
@@ -48,13 +48,13 @@ pub fn generate<H: Host, B: Board, L: Ledger>(
     ensures stays { HoldsAnswered (B.ledger board.old) (B.memory board.old) (B.power board.old) (B.level board.old) (B.meter board.old)
         → HoldsAnswered (B.ledger board.new) (B.memory board.new) (B.power board.new) (B.level board.new) (B.meter board.new) }
 {
-    let Ok(files) = workload(alloc, names.number, names.rounds, steps) else {
+    let Ok(files) = workload(alloc, names.number, names.rounds, hashes) else {
         return Err(End::NoMemory);
     };
     let Ok(events) = events_of(alloc, &files) else {
         return Err(End::NoMemory);
     };
-    load_workload(alloc, names, files, events, host, board, steps)
+    load_workload(alloc, names, files, events, host, board, hashes)
 }
 
 /// The events of the workload's script, with the draws that its noise gives them.
@@ -83,7 +83,7 @@ fn load_workload<H: Host, B: Board, L: Ledger>(
     events: Events,
     host: &mut H,
     board: &mut B,
-    steps: &mut Steps<L>,
+    hashes: &mut HashCount<L>,
 ) -> Result<(), End>
     requires generated { IsWorkload names.now.number names.now.rounds files }
     requires events { HasEvents files events }
@@ -102,7 +102,7 @@ fn load_workload<H: Host, B: Board, L: Ledger>(
         Err(_) => return Err(End::NoMemory),
     }
     write_files(names, &files, host)?;
-    let _device = Device::start(board).serve(alloc, board, steps);
+    let _device = Device::start(board).serve(alloc, board, hashes);
     summarise(files.image.into_vec(), host, board)
 }
 

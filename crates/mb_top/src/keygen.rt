@@ -12,7 +12,7 @@ use crate::input::read_key_noise;
 use crate::output::{Output, finish};
 use crate::words::KeygenNames;
 use mb_host::Host;
-use mb_lms::{Steps, key_bytes, key_hash};
+use mb_lms::{HashCount, key_bytes, key_hash};
 use mb_model::{Keyfile, NoMemory, PublicKey, Role};
 use mb_officer::{make_key, write_keyfile};
 use mb_signer::public;
@@ -24,12 +24,12 @@ pub fn keygen<H: Host, L: Ledger>(
     alloc: Global,
     names: &KeygenNames<'_>,
     host: &mut H,
-    steps: &mut Steps<L>,
+    hashes: &mut HashCount<L>,
 ) -> Result<(), End>
     ensures { CarriesOut (keygen (keygen_files names.now)) (H.outside host.old) result (H.outside host.new) }
 {
     let noise = read_key_noise(alloc, host, names.noise)?;
-    write_key(alloc, names, &make_key(&noise), host, steps)
+    write_key(alloc, names, &make_key(&noise), host, hashes)
 }
 
 /// Writes a new key's file and its public key, and prints the public key's hash.
@@ -38,12 +38,12 @@ fn write_key<H: Host, L: Ledger>(
     names: &KeygenNames<'_>,
     key: &Keyfile,
     host: &mut H,
-    steps: &mut Steps<L>,
+    hashes: &mut HashCount<L>,
 ) -> Result<(), End>
     requires { key.now.next ≤ 32 }
     ensures { CarriesOut (write_key (keygen_files names.now) key.now (key_bytes (public_of key.now.seed))) (H.outside host.old) result (H.outside host.new) }
 {
-    let owner = public(&key.seed, steps);
+    let owner = public(&key.seed, hashes);
     let Ok(text) = owner_text(alloc, &owner) else {
         return Err(End::NoMemory);
     };

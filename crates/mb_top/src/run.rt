@@ -18,7 +18,7 @@ use crate::words::RunNames;
 use mb_board::Board;
 use mb_device::Device;
 use mb_host::Host;
-use mb_lms::Steps;
+use mb_lms::HashCount;
 use mb_model::{Events, Role};
 use std::alloc::Global;
 use std::sync::ledger::Ledger;
@@ -29,7 +29,7 @@ pub fn run<H: Host, B: Board, L: Ledger>(
     names: &RunNames<'_>,
     host: &mut H,
     board: &mut B,
-    steps: &mut Steps<L>,
+    hashes: &mut HashCount<L>,
 ) -> Result<(), End>
     requires off { B.power board.old ≡ false }
     requires none_out { (B.ledger board.old).out ≡ None }
@@ -39,8 +39,8 @@ pub fn run<H: Host, B: Board, L: Ledger>(
     ensures stays { HoldsAnswered (B.ledger board.old) (B.memory board.old) (B.power board.old) (B.level board.old) (B.meter board.old)
         → HoldsAnswered (B.ledger board.new) (B.memory board.new) (B.power board.new) (B.level board.new) (B.meter board.new) }
 {
-    let image = read_image(alloc, host, names.image, steps)?;
-    run_image(alloc, names, image.bytes, host, board, steps)
+    let image = read_image(alloc, host, names.image, hashes)?;
+    run_image(alloc, names, image.bytes, host, board, hashes)
 }
 
 /// Reads the script, and goes on with its events.
@@ -50,7 +50,7 @@ fn run_image<H: Host, B: Board, L: Ledger>(
     image: Vec<u8>,
     host: &mut H,
     board: &mut B,
-    steps: &mut Steps<L>,
+    hashes: &mut HashCount<L>,
 ) -> Result<(), End>
     requires off { B.power board.old ≡ false }
     requires none_out { (B.ledger board.old).out ≡ None }
@@ -63,7 +63,7 @@ fn run_image<H: Host, B: Board, L: Ledger>(
         → HoldsAnswered (B.ledger board.new) (B.memory board.new) (B.power board.new) (B.level board.new) (B.meter board.new) }
 {
     let events = read_events(alloc, host, names.script)?;
-    run_events(alloc, names, image, events, host, board, steps)
+    run_events(alloc, names, image, events, host, board, hashes)
 }
 
 /// Reads the noise, and goes on with the draws of the events.
@@ -74,7 +74,7 @@ fn run_events<H: Host, B: Board, L: Ledger>(
     events: Events,
     host: &mut H,
     board: &mut B,
-    steps: &mut Steps<L>,
+    hashes: &mut HashCount<L>,
 ) -> Result<(), End>
     requires off { B.power board.old ≡ false }
     requires none_out { (B.ledger board.old).out ≡ None }
@@ -89,7 +89,7 @@ fn run_events<H: Host, B: Board, L: Ledger>(
         → HoldsAnswered (B.ledger board.new) (B.memory board.new) (B.power board.new) (B.level board.new) (B.meter board.new) }
 {
     let drawn = read_draws(alloc, host, names.noise, events)?;
-    run_drawn(alloc, names, image, drawn, host, board, steps)
+    run_drawn(alloc, names, image, drawn, host, board, hashes)
 }
 
 /// Loads the board, serves the events, and writes what comes of it.
@@ -100,7 +100,7 @@ fn run_drawn<H: Host, B: Board, L: Ledger>(
     events: Events,
     host: &mut H,
     board: &mut B,
-    steps: &mut Steps<L>,
+    hashes: &mut HashCount<L>,
 ) -> Result<(), End>
     requires off { B.power board.old ≡ false }
     requires none_out { (B.ledger board.old).out ≡ None }
@@ -118,7 +118,7 @@ fn run_drawn<H: Host, B: Board, L: Ledger>(
         Ok(()) => {}
         Err(_) => return Err(End::NoMemory),
     }
-    let _device = Device::start(board).serve(alloc, board, steps);
+    let _device = Device::start(board).serve(alloc, board, hashes);
     write_image(alloc, names, image, host, board)
 }
 

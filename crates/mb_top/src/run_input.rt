@@ -14,7 +14,7 @@ use crate::end::End;
 use crate::input::read_input;
 use mb_host::Host;
 use mb_image::{ImageEnd, stand_for};
-use mb_lms::Steps;
+use mb_lms::HashCount;
 use mb_model::{Events, Place, Role, State};
 use mb_script::{ScriptEnd, ShortNoise, place_draws, read_script};
 use std::alloc::Global;
@@ -32,7 +32,7 @@ pub fn read_image<H: Host, L: Ledger>(
     alloc: Global,
     host: &mut H,
     name: &str,
-    steps: &mut Steps<L>,
+    hashes: &mut HashCount<L>,
 ) -> Result<Image, End>
     ensures form { IfOk result (λ image. IsWellFormed image.bytes.items image.state) }
     ensures valid { IfOk result (λ image. Valid image.state) }
@@ -41,7 +41,7 @@ pub fn read_image<H: Host, L: Ledger>(
     ensures err { IfErr result (StopsAt (image_input name.now) (H.outside host.old) (H.outside host.new)) }
 {
     let bytes = read_input(alloc, host, Role::Image, name)?;
-    match stand_for(alloc, &bytes, steps) {
+    match stand_for(alloc, &bytes, hashes) {
         Ok(state) => Ok(Image { bytes, state }),
         Err(end) => Err(end_of_image(end)),
     }

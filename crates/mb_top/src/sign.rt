@@ -15,7 +15,7 @@ use crate::input::{read_draft_file, read_key, read_order_file};
 use crate::output::{Output, finish};
 use crate::words::{CountersignNames, SignNames};
 use mb_host::Host;
-use mb_lms::Steps;
+use mb_lms::HashCount;
 use mb_model::{Keyfile, NoMemory, Order, Role};
 use mb_officer::{
     SignEnd, countersign as add_countersignature, sign_order, write_keyfile, write_order_line,
@@ -36,12 +36,12 @@ pub fn sign<H: Host, L: Ledger>(
     alloc: Global,
     names: &SignNames<'_>,
     host: &mut H,
-    steps: &mut Steps<L>,
+    hashes: &mut HashCount<L>,
 ) -> Result<(), End>
     ensures { CarriesOut (sign (sign_files names.now)) (H.outside host.old) result (H.outside host.new) }
 {
     let key = read_key(alloc, host, names.key)?;
-    sign_draft(alloc, names, key, host, steps)
+    sign_draft(alloc, names, key, host, hashes)
 }
 
 /// Signs the order of the draft by this key.
@@ -50,7 +50,7 @@ fn sign_draft<H: Host, L: Ledger>(
     names: &SignNames<'_>,
     mut key: Keyfile,
     host: &mut H,
-    steps: &mut Steps<L>,
+    hashes: &mut HashCount<L>,
 ) -> Result<(), End>
     requires { key.next ≤ 32 }
     ensures { CarriesOut (sign_draft (sign_files names.now) key) (H.outside host.old) result (H.outside host.new) }
@@ -60,7 +60,7 @@ fn sign_draft<H: Host, L: Ledger>(
         key: names.key,
         out: names.out,
     };
-    match sign_order(alloc, &mut key, &mut order, steps) {
+    match sign_order(alloc, &mut key, &mut order, hashes) {
         Ok(index) => write_signed(alloc, outputs, &key, &order, index, host),
         Err(end) => Err(end_of(end)),
     }
@@ -72,13 +72,13 @@ pub fn countersign<H: Host, L: Ledger>(
     alloc: Global,
     names: &CountersignNames<'_>,
     host: &mut H,
-    steps: &mut Steps<L>,
+    hashes: &mut HashCount<L>,
 ) -> Result<(), End>
     requires { IsTrue (is_upper names.now.layer) }
     ensures { CarriesOut (countersign (countersign_files names.now)) (H.outside host.old) result (H.outside host.new) }
 {
     let key = read_key(alloc, host, names.key)?;
-    countersign_order(alloc, names, key, host, steps)
+    countersign_order(alloc, names, key, host, hashes)
 }
 
 /// Countersigns the order of the line by this key.
@@ -87,7 +87,7 @@ fn countersign_order<H: Host, L: Ledger>(
     names: &CountersignNames<'_>,
     mut key: Keyfile,
     host: &mut H,
-    steps: &mut Steps<L>,
+    hashes: &mut HashCount<L>,
 ) -> Result<(), End>
     requires layer { IsTrue (is_upper names.now.layer) }
     requires next { key.next ≤ 32 }
@@ -98,7 +98,7 @@ fn countersign_order<H: Host, L: Ledger>(
         key: names.key,
         out: names.out,
     };
-    match add_countersignature(alloc, &mut key, names.layer, &mut order, steps) {
+    match add_countersignature(alloc, &mut key, names.layer, &mut order, hashes) {
         Ok(index) => write_signed(alloc, outputs, &key, &order, index, host),
         Err(end) => Err(end_of(end)),
     }

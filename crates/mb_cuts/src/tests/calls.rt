@@ -15,7 +15,7 @@ use mb_area::commit_root;
 use mb_board::{Board, SimBoard};
 use mb_boot::{BootEnd, boot};
 use mb_layout::{LayoutEnd, Room, region_of_bytes, root_of_bytes};
-use mb_lms::Steps;
+use mb_lms::HashCount;
 use mb_model::{Items, Region, Root};
 use mb_outbound::{BindEnd, bind};
 use mb_ratchet::{Off, One, R1, Reaches, Register, Three, Two, Up};
@@ -83,13 +83,13 @@ fn root_of(alloc: Global, record: &str) -> Result<Root, Fail>
 fn come_up<L: Ledger>(
     alloc: Global,
     board: &mut SimBoard,
-    steps: &mut Steps<L>,
+    hashes: &mut HashCount<L>,
 ) -> Result<bool, Fail>
     requires off { board.old.power ≡ false }
     requires stands { StandsForValid board.old.memory }
     ensures loaded { IsLoaded board.new.memory }
 {
-    match boot(alloc, Off::first(board), board, steps) {
+    match boot(alloc, Off::first(board), board, hashes) {
         Ok((_up, _room)) => Ok(false),
         Err(BootEnd::Stopped(_off)) => Ok(true),
         Err(_) => Err("the device does not come up")?,
@@ -101,7 +101,7 @@ fn bind_key<P: Named, L: Ledger>(
     alloc: Global,
     board: &mut SimBoard,
     key: u32,
-    steps: &mut Steps<L>,
+    hashes: &mut HashCount<L>,
 ) -> Result<bool, Fail>
     requires off { board.old.power ≡ false }
     requires loaded { IsLoaded board.old.memory }
@@ -116,7 +116,7 @@ fn bind_key<P: Named, L: Ledger>(
     }
     match bind::<Up<R1>, P, SimBoard>(up, board, key, &mut room) {
         Ok((_up, right, seed)) => {
-            sign(right, &seed, &[], &[], &mut [0; 2348], steps);
+            sign(right, &seed, &[], &[], &mut [0; 2348], hashes);
             Ok(false)
         }
         Err(BindEnd::Stopped(_off)) => Ok(true),
@@ -163,16 +163,16 @@ fn make<L: Ledger>(
     alloc: Global,
     call: Call,
     board: &mut SimBoard,
-    steps: &mut Steps<L>,
+    hashes: &mut HashCount<L>,
 ) -> Result<bool, Fail>
     requires off { board.old.power ≡ false }
     requires ready { IsReady board.old.memory }
     ensures { IsLoaded board.new.memory }
 {
     match call {
-        Call::Boot => come_up(alloc, board, steps),
-        Call::BindTwo(key) => bind_key::<Two, L>(alloc, board, key, steps),
-        Call::BindThree(key) => bind_key::<Three, L>(alloc, board, key, steps),
+        Call::Boot => come_up(alloc, board, hashes),
+        Call::BindTwo(key) => bind_key::<Two, L>(alloc, board, key, hashes),
+        Call::BindThree(key) => bind_key::<Three, L>(alloc, board, key, hashes),
         Call::StoreTwo(record) => store_region::<Two>(alloc, board, record),
         Call::StoreThree(record) => store_region::<Three>(alloc, board, record),
         Call::PutRoot(record) => put_root(alloc, board, record),
@@ -187,14 +187,14 @@ fn make_on<L: Ledger>(
     call: Call,
     count: u32,
     fill: u8,
-    steps: &mut Steps<L>,
+    hashes: &mut HashCount<L>,
 ) -> Result<bool, Fail>
     requires live { IsLive image.old }
     requires least { 1 ≤ count }
     requires most { count ≤ 100000 }
 {
     let mut board = armed_board(alloc, image, count, fill)?;
-    let stopped = make(alloc, call, &mut board, steps)?;
+    let stopped = make(alloc, call, &mut board, hashes)?;
     board.copy_image(image);
     Ok(stopped)
 }
@@ -216,10 +216,10 @@ fn stopped_counted<L: Ledger>(
     requires most { count ≤ 100000 }
     ensures { IfOk result (λ after. IsLive after.device.value.image.items) }
 {
-    let mut steps = Steps::<L>::begin(alloc, blank);
+    let mut hashes = HashCount::<L>::begin(alloc, blank);
     let mut image = Vec::from_slice(alloc, image)?;
-    let stopped = make_on(alloc, &mut image, call, count, fill, &mut steps)?;
-    let device = read(alloc, image, &mut steps)?;
+    let stopped = make_on(alloc, &mut image, call, count, fill, &mut hashes)?;
+    let device = read(alloc, image, &mut hashes)?;
     let is_clean = is_clean(&device.image);
     Ok(After {
         stopped,

@@ -5,7 +5,7 @@ ghost use Rattle.mb_cuts.specs.Staged.{IsLive};
 
 use super::states::{Device, read};
 use hex::FromHex;
-use mb_lms::Steps;
+use mb_lms::HashCount;
 use mb_model::{FLASH_LENGTH, IMAGE_LENGTH, KeySeed};
 use mb_signer::{OneUse, Uses, sign, take_index};
 use std::alloc::Global;
@@ -391,13 +391,13 @@ fn put_signature<L: Ledger>(
     left: &Left,
     number: usize,
     entry: &[u8],
-    steps: &mut Steps<L>,
+    hashes: &mut HashCount<L>,
 ) -> Result<(), Fail> {
     let mut signature = [0; 2348];
     if number > 0 {
         let key = key_of(left)?;
         let right = right_at(number)?;
-        sign(right, &key, &[3], entry, &mut signature, steps);
+        sign(right, &key, &[3], entry, &mut signature, hashes);
     }
     record.push(1)?;
     record.extend_from_slice(&signature)?;
@@ -409,7 +409,7 @@ fn put_entry<L: Ledger>(
     record: &mut Vec<u8>,
     left: &Left,
     number: usize,
-    steps: &mut Steps<L>,
+    hashes: &mut HashCount<L>,
 ) -> Result<(), Fail> {
     let text = left.entries.get(number).ok_or("no entry")?;
     let entry = hex::decode(alloc, text)?;
@@ -418,16 +418,20 @@ fn put_entry<L: Ledger>(
         record.push(0)?;
         return Ok(());
     }
-    put_signature(record, left, number, &entry, steps)
+    put_signature(record, left, number, &entry, hashes)
 }
 
 /// The public record, of which the last entries are not signed.
-fn record_of<L: Ledger>(alloc: Global, left: &Left, steps: &mut Steps<L>) -> Result<Vec<u8>, Fail> {
+fn record_of<L: Ledger>(
+    alloc: Global,
+    left: &Left,
+    hashes: &mut HashCount<L>,
+) -> Result<Vec<u8>, Fail> {
     let mut record = hex::decode(alloc, left.codes)?;
     let count = u16::try_from(left.entries.len())?;
     record.extend_from_slice(&count.to_be_bytes())?;
     for number in 0..left.entries.len() {
-        put_entry(alloc, &mut record, left, number, steps)?;
+        put_entry(alloc, &mut record, left, number, hashes)?;
     }
     Ok(record)
 }
@@ -458,17 +462,21 @@ fn put_flash<L: Ledger>(
     alloc: Global,
     image: &mut Vec<u8>,
     left: &Left,
-    steps: &mut Steps<L>,
+    hashes: &mut HashCount<L>,
 ) -> Result<(), Fail> {
-    let record = record_of(alloc, left, steps)?;
+    let record = record_of(alloc, left, hashes)?;
     let length = u32::try_from(record.len())?;
     put(image, &length.to_be_bytes(), &record, FLASH_LENGTH, 0xff)
 }
 
 /// The image, with the first of two areas in force everywhere.
-fn image_of<L: Ledger>(alloc: Global, left: &Left, steps: &mut Steps<L>) -> Result<Vec<u8>, Fail> {
+fn image_of<L: Ledger>(
+    alloc: Global,
+    left: &Left,
+    hashes: &mut HashCount<L>,
+) -> Result<Vec<u8>, Fail> {
     let mut image = Vec::new(alloc);
-    put_flash(alloc, &mut image, left, steps)?;
+    put_flash(alloc, &mut image, left, hashes)?;
     put(&mut image, &[], &[0xa5], FLASH_LENGTH + 4096, 0)?;
     put_areas(alloc, &mut image, left.root, FLASH_LENGTH + 12288)?;
     put_areas(alloc, &mut image, left.two, FLASH_LENGTH + 20480)?;
@@ -502,12 +510,12 @@ fn device_counted<L: Ledger>(
     requires some { 0 < blank.parts }
     ensures { IfOk result (λ device. IsLive device.value.image.items) }
 {
-    let mut steps = Steps::<L>::begin(alloc, blank);
-    let mut image = image_of(alloc, left, &mut steps)?;
+    let mut hashes = HashCount::<L>::begin(alloc, blank);
+    let mut image = image_of(alloc, left, &mut hashes)?;
     if is_copied {
         image = with_two_records(alloc, &image)?;
     }
-    read(alloc, image, &mut steps)
+    read(alloc, image, &mut hashes)
 }
 
 /// The device that an order left; its flash may have another such record in its second area.

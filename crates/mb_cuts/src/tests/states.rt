@@ -5,7 +5,7 @@ ghost use Rattle.mb_cuts.specs.Staged.{IsLive};
 
 use mb_image::stand_for;
 use mb_layout::root_in;
-use mb_lms::Steps;
+use mb_lms::HashCount;
 use mb_model::{Bytes, Codes, FLASH_LENGTH, Region, Secret, State};
 use std::alloc::Global;
 use std::sync::ledger::Ledger;
@@ -23,11 +23,11 @@ pub struct Device {
 pub fn read<L: Ledger>(
     alloc: Global,
     image: Vec<u8>,
-    steps: &mut Steps<L>,
+    hashes: &mut HashCount<L>,
 ) -> Result<Box<Device>, Fail>
     ensures { IfOk result (λ device. IsLive device.value.image.items) }
 {
-    match stand_for(alloc, &image, steps) {
+    match stand_for(alloc, &image, hashes) {
         Ok(Some(state)) => Ok(Box::new(alloc, Device { image, state })?),
         _ => Err("the image stands for no state")?,
     }

@@ -3,7 +3,7 @@
 ghost use Rattle.std.specs.Prelude.{◌≡◌, ◌<◌};
 
 use mb_image::{ImageEnd, stand_for};
-use mb_lms::Steps;
+use mb_lms::HashCount;
 use mb_model::{FLASH_LENGTH, IMAGE_LENGTH, State};
 use std::alloc::Global;
 use std::marker::Brand;
@@ -100,7 +100,7 @@ fn answer_counted<L: Ledger>(alloc: Global, image: &[u8], blank: Blank) -> Answe
     requires parts { blank.parts ≡ L.parts }
     requires some { 0 < blank.parts }
 {
-    match stand_for(alloc, image, &mut Steps::<L>::begin(alloc, blank)) {
+    match stand_for(alloc, image, &mut HashCount::<L>::begin(alloc, blank)) {
         Ok(Some(state)) if is_new(&state) => Answer::New,
         Ok(Some(_)) => Answer::Other,
         Ok(None) => Answer::Dead,

@@ -9,7 +9,7 @@ use super::signed::{
 };
 use super::{joined, public_key};
 use mb_command::read_order;
-use mb_lms::Steps;
+use mb_lms::HashCount;
 use mb_model::{CodeName, Fate, KeySeed, Layer, Layers, Order, Trust, Trusts, View};
 use mb_orders::{JudgeEnd, Plan, judge};
 use std::alloc::Global;
@@ -130,8 +130,8 @@ fn judge_counted<L: Ledger>(
     requires parts { blank.parts ≡ L.parts }
     requires some { 0 < blank.parts }
 {
-    let mut steps = Steps::<L>::begin(alloc, blank);
-    judge(alloc, view, order, &[8; 32], &mut steps)
+    let mut hashes = HashCount::<L>::begin(alloc, blank);
+    judge(alloc, view, order, &[8; 32], &mut hashes)
 }
 
 /// What is seen of a plan.

@@ -2,7 +2,7 @@
 
 ghost use Rattle.std.specs.Prelude.{◌≡◌, ◌<◌};
 
-use mb_lms::Steps;
+use mb_lms::HashCount;
 use mb_log::{Figures, Life, bodies, follows, lives};
 use mb_model::{
     Bodies, Chains, ChangeKind, CodeName, Configuration, Entry, Fact, Follow, KeyKind, KeySeed,
@@ -415,8 +415,8 @@ fn added<L: Ledger>(alloc: Global, blank: Blank) -> Result<Bodies, NoMemory>
         layer: 2,
         kind: KeyKind::Epoch,
     };
-    let mut steps = Steps::<L>::begin(alloc, blank);
-    bodies(alloc, &view, &fact, &DRAW, &mut steps)
+    let mut hashes = HashCount::<L>::begin(alloc, blank);
+    bodies(alloc, &view, &fact, &DRAW, &mut hashes)
 }
 
 /// The entries of the succession and of the new key.

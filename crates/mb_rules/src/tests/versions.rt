@@ -5,7 +5,7 @@ ghost use Rattle.std.specs.Prelude.{◌≡◌, ◌<◌, ◌≤◌, vec_len, IfOk
 
 use super::public_key;
 use hex::FromHex;
-use mb_lms::Steps;
+use mb_lms::HashCount;
 use mb_model::KeySeed;
 use mb_signer::{OneUse, Uses, sign, take_index};
 use mb_verifier::{ChainRefusal, verify};
@@ -111,7 +111,7 @@ fn put_entry<L: Ledger>(
     chain: &mut Vec<u8>,
     number: usize,
     version: u8,
-    steps: &mut Steps<L>,
+    hashes: &mut HashCount<L>,
 ) -> Result<(), Fail> {
     let entry = entry_of(alloc, number, version)?;
     let signer = signer_of(number)?;
@@ -122,7 +122,7 @@ fn put_entry<L: Ledger>(
         &[3],
         &entry,
         &mut signature,
-        steps,
+        hashes,
     );
     chain.extend_from_slice(&entry)?;
     chain.extend_from_slice(&signature)?;
@@ -136,10 +136,10 @@ fn chain_counted<L: Ledger>(alloc: Global, versions: [u8; 4], blank: Blank) -> R
     requires some { 0 < blank.parts }
     ensures { IfOk result (λ bytes. vec_len bytes ≤ 20000) }
 {
-    let mut steps = Steps::<L>::begin(alloc, blank);
+    let mut hashes = HashCount::<L>::begin(alloc, blank);
     let mut chain = Vec::from_slice(alloc, b"MBC1\0\x04")?;
     for (number, version) in versions.iter().enumerate() {
-        put_entry(alloc, &mut chain, number, *version, &mut steps)?;
+        put_entry(alloc, &mut chain, number, *version, &mut hashes)?;
     }
     chain.push(0)?;
     chain.truncate(20_000);

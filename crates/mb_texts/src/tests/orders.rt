@@ -7,7 +7,7 @@ ghost use Rattle.mb_model.specs.OrderFormat.{order_format};
 use super::order_lines::hand_on;
 use hex::FromHex;
 use mb_command::{body_length, write_order};
-use mb_lms::Steps;
+use mb_lms::HashCount;
 use mb_model::{Keyfile, NoMemory, Order};
 use mb_officer::{SignEnd, countersign, make_key, read_draft, sign_order};
 use sha2::{Digest, Sha256};
@@ -65,7 +65,7 @@ fn signed_counted<L: Ledger>(
     ensures spelled { OnOk result (order_format.Allowed order.new) }
     ensures unchanged { OnErr result ((k.new ≡ k.old) × (order.new ≡ order.old)) }
 {
-    sign_order(alloc, k, order, &mut Steps::<L>::begin(alloc, blank))
+    sign_order(alloc, k, order, &mut HashCount::<L>::begin(alloc, blank))
 }
 
 /// Countersigns the order, on a count of its own.
@@ -98,7 +98,13 @@ fn countersigned_counted<L: Ledger>(
     requires some { 0 < blank.parts }
     ensures spelled { OnOk result (order_format.Allowed order.new) }
 {
-    countersign(alloc, k, layer, order, &mut Steps::<L>::begin(alloc, blank))
+    countersign(
+        alloc,
+        k,
+        layer,
+        order,
+        &mut HashCount::<L>::begin(alloc, blank),
+    )
 }
 
 /// The bytes of the order.

@@ -3,7 +3,7 @@
 ghost use Rattle.std.specs.Prelude.{◌≡◌, ◌<◌};
 
 use hex::FromHex;
-use mb_lms::{Steps, hash, key_bytes, verify};
+use mb_lms::{HashCount, hash, key_bytes, verify};
 use mb_model::{KeySeed, PublicKey};
 use mb_signer::{KeptTree, OneUse, Uses, public, sign, sign_kept, take_index};
 use std::alloc::Global;
@@ -33,7 +33,7 @@ fn hash_counted<L: Ledger>(alloc: Global, bytes: &[u8], blank: Blank) -> [u8; 32
     requires parts { blank.parts ≡ L.parts }
     requires some { 0 < blank.parts }
 {
-    hash(bytes, &[], &[], &mut Steps::<L>::begin(alloc, blank))
+    hash(bytes, &[], &[], &mut HashCount::<L>::begin(alloc, blank))
 }
 
 /// The public key, on a count of its own.
@@ -46,7 +46,7 @@ fn key_counted<L: Ledger>(alloc: Global, seed: &KeySeed, blank: Blank) -> Public
     requires parts { blank.parts ≡ L.parts }
     requires some { 0 < blank.parts }
 {
-    public(seed, &mut Steps::<L>::begin(alloc, blank))
+    public(seed, &mut HashCount::<L>::begin(alloc, blank))
 }
 
 /// The signature of the text, handed over in two pieces, on a count of its own.
@@ -70,8 +70,8 @@ fn signature_counted<L: Ledger>(
     requires some { 0 < blank.parts }
 {
     let mut out = no_signature();
-    let mut steps = Steps::<L>::begin(alloc, blank);
-    sign(right_at(index), seed, head, body, &mut out, &mut steps);
+    let mut hashes = HashCount::<L>::begin(alloc, blank);
+    sign(right_at(index), seed, head, body, &mut out, &mut hashes);
     out
 }
 
@@ -131,8 +131,8 @@ fn expect_kept<L: Ledger>(rt: &impl Abort, alloc: Global, blank: Blank) -> Resul
     requires some { 0 < blank.parts }
 {
     let seed = seed_of(IDENTIFIER, SEED)?;
-    let mut steps = Steps::<L>::begin(alloc, blank);
-    let tree = KeptTree::build(&seed, &mut steps);
+    let mut hashes = HashCount::<L>::begin(alloc, blank);
+    let tree = KeptTree::build(&seed, &mut hashes);
     for index in 0..2u32 {
         let mut kept = no_signature();
         sign_kept(
@@ -142,7 +142,7 @@ fn expect_kept<L: Ledger>(rt: &impl Abort, alloc: Global, blank: Blank) -> Resul
             b"kept ",
             b"tree",
             &mut kept,
-            &mut steps,
+            &mut hashes,
         );
         let mut anew = no_signature();
         sign(
@@ -151,7 +151,7 @@ fn expect_kept<L: Ledger>(rt: &impl Abort, alloc: Global, blank: Blank) -> Resul
             b"kept ",
             b"tree",
             &mut anew,
-            &mut steps,
+            &mut hashes,
         );
         assert!(rt; kept == anew);
     }

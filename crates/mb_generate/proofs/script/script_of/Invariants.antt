@@ -12,5 +12,5 @@ invariant-loop-round g l = record {
   text : l.script.items ≡ text_of (lines_before_end (with_rounds (draws_of l.fn.drawn) (map round_of (take l.round-index l.fn.drawn.rounds))));
   officers : AreOfficers (draws_of l.fn.drawn) (plans (with_rounds (draws_of l.fn.drawn) (map round_of (take l.round-index l.fn.drawn.rounds)))) l.officers;
   used : HaveUsed (6 + l.round-index) l.officers;
-  cost : l.steps ≤ l.fn.steps + 246163 + 106419 * l.round-index;
+  cost : l.hashes ≤ l.fn.hashes + 246163 + 106419 * l.round-index;
 }

@@ -7,5 +7,5 @@ abbrev pub invariant-loop-above : goal.invariant-loop-above
 invariant-loop-above g l = record {
   written : Appends (front l.maker l.number (l.head ++ l.body) l.above) l.fn.out l.out;
   level : IsLevelOf l.maker l.number l.above l.level.seed l.level.index;
-  cost : l.steps ≤ l.fn.steps + 34401 + 35475 * l.above;
+  cost : l.hashes ≤ l.fn.hashes + 34401 + 35475 * l.above;
 }

@@ -3,4 +3,4 @@ use Rattle.mb_model.specs.OrderStep.{signed_by}
 use Rattle.mb_image.proofs.complete.push_signed.Given as goal
 
 abbrev pub invariant-loop-entry : goal.invariant-loop-entry
-invariant-loop-entry g l = (l.log ≡ l.fn.log ++ map (signed_by l.key l.index) (take l.entry-index l.entries)) × (l.steps ≤ l.fn.steps + 1074 * l.entry-index)
+invariant-loop-entry g l = (l.log ≡ l.fn.log ++ map (signed_by l.key l.index) (take l.entry-index l.entries)) × (l.hashes ≤ l.fn.hashes + 1074 * l.entry-index)

@@ -6,5 +6,5 @@ use Rattle.mb_signer.proofs.one_time.chain_value.Given as goal
 abbrev pub invariant-loop-step : goal.invariant-loop-step
 invariant-loop-step g l = record {
   value : l.link ≡ steps_from l.seed.identifier l.q l.chain 0 l.step (private_value l.seed l.q l.chain);
-  counted : l.steps ≡ l.fn.steps + 1 + l.step;
+  counted : l.hashes ≡ l.fn.hashes + 1 + l.step;
 }

@@ -6,5 +6,5 @@ abbrev pub invariant-loop-chain : goal.invariant-loop-chain
 invariant-loop-chain g l = record {
   ends : take (32 * l.chain) l.ends ≡ public_ends l.seed l.q l.chain;
   sized : length l.ends ≡ 2144;
-  counted : l.steps ≡ l.fn.steps + 16 * l.chain;
+  counted : l.hashes ≡ l.fn.hashes + 16 * l.chain;
 }

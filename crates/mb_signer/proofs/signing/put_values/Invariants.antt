@@ -6,5 +6,5 @@ abbrev pub invariant-loop-chain : goal.invariant-loop-chain
 invariant-loop-chain g l = record {
   values : take (40 + 32 * l.chain) l.out ≡ take 40 l.fn.out ++ signed_values l.seed l.q l.digits l.chain;
   sized : length l.out ≡ 2348;
-  cost : l.steps ≤ l.fn.steps + 16 * l.chain;
+  cost : l.hashes ≤ l.fn.hashes + 16 * l.chain;
 }

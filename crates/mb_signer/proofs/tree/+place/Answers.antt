@@ -13,7 +13,7 @@ returns-then-number-eq1-clause-filled g t c = λ n low high is filled.
 
 pub returns-then-number-eq1-clause-counted : goal.returns-then-number-eq1-clause-counted
 returns-then-number-eq1-clause-counted g t c = λ n low high.
-    counted_joined n c.args.number c.args.steps.now c.place.new.steps low high c.if-number-gt1.true c.if-number-eq1.true
+    counted_joined n c.args.number c.args.hashes.now c.place.new.hashes low high c.if-number-gt1.true c.if-number-eq1.true
     (λ m lower higher. omega (arith, c.place.ensures.counted m lower higher, c.inner_node-parent.ensures.counted))
 
 pub returns-else-number-gt1-clause-filled : goal.returns-else-number-gt1-clause-filled
@@ -26,5 +26,5 @@ returns-else-number-gt1-clause-filled g t c = λ n low high is filled.
 
 pub returns-else-number-gt1-clause-counted : goal.returns-else-number-gt1-clause-counted
 returns-else-number-gt1-clause-counted g t c = λ n low high.
-    counted_alone n c.args.number c.args.steps.now low high
+    counted_alone n c.args.number c.args.hashes.now low high
     (λ many. elim c.else-number-gt1.branch [ else-number-gt1-via-then-number-gt1+else-number-eq1 w ↦ omega arith | else-number-gt1-via-else-number-gt1 w ↦ omega arith ])

@@ -6,5 +6,5 @@ abbrev pub invariant-loop-q : goal.invariant-loop-q
 invariant-loop-q g l = record {
   filled : IsFilled l.seed l.nodes 5 (32 + l.q);
   sized : length l.nodes ≡ 63;
-  counted : l.steps + 31 ≡ l.fn.steps + 1074 * l.q + joined_above 5 (32 + l.q);
+  counted : l.hashes + 31 ≡ l.fn.hashes + 1074 * l.q + joined_above 5 (32 + l.q);
 }

@@ -10,33 +10,33 @@ use std::sync::ledger::{Blank, Book, Ledger, Share};
 
 /// How many hashes were taken. It takes no bytes, and `hash` alone raises it. It can be neither copied nor set back.
 #[derive(Drop)]
-pub struct Steps<L: Ledger> {
+pub struct HashCount<L: Ledger> {
     book: Book<L>,
     share: Share<L>,
 }
 
-impl<L: Ledger> Model for Steps<L> {
+impl<L: Ledger> Model for HashCount<L> {
     ghost use Rattle.std.specs.Prelude.{ℕ, ◌<◌};
 
     ghost Value = { ℕ };
 
-    ghost view = { λ steps. steps.book.total };
+    ghost view = { λ hashes. hashes.book.total };
 
-    ghost invariant = { λ steps. 0 < steps.share.parts };
+    ghost invariant = { λ hashes. 0 < hashes.share.parts };
 }
 
-impl<L: Ledger> Steps<L> {
+impl<L: Ledger> HashCount<L> {
     /// A count of none yet, over a ledger of at least one part. It takes no memory. The allocator is a permission,
     /// which a function has only where its caller gives it: no call that hashes is given one, here or in `mb_signer`,
     /// so that none can begin a count of its own beside its caller's.
-    pub fn begin(_permission: Global, blank: Blank) -> Steps<L>
+    pub fn begin(_permission: Global, blank: Blank) -> HashCount<L>
         requires name { blank.name ≡ L.name }
         requires parts { blank.parts ≡ L.parts }
         requires some { 0 < blank.parts }
         ensures { result ≡ 0 }
     {
         let (book, share) = blank.open::<L>();
-        Steps { book, share }
+        HashCount { book, share }
     }
 
     fn count(&mut self)
@@ -46,12 +46,12 @@ impl<L: Ledger> Steps<L> {
     }
 }
 
-/// The SHA-256 hash of three pieces joined, which counts as one step.
-pub fn hash<L: Ledger>(a: &[u8], b: &[u8], c: &[u8], steps: &mut Steps<L>) -> [u8; 32]
+/// The SHA-256 hash of three pieces joined, which counts as one.
+pub fn hash<L: Ledger>(a: &[u8], b: &[u8], c: &[u8], hashes: &mut HashCount<L>) -> [u8; 32]
     ensures value { result ≡ sha256 (a.now ++ b.now ++ c.now) }
-    ensures counted { steps.new ≡ steps.old + 1 }
+    ensures counted { hashes.new ≡ hashes.old + 1 }
 {
-    steps.count();
+    hashes.count();
     let mut hasher = Sha256::new();
     hasher.update(a);
     hasher.update(b);
