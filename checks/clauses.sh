@@ -5,7 +5,7 @@
 set -u
 cd "$(dirname "$0")/.." || exit 2
 
-crates="mb_slot mb_flash mb_area mb_region mb_outbound mb_boot mb_commit mb_layer_events mb_device"
+crates="mb_slot mb_flash mb_area mb_region mb_outbound mb_boot mb_device_orders mb_device_regions mb_device"
 each=0
 if [ $# -gt 0 ]; then
     crates=$*

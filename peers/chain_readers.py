@@ -17,7 +17,7 @@ from sources import HEX
 from top_readers import Host, private_key
 
 TOKEN = re.compile(r'"(?:[^"\\]|\\.)*"|[A-Za-z_][\w:]*|0x[0-9A-F]+|\d[\d_]*|[()\[\]{}]')
-BIRTHS = "crates/mb_lives/src/tests/births.rt"
+BIRTHS = "crates/mb_test_lives/src/tests/births.rt"
 # the tables that lead to a new device with its first orders, and to one whose layers have code
 A_NEW_DEVICE = "MADE", "FIRST_ORDERS"
 LAYERS_OWNED = *A_NEW_DEVICE, "ORDERS_OF_A_LIFE", "LAYERS_ARE_GIVEN"

@@ -3,7 +3,7 @@
     device.py full IMAGE           a log of 128 entries, sixteen keys and 32 secrets
     device.py new IMAGE            a new device
     device.py pending KIND IMAGE   a device with work pending: entry, succession, renewal, last, add, short; with none: born
-    device.py row KIND             a row of the tests of such work in crates/mb_cuts, whose birth is signed by zeros
+    device.py row KIND             a row of the tests of such work in crates/mb_test_cuts, whose birth is signed by zeros
 
 After `old`, as in `device.py old full IMAGE`, each birth and change has version 1, which spells one trust for each layer;
 otherwise version 2, which spells two. The rows are of version 1. Each image's line says what it stands for:

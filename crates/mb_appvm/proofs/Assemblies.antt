@@ -5,7 +5,7 @@ use Rattle.std.specs.List.{AllZip, list_any}
 use Rattle.std.proofs.lemmas.List.{take_more, take-append-drop, take_all}
 use Rattle.std.proofs.lemmas.List.Elements.{All-nil, All-cons, All-weaker}
 use Rattle.mb_model.specs.Lines.{HasLines}
-use Rattle.mb_lemmas.proofs.LineLemmas.{HasLines-none, HasLines-nil, HasLines-same, HasLines-always}
+use Rattle.mb_model_lemmas.proofs.LineLemmas.{HasLines-none, HasLines-nil, HasLines-same, HasLines-always}
 use Rattle.mb_appvm.specs.declared.lines.Said.{Said}
 use Rattle.mb_appvm.specs.declared.lines.Said.TheVariants as says
 use Rattle.mb_appvm.specs.Assembly.{SaysLine, IsSayable, size_of, is_label, GivesLabel, HasTarget, AreRight, Assembles, AssemblyFailsAt}

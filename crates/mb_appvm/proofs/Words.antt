@@ -10,7 +10,7 @@ use Rattle.mb_format.specs.Combinators.{same_bytes}
 use Rattle.mb_model.specs.RegionFormat.{is_name, is_name_byte}
 use Rattle.mb_model.specs.Script.{IsName}
 use Rattle.mb_model.specs.Lines.{IsNumber, number_limit}
-use Rattle.mb_lemmas.proofs.LineLemmas.{Without, isnt, first_same, first_none}
+use Rattle.mb_model_lemmas.proofs.LineLemmas.{Without, isnt, first_same, first_none}
 use Rattle.mb_appvm.specs.declared.instruction.Operation.TheVariants as op
 use Rattle.mb_appvm.specs.declared.instruction.Plain.{Plain}
 use Rattle.mb_appvm.specs.declared.instruction.Plain.TheVariants as plain

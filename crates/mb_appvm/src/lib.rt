@@ -1,9 +1,7 @@
 //! The application machine: what the code of layers 2 and 3 is and does, and how it is written as text.
 //!
-//! This crate owns the machine's instructions and their bytes, the run of a code on an input and on the secrets that
-//! its layer may read, the assembler and the disassembler. It stands on `mb_model`, for layers, regions and secrets, on
-//! `mb_format` and `mb_bytes`, by which instructions are spelled and read, on `mb_words` and `mb_lemmas` for lines, on
-//! `arrayvec`, which holds the stack, and on `itoa`; its tests stand on `hex`.
+//! This crate owns the machine's instructions and their bytes, the run of a code on an input and on the secrets
+//! that its layer may read, the assembler and the disassembler.
 #![tactic(auto)]
 
 mod assembling;

@@ -1,5 +1,5 @@
 -- Public records as they are read and written.
-use Rattle.mb_storing.specs.Holding.{KeepsContents}
+use Rattle.mb_model_memory.specs.Holding.{KeepsContents}
 use Rattle.std.proofs.Common.{◌≡◌, ℕ, zero, suc, ◌+◌, ◌*◌, ◌-◌, ◌≤◌, List, ◌++◌, length, take, drop, Result, refl, sym, ap, subst, ◌∙◌, arith}
 use Rattle.std.proofs.lemmas.List.{take-take, drop-drop, drop-take}
 use Rattle.std.proofs.Math.Seq.{take-append_seam}
@@ -13,7 +13,7 @@ use Rattle.mb_model.specs.Meaning.{RootIn, HoldsContents}
 use Rattle.mb_board.specs.Calls.{IsMetered}
 use Rattle.mb_flash.specs.Sectors.{sectors_for}
 use Rattle.mb_layout.proofs.Areas.{number_is, after_number}
-use Rattle.mb_storing.proofs.FrameLemmas.{other_flash}
+use Rattle.mb_model_memory.proofs.FrameLemmas.{other_flash}
 
 -- ---- writing
 

@@ -14,16 +14,16 @@ use Rattle.mb_model.specs.Memory.{IsBlank, current, HoldsRecord}
 use Rattle.mb_model.specs.Flash.{flash_area}
 use Rattle.mb_model.specs.Meaning.{RootIn, Contents, HoldsContents, meant}
 use Rattle.mb_model.specs.Clean.{root_of}
-use Rattle.mb_lemmas.proofs.MeaningLemmas.{one_root}
-use Rattle.mb_storing.specs.Commits.{both_done, at_rest}
-use Rattle.mb_storing.specs.Holding.{KeepsContents}
-use Rattle.mb_storing.proofs.CommitLemmas.{stands_for_meant}
-use Rattle.mb_storing.proofs.HoldingLemmas.{contents_keep}
-use Rattle.mb_storing.specs.InForce.{AgreeBesides}
-use Rattle.mb_storing.proofs.FrameLemmas.{contents_agree, root_replaced}
-use Rattle.mb_storing.proofs.RestLemmas.{work_finished, rest_stands, meant_layers}
-use Rattle.mb_storing.proofs.StorableFormats.{none_allowed}
-use Rattle.mb_storing.proofs.StorableRecords.{root_room}
+use Rattle.mb_model_lemmas.proofs.MeaningLemmas.{one_root}
+use Rattle.mb_model_memory.specs.Commits.{both_done, at_rest}
+use Rattle.mb_model_memory.specs.Holding.{KeepsContents}
+use Rattle.mb_model_memory.proofs.CommitLemmas.{stands_for_meant}
+use Rattle.mb_model_memory.proofs.HoldingLemmas.{contents_keep}
+use Rattle.mb_model_memory.specs.InForce.{AgreeBesides}
+use Rattle.mb_model_memory.proofs.FrameLemmas.{contents_agree, root_replaced}
+use Rattle.mb_model_memory.proofs.RestLemmas.{work_finished, rest_stands, meant_layers}
+use Rattle.mb_model_memory.proofs.StorableFormats.{none_allowed}
+use Rattle.mb_model_memory.proofs.StorableRecords.{root_room}
 use Rattle.mb_area.specs.Roots.{HoldsSomeRoot, HasSomeRoot, CommitsRoot, settled_root, Finishes, KeepsOrFinishes, MeansByRoot, KeepsOrMeansByRoot, MeansAsReady}
 
 -- ---- reading

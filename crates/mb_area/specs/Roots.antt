@@ -11,9 +11,9 @@ use Rattle.mb_model.specs.Memory.{HoldsRecord}
 use Rattle.mb_model.specs.Flash.{HoldsPublic}
 use Rattle.mb_model.specs.Meaning.{RootIn, Contents, meant}
 use Rattle.mb_model.specs.Clean.{root_of}
-use Rattle.mb_storing.specs.Commits.{both_done, at_rest}
+use Rattle.mb_model_memory.specs.Commits.{both_done, at_rest}
 use Rattle.mb_model.specs.StoredLog.{HasIndex}
-use Rattle.mb_storing.specs.Holding.{Holds, Means, KeepsContents, KeepsMeaning}
+use Rattle.mb_model_memory.specs.Holding.{Holds, Means, KeepsContents, KeepsMeaning}
 
 -- an area holds some root
 pub record HoldsSomeRoot (area : List ℕ) : Type 0 where

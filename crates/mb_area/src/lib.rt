@@ -1,10 +1,8 @@
 //! The parts of a device's memory that its root governs: the root itself, and the public record in the flash.
 //!
-//! This crate owns how a device is looked at when it comes up, how the public record is written where it is not in force,
-//! and how a root is put in force, after an order and once the order's work is done; and the states `Unsettled` and
-//! `Unwiped` of a device in which such work is left, which cannot be let go. No call takes memory. It stands on `mb_slot`
-//! and `mb_flash`, which write areas whole, on `mb_layout` for the bytes of records, on `mb_ratchet` for the states, on
-//! `mb_board`, and on what `mb_storing` says of memories.
+//! This crate owns how a device is looked at when it comes up, how the public record is written where it is not in
+//! force, and how a root is put in force, after an order and once the order's work is done; and the states
+//! `Unsettled` and `Unwiped` of a device in which such work is left, which cannot be let go. No call takes memory.
 #![tactic(auto)]
 
 mod first_look;

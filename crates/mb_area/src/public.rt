@@ -7,7 +7,7 @@ ghost use Rattle.mb_model.specs.Meaning.{RootIn};
 ghost use Rattle.mb_model.specs.Board.{IsLoaded};
 ghost use Rattle.mb_board.specs.Calls.{power_of, level_of, IsMetered};
 ghost use Rattle.mb_layout.specs.Rooms.{HasRoom};
-ghost use Rattle.mb_storing.specs.Holding.{KeepsContents};
+ghost use Rattle.mb_model_memory.specs.Holding.{KeepsContents};
 ghost use Rattle.mb_area.specs.Roots.{HasSomeRoot};
 ghost use Rattle.mb_area.specs.Records.{BeginsSome};
 

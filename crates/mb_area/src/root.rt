@@ -8,10 +8,10 @@ ghost use Rattle.mb_model.specs.Memory.{IsBlank, current, other, HoldsRecord};
 ghost use Rattle.mb_model.specs.Meaning.{RootIn};
 ghost use Rattle.mb_model.specs.Board.{IsLoaded};
 ghost use Rattle.mb_board.specs.Calls.{power_of, level_of, IsMetered};
-ghost use Rattle.mb_storing.specs.InForce.{AgreeBesides};
+ghost use Rattle.mb_model_memory.specs.InForce.{AgreeBesides};
 ghost use Rattle.mb_slot.specs.Slots.{CanUse, IsSameBut, IsSameButOther};
 ghost use Rattle.mb_layout.specs.Rooms.{HasRoom};
-ghost use Rattle.mb_storing.specs.Holding.{KeepsContents};
+ghost use Rattle.mb_model_memory.specs.Holding.{KeepsContents};
 ghost use Rattle.mb_area.specs.Roots.{HoldsSomeRoot, HasSomeRoot, CommitsRoot, Finishes, KeepsOrFinishes, MeansByRoot, KeepsOrMeansByRoot, MeansAsReady, settled_root};
 
 use crate::state::{Unsettled, Unwiped};

@@ -1,9 +1,9 @@
 //! Who may give an order, when, and what a change leaves of the layers.
 //!
-//! This crate owns the rules of layers: the key under which an order has to verify, which of its targets fails, how the
-//! layers have to stand, which changes a layer admits, and the layers and the kept regions afterwards. Its calls speak
-//! of a kind of change and a layer, so that they serve orders and log entries alike. It stands on `mb_model`, which has
-//! the definitions, on `mb_lms` for the hash of a key, and on `sha2`. No call takes memory.
+//! This crate owns the rules of layers: the key under which an order has to verify, which of its targets fails, how
+//! the layers have to stand, which changes a layer admits, and the layers and the kept regions afterwards. Its
+//! calls speak of a kind of change and a layer, so that they serve orders and log entries alike. No call takes
+//! memory.
 #![tactic(auto)]
 
 mod changes;

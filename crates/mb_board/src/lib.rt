@@ -1,8 +1,8 @@
-//! The board: a trait for a device's memories, its power and the events that it is given, and a board that simulates one.
+//! The board: a trait for a device's memories, its power and the events that it is given, and a board that
+//! simulates one.
 //!
-//! This crate owns what may be relied on of the hardware: what a write call leaves where a power loss falls into it, which
-//! part of the battery-backed memory each level of the ratchet reaches, and when an answer is taken. It stands on
-//! `mb_model`, whose definitions it speaks of, and on `mb_ratchet`.
+//! This crate owns what may be relied on of the hardware: what a write call leaves where a power loss falls into
+//! it, which part of the battery-backed memory each level of the ratchet reaches, and when an answer is taken.
 #![tactic(auto)]
 
 mod bank;

@@ -11,10 +11,10 @@ use Rattle.mb_model.specs.Memory.{IsBlank, life_byte, other}
 use Rattle.mb_model.specs.Meaning.{RootIn, Contents, meant, HasMeaning, is_dead, is_live, StandsFor}
 use Rattle.mb_model.specs.Clean.{root_of}
 use Rattle.mb_model.specs.Valid.{Valid}
-use Rattle.mb_storing.specs.Commits.{at_rest}
-use Rattle.mb_storing.specs.Holding.{Holds, Means, KeepsContents, KeepsMeaning}
-use Rattle.mb_storing.proofs.CommitLemmas.{live_contents}
-use Rattle.mb_storing.proofs.RestLemmas.{nothing_pending}
+use Rattle.mb_model_memory.specs.Commits.{at_rest}
+use Rattle.mb_model_memory.specs.Holding.{Holds, Means, KeepsContents, KeepsMeaning}
+use Rattle.mb_model_memory.proofs.CommitLemmas.{live_contents}
+use Rattle.mb_model_memory.proofs.RestLemmas.{nothing_pending}
 use Rattle.mb_slot.specs.Slots.{IsSameButOther}
 use Rattle.mb_slot.proofs.Slotted.{but_other, other_other}
 use Rattle.mb_area.specs.declared.first_look.Looked.{Looked}

@@ -16,16 +16,16 @@ use Rattle.mb_model.specs.StoredLog.{completed, AreCounted}
 use Rattle.mb_model.specs.Flash.{public_format, public_of_parts, flash_area, BeginsArea}
 use Rattle.mb_model.specs.Meaning.{RootIn, Contents, meant, fated, fate_of_two, fate_of_three}
 use Rattle.mb_model.specs.Valid.{IsValidState}
-use Rattle.mb_lemmas.proofs.PublicLemmas.{IsBounded, bounded_by}
-use Rattle.mb_storing.specs.Commits.{two_done, both_done, at_rest, has_both}
-use Rattle.mb_storing.specs.Holding.{Holds, Means, KeepsContents, KeepsMeaning}
-use Rattle.mb_storing.specs.InForce.{AgreeBesides}
-use Rattle.mb_storing.specs.Storable.{IsStorableState, HasRegionRecord}
-use Rattle.mb_storing.proofs.HoldingLemmas.{contents_keep, keeps_then}
-use Rattle.mb_storing.proofs.CommitLemmas.{live_contents, both_done_means, work_ends}
-use Rattle.mb_storing.proofs.RestLemmas.{rest_stands, meant_layers}
-use Rattle.mb_storing.proofs.StorableMemories.{stands_storable}
-use Rattle.mb_storing.proofs.StorableRecords.{region_record, public_room}
+use Rattle.mb_model_lemmas.proofs.PublicLemmas.{IsBounded, bounded_by}
+use Rattle.mb_model_memory.specs.Commits.{two_done, both_done, at_rest, has_both}
+use Rattle.mb_model_memory.specs.Holding.{Holds, Means, KeepsContents, KeepsMeaning}
+use Rattle.mb_model_memory.specs.InForce.{AgreeBesides}
+use Rattle.mb_model_memory.specs.Storable.{IsStorableState, HasRegionRecord}
+use Rattle.mb_model_memory.proofs.HoldingLemmas.{contents_keep, keeps_then}
+use Rattle.mb_model_memory.proofs.CommitLemmas.{live_contents, both_done_means, work_ends}
+use Rattle.mb_model_memory.proofs.RestLemmas.{rest_stands, meant_layers}
+use Rattle.mb_model_memory.proofs.StorableMemories.{stands_storable}
+use Rattle.mb_model_memory.proofs.StorableRecords.{region_record, public_room}
 use Rattle.mb_area.specs.Roots.{HasSomeRoot, Finishes, KeepsOrFinishes, IsReadyToFinish}
 use Rattle.mb_area.specs.Records.{BeginsSome}
 use Rattle.mb_region.specs.Fates.{IsPending, AppliesFate}

@@ -7,7 +7,7 @@ use Rattle.mb_model.specs.Memory.{IsBlank, other}
 use Rattle.mb_model.specs.Meaning.{RootIn, StandsFor}
 use Rattle.mb_model.specs.Clean.{Clean}
 use Rattle.mb_model.specs.Valid.{Valid}
-use Rattle.mb_storing.specs.Holding.{Means}
+use Rattle.mb_model_memory.specs.Holding.{Means}
 use Rattle.mb_area.specs.declared.first_look.Looked.{Looked}
 use Rattle.mb_area.specs.Look.{IsLooked}
 use Rattle.mb_boot.specs.Settling.{IsAtRest}

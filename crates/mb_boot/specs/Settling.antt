@@ -8,8 +8,8 @@ use Rattle.mb_model.specs.Flash.{public_format, public_of_parts, HoldsPublic}
 use Rattle.mb_model.specs.Meaning.{RootIn, Contents, meant}
 use Rattle.mb_model.specs.Clean.{root_of}
 use Rattle.mb_model.specs.Valid.{IsValidState}
-use Rattle.mb_storing.specs.Commits.{both_done, at_rest}
-use Rattle.mb_storing.specs.Holding.{Holds, Means}
+use Rattle.mb_model_memory.specs.Commits.{both_done, at_rest}
+use Rattle.mb_model_memory.specs.Holding.{Holds, Means}
 
 -- the memory stands for a state that a device can have
 pub record IsLive (memory : Memory) : Type 0 where

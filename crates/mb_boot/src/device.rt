@@ -8,7 +8,7 @@ ghost use Rattle.mb_model.specs.Meaning.{StandsFor};
 ghost use Rattle.mb_model.specs.Board.{IsLoaded};
 ghost use Rattle.mb_board.specs.Calls.{power_of, level_of, IsMetered};
 ghost use Rattle.mb_layout.specs.Rooms.{HasRoom};
-ghost use Rattle.mb_storing.specs.Holding.{KeepsContents, KeepsMeaning};
+ghost use Rattle.mb_model_memory.specs.Holding.{KeepsContents, KeepsMeaning};
 ghost use Rattle.mb_boot.specs.Settling.{IsLive};
 ghost use Rattle.mb_boot.specs.Booting.{IsFoundAs, Rests, IsWiped, Cleans, IsQuiet, StandsForValid, KeepsState, IfUnwritten, stop_of, power_at, HasLevel, is_zeroised};
 
@@ -46,7 +46,7 @@ fn is_dead<B: Board>(b: &B) -> bool
 }
 
 /// Does the pending work, and wipes the root's area that is not in force. There are at most 237 write calls.
-#[tactic(auto, using(crate::proofs::Booted::settled_rests, mb_storing::proofs::HoldingLemmas::contents_keep, mb_storing::proofs::HoldingLemmas::keeps_then))]
+#[tactic(auto, using(crate::proofs::Booted::settled_rests, mb_model_memory::proofs::HoldingLemmas::contents_keep, mb_model_memory::proofs::HoldingLemmas::keeps_then))]
 fn settle_and_wipe<B: Board, L: Ledger>(
     u: Unsettled,
     b: &mut B,
@@ -75,7 +75,7 @@ fn settle_and_wipe<B: Board, L: Ledger>(
 
 /// Does what is left to be done in a device that is alive, and wipes the root's area that is not in force. There are at
 /// most 237 write calls.
-#[tactic(auto, using(crate::proofs::Booted::already_rests, crate::proofs::Booted::wiped_rests, crate::proofs::Booted::already_quiet, crate::proofs::Booted::unwiped_quiet, crate::proofs::Booted::unsettled_quiet, mb_storing::proofs::HoldingLemmas::contents_keep, mb_storing::proofs::HoldingLemmas::keeps_then, crate::proofs::Booted::keeps_all))]
+#[tactic(auto, using(crate::proofs::Booted::already_rests, crate::proofs::Booted::wiped_rests, crate::proofs::Booted::already_quiet, crate::proofs::Booted::unwiped_quiet, crate::proofs::Booted::unsettled_quiet, mb_model_memory::proofs::HoldingLemmas::contents_keep, mb_model_memory::proofs::HoldingLemmas::keeps_then, crate::proofs::Booted::keeps_all))]
 fn bring_to_rest<B: Board, L: Ledger>(
     looked: Looked,
     b: &mut B,
@@ -129,7 +129,7 @@ fn wipe_regions<B: Board>(up: Up<R1>, b: &mut B) -> Result<Up<R1>, Off>
 }
 
 /// Does all that is left to be done in a device that is alive. There are at most 239 write calls.
-#[tactic(auto, using(crate::proofs::Booted::found_as, crate::proofs::Settled::some_root, crate::proofs::Booted::cleaned, mb_storing::proofs::HoldingLemmas::contents_keep, mb_storing::proofs::HoldingLemmas::keeps_then, crate::proofs::Booted::quiet_then))]
+#[tactic(auto, using(crate::proofs::Booted::found_as, crate::proofs::Settled::some_root, crate::proofs::Booted::cleaned, mb_model_memory::proofs::HoldingLemmas::contents_keep, mb_model_memory::proofs::HoldingLemmas::keeps_then, crate::proofs::Booted::quiet_then))]
 fn come_up<B: Board, L: Ledger>(
     up: Up<R1>,
     b: &mut B,
@@ -164,7 +164,7 @@ fn come_up<B: Board, L: Ledger>(
 /// Does what a committed order has left to be done, and wipes what it replaced. The memory stands for the same state
 /// wherever power fails, and afterwards it is clean. The memory stands for a state that a device can have. There are at
 /// most 239 write calls, and 70,946 hashes.
-#[tactic(auto, using(crate::proofs::Booted::cleaned, mb_storing::proofs::HoldingLemmas::contents_keep, mb_storing::proofs::HoldingLemmas::keeps_then))]
+#[tactic(auto, using(crate::proofs::Booted::cleaned, mb_model_memory::proofs::HoldingLemmas::contents_keep, mb_model_memory::proofs::HoldingLemmas::keeps_then))]
 pub fn finish_order<B: Board, L: Ledger>(
     u: Unsettled,
     b: &mut B,

@@ -1,10 +1,8 @@
 //! How a device comes up and how an order's work ends: what is left to be done is done, and old secrets are wiped.
 //!
-//! This crate owns the order in which pending work is done, so that the memory stands for one state wherever power fails,
-//! the boot that leaves a memory clean, and `finish_order`, which leaves it clean once an order is committed. It stands on
-//! `mb_area` and `mb_region`, whose calls each keep that state, on `mb_completion`, which signs, on `mb_ratchet` for the
-//! states, and on what `mb_storing` says of memories. `boot` takes memory before its first write, and no other call takes
-//! any.
+//! This crate owns the order in which pending work is done, so that the memory stands for one state wherever power
+//! fails, the boot that leaves a memory clean, and `finish_order`, which leaves it clean once an order is
+//! committed. `boot` takes memory before its first write, and no other call takes any.
 #![tactic(auto)]
 
 mod device;

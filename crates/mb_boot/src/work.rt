@@ -5,7 +5,7 @@ ghost use Rattle.mb_model.specs.Board.{IsLoaded};
 ghost use Rattle.mb_model.specs.Meaning.{fate_of_two, fate_of_three};
 ghost use Rattle.mb_board.specs.Calls.{power_of, level_of, IsMetered};
 ghost use Rattle.mb_layout.specs.Rooms.{HasRoom};
-ghost use Rattle.mb_storing.specs.Holding.{KeepsContents, KeepsMeaning};
+ghost use Rattle.mb_model_memory.specs.Holding.{KeepsContents, KeepsMeaning};
 ghost use Rattle.mb_boot.specs.Settling.{IsLive, IsOnlyRoot, AppliesBoth, SpellsSigned, SignsRecord, Settles};
 
 use mb_area::{Unsettled, Unwiped, finish_root, read_public, read_root, write_public};
@@ -119,7 +119,7 @@ fn write_signed<B: Board, L: Ledger>(
 /// Does the pending work: what is to be done to the regions, and the signatures that are still to be made, each entry
 /// being signed once. The memory stands for the same state wherever power fails, and afterwards nothing is pending. The
 /// memory stands for a state that a device can have. There are at most 236 write calls, and 70,946 hashes.
-#[tactic(auto, using(crate::proofs::Settled::some_root, crate::proofs::Settled::only_root, crate::proofs::Settled::live_still, mb_storing::proofs::HoldingLemmas::contents_keep, crate::proofs::Settled::finish_keeps, mb_storing::proofs::HoldingLemmas::keeps_then, crate::proofs::Settled::settled))]
+#[tactic(auto, using(crate::proofs::Settled::some_root, crate::proofs::Settled::only_root, crate::proofs::Settled::live_still, mb_model_memory::proofs::HoldingLemmas::contents_keep, crate::proofs::Settled::finish_keeps, mb_model_memory::proofs::HoldingLemmas::keeps_then, crate::proofs::Settled::settled))]
 pub fn settle<B: Board, L: Ledger>(
     u: Unsettled,
     b: &mut B,

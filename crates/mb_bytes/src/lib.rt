@@ -1,11 +1,10 @@
 //! Number fields in bytes: a cursor that reads them and calls that append them.
 //!
-//! Numbers are spelled high byte first. The contracts speak of the formats of `mb_format`: `specs/Reads.antt` says what a
-//! reader of a format gives, `specs/Puts.antt` what a writer appends. Readers and writers of whole records, in the crates
-//! above, have the same contracts and are composed of these by `?`. What several of those records have in common stands
-//! here too: numbers within bounds, flags, bytes after their number, keys, trust and kinds of keys.
-//!
-//! It stands on `mb_format`, and on `mb_model` for allocations that fail, for the offsets of faults and for keys.
+//! Numbers are spelled high byte first. The contracts speak of the formats of `mb_format`: `specs/Reads.antt` says
+//! what a reader of a format gives, `specs/Puts.antt` what a writer appends. Readers and writers of whole records,
+//! in the crates above, have the same contracts and are composed of these by `?`. What several of those records
+//! have in common stands here too: numbers within bounds, flags, bytes after their number, keys, trust and kinds of
+//! keys.
 #![tactic(auto)]
 
 mod cursor;

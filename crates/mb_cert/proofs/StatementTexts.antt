@@ -7,9 +7,9 @@ use Rattle.mb_model.specs.Texts.{IsHex}
 use Rattle.mb_model.specs.ChainFormat.{statement_format}
 use Rattle.mb_model.specs.OrderLines.{IsStatementLine}
 use Rattle.mb_model.proofs.FormatBounds.{statement_short}
-use Rattle.mb_lemmas.proofs.LineLemmas.{cons_same}
-use Rattle.mb_lemmas.proofs.WordLemmas.{IsHex-same}
-use Rattle.mb_lemmas.proofs.OrderLineLemmas.{statement_one, some_statement, some_line, some_statement_is}
+use Rattle.mb_model_lemmas.proofs.LineLemmas.{cons_same}
+use Rattle.mb_model_lemmas.proofs.WordLemmas.{IsHex-same}
+use Rattle.mb_model_lemmas.proofs.OrderLineLemmas.{statement_one, some_statement, some_line, some_statement_is}
 use Rattle.mb_words.specs.declared.said.NotSaid.{NotSaid}
 use Rattle.mb_words.specs.declared.said.NotSaid.TheVariants as why
 use Rattle.mb_words.specs.Words.{Finds}

@@ -1,10 +1,8 @@
 //! Chains of certificates and statements.
 //!
-//! This crate owns how a chain and a statement are read and written as bytes, how a statement is read from its line of
-//! text and attached to a chain, and whether a key signed an entry. How chains and statements are spelled, and which
-//! entries stand beside a statement, is defined in `mb_model` (`ChainFormat`, `OrderLines`, `Attach`). It stands on that
-//! crate, on `mb_format`, on `mb_bytes` and `mb_layout`, by which fields and entries are read and written, on `mb_words`,
-//! which reads lines and hexadecimal words, on the lemmas on such lines in `mb_lemmas`, and on `mb_lms`, which verifies.
+//! This crate owns how a chain and a statement are read and written as bytes, how a statement is read from its line
+//! of text and attached to a chain, and whether a key signed an entry. How chains and statements are spelled, and
+//! which entries stand beside a statement, is defined in `mb_model` (`ChainFormat`, `OrderLines`, `Attach`).
 #![tactic(auto)]
 
 mod attached;

@@ -1,8 +1,8 @@
 //! Orders as bytes, both ways.
 //!
-//! This crate owns how an order is read from the bytes of a `command` event and how it is written, and what of it its
-//! owners sign. How orders are spelled is `order_format` of `mb_model`; the parts that orders have in common
-//! with other records are read and written by `mb_bytes`. It stands on these two and on `mb_format`.
+//! This crate owns how an order is read from the bytes of a `command` event and how it is written, and what of it
+//! its owners sign. How orders are spelled is `order_format` of `mb_model`; the parts that orders have in common
+//! with other records are read and written by `mb_bytes`.
 #![tactic(auto)]
 
 mod act;

@@ -1,8 +1,8 @@
 //! The signatures that an order has left to be made.
 //!
-//! This crate owns how the unsigned entries at the end of a stored public record are signed in place: by the key and at the
-//! index that the root names, so that a signature made again after a power loss is the same one. It stands on `mb_layout`,
-//! which finds those entries and puts the signatures after them, and on `mb_signer`. No call takes memory.
+//! This crate owns how the unsigned entries at the end of a stored public record are signed in place: by the key
+//! and at the index that the root names, so that a signature made again after a power loss is the same one. No call
+//! takes memory.
 #![tactic(auto)]
 
 mod pending;

@@ -18,8 +18,8 @@ use Rattle.mb_model.specs.Refusals.{zeroised, refused}
 use Rattle.mb_model.specs.Valid.{Valid}
 use Rattle.mb_board.specs.Calls.{held_by}
 use Rattle.mb_layout.specs.Rooms.{HasRoom}
-use Rattle.mb_storing.specs.Holding.{Means, IsReady}
-use Rattle.mb_commit.specs.Remembering.{Knows}
+use Rattle.mb_model_memory.specs.Holding.{Means, IsReady}
+use Rattle.mb_device_orders.specs.Remembering.{Knows}
 use Rattle.mb_boot.specs.Booting.{Cleans, KeepsState}
 use Rattle.mb_device.specs.declared.device.Device.TheVariants as device
 use Rattle.mb_device.specs.declared.device.Running.{Running}

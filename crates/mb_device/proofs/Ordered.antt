@@ -10,11 +10,11 @@ use Rattle.mb_model.specs.Board.{Memory, Meter}
 use Rattle.mb_model.specs.Machine.{World, Machine, answered}
 use Rattle.mb_model.specs.OrderStep.{OrderStep, spells_none, fails_check, is_obeyed}
 use Rattle.mb_model.specs.Valid.{Valid}
-use Rattle.mb_lemmas.proofs.ValidSteps.{machine_valid}
+use Rattle.mb_model_lemmas.proofs.ValidSteps.{machine_valid}
 use Rattle.mb_board.specs.Calls.{held_by}
 use Rattle.mb_layout.specs.Rooms.{HasRoom}
-use Rattle.mb_commit.specs.declared.remembering.Known.{Known}
-use Rattle.mb_commit.specs.Obeying.{IsOrderAnswered, lacks, tells, IsOrderCut}
+use Rattle.mb_device_orders.specs.declared.remembering.Known.{Known}
+use Rattle.mb_device_orders.specs.Obeying.{IsOrderAnswered, lacks, tells, IsOrderCut}
 use Rattle.mb_device.specs.declared.device.Device.{Device}
 use Rattle.mb_device.specs.declared.device.Device.TheVariants as device
 use Rattle.mb_device.specs.declared.device.Running.{Running}

@@ -11,8 +11,8 @@ use Rattle.mb_model.specs.Board.{Held, Ledger, AreBytes}
 use Rattle.mb_model.specs.Clean.{Clean}
 use Rattle.mb_model.specs.Machine.{World, Step, Run, may_be_cut}
 use Rattle.mb_model.specs.Script.{IsScriptEvent}
-use Rattle.mb_lemmas.proofs.RefusalLemmas.{written_is_on}
-use Rattle.mb_lemmas.proofs.ValidStates.{kept_rightly}
+use Rattle.mb_model_lemmas.proofs.RefusalLemmas.{written_is_on}
+use Rattle.mb_model_lemmas.proofs.ValidStates.{kept_rightly}
 use Rattle.mb_device.specs.declared.device.Device.{Device}
 use Rattle.mb_device.specs.Sound.{IsSound, HasSound, taken, CanStep, Steps}
 use Rattle.mb_device.specs.Served.{IsServedFrom}

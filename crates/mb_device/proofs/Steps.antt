@@ -13,7 +13,7 @@ use Rattle.mb_model.specs.Meaning.{StandsFor}
 use Rattle.mb_model.specs.Refusals.{Refusal, refused}
 use Rattle.mb_model.specs.Valid.{Valid}
 use Rattle.mb_board.specs.Calls.{held_by}
-use Rattle.mb_storing.specs.Holding.{IsReady}
+use Rattle.mb_model_memory.specs.Holding.{IsReady}
 use Rattle.mb_device.specs.declared.device.Device.{Device}
 use Rattle.mb_device.specs.declared.device.Device.TheVariants as device
 use Rattle.mb_device.specs.Sound.{IsSound, Fits, Steps}

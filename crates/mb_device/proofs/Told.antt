@@ -16,9 +16,9 @@ use Rattle.mb_model.specs.Refusals.{Refusal, wrong_layer, refused}
 use Rattle.mb_model.specs.Valid.{Valid, IsValidState}
 use Rattle.mb_board.specs.Calls.{held_by}
 use Rattle.mb_log.specs.Figures.{figures_of}
-use Rattle.mb_storing.specs.Holding.{IsReady}
-use Rattle.mb_commit.specs.Remembering.{Knows}
-use Rattle.mb_commit.specs.declared.remembering.Known.{Known}
+use Rattle.mb_model_memory.specs.Holding.{IsReady}
+use Rattle.mb_device_orders.specs.Remembering.{Knows}
+use Rattle.mb_device_orders.specs.declared.remembering.Known.{Known}
 use Rattle.mb_device.specs.declared.device.Device.{Device}
 use Rattle.mb_device.specs.declared.device.Running.{Running}
 use Rattle.mb_device.specs.Sound.{IsSound, IsRunning, Fits, Steps}

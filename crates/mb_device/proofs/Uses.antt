@@ -24,12 +24,12 @@ use Rattle.mb_model.specs.Refusals.{Refusal, wrong_layer, region_full, key_spent
 use Rattle.mb_model.specs.Valid.{Valid, IsValidState}
 use Rattle.mb_board.specs.Calls.{held_by, power_of, level_of, IsMetered}
 use Rattle.mb_layout.specs.Rooms.{HasRoom}
-use Rattle.mb_lemmas.proofs.ValidSteps.{machine_valid}
+use Rattle.mb_model_lemmas.proofs.ValidSteps.{machine_valid}
 use Rattle.mb_log.specs.Figures.{figures_of}
-use Rattle.mb_storing.specs.Holding.{IsReady}
-use Rattle.mb_storing.specs.Answering.{IsAnswered, lacks, tells, IsCutShort, ComesTo}
-use Rattle.mb_commit.specs.Remembering.{Knows}
-use Rattle.mb_commit.specs.declared.remembering.Known.{Known}
+use Rattle.mb_model_memory.specs.Holding.{IsReady}
+use Rattle.mb_model_memory.specs.Answering.{IsAnswered, lacks, tells, IsCutShort, ComesTo}
+use Rattle.mb_device_orders.specs.Remembering.{Knows}
+use Rattle.mb_device_orders.specs.declared.remembering.Known.{Known}
 use Rattle.mb_device.specs.declared.device.Device.{Device}
 use Rattle.mb_device.specs.declared.device.Device.TheVariants as device
 use Rattle.mb_device.specs.declared.device.Running.{Running}

@@ -12,7 +12,7 @@ use Rattle.mb_model.specs.Machine.{World, Step, off, dead, ratchet}
 use Rattle.mb_model.specs.Script.{IsScriptEvent}
 use Rattle.mb_model.specs.Valid.{Valid}
 use Rattle.mb_layout.specs.Rooms.{HasRoom}
-use Rattle.mb_commit.specs.Remembering.{Knows}
+use Rattle.mb_device_orders.specs.Remembering.{Knows}
 use Rattle.mb_device.specs.declared.device.Device.{Device}
 use Rattle.mb_device.specs.declared.device.Device.TheVariants as device
 use Rattle.mb_device.specs.declared.device.Running.{Running}

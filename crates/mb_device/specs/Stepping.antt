@@ -7,8 +7,8 @@ use Rattle.mb_model.specs.declared.reply.Reply.TheVariants as reply
 use Rattle.mb_model.specs.Layers.{standing}
 use Rattle.mb_model.specs.Refusals.{Refusal, powered_off, wrong_phase, zeroised, wrong_layer}
 use Rattle.mb_model.specs.Board.{Memory, Meter}
-use Rattle.mb_storing.specs.Answering.{may_have_written}
-use Rattle.mb_commit.specs.declared.remembering.Known.{Known}
+use Rattle.mb_model_memory.specs.Answering.{may_have_written}
+use Rattle.mb_device_orders.specs.declared.remembering.Known.{Known}
 use Rattle.mb_device.specs.declared.device.Device.{Device}
 use Rattle.mb_device.specs.declared.device.Device.TheVariants as device
 use Rattle.mb_device.specs.declared.refusal.Refusal.{Refusal as Why}

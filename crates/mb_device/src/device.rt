@@ -8,7 +8,7 @@ ghost use Rattle.mb_board.specs.Calls.{held_by};
 ghost use Rattle.mb_device.specs.Sound.{IsSound};
 
 use mb_board::Board;
-use mb_commit::Known;
+use mb_device_orders::Known;
 use mb_layout::Room;
 use mb_ratchet::{Dead, Off, R1, R2, R3, Up};
 

@@ -10,7 +10,7 @@ ghost use Rattle.mb_device.specs.Stepping.{stop_told, IfNothingTold};
 use crate::device::{Device, Running};
 use crate::refusal::Refusal;
 use mb_board::Board;
-use mb_commit::obey;
+use mb_device_orders::obey;
 use mb_lms::HashCount;
 use mb_model::Reply;
 use mb_ratchet::{R1, Up};

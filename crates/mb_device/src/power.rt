@@ -11,7 +11,7 @@ use crate::device::{Device, Running};
 use crate::refusal::Refusal;
 use mb_board::Board;
 use mb_boot::{BootEnd, boot};
-use mb_commit::remember;
+use mb_device_orders::remember;
 use mb_lms::HashCount;
 use mb_model::Reply;
 use mb_ratchet::Off;

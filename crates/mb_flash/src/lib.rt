@@ -1,8 +1,8 @@
 //! A record in an area of the flash.
 //!
-//! This crate owns how an area of the flash is written: sector by sector, no more sectors than the record needs, and none
-//! that holds its bytes already. Where power fails, the other area and what stands after the sectors of the record are as
-//! they were. It stands on `mb_board` and on the definitions of `mb_model` and `mb_slot`. No call takes memory.
+//! This crate owns how an area of the flash is written: sector by sector, no more sectors than the record needs,
+//! and none that holds its bytes already. Where power fails, the other area and what stands after the sectors of
+//! the record are as they were. No call takes memory.
 #![tactic(auto)]
 
 mod area;

@@ -2,14 +2,12 @@
 //!
 //! A `Format` says of each value how it is spelled and whether it is allowed, and of any bytes at which offset they
 //! fail where they spell no allowed value. `specs/Format.antt` says what a format is and what it means that it is
-//! clear, `specs/Combinators.antt` has the fields and compositions, and `specs/Examples.antt` a format that is composed
-//! of them. How formats are read by computing is apart, in `specs/Reading.antt`: nobody has to believe it.
+//! clear, `specs/Combinators.antt` has the fields and compositions, and `specs/Examples.antt` a format that is
+//! composed of them. How formats are read by computing is apart, in `specs/Reading.antt`: nobody has to believe it.
 //!
 //! A clause cannot speak of every type, so the general laws, one for each field and composition, stand in `proofs/`
-//! alone: a crate that defines a format cites them there. The functions here show what they give, at plain types. They
-//! have nothing to do when they run.
-//!
-//! It stands on no other crate.
+//! alone: a crate that defines a format cites them there. The functions here show what they give, at plain types.
+//! They have nothing to do when they run.
 #![tactic(auto)]
 
 ghost use Rattle.std.specs.Prelude.{ℕ, [], ◌∷◌, ◌++◌};

@@ -16,7 +16,7 @@ use Rattle.mb_model.specs.Texts.{ended}
 use Rattle.mb_model.specs.Lines.{text_of}
 use Rattle.mb_model.specs.OrderLines.{order_line}
 use Rattle.mb_model.specs.Script.{with_before}
-use Rattle.mb_lemmas.proofs.DrawLemmas.{with_before-push, length-with_before}
+use Rattle.mb_model_lemmas.proofs.DrawLemmas.{with_before-push, length-with_before}
 use Rattle.mb_model.specs.Workload.{RoundDraws, Draws, Plan, plan_payload, key_of_officer, first_plans, round_plan, plans, signed, signed_orders, put_line, round_lines, workload_lines}
 use Rattle.mb_generate.specs.Orders.{keyfile_after, AreOfficers, targeted, RoundFits}
 use Rattle.mb_generate.specs.Drawing.{round_of}

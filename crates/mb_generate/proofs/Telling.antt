@@ -22,10 +22,10 @@ use Rattle.mb_model.specs.OrderFormat.{order_format}
 use Rattle.mb_model.specs.OrderLines.{order_line}
 use Rattle.mb_model.specs.Script.{IsName, SaysEvent, is_skipped, with_before, commands_in}
 use Rattle.mb_model.specs.Workload.{RoundDraws, Draws, secret_name, put_line, round_lines, signed_orders, workload_lines}
-use Rattle.mb_lemmas.proofs.LineLemmas.{isnt}
-use Rattle.mb_lemmas.proofs.DrawLemmas.{length-with_before, commands_in-append}
-use Rattle.mb_lemmas.proofs.EventLemmas.{counts}
-use Rattle.mb_lemmas.proofs.WordLemmas.{hex_word-read}
+use Rattle.mb_model_lemmas.proofs.LineLemmas.{isnt}
+use Rattle.mb_model_lemmas.proofs.DrawLemmas.{length-with_before, commands_in-append}
+use Rattle.mb_model_lemmas.proofs.EventLemmas.{counts}
+use Rattle.mb_model_lemmas.proofs.WordLemmas.{hex_word-read}
 use Rattle.mb_generate.specs.Drawing.{AreDraws}
 use Rattle.mb_generate.specs.Scripts.{sign_line}
 use Rattle.mb_generate.specs.Serving.{CanBeServed}

@@ -1,6 +1,6 @@
 //! The world outside: a trait for files and printing, a host in memory, and the real one.
 //!
-//! This crate owns what may be relied on of the outside, failing or not. It stands on `mb_model` alone.
+//! This crate owns what may be relied on of the outside, failing or not.
 #![tactic(auto)]
 
 mod count;

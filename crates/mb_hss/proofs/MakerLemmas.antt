@@ -10,7 +10,7 @@ use Rattle.mb_model.specs.declared.key.KeySeed.{KeySeed}
 use Rattle.mb_model.specs.Key.{IsSized, key_bytes}
 use Rattle.mb_model.specs.Signing.{public_of, signature_of}
 use Rattle.mb_model.proofs.KeyLemmas.{length-key_bytes}
-use Rattle.mb_lemmas.proofs.SignatureLemmas.{length-signature_of, public_sized}
+use Rattle.mb_model_lemmas.proofs.SignatureLemmas.{length-signature_of, public_sized}
 use Rattle.mb_bytes.specs.Puts.{Appends}
 use Rattle.mb_bytes.proofs.Putting.{puts_then}
 use Rattle.mb_hss.specs.declared.maker.Maker.{Maker}

@@ -5,7 +5,7 @@ use Rattle.std.specs.Int.{w32, to_be_bytes}
 use Rattle.mb_model.specs.declared.key.KeySeed.{KeySeed}
 use Rattle.mb_model.specs.Merkle.{Verifies}
 use Rattle.mb_model.specs.Signing.{public_of, signature_of}
-use Rattle.mb_lemmas.proofs.SignatureLemmas.{signature_verifies}
+use Rattle.mb_model_lemmas.proofs.SignatureLemmas.{signature_verifies}
 use Rattle.mb_hss.specs.declared.maker.Maker.{Maker}
 use Rattle.mb_hss.specs.HssVerification.{VerifiesUnder, HssVerifies}
 use Rattle.mb_hss.specs.MakerKeys.{IsMaker, level_key, index_at, key_at, public_at, maker_key}

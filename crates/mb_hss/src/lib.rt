@@ -1,11 +1,9 @@
 //! A maker's HSS key (RFC 8554, section 6): a tree of LMS keys, each of which signs the keys of the next level.
 //!
 //! This crate owns the spelling of an HSS public key, the verification of an HSS signature, and the maker of such
-//! signatures, whose keys are all derived from one seed, with its file. It stands on `mb_model`, which has the
-//! definitions of LMS, on the laws of LMS signatures in `mb_lemmas`, on `mb_format`, of whose fields its formats are
-//! composed, on `mb_bytes`, which reads and writes fields, on `mb_lms`, which verifies each level and counts hashes, on
-//! `mb_signer`, which signs at each level, and on `sha2`. Each call that makes a key or a signature counts its hashes on
-//! the count of its caller, and begins none; only the hash that derives a new maker's seed is not counted.
+//! signatures, whose keys are all derived from one seed, with its file. Each call that makes a key or a signature
+//! counts its hashes on the count of its caller, and begins none; only the hash that derives a new maker's seed is
+//! not counted.
 #![tactic(auto)]
 
 mod key;

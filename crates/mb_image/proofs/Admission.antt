@@ -17,10 +17,10 @@ use Rattle.mb_model.specs.Log.{number_of, layers_of, RuledLog}
 use Rattle.mb_model.specs.Lives.{ends, Alive, MadeKey, alive_keys}
 use Rattle.mb_model.specs.Regions.{AdmittedSince, KeyAdmitted}
 use Rattle.mb_model.specs.Valid.{as_made}
-use Rattle.mb_lemmas.proofs.LogLemmas.{number_of-append, number_of-push}
-use Rattle.mb_lemmas.proofs.AliveLemmas.{listed_is_alive}
-use Rattle.mb_lemmas.proofs.Splits.{two_splits, All-split, All-from_splits}
-use Rattle.mb_lemmas.proofs.ValidRegions.{kept_at}
+use Rattle.mb_model_lemmas.proofs.LogLemmas.{number_of-append, number_of-push}
+use Rattle.mb_model_lemmas.proofs.AliveLemmas.{listed_is_alive}
+use Rattle.mb_model_lemmas.proofs.Splits.{two_splits, All-split, All-from_splits}
+use Rattle.mb_model_lemmas.proofs.ValidRegions.{kept_at}
 use Rattle.mb_image.specs.Losses.{loss}
 
 -- the region that an entry keeps is the one that its layer admits

@@ -9,12 +9,12 @@ use Rattle.mb_model.specs.Merkle.{Verifies, leaf_number}
 use Rattle.mb_model.specs.SignedTexts.{entry_text, IsSignedBy}
 use Rattle.mb_model.specs.Log.{entries_of, device_of, Ruled}
 use Rattle.mb_model.specs.Valid.{Follows, EachFollows}
-use Rattle.mb_lemmas.proofs.ValidLogs.{EachFollows-push}
+use Rattle.mb_model_lemmas.proofs.ValidLogs.{EachFollows-push}
 use Rattle.mb_log.specs.declared.figures.Figures.{Figures}
 use Rattle.mb_log.specs.Figures.{figures_of}
 use Rattle.mb_log.specs.Following.{InOrder}
 use Rattle.mb_image.specs.Verified.{IsVerified}
-use Rattle.mb_lemmas.proofs.LogLemmas.{entries_more}
+use Rattle.mb_model_lemmas.proofs.LogLemmas.{entries_more}
 
 -- ---- one entry
 

@@ -11,9 +11,9 @@ use Rattle.mb_model.specs.Flash.{flash_area, public_format, public_of_parts, Beg
 use Rattle.mb_model.specs.Memory.{IsImage, IsBlank}
 use Rattle.mb_model.specs.Meaning.{Contents, meant, RootIn, HasMeaning, is_dead, is_live, StandsFor}
 use Rattle.mb_model.specs.GenerateCommand.{log_length}
-use Rattle.mb_lemmas.proofs.MeaningLemmas.{IsBytes-flash_area, one_start, one_root_in, not_blank}
-use Rattle.mb_lemmas.proofs.FaultLemmas.{image_parts}
-use Rattle.mb_lemmas.proofs.PublicLemmas.{length-signed_for}
+use Rattle.mb_model_lemmas.proofs.MeaningLemmas.{IsBytes-flash_area, one_start, one_root_in, not_blank}
+use Rattle.mb_model_lemmas.proofs.FaultLemmas.{image_parts}
+use Rattle.mb_model_lemmas.proofs.PublicLemmas.{length-signed_for}
 
 -- the log that contents mean has an entry for each that is stored
 meant_length : (contents : Contents) → length (meant contents).log ≡ length contents.signed + length contents.unsigned

@@ -1,14 +1,14 @@
 -- One more entry of a log.
 use Rattle.std.proofs.Common.{◌≡◌, ◌<◌, ◌+◌, ℕ, List, ◌++◌, length, take, get_or, sym, ap, ◌∙◌}
 use Rattle.std.specs.Prelude.{filter}
-use Rattle.mb_lemmas.proofs.LogLemmas.{entries_more}
+use Rattle.mb_model_lemmas.proofs.LogLemmas.{entries_more}
 use Rattle.mb_model.specs.declared.entry.Entry.{Entry}
 use Rattle.mb_model.specs.declared.entry.SignedEntry.{SignedEntry}
 use Rattle.mb_model.specs.Log.{entries_of}
 use Rattle.mb_model.specs.Lives.{alive_keys}
-use Rattle.mb_lemmas.specs.AliveLaws.{goes_on, made_by}
-use Rattle.mb_lemmas.proofs.AliveLemmas.{alive_keys-push}
-use Rattle.mb_lemmas.proofs.ValidRegions.{filter-map}
+use Rattle.mb_model_lemmas.specs.AliveLaws.{goes_on, made_by}
+use Rattle.mb_model_lemmas.proofs.AliveLemmas.{alive_keys-push}
+use Rattle.mb_model_lemmas.proofs.ValidRegions.{filter-map}
 use Rattle.mb_image.specs.declared.alive.MadeKey.{MadeKey}
 use Rattle.mb_image.specs.Keys.{as_listed, listed}
 

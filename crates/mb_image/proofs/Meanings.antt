@@ -16,7 +16,7 @@ use Rattle.mb_model.specs.Meaning.{Contents, HoldsContents, meant, is_live, IsWe
 use Rattle.mb_model.specs.Faults.{AreSound}
 use Rattle.mb_model.specs.Signing.{public_of}
 use Rattle.mb_model.specs.Valid.{IsValidState}
-use Rattle.mb_lemmas.proofs.PublicLemmas.{length-signed_for}
+use Rattle.mb_model_lemmas.proofs.PublicLemmas.{length-signed_for}
 use Rattle.mb_image.specs.Stored.{CanBeCompleted}
 
 abbrev pub IsSpelled : SignedEntry → Type 0

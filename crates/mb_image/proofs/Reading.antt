@@ -18,8 +18,8 @@ use Rattle.mb_model.specs.Faults.{SomePublic, SomeRegion}
 use Rattle.mb_layout.specs.Found.{Finds}
 use Rattle.mb_model.specs.declared.region.Region.{Region}
 use Rattle.mb_model.proofs.RecordFormatLaws.{public_exact}
-use Rattle.mb_lemmas.proofs.MeaningLemmas.{one_begun, IsBytes-flash_area}
-use Rattle.mb_lemmas.proofs.PublicLemmas.{bounded_by, public_few, public_entries, signed_front, unsigned_rest, entry_from_signed}
+use Rattle.mb_model_lemmas.proofs.MeaningLemmas.{one_begun, IsBytes-flash_area}
+use Rattle.mb_model_lemmas.proofs.PublicLemmas.{bounded_by, public_few, public_entries, signed_front, unsigned_rest, entry_from_signed}
 use Rattle.mb_image.specs.Entries.{IsSplit}
 use Rattle.mb_image.specs.Stored.{CanBeCompleted}
 

@@ -3,7 +3,7 @@
 ghost use Rattle.std.specs.Prelude.{◌≡◌, ◌++◌, IfOk, OnOk, filter, option_to_list};
 ghost use Rattle.mb_model.specs.Lives.{ends, alive_keys};
 ghost use Rattle.mb_model.specs.Log.{entries_of};
-ghost use Rattle.mb_lemmas.specs.AliveLaws.{goes_on, made_by};
+ghost use Rattle.mb_model_lemmas.specs.AliveLaws.{goes_on, made_by};
 ghost use Rattle.mb_image.specs.Keys.{listed};
 
 use mb_log::ends;

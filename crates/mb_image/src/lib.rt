@@ -1,11 +1,8 @@
 //! For which state an image stands, or its first fault; and how long the log is of a device whose image it is.
 //!
 //! This crate owns the meaning of a device's memory as it lies: which areas are in force, the entries that are not
-//! signed yet and their signatures, what becomes of the regions, and whether a device can have the state that comes of
-//! it. It stands on `mb_layout`, which finds and reads the records, on `mb_log`, which judges entries by those before
-//! them, on `mb_cert`, which tells whether a key signed an entry, on `mb_signer`, which signs and makes public keys, on
-//! `mb_lms`, which counts hashes, on `mb_model`, which has the definitions, on the lemmas on logs, regions and memories in
-//! `mb_lemmas`, and on `sha2`.
+//! signed yet and their signatures, what becomes of the regions, and whether a device can have the state that comes
+//! of it.
 #![tactic(auto)]
 
 mod alive;

@@ -1,9 +1,9 @@
 //! The records that a device stores, as bytes, both ways, and edits of stored bytes that take no memory.
 //!
-//! This crate owns how layers, entries, root, region and public records are read and written, how a record is found in an
-//! area of either memory, and how a region's record and the public record are edited while the work of an order is done.
-//! How the records are spelled is defined in `mb_model` (`LayerFormat`, `EntryFormat`, `RootFormat`, `RegionFormat`,
-//! `Flash`, `Memory`). It stands on that crate, on `mb_format` and on `mb_bytes`.
+//! This crate owns how layers, entries, root, region and public records are read and written, how a record is found
+//! in an area of either memory, and how a region's record and the public record are edited while the work of an
+//! order is done. How the records are spelled is defined in `mb_model` (`LayerFormat`, `EntryFormat`, `RootFormat`,
+//! `RegionFormat`, `Flash`, `Memory`).
 #![tactic(auto)]
 
 mod area;

@@ -1,13 +1,14 @@
 //! LMS signatures of all twenty pairs of types of RFC 8554 with SHA-256: keys as bytes, and whether a signature
 //! verifies.
 //!
-//! This crate owns the spelling of a public key, the verification of a signature, whose text may be fed in pieces, and
-//! what a signer shares with it: the digits, the start of a chain's step, and a hash that is counted. It stands on
-//! `mb_model`, which has the keys and the definitions, and on `sha2`. No call takes memory.
+//! This crate owns the spelling of a public key, the verification of a signature, whose text may be fed in pieces,
+//! and what a signer shares with it: the digits, the start of a chain's step, and a hash that is counted. No call
+//! takes memory.
 //!
-//! `hash` is the counted one, and raises the count of its caller. `verify`, `Checker` and `key_hash` hash too and count
-//! nothing. They are of no use in making a key or a signature: they tell whether a signature verifies, and the hash of
-//! the 56 bytes of a key. So a crate that hashes by this one alone makes keys and signatures by counted hashes alone.
+//! `hash` is the counted one, and raises the count of its caller. `verify`, `Checker` and `key_hash` hash too and
+//! count nothing. They are of no use in making a key or a signature: they tell whether a signature verifies, and
+//! the hash of the 56 bytes of a key. So a crate that hashes by this one alone makes keys and signatures by counted
+//! hashes alone.
 #![tactic(auto)]
 
 mod bytes;

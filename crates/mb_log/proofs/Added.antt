@@ -18,8 +18,8 @@ use Rattle.mb_model.specs.Log.{entries_of, number_of, used, made}
 use Rattle.mb_model.specs.Signing.{public_of}
 use Rattle.mb_model.specs.OrderStep.{needs_succession, next_key, succeeded, changed, keyed, ready_for, own_entry, carried_out, obeyed}
 use Rattle.mb_model.specs.Work.{view_of, fact_of, gives_way, outgoing_with, succession_entry, new_entries, own_key, bodies_for}
-use Rattle.mb_lemmas.proofs.LogLemmas.{number_of-push, used-push, made-push}
-use Rattle.mb_lemmas.proofs.ValidLogs.{entries_of-signed}
+use Rattle.mb_model_lemmas.proofs.LogLemmas.{number_of-push, used-push, made-push}
+use Rattle.mb_model_lemmas.proofs.ValidLogs.{entries_of-signed}
 use Rattle.mb_log.specs.Additions.{succeeds, names_next, after_succession, ready_by, first_by, entry_by, device_by, uses_by, key_by, outgoing_by}
 
 -- all that a fact adds

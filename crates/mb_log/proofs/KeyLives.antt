@@ -11,8 +11,8 @@ use Rattle.mb_model.specs.declared.state.Configuration.{Configuration}
 use Rattle.mb_model.specs.Log.{number_of, layers_of, last_of, RuledLog}
 use Rattle.mb_model.specs.Lives.{ends, configuration, opened_by, lives_of}
 use Rattle.mb_model.specs.Acceptance.{KeyEntry, key_in, key_of, is_alive}
-use Rattle.mb_lemmas.proofs.ReaderLemmas.{no_lives_unmade, first_sight, first_lives, first_alive, stays_made, stays_alive, lives_on}
-use Rattle.mb_lemmas.proofs.Splits.{some_same, none_is_some}
+use Rattle.mb_model_lemmas.proofs.ReaderLemmas.{no_lives_unmade, first_sight, first_lives, first_alive, stays_made, stays_alive, lives_on}
+use Rattle.mb_model_lemmas.proofs.Splits.{some_same, none_is_some}
 use Rattle.mb_log.specs.declared.life.BornKey.{BornKey}
 use Rattle.mb_log.specs.declared.life.Life.{Life}
 use Rattle.mb_log.specs.declared.figures.Figures.{Figures}

@@ -9,7 +9,7 @@ use Rattle.mb_model.specs.declared.layer.Layers.{Layers}
 use Rattle.mb_model.specs.declared.entry.Entry.{Entry}
 use Rattle.mb_model.specs.Layers.{unowned_layers}
 use Rattle.mb_model.specs.Log.{is_change, is_version_two, layers_in, device_in, keys_in, last_of, number_of, layers_of, device_of, used, made, has_version_two}
-use Rattle.mb_lemmas.proofs.LogLemmas.{number_of-push, layers_of-push, device_of-push, used-push, made-push, has_version_two-push, number_of-le-length, made-le-length}
+use Rattle.mb_model_lemmas.proofs.LogLemmas.{number_of-push, layers_of-push, device_of-push, used-push, made-push, has_version_two-push, number_of-le-length, made-le-length}
 use Rattle.mb_log.specs.declared.figures.Figures.{Figures}
 use Rattle.mb_log.specs.Figures.{figures_of}
 

@@ -1,11 +1,9 @@
 //! The log of a device: the entries that an order appends, whether an entry may follow those before it, and the
 //! configurations in which a key lived.
 //!
-//! This crate owns how many entries an order needs and which they are, how a device makes its keys of an event's draw,
-//! what a list of entries says together and of which device, the tests by which an entry follows, and what a list of
-//! entries says of one key. It stands on `mb_model`, which has the entries and the definitions, on `mb_signer`, which
-//! makes public keys, on `mb_lms`, which has the count of hashes, on `mb_authority`, which has the rules of layers, on the
-//! lemmas on logs in `mb_lemmas`, and on `sha2`.
+//! This crate owns how many entries an order needs and which they are, how a device makes its keys of an event's
+//! draw, what a list of entries says together and of which device, the tests by which an entry follows, and what a
+//! list of entries says of one key.
 #![tactic(auto)]
 
 mod additions;

@@ -22,7 +22,7 @@ ends key_kind L (NewKey position number key_number layer kind key) = false
 ends key_kind L (Succession position key) = false
 
 -- The key with this number is born in the log, in the region of layer L, and no later entry ends it. This is what it
--- means that a key is alive. The laws of mb_laws say that the list `alive_keys` below has exactly these keys
+-- means that a key is alive. The laws of mb_model_laws say that the list `alive_keys` below has exactly these keys
 -- (`alive_keys_are_alive`), that `is_alive` of a chain is true of them alone (`the_flag_is_life`), and that such a key
 -- lives in the last configuration of `lives_of` (`alive_keys_live_now`).
 pub record Alive (log : List Entry) (key_number L : ℕ) (kind : KeyKind) (key : PublicKey) : Type 0 where

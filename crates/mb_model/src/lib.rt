@@ -1,10 +1,9 @@
 //! The types of a device with layered owners, and the definitions that contracts of every other crate cite.
 //!
-//! This crate owns the words: what a key, a layer, an order, a log and a region are, when a signature verifies, whose
-//! order is obeyed and what it leaves, how each record is spelled, what each event comes to, for which state a memory
-//! stands, when a chain is accepted, and what the texts say. The definitions stand in specs/, a file for each subject. It
-//! stands on `mb_format`, in which the records are written, and on the kit's `sha2`, `hex`, `rand_core` and
-//! `rand_chacha`, whose functions on lists the definitions use.
+//! This crate owns the words: what a key, a layer, an order, a log and a region are, when a signature verifies,
+//! whose order is obeyed and what it leaves, how each record is spelled, what each event comes to, for which state
+//! a memory stands, when a chain is accepted, and what the texts say. The definitions stand in specs/, a file for
+//! each subject.
 #![tactic(auto)]
 
 mod bytes;

@@ -20,10 +20,10 @@ use Rattle.mb_model.specs.OrderStep.{signed_by}
 use Rattle.mb_bytes.specs.Puts.{Puts, Writes}
 use Rattle.mb_model.specs.Factory.{serial_from, first_key, layers_at_birth, birth_entry, codes_at_birth, state_at_birth, IsFactoryImage}
 use Rattle.mb_model.proofs.FormatBounds.{public_short}
-use Rattle.mb_lemmas.proofs.FactoryLemmas.{birth_is_valid}
-use Rattle.mb_lemmas.proofs.PublicLemmas.{entry_from_signed}
-use Rattle.mb_storing.proofs.StorableMemories.{birth_storable}
-use Rattle.mb_storing.proofs.StorableRecords.{resting_root, resting_public, root_room}
+use Rattle.mb_model_lemmas.proofs.FactoryLemmas.{birth_is_valid}
+use Rattle.mb_model_lemmas.proofs.PublicLemmas.{entry_from_signed}
+use Rattle.mb_model_memory.proofs.StorableMemories.{birth_storable}
+use Rattle.mb_model_memory.proofs.StorableRecords.{resting_root, resting_public, root_room}
 use Rattle.mb_officer.specs.NewImage.{root_at_birth, new_flash, new_bbram, new_image}
 use Rattle.mb_officer.proofs.Images.{flash_sized, bbram_sized, born_with}
 

@@ -19,7 +19,7 @@ use Rattle.mb_model.specs.Lines.{HasLines, spaced, IsBeginning, bad_line, ends_e
 use Rattle.mb_model.specs.Drafts.{SaysTarget, SayAct, IsDraft}
 use Rattle.hex.specs.Hex.{decode_pairs}
 use Rattle.mb_model.specs.Texts.{IsHex}
-use Rattle.mb_lemmas.proofs.LineLemmas.{cons_none, HasLines-nil, HasLines-always}
+use Rattle.mb_model_lemmas.proofs.LineLemmas.{cons_none, HasLines-nil, HasLines-always}
 use Rattle.mb_model.specs.declared.order.KeyKind.{KeyKind}
 use Rattle.mb_officer.specs.declared.draft.Loading.{Loading}
 use Rattle.mb_officer.specs.declared.draft.Kind.{Kind}

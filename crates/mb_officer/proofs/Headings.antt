@@ -16,8 +16,8 @@ use Rattle.mb_model.specs.Layers.{is_layer_number}
 use Rattle.mb_model.specs.Rules.{kind_of, MayBeFor}
 use Rattle.mb_model.specs.Lines.{spaced}
 use Rattle.mb_model.specs.Drafts.{kind_word, SaysTarget, order_words, IsDraft}
-use Rattle.mb_lemmas.proofs.LineLemmas.{cons_same}
-use Rattle.mb_lemmas.proofs.DraftLemmas.{letters_at, kind_word-same}
+use Rattle.mb_model_lemmas.proofs.LineLemmas.{cons_same}
+use Rattle.mb_model_lemmas.proofs.DraftLemmas.{letters_at, kind_word-same}
 use Rattle.mb_officer.specs.declared.draft.Loading.TheVariants as loading
 use Rattle.mb_officer.specs.declared.draft.Kind.{Kind}
 use Rattle.mb_officer.specs.declared.draft.Kind.TheVariants as kind

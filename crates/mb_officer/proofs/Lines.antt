@@ -16,11 +16,11 @@ use Rattle.mb_model.specs.Rules.{MayBeFor}
 use Rattle.mb_model.specs.Lines.{spaced, number_limit}
 use Rattle.mb_model.specs.Script.{EndsInHex}
 use Rattle.mb_model.specs.Drafts.{SaysTarget, SaysTrusts, AreLoadLines, SayAct}
-use Rattle.mb_lemmas.proofs.LineLemmas.{cons_same, cons_none}
+use Rattle.mb_model_lemmas.proofs.LineLemmas.{cons_same, cons_none}
 use Rattle.std.proofs.lemmas.Fmt.{decimal_injective}
 use Rattle.mb_model.proofs.KeyLemmas.{key_bytes-same}
-use Rattle.mb_lemmas.proofs.WordLemmas.{IsHex-same, limited_fits}
-use Rattle.mb_lemmas.proofs.DraftLemmas.{SaysTarget-same, target_begins, act_begins}
+use Rattle.mb_model_lemmas.proofs.WordLemmas.{IsHex-same, limited_fits}
+use Rattle.mb_model_lemmas.proofs.DraftLemmas.{SaysTarget-same, target_begins, act_begins}
 use Rattle.mb_words.specs.declared.said.NotSaid.{NotSaid}
 use Rattle.mb_words.specs.declared.said.NotSaid.TheVariants as why
 use Rattle.mb_officer.specs.declared.draft.Loading.{Loading}

@@ -13,10 +13,10 @@ use Rattle.mb_model.specs.Lines.{hex_word}
 use Rattle.mb_model.specs.Rules.{kind_of}
 use Rattle.mb_model.specs.OrderFormat.{form_byte, form_of, differs_in, target_format, act_by, body_of, body_format, order_body, sized_signature_format, countersignatures_format, order_format}
 use Rattle.mb_model.specs.OrderLines.{IsOrderLine}
-use Rattle.mb_lemmas.proofs.LineLemmas.{cons_same}
-use Rattle.mb_lemmas.proofs.WordLemmas.{IsHex-same, hex_word-some}
-use Rattle.mb_lemmas.specs.SampleOrder.{surrender, surrender_line}
-use Rattle.mb_lemmas.proofs.OrderLineLemmas.{order_one, surrender_is}
+use Rattle.mb_model_lemmas.proofs.LineLemmas.{cons_same}
+use Rattle.mb_model_lemmas.proofs.WordLemmas.{IsHex-same, hex_word-some}
+use Rattle.mb_model_lemmas.specs.SampleOrder.{surrender, surrender_line}
+use Rattle.mb_model_lemmas.proofs.OrderLineLemmas.{order_one, surrender_is}
 use Rattle.mb_words.specs.declared.said.NotSaid.{NotSaid}
 use Rattle.mb_words.specs.declared.said.NotSaid.TheVariants as why
 use Rattle.mb_words.specs.Words.{Finds}

@@ -15,7 +15,7 @@ use Rattle.mb_model.specs.Rules.{kind_of, change_of, least_layer, is_load}
 use Rattle.mb_model.specs.SignedTexts.{order_text, countersigned_text}
 use Rattle.mb_model.specs.Signing.{signature_of}
 use Rattle.mb_model.specs.SignedOrders.{signed_order, with_countersignature, countersigned_order, IsCountersignable}
-use Rattle.mb_lemmas.proofs.WordLemmas.{upper_cases}
+use Rattle.mb_model_lemmas.proofs.WordLemmas.{upper_cases}
 
 pub signed_is : (k : Keyfile) (order : Order) (signature body : List ℕ) → signature ≡ signature_of k.seed k.next ((1 ∷ []) ++ body) → body ≡ order_body order
     → record order { signature = signature } ≡ signed_order k order

@@ -11,8 +11,8 @@ use Rattle.mb_model.specs.Layers.{is_layer_number}
 use Rattle.mb_model.specs.Rules.{MayBeFor}
 use Rattle.mb_model.specs.Texts.{IsHex}
 use Rattle.mb_model.specs.Drafts.{SaysTarget}
-use Rattle.mb_lemmas.proofs.WordLemmas.{number_front}
-use Rattle.mb_lemmas.proofs.DraftLemmas.{says_letters, numbered_fits}
+use Rattle.mb_model_lemmas.proofs.WordLemmas.{number_front}
+use Rattle.mb_model_lemmas.proofs.DraftLemmas.{says_letters, numbered_fits}
 
 -- ---- layers
 

@@ -1,13 +1,9 @@
 //! What officers' tools, and a maker's, do with keys, orders and new devices.
 //!
-//! This crate owns the file of an officer's key, read and written; the making of a key from noise; the file of a public
-//! key, read; the drafts of orders, read line by line; the signing and countersigning of orders, each of which uses up
-//! one index of a key; the line of an order, read and written; and the image of a new device, whose birth a maker's key
-//! signs. It stands on `mb_bytes`, by whose cursor it reads keys, on `mb_command`, which reads and writes the bytes of
-//! an order, on `mb_layout`, which writes the records of a device, on `mb_log`, which makes a device's keys, on
-//! `mb_signer`, which signs, on `mb_lms`, which reads a public key and has the count of hashes, on `mb_model`, which has
-//! the formats and what a draft or a line says, on `mb_words`, which reads lines word by word, on the laws of lines,
-//! words and new devices in `mb_lemmas`, on those of what has a spelling in `mb_storing`, and on `sha2` and `hex`.
+//! This crate owns the file of an officer's key, read and written; the making of a key from noise; the file of a
+//! public key, read; the drafts of orders, read line by line; the signing and countersigning of orders, each of
+//! which uses up one index of a key; the line of an order, read and written; and the image of a new device, whose
+//! birth a maker's key signs.
 #![tactic(auto)]
 
 mod birth;

@@ -1,9 +1,7 @@
 //! Whether an order is obeyed, and what it comes to.
 //!
-//! This crate owns the checks of an order in the order in which they are tried, and the plan of an order that passes:
-//! the layers afterwards, the entries and keys that it adds, and what becomes of each region. It stands on
-//! `mb_authority` for the rules of layers, `mb_log` for what is appended, `mb_command` for what owners sign, `mb_lms`
-//! for signatures, and `mb_model`, which has the definitions.
+//! This crate owns the checks of an order in the order in which they are tried, and the plan of an order that
+//! passes: the layers afterwards, the entries and keys that it adds, and what becomes of each region.
 #![tactic(auto)]
 
 mod checks;

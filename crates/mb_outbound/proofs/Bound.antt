@@ -12,10 +12,10 @@ use Rattle.mb_model.specs.Meaning.{HoldsRegion}
 use Rattle.mb_layout.specs.declared.usage.NotUsed.{NotUsed}
 use Rattle.mb_layout.specs.declared.usage.NotUsed.TheVariants.{NoKey, Spent}
 use Rattle.mb_layout.specs.Edits.{CanBeStored, used, UseOf}
-use Rattle.mb_storing.proofs.StorableMemories.{spelled_storable}
-use Rattle.mb_storing.proofs.StorableRecords.{region_record}
-use Rattle.mb_storing.proofs.StorableSteps.{use_region}
-use Rattle.mb_storing.specs.Holding.{KeepsContents, Means}
+use Rattle.mb_model_memory.proofs.StorableMemories.{spelled_storable}
+use Rattle.mb_model_memory.proofs.StorableRecords.{region_record}
+use Rattle.mb_model_memory.proofs.StorableSteps.{use_region}
+use Rattle.mb_model_memory.specs.Holding.{KeepsContents, Means}
 use Rattle.mb_region.specs.Regions.{IsRegionSlot, HasNoFate, HoldsSomeRegion, ReplacesRegion, KeepsOrReplaces}
 use Rattle.mb_region.proofs.Replaced.{region_found, can_be_stored, record_short, edited_holds, edited_either}
 use Rattle.mb_outbound.specs.Binding.{HoldsOrdered, HasUse, StoresUse, KeepsOrStoresUse, state_used}

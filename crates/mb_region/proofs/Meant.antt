@@ -9,9 +9,9 @@ use Rattle.mb_model.specs.Board.{Memory, IsLoaded}
 use Rattle.mb_model.specs.Meaning.{Contents, meant, fated, fate_of_two, fate_of_three}
 use Rattle.mb_model.specs.OrderStep.{region_of, with_region}
 use Rattle.mb_model.specs.StoredLog.{HasIndex}
-use Rattle.mb_lemmas.proofs.FateLemmas.{kept_as_before}
-use Rattle.mb_storing.specs.Holding.{Holds, Means, region_in_slot, with_region_in, fate_in_slot}
-use Rattle.mb_storing.proofs.CommitLemmas.{live_contents, stands_for_meant}
+use Rattle.mb_model_lemmas.proofs.FateLemmas.{kept_as_before}
+use Rattle.mb_model_memory.specs.Holding.{Holds, Means, region_in_slot, with_region_in, fate_in_slot}
+use Rattle.mb_model_memory.proofs.CommitLemmas.{live_contents, stands_for_meant}
 use Rattle.mb_region.specs.Regions.{IsRegionSlot, HasNoFate, ReplacesRegion, KeepsOrReplaces}
 use Rattle.mb_region.proofs.Replaced.{root_in}
 

@@ -11,15 +11,15 @@ use Rattle.mb_model.specs.StoredLog.{HasIndex}
 use Rattle.mb_model.specs.RegionFormat.{SpellsRegion}
 use Rattle.mb_model.specs.Meaning.{HoldsRegion, Contents, fated, meant}
 use Rattle.mb_model.proofs.FormatBounds.{region_short}
-use Rattle.mb_lemmas.proofs.MeaningLemmas.{one_region}
-use Rattle.mb_lemmas.proofs.FateLemmas.{kept_as_before}
+use Rattle.mb_model_lemmas.proofs.MeaningLemmas.{one_region}
+use Rattle.mb_model_lemmas.proofs.FateLemmas.{kept_as_before}
 use Rattle.mb_layout.specs.Edits.{CanBeStored, IsFated}
 use Rattle.mb_layout.specs.Found.{Finds}
 use Rattle.mb_layout.proofs.Areas.{one_held}
 use Rattle.mb_model.specs.declared.stored.Root.{Root}
-use Rattle.mb_storing.specs.Holding.{Holds, Means, region_in_slot, with_region_in, fate_in_slot, KeepsContents}
-use Rattle.mb_storing.specs.Storable.{HasRegionRecord}
-use Rattle.mb_storing.proofs.CommitLemmas.{stands_for_meant, live_contents, two_done_means, three_done_means}
+use Rattle.mb_model_memory.specs.Holding.{Holds, Means, region_in_slot, with_region_in, fate_in_slot, KeepsContents}
+use Rattle.mb_model_memory.specs.Storable.{HasRegionRecord}
+use Rattle.mb_model_memory.proofs.CommitLemmas.{stands_for_meant, live_contents, two_done_means, three_done_means}
 use Rattle.mb_region.specs.Regions.{IsRegionSlot, HoldsSomeRegion, ReplacesRegion, KeepsOrReplaces}
 use Rattle.mb_region.specs.Fates.{CanBeFated, IsPending, fated_in, AppliesFate, KeepsOrApplies}
 

@@ -4,8 +4,8 @@ use Rattle.mb_model.specs.declared.region.Region.{Region}
 use Rattle.mb_model.specs.declared.stored.Fate.{Fate}
 use Rattle.mb_model.specs.Board.{Memory}
 use Rattle.mb_model.specs.Meaning.{HoldsRegion, Contents, fated}
-use Rattle.mb_storing.specs.Holding.{Holds, region_in_slot, with_region_in, fate_in_slot}
-use Rattle.mb_storing.specs.Storable.{HasRegionRecord}
+use Rattle.mb_model_memory.specs.Holding.{Holds, region_in_slot, with_region_in, fate_in_slot}
+use Rattle.mb_model_memory.specs.Storable.{HasRegionRecord}
 
 -- an area holds a region that has a record after this fate
 pub record CanBeFated (fate : Fate) (area : List ℕ) : Type 0 where

@@ -4,7 +4,7 @@ use Rattle.mb_model.specs.declared.region.Region.{Region}
 use Rattle.mb_model.specs.declared.stored.Fate.TheVariants.{Keep}
 use Rattle.mb_model.specs.Board.{Memory}
 use Rattle.mb_model.specs.Meaning.{HoldsRegion, Contents}
-use Rattle.mb_storing.specs.Holding.{Holds, KeepsContents, with_region_in, fate_in_slot}
+use Rattle.mb_model_memory.specs.Holding.{Holds, KeepsContents, with_region_in, fate_in_slot}
 
 -- these slots are those of regions
 abbrev pub IsRegionSlot : ℕ → Type 0

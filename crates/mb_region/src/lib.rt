@@ -1,10 +1,9 @@
 //! The stored regions of layers 2 and 3.
 //!
-//! This crate owns how a region is read from the battery-backed memory, replaced there, and done to what an order left
-//! to be done, so that wherever power fails the memory holds the region before or the one after. Each call that writes
-//! spends the state of the device that reaches the region, and gives it back. It stands on `mb_slot`, whose commit it
-//! uses, on `mb_layout`, which reads, writes and edits records, on `mb_ratchet`, and on the definitions of `mb_model` and
-//! `mb_storing`. Only `read_stored` takes memory.
+//! This crate owns how a region is read from the battery-backed memory, replaced there, and done to what an order
+//! left to be done, so that wherever power fails the memory holds the region before or the one after. Each call
+//! that writes spends the state of the device that reaches the region, and gives it back. Only `read_stored` takes
+//! memory.
 #![tactic(auto)]
 
 mod calls;

@@ -5,7 +5,7 @@ use Rattle.std.proofs.lemmas.List.{length-take-le, length-drop, take-append-drop
 use Rattle.mb_model.specs.declared.event.Event.{Event}
 use Rattle.mb_model.specs.declared.event.Event.TheVariants as event
 use Rattle.mb_model.specs.Script.{with_before, is_command, commands_in, drawn_event, drawn_events}
-use Rattle.mb_lemmas.proofs.DrawLemmas.{drawn-push, drawn-length, commands_in-append}
+use Rattle.mb_model_lemmas.proofs.DrawLemmas.{drawn-push, drawn-length, commands_in-append}
 
 -- The events before a place have their draws, and the noise after these is left.
 pub record IsDrawing (noise : List ℕ) (old now : List Event) (left : List ℕ) (at : ℕ) : Type 0 where

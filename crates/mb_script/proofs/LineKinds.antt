@@ -9,8 +9,8 @@ use Rattle.mb_model.specs.declared.event.Tear.{Tear}
 use Rattle.mb_model.specs.Texts.{IsHex}
 use Rattle.mb_model.specs.Lines.{spaced, number_limit}
 use Rattle.mb_model.specs.Script.{tear_of, IsName, FitsMessage, IsCutLine, SaysEvent}
-use Rattle.mb_lemmas.proofs.LineLemmas.{Without, first_same, first_none}
-use Rattle.mb_lemmas.proofs.EventLemmas.{letters, letters_of, says_letters}
+use Rattle.mb_model_lemmas.proofs.LineLemmas.{Without, first_same, first_none}
+use Rattle.mb_model_lemmas.proofs.EventLemmas.{letters, letters_of, says_letters}
 use Rattle.mb_script.specs.Reading.{HasNumberFirst, HasRegionFirst, SaysSecret, SaysTail, kept, none, IsFill}
 use Rattle.mb_script.proofs.Parts.{Without-from_test}
 

@@ -13,8 +13,8 @@ use Rattle.mb_model.specs.Layers.{is_upper}
 use Rattle.mb_model.specs.Lines.{IsNumber, number_limit}
 use Rattle.mb_model.specs.declared.event.Tear.{Tear}
 use Rattle.mb_model.specs.Script.{IsName, tear_of}
-use Rattle.mb_lemmas.proofs.LineLemmas.{Without, isnt, cons_same, first_same, first_none}
-use Rattle.mb_lemmas.proofs.WordLemmas.{number_front, decimal_spaceless, upper_fits, name_spaceless}
+use Rattle.mb_model_lemmas.proofs.LineLemmas.{Without, isnt, cons_same, first_same, first_none}
+use Rattle.mb_model_lemmas.proofs.WordLemmas.{number_front, decimal_spaceless, upper_fits, name_spaceless}
 use Rattle.mb_words.specs.Words.{IsSplit}
 use Rattle.mb_script.specs.Reading.{HasNumberFirst, HasRegionFirst, HasNameFirst, SaysSecret, SaysTail, kept, none, IsFill}
 

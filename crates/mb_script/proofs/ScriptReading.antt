@@ -7,8 +7,8 @@ use Rattle.std.proofs.lemmas.List.Elements.{filter-append}
 use Rattle.mb_model.specs.declared.event.Event.{Event}
 use Rattle.mb_model.specs.Lines.{HasLines, IsBeginning, FailsAtLine, Reads, TextFailsAtLine}
 use Rattle.mb_model.specs.Script.{SaysEvent, is_skipped, IsScript}
-use Rattle.mb_lemmas.proofs.LineLemmas.{HasLines-nil, HasLines-always, IsBeginning-all, bad_after}
-use Rattle.mb_lemmas.proofs.EventLemmas.{too_many_events, counts}
+use Rattle.mb_model_lemmas.proofs.LineLemmas.{HasLines-nil, HasLines-always, IsBeginning-all, bad_after}
+use Rattle.mb_model_lemmas.proofs.EventLemmas.{too_many_events, counts}
 use Rattle.mb_words.specs.Words.{SplitsLine}
 use Rattle.mb_words.proofs.NextLines.{shorter, with_line}
 

@@ -9,7 +9,7 @@ use Rattle.hex.specs.Hex.{encode_with, encode_lower, lower_digits}
 use Rattle.mb_model.specs.Lines.{hex_word}
 use Rattle.mb_bytes.specs.Puts.{Appends, StopsShort, Puts}
 use Rattle.mb_bytes.proofs.Putting.{puts_then, puts_stop, puts_stop_later}
-use Rattle.mb_lemmas.proofs.WordLemmas.{hex_word-some}
+use Rattle.mb_model_lemmas.proofs.WordLemmas.{hex_word-some}
 
 -- ---- puts, one after another
 

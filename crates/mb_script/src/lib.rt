@@ -1,8 +1,7 @@
 //! Scripts and replies as text.
 //!
-//! This crate owns the text of a script, which is read into events, the draws that its noise gives them, and the line of
-//! each reply, which is written. It stands on `mb_model`, whose definitions say which events a text stands for, on
-//! `mb_lemmas` for what these give, on `mb_words`, which reads lines word by word, on `mb_bytes` for appending, and on `hex`.
+//! This crate owns the text of a script, which is read into events, the draws that its noise gives them, and the
+//! line of each reply, which is written.
 #![tactic(auto)]
 
 mod draws;

@@ -7,7 +7,7 @@ use Rattle.mb_model.specs.declared.key.KeySeed.{KeySeed}
 use Rattle.mb_model.specs.Merkle.{inner_node}
 use Rattle.mb_model.specs.Signing.{node_of}
 use Rattle.mb_signer.specs.Tree.{node_at, HasNodes, IsFilled, IsTreeOf, joined_above}
-use Rattle.mb_lemmas.proofs.SignatureLemmas.{node_of-inner}
+use Rattle.mb_model_lemmas.proofs.SignatureLemmas.{node_of-inner}
 
 -- below a number, the nodes of one table are those of the other
 pub record IsSameBelow (s t : List (List ℕ)) (b : ℕ) : Type 0 where

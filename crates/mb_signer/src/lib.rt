@@ -1,10 +1,9 @@
 //! Signing by LMS keys of types 5 and 3, whose every value is made of a seed (RFC 8554, sections 4 and 5, and
 //! appendix A).
 //!
-//! This crate owns the rights to sign, each of which serves one signature; the tree of a key, which may be kept; and
-//! signing. It stands on `mb_lms`, by whose counted hash alone it hashes, on `mb_model`, and on the laws of
-//! a key's tree in `mb_lemmas`. Each call that hashes does so on the count of its caller, and begins none. No call takes
-//! memory.
+//! This crate owns the rights to sign, each of which serves one signature; the tree of a key, which may be kept;
+//! and signing. It hashes by the counted hash of `mb_lms` alone. Each call that hashes does so on the count of its
+//! caller, and begins none. No call takes memory.
 #![tactic(auto)]
 
 mod bytes;

@@ -8,7 +8,7 @@ use Rattle.mb_model.specs.Memory.{slots, area_length, life_byte, spare, selector
 use Rattle.mb_model.proofs.Places.{part-put}
 use Rattle.mb_board.specs.Reach.{Reached, selector as in_selector, first_area as in_first, second_area as in_second}
 use Rattle.mb_board.specs.Calls.{Torn}
-use Rattle.mb_storing.specs.InForce.{AgreeBesides}
+use Rattle.mb_model_memory.specs.InForce.{AgreeBesides}
 use Rattle.mb_slot.specs.Slots.{is_first_in_force, offset_of, current_offset, other_offset, IsOutside, IsSameOutside, IsSameBut, IsSameButOther, IsAreaAt, AreExchanged}
 use Rattle.mb_slot.proofs.Ranges.{get_or-put_byte, put_same, torn_same, part_same, apart_same}
 

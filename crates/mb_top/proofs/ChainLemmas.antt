@@ -26,9 +26,9 @@ use Rattle.mb_model.specs.Commands.{print, refuse, at_first}
 use Rattle.mb_model.specs.ChainCommands.{ChainNames, AttachNames, entries_text, write_entries, IsChainOf, chain_of, attach_statement}
 use Rattle.mb_model.specs.VerifyCommand.{VerifyNames, refused_line, tell_verdict, verify_chain}
 use Rattle.mb_model.specs.AuditCommand.{AuditNames, own_lives, IsAudited, compare, audit_chain}
-use Rattle.mb_lemmas.proofs.ValidStates.{valid_is_ruled}
-use Rattle.mb_lemmas.proofs.AuditLemmas.{audited}
-use Rattle.mb_run_laws.proofs.BirthLemmas.{chain_is_of}
+use Rattle.mb_model_lemmas.proofs.ValidStates.{valid_is_ruled}
+use Rattle.mb_model_lemmas.proofs.AuditLemmas.{audited}
+use Rattle.mb_model_runs.proofs.BirthLemmas.{chain_is_of}
 use Rattle.mb_log.proofs.Fronts.{first_ruled}
 use Rattle.mb_top.specs.declared.end.End.{End}
 use Rattle.mb_top.specs.declared.end.End.TheVariants as end

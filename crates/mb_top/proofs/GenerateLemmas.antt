@@ -20,9 +20,9 @@ use Rattle.mb_model.specs.Board.{Held, image_of}
 use Rattle.mb_model.specs.Commands.{Past, serve, print, lack, at_first}
 use Rattle.mb_model.specs.RunCommand.{IsServed}
 use Rattle.mb_model.specs.GenerateCommand.{GenerateNames, Prepared, IsPrepared, ShowsLog, summarise, serve_workload, generate}
-use Rattle.mb_lemmas.proofs.EventLemmas.{IsScript-same}
-use Rattle.mb_lemmas.proofs.LineLemmas.{HasLines-same, FailsAtLine-none}
-use Rattle.mb_lemmas.proofs.FactoryLemmas.{factory_is_well_formed}
+use Rattle.mb_model_lemmas.proofs.EventLemmas.{IsScript-same}
+use Rattle.mb_model_lemmas.proofs.LineLemmas.{HasLines-same, FailsAtLine-none}
+use Rattle.mb_model_lemmas.proofs.FactoryLemmas.{factory_is_well_formed}
 use Rattle.mb_top.specs.declared.end.End.{End}
 use Rattle.mb_top.specs.declared.end.End.TheVariants as end
 use Rattle.mb_top.specs.Ending.{CarriesOutAfter, CarriesOutRest}

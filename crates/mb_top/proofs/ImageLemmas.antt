@@ -7,8 +7,8 @@ use Rattle.mb_model.specs.Outside.{Outside, read_once}
 use Rattle.mb_model.specs.Commands.{HasRead}
 use Rattle.mb_model.specs.Faults.{Fault, HasFault as IsAtFault}
 use Rattle.mb_model.specs.Inputs.{image_input}
-use Rattle.mb_storing.specs.Storable.{Storable}
-use Rattle.mb_storing.proofs.StorableMemories.{stands_storable}
+use Rattle.mb_model_memory.specs.Storable.{Storable}
+use Rattle.mb_model_memory.proofs.StorableMemories.{stands_storable}
 use Rattle.mb_top.specs.declared.end.End.{End}
 use Rattle.mb_top.specs.Ending.{StopsAt}
 use Rattle.mb_top.specs.Images.{TellsFault}

@@ -18,11 +18,11 @@ use Rattle.mb_model.specs.RunCommand.{RunNames, IsServed, write_image, serve_eve
 use Rattle.mb_model.specs.Commands.{print, at_first}
 use Rattle.mb_board.specs.Calls.{held_by}
 use Rattle.mb_device.specs.Served.{IsServedFrom}
-use Rattle.mb_lemmas.proofs.FaultLemmas.{image_parts}
-use Rattle.mb_lemmas.proofs.LineLemmas.{cons_same}
-use Rattle.mb_lemmas.proofs.ValidStates.{kept_rightly}
-use Rattle.mb_run_laws.proofs.SoundLemmas.{run_is_sound}
-use Rattle.mb_run_laws.proofs.StatementLemmas.{statements_stay_accepted}
+use Rattle.mb_model_lemmas.proofs.FaultLemmas.{image_parts}
+use Rattle.mb_model_lemmas.proofs.LineLemmas.{cons_same}
+use Rattle.mb_model_lemmas.proofs.ValidStates.{kept_rightly}
+use Rattle.mb_model_runs.proofs.SoundLemmas.{run_is_sound}
+use Rattle.mb_model_runs.proofs.StatementLemmas.{statements_stay_accepted}
 use Rattle.mb_top.specs.declared.end.End.{End}
 use Rattle.mb_top.specs.Ending.{HoldsAnswered, CarriesOutAfter, CarriesOutRest}
 use Rattle.mb_top.specs.Outputs.{writes}

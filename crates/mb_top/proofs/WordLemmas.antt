@@ -15,7 +15,7 @@ use Rattle.mb_model.specs.AuditCommand.{AuditNames}
 use Rattle.mb_model.specs.ChainCommands.{ChainNames, AttachNames}
 use Rattle.mb_model.specs.GenerateCommand.{GenerateNames}
 use Rattle.mb_top.specs.Top.{Request, runs, makes_key, signs, countersigns, makes_device, verifies, audits, shows_chain, attaches, generates, IsRequest}
-use Rattle.mb_lemmas.proofs.WordLemmas.{upper_cases}
+use Rattle.mb_model_lemmas.proofs.WordLemmas.{upper_cases}
 use Rattle.mb_top.specs.Words.{IsCalled, IsLayerWord, IsRoundsWord}
 
 pub layer_two : (word : List ℕ) → word ≡ codes "2" → IsLayerWord word 2

@@ -4,7 +4,7 @@ ghost use Rattle.std.specs.Prelude.{◌≡◌, ◌≤◌, ◌↔◌, length, IfO
 ghost use Rattle.mb_model.specs.Valid.{Valid, IsValidState};
 ghost use Rattle.mb_model.specs.Acceptance.{accepting};
 ghost use Rattle.mb_model.specs.AuditCommand.{audit, audit_device, audit_under, audit_chain, compare, own_lives};
-ghost use Rattle.mb_storing.specs.Storable.{Storable, IsStorableState};
+ghost use Rattle.mb_model_memory.specs.Storable.{Storable, IsStorableState};
 ghost use Rattle.mb_top.specs.Words.{audit_files};
 ghost use Rattle.mb_top.specs.Ending.{CarriesOut};
 

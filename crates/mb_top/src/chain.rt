@@ -4,7 +4,7 @@ ghost use Rattle.std.specs.Prelude.{◌≡◌, Some, IfOk, string_bytes};
 ghost use Rattle.mb_model.specs.Valid.{Valid, IsValidState};
 ghost use Rattle.mb_model.specs.ChainFormat.{chain_format};
 ghost use Rattle.mb_model.specs.ChainCommands.{chain, chain_of, write_entries, entries_text};
-ghost use Rattle.mb_storing.specs.Storable.{Storable, IsStorableState};
+ghost use Rattle.mb_model_memory.specs.Storable.{Storable, IsStorableState};
 ghost use Rattle.mb_top.specs.Words.{chain_files};
 ghost use Rattle.mb_top.specs.Ending.{CarriesOut};
 

@@ -5,7 +5,7 @@ ghost use Rattle.mb_model.specs.Meaning.{IsWellFormed};
 ghost use Rattle.mb_model.specs.Valid.{Valid};
 ghost use Rattle.mb_model.specs.Script.{IsScriptEvent};
 ghost use Rattle.mb_model.specs.Inputs.{image_input, script_input, draws_input};
-ghost use Rattle.mb_storing.specs.Storable.{Storable};
+ghost use Rattle.mb_model_memory.specs.Storable.{Storable};
 ghost use Rattle.mb_image.specs.Ends.{fault_of};
 ghost use Rattle.mb_top.specs.Ending.{HasInput, StopsAt};
 ghost use Rattle.mb_top.specs.Images.{TellsFault};

@@ -8,8 +8,8 @@ use Rattle.mb_model.specs.declared.entry.SignedEntry.{SignedEntry}
 use Rattle.mb_model.specs.Log.{entries_of, Ordered, RuledLog}
 use Rattle.mb_model.specs.Merkle.{leaf_number}
 use Rattle.mb_model.specs.Acceptance.{ChainRefusal, in_charge, IsInPlace, IsGood, AreGood}
-use Rattle.mb_lemmas.proofs.LogLemmas.{entries_more}
-use Rattle.mb_lemmas.proofs.ChainLemmas.{AreGood-push, good_is_ruled}
+use Rattle.mb_model_lemmas.proofs.LogLemmas.{entries_more}
+use Rattle.mb_model_lemmas.proofs.ChainLemmas.{AreGood-push, good_is_ruled}
 use Rattle.mb_log.specs.declared.figures.Figures.{Figures}
 use Rattle.mb_log.specs.declared.life.Life.{Life}
 use Rattle.mb_log.specs.Figures.{figures_of}

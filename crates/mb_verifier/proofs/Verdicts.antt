@@ -24,7 +24,7 @@ use Rattle.mb_log.specs.KeyLife.{as_entry, IsLifeOf}
 use Rattle.mb_verifier.proofs.Stating.{born_is, alive_is}
 use Rattle.mb_verifier.proofs.Judging.{counted}
 use Rattle.mb_model.proofs.EntryFormatLaws.{chain_exact}
-use Rattle.mb_lemmas.proofs.ChainLemmas.{accepted_is_ruled}
+use Rattle.mb_model_lemmas.proofs.ChainLemmas.{accepted_is_ruled}
 use Rattle.mb_verifier.specs.declared.refusal.ChainRefusal as why
 use Rattle.mb_verifier.specs.Ends.{refusal_of}
 use Rattle.mb_verifier.specs.Checked.{HasBadEntry}

@@ -2,8 +2,8 @@
 use Rattle.std.proofs.Common.{◌≡◌, ℕ, ◌<◌, List, [], ◌∷◌, length, sym, ap, subst, arith}
 use Rattle.std.specs.Prelude.{Err}
 use Rattle.mb_model.specs.Lines.{HasLines, TextFailsAtLine}
-use Rattle.mb_lemmas.proofs.LineLemmas.{HasLines-none, HasLines-nil, HasLines-always}
-use Rattle.mb_lemmas.proofs.OrderLineLemmas.{HasOneLine, empty, first, second}
+use Rattle.mb_model_lemmas.proofs.LineLemmas.{HasLines-none, HasLines-nil, HasLines-always}
+use Rattle.mb_model_lemmas.proofs.OrderLineLemmas.{HasOneLine, empty, first, second}
 use Rattle.mb_words.specs.declared.said.NotSaid.{NotSaid}
 use Rattle.mb_words.specs.declared.said.NotSaid.TheVariants as why
 use Rattle.mb_words.specs.Words.{Finds, SplitsLine}

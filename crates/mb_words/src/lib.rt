@@ -1,9 +1,8 @@
 //! The words of lines.
 //!
-//! This crate owns how the texts of this repository are read word by word: the next line of a text, a word before a byte
-//! or after one that is known, numbers in decimal, and bytes in hexadecimal. The texts themselves, scripts and drafts,
-//! are read in the crates above. It stands on `mb_model`, which says what a line, a number and a hexadecimal word are, on
-//! `mb_lemmas` for what these give, and on `hex`.
+//! This crate owns how the texts of this repository are read word by word: the next line of a text, a word before a
+//! byte or after one that is known, numbers in decimal, and bytes in hexadecimal. The texts themselves, scripts and
+//! drafts, are read in the crates above.
 #![tactic(auto)]
 
 mod hexadecimal;

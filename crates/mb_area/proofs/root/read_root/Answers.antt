@@ -2,7 +2,7 @@ use Rattle.std.proofs.Common.{◌≡◌, ◌∙◌, sym, subst, List, ℕ, arith
 use Rattle.std.proofs.lemmas.List.{take_at}
 use Rattle.mb_model.specs.RootFormat.{root_format}
 use Rattle.mb_model.specs.Memory.{current, HoldsRecord}
-use Rattle.mb_lemmas.proofs.PublicLemmas.{bounded_by}
+use Rattle.mb_model_lemmas.proofs.PublicLemmas.{bounded_by}
 use Rattle.mb_area.proofs.Rooted.{in_force, some_held}
 use Rattle.mb_area.proofs.root.read_root.Goals as goal
 

@@ -1,5 +1,5 @@
 use Rattle.mb_boot.proofs.Settled.{three_is_pending, both_applied, keeps, live_still, two_root_still, three_root_still}
-use Rattle.mb_storing.proofs.HoldingLemmas.{keeps_then}
+use Rattle.mb_model_memory.proofs.HoldingLemmas.{keeps_then}
 use Rattle.mb_boot.proofs.work.apply_fates.Goals as goal
 
 pub returns-in_err-u-clause-root : goal.returns-in_err-u-clause-root

@@ -1,5 +1,5 @@
 use Rattle.mb_boot.proofs.Settled.{finish_keeps}
-use Rattle.mb_storing.proofs.HoldingLemmas.{keeps_then, contents_keep}
+use Rattle.mb_model_memory.proofs.HoldingLemmas.{keeps_then, contents_keep}
 use Rattle.mb_boot.proofs.work.settle.Goals as goal
 
 pub returns-in_err-w-clause-meaning : goal.returns-in_err-w-clause-meaning

@@ -1,6 +1,6 @@
 use Rattle.std.proofs.Common.{sym, subst, true}
 use Rattle.mb_model.specs.declared.event.Event.{Event}
-use Rattle.mb_storing.specs.Answering.{ComesTo}
+use Rattle.mb_model_memory.specs.Answering.{ComesTo}
 use Rattle.mb_device.specs.Regions.{layer_outcome}
 use Rattle.mb_device.proofs.Uses.{known_runs}
 use Rattle.mb_device.proofs.Told.{known_number}

@@ -1,5 +1,5 @@
 use Rattle.std.proofs.Common.{sym, ap, ◌∙◌}
-use Rattle.mb_lemmas.proofs.AliveLemmas.{alive_keys-nil}
+use Rattle.mb_model_lemmas.proofs.AliveLemmas.{alive_keys-nil}
 use Rattle.mb_image.specs.Keys.{listed}
 use Rattle.mb_image.proofs.LogSteps.{alive_more}
 use Rattle.mb_image.proofs.alive.alive_keys.Goals as goal

@@ -1,6 +1,6 @@
 use Rattle.std.proofs.Common.{rules}
 use Rattle.std.proofs.lemmas.Fn.{filter_same}
-use Rattle.mb_lemmas.specs.AliveLaws.{goes_on}
+use Rattle.mb_model_lemmas.specs.AliveLaws.{goes_on}
 use Rattle.mb_image.specs.Keys.{as_listed}
 use Rattle.mb_image.proofs.LogSteps.{listed-filter}
 use Rattle.mb_image.proofs.alive.drop_ended.Goals as goal

@@ -1,8 +1,8 @@
 use Rattle.std.proofs.Common.{arith, refl}
 use Rattle.mb_format.specs.Format.{IsBytes}
-use Rattle.mb_lemmas.proofs.FaultLemmas.{image_bbram_bytes}
+use Rattle.mb_model_lemmas.proofs.FaultLemmas.{image_bbram_bytes}
 use Rattle.mb_image.proofs.Lengths.{halves_mean, blank_counts, rootless_counts, live_counts}
-use Rattle.mb_lemmas.proofs.PublicLemmas.{bounded_by}
+use Rattle.mb_model_lemmas.proofs.PublicLemmas.{bounded_by}
 use Rattle.mb_image.proofs.count.log_length.Goals as goal
 
 pub count_entries-requires-clause-area : goal.count_entries-requires-clause-area

@@ -1,4 +1,4 @@
-use Rattle.mb_lemmas.proofs.PublicLemmas.{bounded_by}
+use Rattle.mb_model_lemmas.proofs.PublicLemmas.{bounded_by}
 use Rattle.mb_image.proofs.Reading.{none_holds, some_holds, matched}
 use Rattle.mb_image.proofs.stored.stored_in.Goals as goal
 

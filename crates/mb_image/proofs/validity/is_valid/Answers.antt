@@ -1,5 +1,5 @@
 use Rattle.std.proofs.Common.{true≢false, sym, ◌∙◌}
-use Rattle.mb_lemmas.proofs.ValidStates.{follows_is_ruled}
+use Rattle.mb_model_lemmas.proofs.ValidStates.{follows_is_ruled}
 use Rattle.mb_model.specs.Log.{entries_of}
 use Rattle.mb_log.proofs.KeyLives.{figures_number}
 use Rattle.mb_image.proofs.Following.{IfOk-weaker}

@@ -1,5 +1,5 @@
 use Rattle.std.proofs.Common.{rules}
-use Rattle.mb_lemmas.proofs.SameLayers.{layers_decide}
+use Rattle.mb_model_lemmas.proofs.SameLayers.{layers_decide}
 use Rattle.mb_log.proofs.rules.leaves.Goals as goal
 
 pub returns : goal.returns

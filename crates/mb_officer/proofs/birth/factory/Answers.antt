@@ -1,5 +1,5 @@
 use Rattle.std.proofs.Common.{◌∙◌}
-use Rattle.mb_lemmas.proofs.FactoryLemmas.{factory_is_well_formed}
+use Rattle.mb_model_lemmas.proofs.FactoryLemmas.{factory_is_well_formed}
 use Rattle.mb_officer.specs.NewImage.{new_image}
 use Rattle.mb_officer.proofs.Births.{at_least_48, owner_allowed, device_root, device_birth, device_entry, device_signed, device_stored, stored_is, root_is, stored_fits, root_fits, image_fits, puts_fit, birth_image}
 use Rattle.mb_officer.proofs.birth.factory.Goals as goal

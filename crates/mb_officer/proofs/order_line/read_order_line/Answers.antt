@@ -2,7 +2,7 @@ use Rattle.std.proofs.Common.{◌∷◌, [], sym, ◌∙◌, arith}
 use Rattle.std.proofs.lemmas.Bool.{eqb-true, eqb-false}
 use Rattle.std.proofs.lemmas.List.{nil_from_length}
 use Rattle.mb_model.specs.OrderLines.{IsOrderLine}
-use Rattle.mb_lemmas.proofs.OrderLineLemmas.{order_one}
+use Rattle.mb_model_lemmas.proofs.OrderLineLemmas.{order_one}
 use Rattle.mb_words.proofs.OneLine.{no_line, first_wrong, second_wrong, none_found}
 use Rattle.mb_officer.proofs.OrderTexts.{order_alone}
 use Rattle.mb_officer.proofs.order_line.read_order_line.Goals as goal

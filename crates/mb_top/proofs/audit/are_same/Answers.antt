@@ -1,5 +1,5 @@
 use Rattle.std.proofs.lemmas.Slice.Eq.{slice_eq-Decides}
-use Rattle.mb_lemmas.proofs.SameLayers.{configurations_decide}
+use Rattle.mb_model_lemmas.proofs.SameLayers.{configurations_decide}
 use Rattle.mb_top.proofs.audit.are_same.Goals as goal
 
 pub returns : goal.returns

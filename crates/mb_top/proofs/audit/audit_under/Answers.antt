@@ -4,7 +4,7 @@ use Rattle.mb_model.specs.Inputs.{chain_bytes_input}
 use Rattle.mb_model.specs.Valid.{Valid}
 use Rattle.mb_model.specs.AuditCommand.{audit_chain, audit_under}
 use Rattle.mb_model.specs.Commands.{at_first}
-use Rattle.mb_storing.specs.Storable.{Storable}
+use Rattle.mb_model_memory.specs.Storable.{Storable}
 use Rattle.mb_top.specs.Words.{audit_files}
 use Rattle.mb_top.specs.Ending.{CarriesOut}
 use Rattle.mb_top.proofs.CommandLemmas.{input_carried_out, read_on}

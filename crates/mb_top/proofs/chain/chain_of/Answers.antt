@@ -1,7 +1,7 @@
 use Rattle.std.proofs.Common.{sym, subst}
 use Rattle.mb_model.specs.Valid.{Valid}
 use Rattle.mb_model.specs.ChainCommands.{chain_of}
-use Rattle.mb_storing.specs.Storable.{Storable}
+use Rattle.mb_model_memory.specs.Storable.{Storable}
 use Rattle.mb_top.specs.Words.{chain_files}
 use Rattle.mb_top.specs.Ending.{CarriesOut}
 use Rattle.mb_top.proofs.ChainLemmas.{dead_has_none}

@@ -1,5 +1,5 @@
 use Rattle.mb_top.specs.Words.{chain_files}
-use Rattle.mb_storing.proofs.StorableChains.{bare_allowed}
+use Rattle.mb_model_memory.proofs.StorableChains.{bare_allowed}
 use Rattle.mb_top.proofs.ChainLemmas.{log_carried_out}
 use Rattle.mb_top.proofs.chain.write_log.Goals as goal
 

@@ -2,8 +2,8 @@ use Rattle.std.proofs.Common.{◌≤◌, Err, length, sym, ap, ◌∙◌, subst}
 use Rattle.mb_model.specs.Lines.{Reads, TextFailsAtLine}
 use Rattle.mb_model.specs.Script.{IsScript, IsShortNoise}
 use Rattle.mb_script.specs.Reading.{ReadsScript}
-use Rattle.mb_lemmas.proofs.ScriptLemmas.{IsScript-events}
-use Rattle.mb_lemmas.proofs.DrawLemmas.{drawn-length, drawn-script}
+use Rattle.mb_model_lemmas.proofs.ScriptLemmas.{IsScript-events}
+use Rattle.mb_model_lemmas.proofs.DrawLemmas.{drawn-length, drawn-script}
 use Rattle.mb_top.proofs.GenerateLemmas.{no_bad_line, no_short_noise}
 use Rattle.mb_top.proofs.generate.events_of.Goals as goal
 

@@ -1,4 +1,4 @@
-use Rattle.mb_lemmas.proofs.ScriptLemmas.{IsScript-events}
+use Rattle.mb_model_lemmas.proofs.ScriptLemmas.{IsScript-events}
 use Rattle.mb_top.proofs.run_input.read_events.Goals as goal
 
 pub returns-in-Ok-clause-events : goal.returns-in-Ok-clause-events

@@ -4,7 +4,7 @@ use Rattle.mb_model.specs.Log.{entries_of}
 use Rattle.mb_log.proofs.Fronts.{figures_go_on}
 use Rattle.mb_verifier.specs.Checked.{HasBadEntry}
 use Rattle.mb_verifier.specs.Ends.{refusal_of}
-use Rattle.mb_lemmas.proofs.ChainLemmas.{AreGood-nil}
+use Rattle.mb_model_lemmas.proofs.ChainLemmas.{AreGood-nil}
 use Rattle.mb_verifier.proofs.Judging.{AreGood-more, bad_entry, life_next, if_some_weaker}
 use Rattle.mb_verifier.proofs.entries.judge.Goals as goal
 

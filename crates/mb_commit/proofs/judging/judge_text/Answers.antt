@@ -1,7 +1,0 @@
-use Rattle.mb_commit.proofs.Judgement.{refused_step}
-use Rattle.mb_commit.proofs.judging.judge_text.Goals as goal
-
-pub returns-in-Err-judge-clause-judged : goal.returns-in-Err-judge-clause-judged
-returns-in-Err-judge-clause-judged g c = λ state ready knows.
-    refused_step state c.args.text.now c.args.draw.now c.in_ok-order.order c.in-Err-judge.end c.refusal.result c.in_ok-order.ensures
-    (c.in-Err-judge.ensures.judged state (c.in-Ok.ensures.view state ready knows)) c.refusal.ensures

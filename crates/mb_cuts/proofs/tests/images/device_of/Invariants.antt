@@ -1,4 +1,0 @@
-use Rattle.mb_cuts.proofs.tests.images.device_of.Given as goal
-
-abbrev pub ghosts-device_counted : goal.ghosts-device_counted
-ghosts-device_counted a = record { name = a.blank.name; parts = a.blank.parts }

@@ -1,0 +1,82 @@
+-- How an order is answered.
+use Rattle.std.proofs.Common.{◌≡◌, ◌⊎◌, inl, inr, ℕ, List, length, refl, ap, ◌∙◌}
+use Rattle.std.proofs.lemmas.List.{length-map}
+use Rattle.mb_model.specs.declared.entry.SignedEntry.{SignedEntry}
+use Rattle.mb_model.specs.declared.reply.Reply.{Reply}
+use Rattle.mb_model.specs.declared.reply.Reply.TheVariants as reply
+use Rattle.mb_model.specs.declared.state.State.{State}
+use Rattle.mb_model.specs.declared.stored.Root.{Root}
+use Rattle.mb_model.specs.Board.{Memory}
+use Rattle.mb_model.specs.Log.{entries_of, number_of}
+use Rattle.mb_model.specs.OrderStep.{OrderStep, is_obeyed, obeyed}
+use Rattle.mb_log.specs.declared.figures.Figures.{Figures}
+use Rattle.mb_log.specs.Figures.{figures_of}
+use Rattle.mb_model_memory.specs.Holding.{Means, IsReady}
+use Rattle.mb_boot.specs.Settling.{IsOnlyRoot}
+use Rattle.mb_device_orders.specs.declared.judging.Judged.{Judged}
+use Rattle.mb_device_orders.specs.declared.remembering.Known.{Known}
+use Rattle.mb_device_orders.specs.Remembering.{Knows, IsRemembered}
+use Rattle.mb_device_orders.specs.Obeying.{IsOrderAnswered, lacks, tells, IsOrderCut}
+use Rattle.mb_device_orders.specs.Planning.{IsPassed, HasPassed, IsCommit, HasCommit}
+
+-- ---- what a device that remembers its state has of one
+
+pub has_passed : (known : Known) (memory : Memory) (text draw : List ℕ) (judged : Judged) → IsRemembered known memory → ((state : State) → IsReady memory state → Knows known state → IsPassed state text draw judged)
+    → IsOnlyRoot memory.bbram judged.root → HasPassed memory judged
+has_passed known memory text draw judged is passes root = record {
+  state = is.state;
+  text = text;
+  draw = draw;
+  ready = is.ready;
+  passed = passes is.state is.ready is.knows;
+  root = root;
+}
+
+pub has_commit : (known : Known) (memory : Memory) (text draw : List ℕ) (judged : Judged) (root : Root) (bytes : List ℕ) → IsRemembered known memory
+    → ((state : State) → IsReady memory state → Knows known state → IsPassed state text draw judged)
+    → ((state : State) (text draw : List ℕ) → IsReady memory state → IsPassed state text draw judged → IsCommit memory root bytes state judged.order draw) → HasCommit memory root bytes
+has_commit known memory text draw judged root bytes is passes commits = record {
+  state = is.state;
+  order = judged.order;
+  draw = draw;
+  commit = commits is.state text draw is.ready (passes is.state is.ready is.knows);
+}
+
+-- ---- answers
+
+pub answered_same : (memory : Memory) (state : State) (text draw : List ℕ) (known : Known) (answer : Reply) → IsReady memory state → Knows known state → (answer ≡ reply.NoMemory) ⊎ OrderStep state text draw answer state
+    → IsOrderAnswered state text draw known answer memory memory
+answered_same memory state text draw known answer ready knows (inl none) = lacks none refl knows
+answered_same memory state text draw known answer ready knows (inr step) = tells state step ready knows
+
+-- the answer to an order that is obeyed
+done_is : (known : Known) (next : State) → Knows known next → reply.Done known.figures.number known.figures.length ≡ reply.Done (number_of (entries_of next.log)) (length next.log)
+unfolding figures_of
+done_is known next knows =
+    ap (λ (n : ℕ). reply.Done n known.figures.length) (ap (λ (f : Figures). f.number) knows.figures)
+    ∙ ap (λ (n : ℕ). reply.Done (number_of (entries_of next.log)) n) (ap (λ (f : Figures). f.length) knows.figures ∙ length-map next.log (λ (signed : SignedEntry). signed.entry))
+
+obeyed_step : (state : State) (text draw : List ℕ) (judged : Judged) (known : Known) → IsPassed state text draw judged → Knows known (obeyed state judged.order draw)
+    → OrderStep state text draw (reply.Done known.figures.number known.figures.length) (obeyed state judged.order draw)
+obeyed_step state text draw judged known passed knows = is_obeyed (record {
+  order = judged.order;
+  spelled = passed.spelled;
+  passes = passed.passes;
+  follows = refl;
+  answered = done_is known (obeyed state judged.order draw) knows;
+})
+
+pub answered_done : (before after : Memory) (state : State) (text draw : List ℕ) (judged : Judged) (known : Known) → IsPassed state text draw judged → IsReady after (obeyed state judged.order draw) → Knows known (obeyed state judged.order draw)
+    → IsOrderAnswered state text draw known (reply.Done known.figures.number known.figures.length) before after
+answered_done before after state text draw judged known passed ready knows =
+    tells (obeyed state judged.order draw) (obeyed_step state text draw judged known passed knows) ready knows
+
+pub order_cut : (after : Memory) (state : State) (text draw : List ℕ) (judged : Judged) (known : Known) → IsPassed state text draw judged → Knows known (obeyed state judged.order draw) → Means after state ⊎ Means after (obeyed state judged.order draw)
+    → IsOrderCut state text draw after
+order_cut after state text draw judged known passed knows counts = record {
+  number = known.figures.number;
+  size = known.figures.length;
+  next = obeyed state judged.order draw;
+  step = obeyed_step state text draw judged known passed knows;
+  counts = counts;
+}

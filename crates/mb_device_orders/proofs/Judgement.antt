@@ -1,0 +1,129 @@
+-- What judging the bytes of an order comes to.
+use Rattle.std.proofs.Common.{◌≡◌, ◌≤◌, ◌⊎◌, inl, inr, ℕ, List, length, Option, None, Some, Err, refl, sym, ap, subst, ◌∙◌, arith}
+use Rattle.std.proofs.lemmas.List.{length-map}
+use Rattle.mb_format.specs.Format.{IsBytes, Spells, FailsWhole}
+use Rattle.mb_format.proofs.Whole.{IsClearWhole-from_exact}
+use Rattle.mb_bytes.specs.Reads.{FailsWholeAt}
+use Rattle.mb_command.specs.declared.end.OrderEnd.{OrderEnd}
+use Rattle.mb_command.specs.declared.end.OrderEnd.TheVariants.{BadText}
+use Rattle.mb_command.specs.Ends.{text_at}
+use Rattle.mb_model.specs.declared.entry.SignedEntry.{SignedEntry}
+use Rattle.mb_model.specs.declared.order.Order.{Order}
+use Rattle.mb_model.specs.declared.region.Region.{Region}
+use Rattle.mb_model.specs.declared.reply.Reply.{Reply}
+use Rattle.mb_model.specs.declared.reply.Reply.TheVariants as reply
+use Rattle.mb_model.specs.declared.state.State.{State}
+use Rattle.mb_model.specs.declared.stored.Root.{Root}
+use Rattle.mb_model.specs.Board.{Memory}
+use Rattle.mb_model.specs.Clean.{root_of}
+use Rattle.mb_model.specs.Log.{entries_of, number_of, used, made}
+use Rattle.mb_model.specs.Meaning.{HoldsRegion}
+use Rattle.mb_model.specs.Memory.{current}
+use Rattle.mb_model.specs.OrderFormat.{order_format}
+use Rattle.mb_model.specs.Refusals.{Refusal}
+use Rattle.mb_model.specs.OrderStep.{OrderStep, spells_none, fails_check}
+use Rattle.mb_model.specs.Work.{view_of}
+use Rattle.mb_model.proofs.OrderFormatLaws.{order_exact}
+use Rattle.mb_model_lemmas.proofs.LogLemmas.{used-bound, number_of-le-length, made-le-length}
+use Rattle.mb_model_lemmas.proofs.ValidStates.{valid_is_ruled}
+use Rattle.mb_log.specs.declared.figures.Figures.{Figures}
+use Rattle.mb_log.specs.Figures.{figures_of}
+use Rattle.mb_orders.specs.declared.end.JudgeEnd.{JudgeEnd}
+use Rattle.mb_orders.specs.Judging.{refusal_of, FailsFor}
+use Rattle.mb_model_memory.specs.Holding.{IsReady}
+use Rattle.mb_model_memory.specs.Storable.{IsStorableState}
+use Rattle.mb_model_memory.proofs.StorableMemories.{spelled_storable, stands_storable}
+use Rattle.mb_region.specs.Regions.{HoldsSomeRegion}
+use Rattle.mb_boot.specs.Settling.{IsOnlyRoot}
+use Rattle.mb_device_orders.specs.declared.remembering.Known.{Known}
+use Rattle.mb_device_orders.specs.Remembering.{Knows, IsRemembered}
+use Rattle.mb_device_orders.specs.Planning.{reply_for, ReadsText}
+
+-- ---- refusals
+
+pub no_order : (text : List ℕ) (end : OrderEnd) (at : ℕ) → end ≡ BadText at → IsBytes text → FailsWholeAt order_format text (text_at end) → (order : Order) → Spells order_format text order → ⊥
+no_order text end at is are fails order s =
+    let there : FailsWhole order_format text at = subst (λ (e : OrderEnd). FailsWholeAt order_format text (text_at e)) is fails in
+    (IsClearWhole-from_exact order_exact).never_both text order at are s there
+
+refused_for : (state : State) (text draw : List ℕ) (order : Order) (refusal : Option Refusal) (answer : Reply) → Spells order_format text order → FailsFor state order refusal → answer ≡ reply_for refusal
+    → (answer ≡ reply.NoMemory) ⊎ OrderStep state text draw answer state
+refused_for state text draw order None answer s fails told = inl told
+refused_for state text draw order (Some refusal) answer s fails told =
+    inr (fails_check (record { order = order; spelled = s; refusal = refusal; fails = fails; answered = told; stays = refl }))
+
+pub refused_step : (state : State) (text draw : List ℕ) (order : Order) (end : JudgeEnd) (answer : Reply) → Spells order_format text order → FailsFor state order (refusal_of end) → answer ≡ reply_for (refusal_of end)
+    → (answer ≡ reply.NoMemory) ⊎ OrderStep state text draw answer state
+refused_step state text draw order end answer s fails told = refused_for state text draw order (refusal_of end) answer s fails told
+
+pub none_step : (state : State) (text draw : List ℕ) (answer : Reply) → ReadsText text (Err answer) → (answer ≡ reply.NoMemory) ⊎ OrderStep state text draw answer state
+none_step state text draw answer (inl lacks) = inl lacks
+none_step state text draw answer (inr none) = inr (spells_none (record { none = none.1; answered = none.0; stays = refl }))
+
+-- ---- regions
+
+pub few_keys : (area : List ℕ) (region : Region) → HoldsSomeRegion area → ((any : Region) → HoldsRegion area any → region ≡ any) → length region.keys ≤ 8
+few_keys area region some only =
+    let few = (spelled_storable some.holds.bytes some.region some.holds.spelled).few_keys in
+    omega (arith, few, ap (λ (r : Region). length r.keys) (only some.region some.holds))
+
+pub region_two : (known : Known) (memory : Memory) → IsRemembered known memory → HoldsSomeRegion (current memory.bbram 2)
+region_two known memory is = record { region = is.state.two; holds = is.ready.clean.two }
+
+pub region_three : (known : Known) (memory : Memory) → IsRemembered known memory → HoldsSomeRegion (current memory.bbram 3)
+region_three known memory is = record { region = is.state.three; holds = is.ready.clean.three }
+
+-- ---- what an order is judged by
+
+pub view_is : (memory : Memory) (state : State) (known : Known) (root : Root) (two three : ℕ) → IsReady memory state → Knows known state → IsOnlyRoot memory.bbram root → two ≡ length state.two.keys → three ≡ length state.three.keys
+    → record {
+      serial = known.serial;
+      layers = known.figures.layers;
+      length = known.figures.length;
+      number = known.figures.number;
+      keys_made = known.figures.keys_made;
+      device = root.device;
+      uses = known.figures.uses;
+      keys_two = two;
+      keys_three = three;
+    } ≡ view_of state
+unfolding view_of figures_of
+view_is memory state known root two three ready knows only is_two is_three =
+    let serial : known.serial ≡ state.serial = knows.serial in
+    let layers : known.figures.layers ≡ state.layers = ap (λ (f : Figures). f.layers) knows.figures ∙ sym ready.valid.layers in
+    let size : known.figures.length ≡ length state.log = ap (λ (f : Figures). f.length) knows.figures ∙ length-map state.log (λ (signed : SignedEntry). signed.entry) in
+    let number : known.figures.number ≡ number_of (entries_of state.log) = ap (λ (f : Figures). f.number) knows.figures in
+    let keys : known.figures.keys_made ≡ made (entries_of state.log) = ap (λ (f : Figures). f.keys_made) knows.figures in
+    let device : root.device ≡ state.device = sym (ap (λ (r : Root). r.device) (only.only (root_of state ready.clean.area) ready.clean.root)) in
+    let uses : known.figures.uses ≡ used (entries_of state.log) = ap (λ (f : Figures). f.uses) knows.figures in
+    cc
+
+storable : (known : Known) (memory : Memory) (is : IsRemembered known memory) → IsStorableState is.state
+storable known memory is = stands_storable memory.flash memory.bbram is.state is.ready.means is.ready.valid
+
+pub few_uses : (known : Known) (memory : Memory) → IsRemembered known memory → known.figures.uses ≤ 31
+unfolding figures_of
+few_uses known memory is =
+    omega (arith, ap (λ (f : Figures). f.uses) is.knows.figures, used-bound (entries_of is.state.log) (valid_is_ruled is.state is.ready.valid))
+
+pub few_changes : (known : Known) (memory : Memory) → IsRemembered known memory → known.figures.number ≤ 128
+unfolding figures_of
+few_changes known memory is =
+    omega (
+      arith,
+      ap (λ (f : Figures). f.number) is.knows.figures,
+      number_of-le-length (entries_of is.state.log),
+      length-map is.state.log (λ (signed : SignedEntry). signed.entry),
+      (storable known memory is).few,
+    )
+
+pub few_made : (known : Known) (memory : Memory) → IsRemembered known memory → known.figures.keys_made ≤ 128
+unfolding figures_of
+few_made known memory is =
+    omega (
+      arith,
+      ap (λ (f : Figures). f.keys_made) is.knows.figures,
+      made-le-length (entries_of is.state.log),
+      length-map is.state.log (λ (signed : SignedEntry). signed.entry),
+      (storable known memory is).few,
+    )

@@ -1,0 +1,33 @@
+-- How an order is answered, and what a power loss leaves of it. Is it obeyed wholly or not at all?
+use Rattle.std.specs.Prelude.{◌≡◌, ℕ, ◌⊎◌, List, Result, Ok, Err}
+use Rattle.mb_model.specs.declared.reply.Reply.{Reply}
+use Rattle.mb_model.specs.declared.reply.Reply.TheVariants as reply
+use Rattle.mb_model.specs.declared.state.State.{State}
+use Rattle.mb_model.specs.Board.{Memory}
+use Rattle.mb_model.specs.OrderStep.{OrderStep}
+use Rattle.mb_model_memory.specs.Holding.{Means, IsReady}
+use Rattle.mb_device_orders.specs.declared.remembering.Known.{Known}
+use Rattle.mb_device_orders.specs.Remembering.{Knows}
+
+-- The answer to these bytes in a state, what the device remembers afterwards, and the memory before and after them.
+pub data IsOrderAnswered
+    (state : State) (text draw : List ℕ) (known : Known) (answer : Reply) (before after : Memory) : Type 0 where
+  -- an allocation failed, and nothing has changed
+  lacks : answer ≡ reply.NoMemory → after ≡ before → Knows known state →
+      IsOrderAnswered state text draw known answer before after
+  -- the bytes are answered so, and the memory is ready with the state to which they lead
+  tells : (next : State) → OrderStep state text draw answer next → IsReady after next → Knows known next →
+      IsOrderAnswered state text draw known answer before after
+
+-- Power failed while an order was obeyed: it counts wholly or not at all.
+pub record IsOrderCut (state : State) (text draw : List ℕ) (after : Memory) : Type 0 where
+  pub number : ℕ
+  pub size : ℕ
+  pub next : State
+  pub step : OrderStep state text draw (reply.Done number size) next
+  pub counts : Means after state ⊎ Means after next
+
+-- what comes of these bytes in this state
+abbrev pub Obeys : {S E : Type 0} → State → List ℕ → List ℕ → Known → Memory → Memory → Result (S × Reply) E → Type 0
+Obeys state text draw known before after (Ok told) = IsOrderAnswered state text draw known told.1 before after
+Obeys state text draw known before after (Err stop) = IsOrderCut state text draw after

@@ -1,0 +1,97 @@
+-- How bytes are judged, and the commit that is planned of an order. Is all that is written fixed before any write?
+use Rattle.std.specs.Prelude.{◌≡◌, ℕ, ◌-◌, ◌⊎◌, List, ◌++◌, map, Option, None, Some, Result, Ok, Err}
+use Rattle.mb_format.specs.Format.{Spells}
+use Rattle.mb_model.specs.declared.entry.Entry.{Entry}
+use Rattle.mb_model.specs.declared.order.Act.{Act}
+use Rattle.mb_model.specs.declared.order.Order.{Order}
+use Rattle.mb_model.specs.declared.reply.Reply.{Reply}
+use Rattle.mb_model.specs.declared.reply.Reply.TheVariants as reply
+use Rattle.mb_model.specs.declared.state.State.{State}
+use Rattle.mb_model.specs.declared.stored.Public.{Public}
+use Rattle.mb_model.specs.declared.stored.Root.{Root}
+use Rattle.mb_model.specs.Board.{Memory}
+use Rattle.mb_model.specs.Flash.{public_format, public_of_parts, without_signature}
+use Rattle.mb_model.specs.OrderFormat.{order_format}
+use Rattle.mb_model.specs.Refusals.{Refusal, bad_text, refused}
+use Rattle.mb_model.specs.OrderStep.{OrderStep, Passes, codes_after, obeyed}
+use Rattle.mb_model.specs.Work.{new_entries}
+use Rattle.mb_orders.specs.Judging.{plan_of}
+use Rattle.mb_model_memory.specs.Commits.{root_for, at_rest}
+use Rattle.mb_model_memory.specs.Holding.{Holds, IsReady}
+use Rattle.mb_boot.specs.Settling.{IsOnlyRoot}
+use Rattle.mb_device_orders.specs.declared.judging.Judged.{Judged}
+
+-- ---- judging
+
+-- the answer to bytes that are not obeyed: a refusal, or that memory is wanting
+abbrev pub reply_for : Option Refusal → Reply
+reply_for (Some refusal) = refused refusal
+reply_for None = reply.NoMemory
+
+-- the order that the bytes spell; else they spell none and are refused for that, or memory is wanting
+abbrev pub ReadsText : List ℕ → Result Order Reply → Type 0
+ReadsText text (Ok order) = Spells order_format text order
+ReadsText text (Err answer) =
+    (answer ≡ reply.NoMemory) ⊎ ((answer ≡ refused bad_text) × ((order : Order) → Spells order_format text order → ⊥))
+
+-- the bytes spell an order that passes in this state, and this is what it comes to
+pub record IsPassed (state : State) (text draw : List ℕ) (judged : Judged) : Type 0 where
+  pub spelled : Spells order_format text judged.order
+  pub passes : Passes state judged.order
+  pub plan : judged.plan ≡ plan_of state judged.order draw
+
+-- what judging bytes in this state comes to: an order that passes, or an answer by which nothing changes
+abbrev pub JudgesText : State → List ℕ → List ℕ → Result Judged Reply → Type 0
+JudgesText state text draw (Ok judged) = IsPassed state text draw judged
+JudgesText state text draw (Err answer) = (answer ≡ reply.NoMemory) ⊎ OrderStep state text draw answer state
+
+-- some bytes spelled this order, which passes in a state with which the memory is ready
+pub record HasPassed (memory : Memory) (judged : Judged) : Type 0 where
+  pub state : State
+  pub text : List ℕ
+  pub draw : List ℕ
+  pub ready : IsReady memory state
+  pub passed : IsPassed state text draw judged
+  pub root : IsOnlyRoot memory.bbram judged.root
+
+-- ---- planning
+
+-- a public record with the codes that an order of layer k leaves, and with more entries, not signed yet
+abbrev pub with_order : ℕ → Act → List Entry → Public → Public
+with_order k does entries public = record {
+  codes = codes_after public.codes k does;
+  entries = public.entries ++ map without_signature entries;
+}
+
+-- some public record is spelled
+pub record SpellsRecord (bytes : List ℕ) : Type 0 where
+  pub public : Public
+  pub spelled : Spells public_format bytes public
+
+-- a public record is spelled that has a spelling with the codes and entries of an order of layer k too
+pub record CanTake (k : ℕ) (does : Act) (entries : List Entry) (bytes : List ℕ) : Type 0 where
+  pub public : Public
+  pub spelled : Spells public_format bytes public
+  pub allowed : public_format.Allowed (with_order k does entries public)
+
+-- The memory is ready with this state, in which the order passes. The root commits the order, with the public record in
+-- the flash area that is not in force, and the bytes spell that record.
+pub record IsCommit
+    (memory : Memory) (root : Root) (bytes : List ℕ) (state : State) (order : Order) (draw : List ℕ) : Type 0 where
+  pub ready : IsReady memory state
+  pub allowed : order_format.Allowed order
+  pub passes : Passes state order
+  pub area : ℕ
+  pub holds : Holds memory (at_rest state area)
+  pub root_is : root ≡ root_for state order draw (1 - area)
+  pub spelled : Spells
+      public_format
+      bytes
+      (public_of_parts (obeyed state order draw).codes state.log (new_entries state order draw))
+
+-- so it is of some order
+pub record HasCommit (memory : Memory) (root : Root) (bytes : List ℕ) : Type 0 where
+  pub state : State
+  pub order : Order
+  pub draw : List ℕ
+  pub commit : IsCommit memory root bytes state order draw

@@ -1,0 +1,57 @@
+//! Orders committed.
+
+ghost use Rattle.std.specs.Prelude.{◌≡◌, ℕ, ◌≤◌, ◌+◌, ◌⊎◌, List, OnOk, true};
+ghost use Rattle.mb_model.specs.declared.order.Order.{Order};
+ghost use Rattle.mb_model.specs.declared.state.State.{State};
+ghost use Rattle.mb_model.specs.Board.{IsLoaded};
+ghost use Rattle.mb_model.specs.OrderStep.{obeyed};
+ghost use Rattle.mb_board.specs.Calls.{power_of, level_of, IsMetered};
+ghost use Rattle.mb_layout.specs.Rooms.{HasRoom};
+ghost use Rattle.mb_model_memory.specs.Holding.{Means, IsReady};
+ghost use Rattle.mb_device_orders.specs.Planning.{IsCommit, HasCommit};
+
+use mb_area::{commit_root, write_public};
+use mb_board::Board;
+use mb_boot::finish_order;
+use mb_layout::Room;
+use mb_lms::HashCount;
+use mb_model::Root;
+use mb_ratchet::{Off, R1, Up};
+use std::sync::ledger::Ledger;
+
+/// Commits an order whose root this is and whose public record stands in the room, and does all that it leaves to be
+/// done: the record is written into the flash area that is not in force, the root is put in force, and then the order
+/// counts. Where power fails, the memory stands for the state before the order or for the state after it. There are at
+/// most 471 write calls, and 70,946 hashes. No memory is taken.
+#[tactic(auto, using(crate::proofs::Committed::root_there))]
+pub fn commit<B: Board, L: Ledger>(
+    up: Up<R1>,
+    b: &mut B,
+    root: &Root,
+    room: &mut Room,
+    hashes: &mut HashCount<L>,
+) -> Result<Up<R1>, Off>
+    requires on { B.power b.old ≡ true }
+    requires level { B.level b.old ≡ 1 }
+    requires loaded { IsLoaded (B.memory b.old) }
+    requires commit { HasCommit (B.memory b.old) root.now room.old.public.items }
+    requires room { HasRoom room.old }
+    ensures done { (state : State) (order : Order) (draw : List ℕ)
+        → IsCommit (B.memory b.old) root.now room.old.public.items state order draw
+        → OnOk result (IsReady (B.memory b.new) (obeyed state order draw)) }
+    ensures counts { (state : State) (order : Order) (draw : List ℕ)
+        → IsCommit (B.memory b.old) root.now room.old.public.items state order draw
+        → Means (B.memory b.new) state ⊎ Means (B.memory b.new) (obeyed state order draw) }
+    ensures sized { IsLoaded (B.memory b.new) }
+    ensures power { B.power b.new ≡ power_of result }
+    ensures level { B.level b.new ≡ level_of result (B.level b.old) }
+    ensures ledger { B.ledger b.new ≡ B.ledger b.old }
+    ensures meter { IsMetered 471 result (B.meter b.old) (B.meter b.new) }
+    ensures room { HasRoom room.new }
+    ensures cost { hashes.new ≤ hashes.old + 70946 }
+{
+    let up = write_public(up, b, room)?;
+    let unsettled = commit_root(up, b, root, room)?;
+    let up = finish_order(unsettled, b, room, hashes)?;
+    Ok(up)
+}

@@ -1,0 +1,74 @@
+//! Orders answered.
+
+ghost use Rattle.std.specs.Prelude.{◌≡◌, ◌≤◌, ◌+◌, true};
+ghost use Rattle.mb_format.specs.Format.{IsBytes};
+ghost use Rattle.mb_model.specs.declared.state.State.{State};
+ghost use Rattle.mb_model.specs.Board.{IsLoaded};
+ghost use Rattle.mb_board.specs.Calls.{power_of, level_of, IsMetered};
+ghost use Rattle.mb_layout.specs.Rooms.{HasRoom};
+ghost use Rattle.mb_model_memory.specs.Holding.{IsReady};
+ghost use Rattle.mb_model_memory.specs.Answering.{TellsOfWrites};
+ghost use Rattle.mb_device_orders.specs.Remembering.{Knows, IsRemembered};
+ghost use Rattle.mb_device_orders.specs.Obeying.{Obeys};
+
+use crate::committing::commit;
+use crate::judging::judge_text;
+use crate::planning::plan_commit;
+use crate::remembering::Known;
+use mb_board::Board;
+use mb_layout::Room;
+use mb_lms::HashCount;
+use mb_model::{NoMemory, Reply};
+use mb_ratchet::{Off, R1, Up};
+use std::alloc::Global;
+use std::sync::ledger::Ledger;
+
+/// Answers an order, which these bytes spell or do not spell: refuses it, or obeys it, with a draw of which the keys
+/// are made that it makes. A device that has answered is ready, and remembers its state. Where power fails, the memory
+/// stands for the state before the order or for the state after it. Nothing is written of an order that is refused, and
+/// nothing where an allocation fails, which is answered so. There are at most 471 write calls, and 139,744 hashes.
+/// `NoMemory` where an allocation fails, of which no clause says when.
+#[tactic(auto, using(crate::proofs::Answered::has_passed))]
+pub fn obey<B: Board, L: Ledger>(
+    alloc: Global,
+    up: Up<R1>,
+    b: &mut B,
+    known: &mut Known,
+    text: &[u8],
+    draw: &[u8; 32],
+    room: &mut Room,
+    hashes: &mut HashCount<L>,
+) -> Result<(Up<R1>, Reply), Off>
+    requires on { B.power b.old ≡ true }
+    requires level { B.level b.old ≡ 1 }
+    requires loaded { IsLoaded (B.memory b.old) }
+    requires bytes { IsBytes (B.memory b.old).bbram }
+    requires remembered { IsRemembered known.old (B.memory b.old) }
+    requires room { HasRoom room.old }
+    ensures told { (state : State) → IsReady (B.memory b.old) state → Knows known.old state
+        → Obeys state text.now draw.now known.new (B.memory b.old) (B.memory b.new) result }
+    ensures writes { TellsOfWrites result (B.memory b.old) (B.memory b.new) (B.meter b.old) (B.meter b.new) }
+    ensures sized { IsLoaded (B.memory b.new) }
+    ensures power { B.power b.new ≡ power_of result }
+    ensures level { B.level b.new ≡ level_of result (B.level b.old) }
+    ensures ledger { B.ledger b.new ≡ B.ledger b.old }
+    ensures meter { IsMetered 471 result (B.meter b.old) (B.meter b.new) }
+    ensures room { HasRoom room.new }
+    ensures cost { hashes.new ≤ hashes.old + 139744 }
+{
+    let judged = match judge_text(alloc, &up, b, known, text, draw, room, hashes) {
+        Ok(judged) => judged,
+        Err(reply) => return Ok((up, reply)),
+    };
+    let planned = match plan_commit(alloc, b, known, judged, room) {
+        Ok(planned) => planned,
+        Err(NoMemory) => return Ok((up, Reply::NoMemory)),
+    };
+    let up = commit(up, b, &planned.root, room, hashes)?;
+    *known = planned.known;
+    let reply = Reply::Done {
+        number: known.figures.number,
+        length: known.figures.length,
+    };
+    Ok((up, reply))
+}

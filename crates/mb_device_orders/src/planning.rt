@@ -1,0 +1,204 @@
+//! What will be written of an order.
+
+ghost use Rattle.std.specs.Prelude.{◌≡◌, ℕ, ◌≤◌, ◌+◌, ◌-◌, ◌++◌, List, length, map, IfOk, OnOk, true};
+ghost use Rattle.mb_format.specs.Format.{IsBytes, Spells};
+ghost use Rattle.mb_model.specs.declared.entry.Entry.{Entry};
+ghost use Rattle.mb_model.specs.declared.order.Order.{Order};
+ghost use Rattle.mb_model.specs.declared.state.State.{State};
+ghost use Rattle.mb_model.specs.declared.stored.Public.{Public};
+ghost use Rattle.mb_model.specs.Board.{IsLoaded};
+ghost use Rattle.mb_model.specs.Clean.{root_of};
+ghost use Rattle.mb_model.specs.Flash.{public_format, without_signature};
+ghost use Rattle.mb_model.specs.OrderStep.{code_after, codes_after, obeyed};
+ghost use Rattle.mb_log.specs.Figures.{figures_of};
+ghost use Rattle.mb_orders.specs.Judging.{plan_of};
+ghost use Rattle.mb_layout.specs.Rooms.{HasRoom};
+ghost use Rattle.mb_model_memory.specs.Commits.{root_for};
+ghost use Rattle.mb_model_memory.specs.Holding.{IsReady};
+ghost use Rattle.mb_device_orders.specs.Remembering.{Knows};
+ghost use Rattle.mb_device_orders.specs.Planning.{with_order, SpellsRecord, CanTake, IsPassed, HasPassed, IsCommit};
+
+use crate::judging::Judged;
+use crate::remembering::Known;
+use mb_area::read_public;
+use mb_board::Board;
+use mb_layout::{LayoutEnd, Public, Room, public_of_bytes, write_public_record};
+use mb_model::{
+    Act, Bytes, Codes, Entry, NoMemory, Order, Pending, PublicEntries, PublicEntry, Root,
+};
+use mb_orders::Plan;
+use std::alloc::Global;
+
+/// The commit of an order, whose public record stands in the room.
+#[derive(Drop)]
+pub struct Planned {
+    /// The root that commits the order.
+    pub root: Root,
+    /// What the device remembers once the order is done.
+    pub known: Known,
+}
+
+/// The code that an order leaves of its layer, which is moved out of the order and not copied.
+fn code_after(old: Option<Bytes>, act: Act) -> Option<Bytes>
+    ensures { result ≡ code_after old act }
+{
+    match act {
+        Act::Establish { .. } | Act::Surrender => None,
+        Act::Load(payload) | Act::Emergency(payload) => Some(payload.code),
+        Act::NewKey { .. } => old,
+    }
+}
+
+/// The codes that an order of the layer leaves.
+fn codes_after(codes: Codes, layer: u8, act: Act) -> Codes
+    ensures { result ≡ codes_after codes layer act }
+{
+    let Codes { one, two, three } = codes;
+    match layer {
+        1 => Codes {
+            one: code_after(one, act),
+            two,
+            three,
+        },
+        2 => Codes {
+            one,
+            two: code_after(two, act),
+            three,
+        },
+        3 => Codes {
+            one,
+            two,
+            three: code_after(three, act),
+        },
+        _ => Codes { one, two, three },
+    }
+}
+
+/// The stored entries with more of them, which are not signed yet.
+fn with_entries(stored: PublicEntries, entries: &[Entry]) -> Result<PublicEntries, NoMemory>
+    ensures { IfOk result (λ all. all ≡ stored ++ map without_signature entries.now) }
+{
+    let mut all = stored;
+    for entry in entries {
+        all.push(PublicEntry {
+            entry: *entry,
+            signature: None,
+        })?;
+    }
+    Ok(all)
+}
+
+/// The public record that the bytes spell, and they spell one.
+fn stored_record(alloc: Global, bytes: &[u8]) -> Result<Public, NoMemory>
+    requires short { length bytes.now ≤ 4194304 }
+    requires some { SpellsRecord bytes.now }
+    ensures { (public : Public) → Spells public_format bytes.now public → IfOk result (λ it. it ≡ public) }
+{
+    match public_of_bytes(alloc, bytes) {
+        Ok(public) => Ok(public),
+        Err(LayoutEnd::NoMemory) => Err(NoMemory),
+        Err(LayoutEnd::Bad(_)) => unreachable!(),
+    }
+}
+
+/// The public record with the codes that the order leaves and with the entries that it appends.
+fn with_order(public: Public, order: Order, entries: &[Entry]) -> Result<Public, NoMemory>
+    ensures { IfOk result (λ it. it ≡ with_order order.layer order.act entries.now public) }
+{
+    Ok(Public {
+        codes: codes_after(public.codes, order.layer, order.act),
+        entries: with_entries(public.entries, entries)?,
+    })
+}
+
+/// Replaces `public` of the room by the record with the order's codes and entries. The memory for the decoded record is
+/// given back.
+fn next_record(
+    alloc: Global,
+    order: Order,
+    entries: &[Entry],
+    room: &mut Room,
+) -> Result<(), NoMemory>
+    requires short { length room.old.public.items ≤ 4194304 }
+    requires takes { CanTake order.layer order.act entries.now room.old.public.items }
+    requires room { HasRoom room.old }
+    ensures spelled { (public : Public) → Spells public_format room.old.public.items public
+        → OnOk result (Spells public_format room.new.public.items (with_order order.layer order.act entries.now public)) }
+    ensures room { HasRoom room.new }
+{
+    let stored = stored_record(alloc, &room.public)?;
+    let next = with_order(stored, order, entries)?;
+    room.public.clear();
+    let _ = write_public_record(&next, &mut room.public);
+    Ok(())
+}
+
+/// The root that commits the plan, with the public record in the flash area that is not in force.
+fn next_root(root: &Root, plan: &Plan) -> Root
+    requires area { root.now.area ≤ 1 }
+    requires few { length plan.now.bodies.entries ≤ 2 }
+    ensures { (state : State) (order : Order) (draw : List ℕ) → root.now ≡ root_of state root.now.area
+        → plan.now ≡ plan_of state order draw → result ≡ root_for state order draw (1 - root.now.area) }
+{
+    let pending = Pending {
+        unsigned: plan.bodies.entries.as_slice().len() as u8,
+        outgoing: plan.bodies.outgoing,
+        two: plan.two,
+        three: plan.three,
+    };
+    Root {
+        area: 1 - root.area,
+        serial: root.serial,
+        device: plan.bodies.device,
+        uses: plan.bodies.uses,
+        pending: Some(pending),
+    }
+}
+
+/// What the device remembers once these entries are appended.
+fn knows_more(known: &Known, entries: &[Entry]) -> Known
+    ensures serial { result.serial ≡ known.now.serial }
+    ensures figures { (log : List Entry) → length log + length entries.now ≤ 1000 → known.now.figures ≡ figures_of log
+        → result.figures ≡ figures_of (log ++ entries.now) }
+{
+    let mut figures = known.figures;
+    for entry in entries {
+        figures.add(entry);
+    }
+    Known {
+        serial: known.serial,
+        figures,
+    }
+}
+
+/// The commit of the order, with its public record in `public` of the room. All memory is taken that the order needs,
+/// and nothing is written. `NoMemory` where an allocation fails, of which no clause says when.
+pub fn plan_commit<B: Board>(
+    alloc: Global,
+    b: &B,
+    known: &Known,
+    judged: Judged,
+    room: &mut Room,
+) -> Result<Planned, NoMemory>
+    requires on { B.power b.now ≡ true }
+    requires loaded { IsLoaded (B.memory b.now) }
+    requires bytes { IsBytes (B.memory b.now).bbram }
+    requires passed { HasPassed (B.memory b.now) judged }
+    requires room { HasRoom room.old }
+    ensures commit { (state : State) (text : List ℕ) (draw : List ℕ) → IsReady (B.memory b.now) state
+        → IsPassed state text draw judged
+        → IfOk result (λ planned. IsCommit (B.memory b.now) planned.root room.new.public.items state judged.order draw) }
+    ensures knows { (state : State) (text : List ℕ) (draw : List ℕ) → IsReady (B.memory b.now) state
+        → Knows known.now state → IsPassed state text draw judged
+        → IfOk result (λ planned. Knows planned.known (obeyed state judged.order draw)) }
+    ensures room { HasRoom room.new }
+{
+    let Judged { order, plan, root } = judged;
+    read_public(b, root.area, room);
+    let entries = plan.bodies.entries.as_slice();
+    next_record(alloc, order, entries, room)?;
+    Ok(Planned {
+        root: next_root(&root, &plan),
+        known: knows_more(known, entries),
+    })
+}

@@ -1,0 +1,63 @@
+//! What a device remembers.
+
+ghost use Rattle.std.specs.Prelude.{◌≡◌, ◌≤◌, [], List, length, true};
+ghost use Rattle.mb_format.specs.Format.{Spells};
+ghost use Rattle.mb_model.specs.declared.entry.SignedEntry.{SignedEntry};
+ghost use Rattle.mb_model.specs.declared.state.Codes.{Codes};
+ghost use Rattle.mb_model.specs.declared.state.State.{State};
+ghost use Rattle.mb_model.specs.Board.{IsLoaded};
+ghost use Rattle.mb_model.specs.Flash.{public_format, public_of_parts};
+ghost use Rattle.mb_model.specs.Log.{entries_of};
+ghost use Rattle.mb_log.specs.Figures.{figures_of};
+ghost use Rattle.mb_layout.specs.Rooms.{HasRoom};
+ghost use Rattle.mb_model_memory.specs.Holding.{IsReady, HasReady};
+ghost use Rattle.mb_device_orders.specs.Remembering.{Knows};
+
+use mb_area::{read_public, read_root};
+use mb_board::Board;
+use mb_layout::{Room, StoredEntries};
+use mb_log::Figures;
+use mb_ratchet::{R1, Up};
+
+/// What a device remembers of its state while power is on.
+#[derive(Clone, Copy)]
+pub struct Known {
+    /// The device's serial.
+    pub serial: [u8; 16],
+    /// What the entries of its log say together.
+    pub figures: Figures,
+}
+
+/// The figures of the log in a public record whose every entry is signed. Nothing is said where the bytes spell none.
+fn figures_in(bytes: &[u8]) -> Figures
+    requires { length bytes.now ≤ 4194304 }
+    ensures { (codes : Codes) (log : List SignedEntry) → Spells public_format bytes.now (public_of_parts codes log [])
+        → result ≡ figures_of (entries_of log) }
+{
+    let mut stored = StoredEntries::of(bytes);
+    let mut figures = Figures::none();
+    for _i in 0..stored.left() {
+        if let Some(entry) = stored.next() {
+            figures.add(&entry);
+        }
+    }
+    figures
+}
+
+/// What the memory of a device that is ready tells of its state. Nothing is written, and no memory is taken.
+#[tactic(auto, using(crate::proofs::Remembered::ready_root, crate::proofs::Remembered::some_begins))]
+pub fn remember<B: Board>(_up: &Up<R1>, b: &B, room: &mut Room) -> Known
+    requires on { B.power b.now ≡ true }
+    requires level { B.level b.now ≡ 1 }
+    requires loaded { IsLoaded (B.memory b.now) }
+    requires ready { HasReady (B.memory b.now) }
+    requires room { HasRoom room.old }
+    ensures knows { (state : State) → IsReady (B.memory b.now) state → Knows result state }
+    ensures room { HasRoom room.new }
+{
+    let root = read_root(b, room);
+    read_public(b, root.area, room);
+    let serial = root.serial;
+    let figures = figures_in(&room.public);
+    Known { serial, figures }
+}

@@ -1,0 +1,23 @@
+-- What is prepared for a statement, and its bytes. Does signing find the memory that it needs?
+use Rattle.std.specs.Prelude.{◌≡◌, ℕ, ◌≤◌, List, []}
+use Rattle.std.specs.Vec.{vec_len, vec_capacity}
+use Rattle.mb_model.specs.declared.key.KeySeed.{KeySeed}
+use Rattle.mb_model.specs.ChainFormat.{statement_format}
+use Rattle.mb_model.specs.Signing.{signature_of}
+use Rattle.mb_model.specs.SignedTexts.{statement_text}
+use Rattle.mb_device_regions.specs.declared.signing.Prepared.{Prepared}
+
+-- the message is copied, and there is room for the longest statement
+pub record IsPrepared (message : List ℕ) (prepared : Prepared) : Type 0 where
+  pub copied : prepared.message ≡ message
+  pub empty : prepared.bytes.items ≡ []
+  pub none : vec_len prepared.bytes ≡ 0
+  pub room : 2481 ≤ vec_capacity prepared.bytes
+
+-- the bytes of the statement that this key signs at the index, in the device with this serial
+abbrev pub stated : KeySeed → ℕ → ℕ → List ℕ → ℕ → List ℕ → List ℕ
+stated seed index key serial number message = statement_format.spelling (record {
+  number = number;
+  message = message;
+  signature = signature_of seed index (statement_text serial key number message);
+})

@@ -1,0 +1,154 @@
+//! Messages that a layer has signed.
+
+ghost use Rattle.std.specs.Prelude.{◌≡◌, ◌+◌, ◌≤◌, ◌<◌, length, IfOk, true};
+ghost use Rattle.mb_format.specs.Format.{IsBytes};
+ghost use Rattle.mb_model.specs.declared.state.State.{State};
+ghost use Rattle.mb_model.specs.Board.{IsLoaded};
+ghost use Rattle.mb_model.specs.Layers.{Runnable};
+ghost use Rattle.mb_model.specs.LayerEvents.{sign_event};
+ghost use Rattle.mb_model.specs.Log.{entries_of, number_of};
+ghost use Rattle.mb_model.specs.Script.{FitsMessage};
+ghost use Rattle.mb_board.specs.Calls.{power_of, level_of, IsMetered};
+ghost use Rattle.mb_layout.specs.Rooms.{HasRoom};
+ghost use Rattle.mb_model_memory.specs.Holding.{IsReady, HasReady};
+ghost use Rattle.mb_model_memory.specs.Answering.{ComesTo, TellsOfWrites};
+ghost use Rattle.mb_device_regions.specs.Statements.{IsPrepared, stated};
+
+use mb_board::Board;
+use mb_cert::{Statement, write_statement};
+use mb_layout::Room;
+use mb_lms::HashCount;
+use mb_model::{Bytes, KeySeed, NoMemory, Reply};
+use mb_outbound::{BindEnd, bind, state_text};
+use mb_ratchet::{Off, Reaches};
+use mb_region::Named;
+use mb_signer::OneUse;
+use std::alloc::Global;
+use std::sync::ledger::Ledger;
+
+/// The number of the refusal where a region has no such key.
+const NO_SUCH_KEY: u8 = 6;
+
+/// The number of the refusal where the indices of a key are used.
+const KEY_SPENT: u8 = 7;
+
+/// The most bytes of a statement.
+const STATEMENT_LENGTH: usize = 2481;
+
+/// The memory that a statement takes.
+#[derive(Drop)]
+struct Prepared {
+    /// The message.
+    message: Bytes,
+    /// Room for the statement, 2,481 bytes.
+    bytes: Vec<u8>,
+}
+
+/// Takes all memory for a statement of the message.
+fn prepare(alloc: Global, message: &Bytes) -> Result<Prepared, NoMemory>
+    ensures { IfOk result (λ prepared. IsPrepared message.now prepared) }
+{
+    let bytes = Vec::with_capacity(alloc, STATEMENT_LENGTH)?;
+    Ok(Prepared {
+        message: Bytes::copy(alloc, message.as_slice())?,
+        bytes,
+    })
+}
+
+/// The bytes of the statement that the key with this number signs. The right is spent, and no memory is taken.
+fn state<Lg: Ledger>(
+    right: OneUse,
+    seed: &KeySeed,
+    key: u32,
+    serial: &[u8; 16],
+    number: u32,
+    prepared: Prepared,
+    hashes: &mut HashCount<Lg>,
+) -> Bytes
+    requires short { length prepared.message ≤ 128 }
+    requires prepared { IsPrepared prepared.message prepared }
+    ensures statement { result ≡ stated seed.now right key serial.now number prepared.message }
+    ensures cost { hashes.new ≤ hashes.old + 35473 }
+{
+    let mut signature = [0; 2348];
+    let Prepared { message, mut bytes } = prepared;
+    state_text(
+        right,
+        seed,
+        serial,
+        key,
+        number,
+        message.as_slice(),
+        &mut signature,
+        hashes,
+    );
+    let statement = Statement {
+        number,
+        message,
+        signature,
+    };
+    match write_statement(&statement, &mut bytes) {
+        Ok(()) => Bytes::from_vec(bytes),
+        Err(NoMemory) => unreachable!(),
+    }
+}
+
+/// Answers a request to sign: the statement of the message by the key with this number at its next index, or a refusal
+/// where the region has no such key or none of its indices is left. The layer may run, and serial and number are those
+/// of the device. One more use of the key is stored before it signs, so no index signs twice; where power fails, the
+/// use is stored or not. There are at most three write calls, and 35,473 hashes. `NoMemory` where an allocation fails,
+/// of which no clause says when.
+pub fn sign_message<S: Reaches<L>, L: Named, B: Board, Lg: Ledger>(
+    alloc: Global,
+    s: S,
+    b: &mut B,
+    key: u32,
+    message: &Bytes,
+    serial: &[u8; 16],
+    number: u32,
+    room: &mut Room,
+    hashes: &mut HashCount<Lg>,
+) -> Result<(S, Reply), Off>
+    requires on { B.power b.old ≡ true }
+    requires level { B.level b.old ≡ S.stage }
+    requires loaded { IsLoaded (B.memory b.old) }
+    requires bytes { IsBytes (B.memory b.old).bbram }
+    requires ready { HasReady (B.memory b.old) }
+    requires message { FitsMessage message.now }
+    requires room { HasRoom room.old }
+    ensures told { (state : State) → IsReady (B.memory b.old) state → Runnable state.layers L.place
+        → serial.now ≡ state.serial → number ≡ number_of (entries_of state.log)
+        → ComesTo state (sign_event L.place key message.now state) (B.memory b.old) (B.memory b.new) result }
+    ensures writes { TellsOfWrites result (B.memory b.old) (B.memory b.new) (B.meter b.old) (B.meter b.new) }
+    ensures sized { IsLoaded (B.memory b.new) }
+    ensures flash { (B.memory b.new).flash ≡ (B.memory b.old).flash }
+    ensures power { B.power b.new ≡ power_of result }
+    ensures level { B.level b.new ≡ level_of result (B.level b.old) }
+    ensures ledger { B.ledger b.new ≡ B.ledger b.old }
+    ensures meter { IsMetered 3 result (B.meter b.old) (B.meter b.new) }
+    ensures room { HasRoom room.new }
+    ensures public { room.new.public ≡ room.old.public }
+    ensures cost { hashes.new ≤ hashes.old + 35473 }
+{
+    let prepared = match prepare(alloc, message) {
+        Ok(prepared) => prepared,
+        Err(NoMemory) => return Ok((s, Reply::NoMemory)),
+    };
+    match bind::<S, L, B>(s, b, key, room) {
+        Ok((s, right, seed)) => {
+            let index = right.index();
+            let statement = state(right, &seed, key, serial, number, prepared, hashes);
+            Ok((
+                s,
+                Reply::Signed {
+                    key,
+                    index,
+                    statement,
+                },
+            ))
+        }
+        Err(BindEnd::NoKey(s)) => Ok((s, Reply::Refused(NO_SUCH_KEY))),
+        Err(BindEnd::Spent(s)) => Ok((s, Reply::Refused(KEY_SPENT))),
+        Err(BindEnd::Stopped(off)) => Err(off),
+    }
+}

@@ -1,5 +1,0 @@
-use Rattle.mb_examples.proofs.FormatExampleProofs as examples
-use Rattle.mb_examples.proofs.formats.failing_examples.Goals as goal
-
-pub returns : goal.returns
-returns c = examples.failings

@@ -1,5 +1,0 @@
-use Rattle.mb_examples.proofs.OrderProofs as examples
-use Rattle.mb_examples.proofs.orders.refused_orders.Goals as goal
-
-pub returns : goal.returns
-returns c = record { first = examples.refusals; later = examples.later }

@@ -1,5 +1,0 @@
-use Rattle.mb_examples.proofs.SignedOrderProofs as examples
-use Rattle.mb_examples.proofs.orders.verified_orders.Goals as goal
-
-pub returns : goal.returns
-returns c = examples.verified

@@ -1,5 +1,0 @@
-use Rattle.mb_examples.proofs.RecordProofs as examples
-use Rattle.mb_examples.proofs.records.failing_records.Goals as goal
-
-pub returns : goal.returns
-returns c = examples.failings

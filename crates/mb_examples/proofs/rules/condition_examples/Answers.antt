@@ -1,5 +1,0 @@
-use Rattle.mb_examples.proofs.RuleExampleProofs as lemmas
-use Rattle.mb_examples.proofs.rules.condition_examples.Goals as goal
-
-pub returns : goal.returns
-returns c = lemmas.conditions

@@ -1,5 +1,0 @@
-use Rattle.mb_lemmas.proofs.RuleLemmas as lemmas
-use Rattle.mb_laws.proofs.laws.orders_and_entries_agree.Goals as goal
-
-pub returns : goal.returns
-returns c = record { order = lemmas.placed_can; entry = lemmas.can_is_placed }

@@ -1,5 +1,0 @@
-use Rattle.mb_lemmas.proofs.RegionLemmas as lemmas
-use Rattle.mb_laws.proofs.laws.unreliable_regions_are_empty.Goals as goal
-
-pub returns : goal.returns
-returns c = lemmas.unreliable_is_empty

@@ -1,5 +1,0 @@
-use Rattle.mb_lemmas.proofs.MeaningLemmas as lemmas
-use Rattle.mb_laws.proofs.meaning.one_meaning.Goals as goal
-
-pub returns : goal.returns
-returns c = record { contents = lemmas.one_contents; state = lemmas.one_meaning }

@@ -1,9 +1,0 @@
-use Rattle.mb_lemmas.proofs.ReaderLemmas as lemmas
-use Rattle.mb_laws.proofs.reader.a_key_lives_on.Goals as goal
-
-pub returns : goal.returns
-returns c = record {
-  key = lemmas.stays_made;
-  alive = lemmas.stays_alive;
-  lives = lemmas.lives_on;
-}

@@ -1,5 +1,0 @@
-use Rattle.mb_lemmas.proofs.RefusalLemmas as lemmas
-use Rattle.mb_laws.proofs.refusals.the_machine_is_a_function.Goals as goal
-
-pub returns : goal.returns
-returns c = record { one = lemmas.machine_is_function; some = lemmas.machine_answers; phase = lemmas.phases_stay_phases }

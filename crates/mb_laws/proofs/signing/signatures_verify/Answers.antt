@@ -1,5 +1,0 @@
-use Rattle.mb_lemmas.proofs.SignatureLemmas as lemmas
-use Rattle.mb_laws.proofs.signing.signatures_verify.Goals as goal
-
-pub returns : goal.returns
-returns c = lemmas.signature_verifies

@@ -1,5 +1,0 @@
-use Rattle.mb_lemmas.proofs.OwnEntries as lemmas
-use Rattle.mb_laws.proofs.steps.orders_append_their_entry.Goals as goal
-
-pub returns : goal.returns
-returns c = lemmas.appends_own

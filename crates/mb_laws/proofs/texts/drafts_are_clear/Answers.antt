@@ -1,5 +1,0 @@
-use Rattle.mb_laws.proofs.ClearTexts as proof
-use Rattle.mb_laws.proofs.texts.drafts_are_clear.Goals as goal
-
-pub returns : goal.returns
-returns c = proof.drafts

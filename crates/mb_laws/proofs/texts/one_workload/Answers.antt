@@ -1,5 +1,0 @@
-use Rattle.mb_laws.proofs.WorkloadLemmas as lemmas
-use Rattle.mb_laws.proofs.texts.one_workload.Goals as goal
-
-pub returns : goal.returns
-returns c = lemmas.one_workload

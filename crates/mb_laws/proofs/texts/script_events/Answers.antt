@@ -1,7 +1,0 @@
-use Rattle.mb_lemmas.proofs.DrawLemmas as draws
-use Rattle.mb_lemmas.proofs.ScriptLemmas.{IsScript-events}
-use Rattle.mb_laws.proofs.SaidLemmas as lemmas
-use Rattle.mb_laws.proofs.texts.script_events.Goals as goal
-
-pub returns : goal.returns
-returns c = record { given = IsScript-events; said = lemmas.said; drawn = draws.drawn-script }

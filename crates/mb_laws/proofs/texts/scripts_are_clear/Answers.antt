@@ -1,5 +1,0 @@
-use Rattle.mb_laws.proofs.ClearTexts as proof
-use Rattle.mb_laws.proofs.texts.scripts_are_clear.Goals as goal
-
-pub returns : goal.returns
-returns c = proof.scripts

@@ -1,5 +1,0 @@
-use Rattle.mb_lemmas.proofs.LineLemmas as lemmas
-use Rattle.mb_laws.proofs.texts.texts_have_lines.Goals as goal
-
-pub returns : goal.returns
-returns c = record { some = lemmas.HasLines-always; one = lemmas.HasLines-same }

@@ -1,5 +1,0 @@
-use Rattle.mb_laws.proofs.TrustLemmas as lemmas
-use Rattle.mb_laws.proofs.trusts.versions_only_rise.Goals as goal
-
-pub returns : goal.returns
-returns c = lemmas.versions_rise

@@ -1,9 +1,0 @@
-use Rattle.mb_layer_events.proofs.Names.{dropped_there, absent_there}
-use Rattle.mb_layer_events.proofs.named.drop_in.Goals as goal
-
-pub returns-in-Some : goal.returns-in-Some
-returns-in-Some c =
-    dropped_there c.args.region.now c.args.name.now c.as_slice.result.now _ c.in-Some.at c.remove-old.result c.requires c.as_slice.ensures c.in-Some.ensures c.remove-old.ensures.new
-
-pub returns-in-None : goal.returns-in-None
-returns-in-None c = absent_there c.args.region.now c.args.name.now c.as_slice.result.now c.as_slice.ensures c.in-None.ensures

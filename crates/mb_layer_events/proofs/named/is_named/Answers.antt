@@ -1,5 +1,0 @@
-use Rattle.mb_layer_events.proofs.Names.{named_is}
-use Rattle.mb_layer_events.proofs.named.is_named.Goals as goal
-
-pub returns : goal.returns
-returns c = named_is c.as_slice.result.now c.args.secret.now.name c.args.name.now c.eq.ensures c.as_slice.ensures

@@ -1,8 +1,0 @@
-//! Lemmas on the definitions of the machine, for the proofs of every crate above.
-//!
-//! This crate owns no type and no function. Its specs/ have the statements that lemmas and laws share, and its proofs/ the
-//! lemmas, a file for each subject: logs, lives and regions, states and their steps, memories, lines and words, signatures.
-//! The laws that are read to believe the definitions stand on functions of `mb_laws`, `mb_storing` and `mb_run_laws`, and
-//! are had from these. It stands on `mb_model`, whose definitions it speaks of, on `mb_format`, and on the kit's crates
-//! whose functions these use.
-#![tactic(auto)]

@@ -1,0 +1,39 @@
+-- The examples of formats, computed.
+use Rattle.std.proofs.Common.{◌≡◌, ℕ, List, [], ◌∷◌, ◌++◌, Err, refl, rules, true, ltb}
+use Rattle.std.specs.List.{AllByRecursion}
+use Rattle.mb_format.specs.Format.{Format, FailsWhole}
+use Rattle.mb_format.specs.Combinators.{number_bytes, items}
+use Rattle.mb_format.specs.Reading.{IsExact, reads_whole, raw_at, number_at}
+use Rattle.mb_format.proofs.Examples.{are_bytes}
+use Rattle.mb_format.proofs.Whole.{IsExactWhole-from_exact}
+use Rattle.mb_model.specs.KeyFormat.{public_key_format}
+use Rattle.mb_model.specs.LayerFormat.{trust_format}
+use Rattle.mb_model.specs.EntryFormat.{key_kind_format}
+use Rattle.mb_model.specs.OrderFormat.{target_format, payload_format, body_format, sized_signature_format, countersignatures_format, order_format}
+use Rattle.mb_model.specs.ChainFormat.{chain_format}
+use Rattle.mb_model.specs.RegionFormat.{secrets_format, keys_format, region_format}
+use Rattle.mb_model.proofs.OrderFormatLaws.{order_exact}
+use Rattle.mb_model.proofs.EntryFormatLaws.{chain_exact}
+use Rattle.mb_model.proofs.RecordFormatLaws.{region_exact}
+use Rattle.mb_model_examples.specs.FormatExamples.{surrender_bytes, countersigned_first_by, SpellingExamples, FailingExamples}
+
+pub spellings : SpellingExamples
+unfolding public_key_format trust_format key_kind_format target_format payload_format body_format number_bytes items
+spellings = record { public_key = λ identifier root. refl; surrender = refl; new_key = refl; load = refl }
+
+-- bytes fail where reading them fails
+fails_at : {A : Type 0} {f : Format A} → IsExact f → (bytes : List ℕ) (place : ℕ) → AllByRecursion (λ b. ltb b 256 ≡ true) bytes → reads_whole f bytes ≡ Err place → FailsWhole f bytes place
+fails_at exact bytes place small e = (IsExactWhole-from_exact exact).fails bytes place (are_bytes bytes small) e
+
+pub failings : FailingExamples
+unfolding trust_format target_format payload_format body_format sized_signature_format countersignatures_format order_format chain_format secrets_format keys_format region_format number_at raw_at items
+failings = record {
+  countersigned_surrender = fails_at order_exact (surrender_bytes ++ 0 ∷ 0 ∷ 1 ∷ []) 10 (search rules depth 20) refl;
+  left_over = fails_at order_exact (surrender_bytes ++ 0 ∷ 0 ∷ 0 ∷ 9 ∷ []) 11 (search rules depth 20) refl;
+  three_first = fails_at order_exact (countersigned_first_by 3) 15 (search rules depth 20) refl;
+  two_first = fails_at order_exact (countersigned_first_by 2) 16 (search rules depth 20) refl;
+  surrender_one = fails_at order_exact (2 ∷ 1 ∷ 0 ∷ 0 ∷ 0 ∷ 0 ∷ []) 1 (search rules depth 20) refl;
+  empty_region = fails_at region_exact (1 ∷ 0 ∷ 0 ∷ []) 2 (search rules depth 20) refl;
+  other_word = fails_at chain_exact (0x4D ∷ 0x42 ∷ 0x4B ∷ 0x31 ∷ 0 ∷ 1 ∷ []) 0 (search rules depth 20) refl;
+  no_entries = fails_at chain_exact (0x4D ∷ 0x42 ∷ 0x43 ∷ 0x31 ∷ 0 ∷ 0 ∷ 0 ∷ []) 4 (search rules depth 20) refl;
+}

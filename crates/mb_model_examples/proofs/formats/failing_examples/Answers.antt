@@ -1,0 +1,5 @@
+use Rattle.mb_model_examples.proofs.FormatExampleProofs as examples
+use Rattle.mb_model_examples.proofs.formats.failing_examples.Goals as goal
+
+pub returns : goal.returns
+returns c = examples.failings

@@ -1,0 +1,75 @@
+-- Chains and statements for which the definitions do not hold; the checker refutes each line. Is anything accepted that
+-- no device made?
+use Rattle.std.specs.Prelude.{◌≡◌, ◌≢◌, ℕ, ◌<◌, ◌≤◌, List, [], ◌∷◌, length, drop, None, Some, true, false}
+use Rattle.mb_format.specs.Format.{IsBytes, Spells}
+use Rattle.mb_model.specs.declared.key.PublicKey.{PublicKey}
+use Rattle.mb_model.specs.declared.entry.Chain.{Chain}
+use Rattle.mb_model.specs.declared.entry.SignedEntry.{SignedEntry}
+use Rattle.mb_model.specs.declared.entry.Statement.{Statement}
+use Rattle.mb_model.specs.declared.state.Report.{Report}
+use Rattle.mb_model.specs.declared.state.State.{State}
+use Rattle.mb_model.specs.Merkle.{Verifies}
+use Rattle.mb_model.specs.Log.{entries_of, device_in, number_of}
+use Rattle.mb_model.specs.Attach.{cut_at}
+use Rattle.mb_model.specs.ChainFormat.{statement_format, chain_format}
+use Rattle.mb_model.specs.SignedTexts.{entry_text}
+use Rattle.mb_model.specs.Acceptance.{AreGood, key_of, Accepts, bad_signature, bad_order, key_unknown, key_ended}
+use Rattle.mb_model.specs.Acceptance.{accepting, refusing, IsVerdict, Honest}
+use Rattle.mb_model.specs.AuditCommand.{TellsOfDevice}
+use Rattle.mb_model.specs.Runs.{StaysAccepted}
+use Rattle.mb_model_examples.specs.RuleExamples.{life}
+use Rattle.mb_model_examples.specs.Device.{signed_with}
+
+-- a chain is not accepted, or not refused for this
+pub record ChainCounterExamples (maker : PublicKey) (n : ℕ) : Type 0 where
+  -- no bytes spell no chain: they are not accepted, and are not refused for want of the key
+  pub no_bytes : (report : Report) → Accepts maker [] n report → ⊥
+  pub no_bytes_for_key : IsVerdict maker [] n (refusing key_unknown) → ⊥
+  -- the entries of a log without its birth are not good
+  pub headless : (signature : List ℕ) → AreGood maker (signed_with signature (drop 1 life)) → ⊥
+  -- a statement of another configuration than the chain's last is not accepted
+  pub old_statement : (bytes : List ℕ) (chain : Chain) (statement : Statement) (report : Report)
+      → IsBytes bytes → Spells chain_format bytes chain → chain.statement ≡ Some statement
+      → statement.number ≢ number_of (entries_of chain.entries) → Accepts maker bytes n report → ⊥
+
+-- two verdicts that no bytes have both
+pub record VerdictCounterExamples (maker : PublicKey) (n : ℕ) (bytes : List ℕ) : Type 0 where
+  pub accepted_and_refused : (report : Report) → IsBytes bytes
+      → IsVerdict maker bytes n (accepting report) → IsVerdict maker bytes n (refusing key_ended) → ⊥
+  pub alive_and_ended : (report : Report) → IsBytes bytes → report.alive ≡ true
+      → IsVerdict maker bytes n (accepting report)
+      → IsVerdict maker bytes n (accepting (record report { alive = false })) → ⊥
+  pub two_entries : IsBytes bytes → IsVerdict maker bytes n (refusing (bad_signature 3))
+      → IsVerdict maker bytes n (refusing (bad_signature 4)) → ⊥
+  pub two_reasons : IsBytes bytes → IsVerdict maker bytes n (refusing (bad_signature 3))
+      → IsVerdict maker bytes n (refusing (bad_order 3)) → ⊥
+
+-- what is no statement, and what does not stay accepted
+pub record StatementCounterExamples (maker : PublicKey) (n : ℕ) : Type 0 where
+  -- a number of more than 32 bits has no spelling, though its last four bytes are those of another number
+  pub large_number : (bytes : List ℕ) (statement : Statement) → 4294967296 ≤ statement.number
+      → Spells statement_format bytes statement → ⊥
+  -- nor has a message of more than 128 bytes
+  pub long_message : (bytes : List ℕ) (statement : Statement) → length statement.message ≡ 300
+      → Spells statement_format bytes statement → ⊥
+  -- bytes that spell no statement, with any log
+  pub no_statement : (log : List SignedEntry) → StaysAccepted maker log n [] → ⊥
+  -- a statement of a key that no entry of the chain makes
+  pub unmade : (log : List SignedEntry) (bytes : List ℕ) (stays : StaysAccepted maker log n bytes) → IsBytes stays.chain
+      → key_of (entries_of (cut_at stays.statement.number log)) n ≡ None → ⊥
+  -- any bytes, where there is no log
+  pub no_log : (bytes : List ℕ) → StaysAccepted maker [] n bytes → ⊥
+
+-- a chain does not tell of a device
+pub record AuditCounterExamples (state : State) (n : ℕ) (chain : Chain) (report : Report) : Type 0 where
+  -- it has more entries than the device's log
+  pub longer : length state.log < length chain.entries → TellsOfDevice state n chain report → ⊥
+
+-- a chain has a forged entry
+pub record ForgedCounterExamples (maker : PublicKey) (birth forged : SignedEntry) : Type 0 where
+  -- a birth that the maker's key signed, and the device has no log
+  pub other_birth : Verifies maker (entry_text birth.entry) birth.signature → Honest (birth ∷ []) maker [] → ⊥
+  -- an entry that the device key of the birth signed, and the log has the birth alone
+  pub later_entry : (key : PublicKey) → device_in birth.entry ≡ Some key
+      → Verifies key (entry_text forged.entry) forged.signature → forged.entry ≢ birth.entry
+      → Honest (birth ∷ forged ∷ []) maker (birth.entry ∷ []) → ⊥

@@ -1,0 +1,96 @@
+-- Texts, draws and new devices for which the definitions do not hold; the checker refutes each line. Can a text be read
+-- as anything?
+use Rattle.std.specs.Prelude.{◌≡◌, ℕ, List, [], ◌∷◌, ◌++◌, length, codes}
+use Rattle.mb_model.specs.declared.entry.Statement.{Statement}
+use Rattle.mb_model.specs.declared.event.Event.{Event}
+use Rattle.mb_model.specs.declared.event.Event.TheVariants as event
+use Rattle.mb_model.specs.declared.event.Tear.{Tear}
+use Rattle.mb_model.specs.declared.order.Order.{Order}
+use Rattle.mb_model.specs.declared.order.Target.TheVariants as target
+use Rattle.mb_model.specs.declared.state.State.{State}
+use Rattle.mb_model.specs.declared.tools.Workload.{Workload}
+use Rattle.mb_model.specs.Memory.{IsImage, IsBlank, selector_of}
+use Rattle.mb_model.specs.Factory.{IsBornWith}
+use Rattle.mb_model.specs.Lines.{HasLines, Reads, TextFailsAtLine}
+use Rattle.mb_model.specs.Script.{IsScriptEvent, IsScript}
+use Rattle.mb_model.specs.Drafts.{SaysTarget, IsDraft}
+use Rattle.mb_model.specs.OrderLines.{IsOrderLine, IsStatementLine}
+use Rattle.mb_model.specs.Workload.{DrawnBytes, DrawnValue, IsWorkload}
+use Rattle.mb_model_lemmas.specs.SampleOrder.{surrender, surrender_line}
+
+-- ---- lines and scripts
+
+-- a text does not stand in these lines
+pub record LineCounterExamples : Type 0 where
+  -- after the last LF no line begins
+  pub one_more : HasLines (codes "a" ++ 10 ∷ []) (codes "a" ∷ [] ∷ []) → ⊥
+  -- a line has no LF
+  pub glued : HasLines (codes "a" ++ 10 ∷ codes "b") ((codes "a" ++ 10 ∷ codes "b") ∷ []) → ⊥
+
+abbrev pub boot_text : List ℕ
+boot_text = codes "boot" ++ 10 ∷ []
+
+-- a text does not stand for these events, and no script gives these
+pub record ScriptCounterExamples : Type 0 where
+  -- a line that says no event
+  pub jump : (events : List Event) → Reads IsScript (codes "boot" ++ 10 ∷ 10 ∷ codes "jump" ++ 10 ∷ []) events → ⊥
+  -- another event, none, and one more
+  pub other_event : Reads IsScript boot_text (event.Off ∷ []) → ⊥
+  pub left_out : Reads IsScript boot_text [] → ⊥
+  pub added : Reads IsScript boot_text (event.Boot ∷ event.Boot ∷ []) → ⊥
+  -- a line that is wrong in it
+  pub wrong_line : (n : ℕ) → TextFailsAtLine IsScript boot_text n → ⊥
+  -- a power loss in no write call, a region of layer 1, a number of more than 32 bits
+  pub no_call : (tear : Tear) → IsScriptEvent (event.Cut 0 tear) → ⊥
+  pub region_one : (name value : List ℕ) → IsScriptEvent (event.Put 1 name value) → ⊥
+  pub large_key : (message : List ℕ) → IsScriptEvent (event.Sign 3 4294967296 message) → ⊥
+
+-- ---- drafts, orders and statements
+
+abbrev pub surrender_lines : List (List ℕ)
+surrender_lines = codes "order surrender 2" ∷ codes "target length 7" ∷ []
+
+-- lines are not the draft of an order
+pub record DraftCounterExamples : Type 0 where
+  -- a load without its code
+  pub no_code : (order : Order)
+      → IsDraft (codes "order load 3" ∷ codes "version 258" ∷ codes "trust never" ∷ []) order → ⊥
+  -- a surrender of another layer, with other targets, or signed
+  pub other_layer : IsDraft surrender_lines (record surrender { layer = 3 }) → ⊥
+  pub other_targets : IsDraft surrender_lines (record surrender { targets = [] }) → ⊥
+  pub signed : IsDraft surrender_lines (record surrender { signature = 7 ∷ [] }) → ⊥
+  -- a length of more than 32 bits in a target
+  pub large_length : (line : List ℕ) → SaysTarget line (target.Length 4294967296) → ⊥
+
+-- lines are not those of an order, or of a statement
+pub record OrderLineCounterExamples : Type 0 where
+  -- no line, a line whose byte spells no order, and an order of another layer
+  pub none : (order : Order) → IsOrderLine [] order → ⊥
+  pub zero : (order : Order) → IsOrderLine (codes "command 00" ∷ []) order → ⊥
+  pub other_layer : IsOrderLine (surrender_line ∷ []) (record surrender { layer = 3 }) → ⊥
+  -- a dash stands for no bytes, which spell no statement
+  pub dash : (statement : Statement) → IsStatementLine (codes "-" ∷ []) statement → ⊥
+
+-- ---- what is drawn and made
+
+-- words are not drawn for these bytes
+pub record DrawCounterExamples : Type 0 where
+  -- a word too few for 32 bytes
+  pub few : (words bytes : List ℕ) → length words ≡ 7 → DrawnBytes 32 words bytes → ⊥
+  -- other bytes than the word gives
+  pub other_bytes : DrawnBytes 4 (1 ∷ []) (0 ∷ 0 ∷ 0 ∷ 2 ∷ []) → ⊥
+  -- a value of one byte, where the word says that it is empty
+  pub other_length : DrawnValue (129 ∷ []) (7 ∷ []) → ⊥
+
+-- files are not those of a workload
+pub record WorkloadCounterExamples (number rounds : ℕ) (workload : Workload) : Type 0 where
+  -- the script is empty, and the image is all zero
+  pub no_script : workload.script ≡ [] → IsWorkload number rounds workload → ⊥
+  pub blank : IsBlank workload.image → IsWorkload number rounds workload → ⊥
+
+-- an image is not that of a new device
+pub record BirthCounterExamples (state : State) (image : List ℕ) : Type 0 where
+  -- it is all zero, as that of no live device
+  pub blank : IsBlank image → IsBornWith state image → ⊥
+  -- the device has been in use: the second area of the root is the current one
+  pub used : (flash bbram : List ℕ) → IsImage image flash bbram → selector_of bbram 1 ≡ 1 → IsBornWith state image → ⊥

@@ -1,0 +1,22 @@
+//! Records: values and their bytes, and bytes that fail.
+
+ghost use Rattle.mb_model_examples.specs.RecordExamples.{KeyRecords, LayerRecords, EntryRecords, RootRecords, RegionRecords, StatementRecords, ChainRecords, PublicRecords, BodyRecords, FailingRecords};
+
+/// How keys, layers, entries, roots, regions, statements, chains, the public record and the signed part of orders are
+/// spelled, by an independent program.
+pub fn records_are_spelled()
+    ensures keys { KeyRecords }
+    ensures layers { LayerRecords }
+    ensures entries { EntryRecords }
+    ensures roots { RootRecords }
+    ensures regions { RegionRecords }
+    ensures statements { StatementRecords }
+    ensures chains { ChainRecords }
+    ensures public { PublicRecords }
+    ensures bodies { BodyRecords }
+{}
+
+/// Where bytes that spell no entry, root or region fail.
+pub fn failing_records()
+    ensures { FailingRecords }
+{}

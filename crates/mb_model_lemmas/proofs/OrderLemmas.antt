@@ -1,0 +1,204 @@
+-- An order fails one check at most, and none where it passes.
+use Rattle.std.proofs.Common.{◌≡◌, ℕ, List, inl, inr, length, refl, sym, ap, subst, ◌∙◌, arith}
+use Rattle.std.specs.Prelude.{◌⊎◌, All}
+use Rattle.mb_format.specs.Format.{IsBytes, IsClearWhole}
+use Rattle.mb_format.proofs.Whole.{IsClearWhole-from_exact}
+use Rattle.mb_model.specs.declared.order.Order.{Order}
+use Rattle.mb_model.specs.declared.order.Target.{Target}
+use Rattle.mb_model.specs.declared.order.Countersignature.{Countersignature}
+use Rattle.mb_model.specs.declared.reply.Reply.{Reply}
+use Rattle.mb_model.specs.declared.reply.Reply.TheVariants as reply
+use Rattle.mb_model.specs.declared.state.State.{State}
+use Rattle.mb_model.specs.Rules.{IsFirstFailing}
+use Rattle.mb_model.specs.Log.{entries_of, number_of}
+use Rattle.mb_model.specs.OrderFormat.{order_format}
+use Rattle.mb_model.specs.Refusals.{Refusal, powered_off, wrong_phase, zeroised, wrong_layer, region_full, no_such_key, key_spent, bad_text, wrong_target, wrong_state, wrong_signature, wrong_countersignature, log_full, keys_full, refused}
+use Rattle.mb_model.specs.OrderStep.{TargetHoldsIn, TargetsHold, MayBeGiven, IsSigned, IsCountersigned, LogHasRoom, RegionHasRoom, Passes, Fails, obeyed, OrderStep, spells_none, fails_check, is_obeyed}
+use Rattle.mb_model.proofs.OrderFormatLaws.{order_exact}
+use Rattle.mb_model_lemmas.proofs.Splits.{not_all, first_fails_or_all, one_first, IsOne, one_more, Lacks, one_lacks, lacks_none}
+
+-- ---- the checks, one after another
+
+abbrev KeysFault : State → Order → Refusal → Type 0
+KeysFault state order = Lacks keys_full (RegionHasRoom state order.layer order.act) (λ refusal. ⊥)
+
+abbrev RoomFault : State → Order → Refusal → Type 0
+RoomFault state order = Lacks log_full (LogHasRoom state order) (KeysFault state order)
+
+abbrev AreCountersigned : State → Order → Type 0
+AreCountersigned state order = All (IsCountersigned state order) order.countersignatures
+
+abbrev BadCountersignature : State → Order → Refusal → Type 0
+BadCountersignature state order refusal =
+    (place : ℕ) × (by : Countersignature) × (refusal ≡ wrong_countersignature by.layer)
+    × IsFirstFailing (IsCountersigned state order) order.countersignatures place by
+
+abbrev CountersignatureFault : State → Order → Refusal → Type 0
+CountersignatureFault state order refusal =
+    BadCountersignature state order refusal ⊎ (AreCountersigned state order × RoomFault state order refusal)
+
+abbrev SignatureFault : State → Order → Refusal → Type 0
+SignatureFault state order = Lacks wrong_signature (IsSigned state order) (CountersignatureFault state order)
+
+abbrev StateFault : State → Order → Refusal → Type 0
+StateFault state order = Lacks wrong_state (MayBeGiven state order) (SignatureFault state order)
+
+abbrev BadTarget : State → Order → Refusal → Type 0
+BadTarget state order refusal =
+    (place : ℕ) × (target : Target) × (refusal ≡ wrong_target place)
+    × IsFirstFailing (TargetHoldsIn state) order.targets place target
+
+abbrev OrderFault : State → Order → Refusal → Type 0
+OrderFault state order refusal = BadTarget state order refusal ⊎ (TargetsHold state order × StateFault state order refusal)
+
+one_room_fault : (state : State) (order : Order) → IsOne (RoomFault state order)
+one_room_fault state order =
+    one_lacks log_full (LogHasRoom state order) (KeysFault state order)
+    (one_lacks keys_full (RegionHasRoom state order.layer order.act) (λ refusal. ⊥) (λ r s x y. absurd x))
+
+one_bad_countersignature : (state : State) (order : Order) → IsOne (BadCountersignature state order)
+one_bad_countersignature state order r s x y =
+    let first = one_first (IsCountersigned state order) order.countersignatures x.0 y.0 x.1 y.1 x.3 y.3 in
+    x.2 ∙ ap (λ (by : Countersignature). wrong_countersignature by.layer) first.1 ∙ sym y.2
+
+one_countersignature_fault : (state : State) (order : Order) → IsOne (CountersignatureFault state order)
+one_countersignature_fault state order =
+    one_more (BadCountersignature state order) (AreCountersigned state order) (RoomFault state order)
+    (λ r x all. not_all (IsCountersigned state order) order.countersignatures x.0 x.1 x.3 all)
+    (one_bad_countersignature state order) (one_room_fault state order)
+
+one_state_fault : (state : State) (order : Order) → IsOne (StateFault state order)
+one_state_fault state order =
+    one_lacks wrong_state (MayBeGiven state order) (SignatureFault state order)
+    (one_lacks wrong_signature (IsSigned state order) (CountersignatureFault state order) (one_countersignature_fault state order))
+
+one_bad_target : (state : State) (order : Order) → IsOne (BadTarget state order)
+one_bad_target state order r s x y =
+    let first = one_first (TargetHoldsIn state) order.targets x.0 y.0 x.1 y.1 x.3 y.3 in
+    x.2 ∙ ap wrong_target first.0 ∙ sym y.2
+
+one_order_fault : (state : State) (order : Order) → IsOne (OrderFault state order)
+one_order_fault state order =
+    one_more (BadTarget state order) (TargetsHold state order) (StateFault state order)
+    (λ r x all. not_all (TargetHoldsIn state) order.targets x.0 x.1 x.3 all)
+    (one_bad_target state order) (one_state_fault state order)
+
+shown : (state : State) (order : Order) (refusal : Refusal) → Fails state order refusal → OrderFault state order refusal
+shown state order (wrong_target place) x = inl (place, x.0, refl, x.1)
+shown state order wrong_state x = inr (x.0, inl (refl, x.1))
+shown state order wrong_signature x = inr (x.0, inr (x.1, inl (refl, x.2)))
+shown state order (wrong_countersignature m) x =
+    inr (x.0, inr (x.1, inr (x.2, inl (x.3.0, x.3.1, ap wrong_countersignature (sym x.3.2), x.3.3))))
+shown state order log_full x = inr (x.0, inr (x.1, inr (x.2, inr (x.3, inl (refl, x.4)))))
+shown state order keys_full x = inr (x.0, inr (x.1, inr (x.2, inr (x.3, inr (x.4, inl (refl, x.5))))))
+shown state order bad_text x = absurd x
+shown state order powered_off x = absurd x
+shown state order wrong_phase x = absurd x
+shown state order zeroised x = absurd x
+shown state order wrong_layer x = absurd x
+shown state order region_full x = absurd x
+shown state order no_such_key x = absurd x
+shown state order key_spent x = absurd x
+
+-- an order fails one check at most
+pub one_failure : (state : State) (order : Order) (a b : Refusal) → Fails state order a → Fails state order b → a ≡ b
+one_failure state order a b x y = one_order_fault state order a b (shown state order a x) (shown state order b y)
+
+-- ---- an order that passes
+
+no_countersignature_fault : (state : State) (order : Order) (refusal : Refusal) → Passes state order → CountersignatureFault state order refusal → ⊥
+no_countersignature_fault state order refusal passes (inl x) = not_all (IsCountersigned state order) order.countersignatures x.0 x.1 x.3 passes.countersignatures
+no_countersignature_fault state order refusal passes (inr x) =
+    lacks_none log_full (LogHasRoom state order) (KeysFault state order) refusal passes.log
+    (lacks_none keys_full (RegionHasRoom state order.layer order.act) (λ r. ⊥) refusal passes.keys (λ y. y)) x.1
+
+no_fault : (state : State) (order : Order) (refusal : Refusal) → Passes state order → OrderFault state order refusal → ⊥
+no_fault state order refusal passes (inl x) = not_all (TargetHoldsIn state) order.targets x.0 x.1 x.3 passes.targets
+no_fault state order refusal passes (inr x) =
+    lacks_none wrong_state (MayBeGiven state order) (SignatureFault state order) refusal passes.condition
+    (lacks_none wrong_signature (IsSigned state order) (CountersignatureFault state order) refusal passes.signature
+    (no_countersignature_fault state order refusal passes)) x.1
+
+pub passes_fail_nothing : (state : State) (order : Order) (refusal : Refusal) → Passes state order → Fails state order refusal → ⊥
+passes_fail_nothing state order refusal passes x = no_fault state order refusal passes (shown state order refusal x)
+
+-- an order that fails no check and does not pass: in turn, each check holds
+module _ (state : State) (order : Order) (fails : Passes state order → ⊥) (none : (refusal : Refusal) → Fails state order refusal → ⊥) where
+  no_full_region : TargetsHold state order → MayBeGiven state order → IsSigned state order → AreCountersigned state order → LogHasRoom state order → ⊥
+  no_full_region targets given signed countersigned room =
+      let passes = λ (keys : RegionHasRoom state order.layer order.act). fails (record {
+        targets = targets;
+        condition = given;
+        signature = signed;
+        countersignatures = countersigned;
+        log = room;
+        keys = keys;
+      }) in
+      none keys_full (targets, given, signed, countersigned, room, passes)
+
+  no_full_log : TargetsHold state order → MayBeGiven state order → IsSigned state order → AreCountersigned state order → ⊥
+  no_full_log targets given signed countersigned = none log_full (targets, given, signed, countersigned, no_full_region targets given signed countersigned)
+
+  no_bad_countersignature : TargetsHold state order → MayBeGiven state order → IsSigned state order → ⊥
+  no_bad_countersignature targets given signed =
+      first_fails_or_all (IsCountersigned state order) order.countersignatures
+      (λ place by first. none (wrong_countersignature by.layer) (targets, given, signed, (place, by, refl, first)))
+      (no_full_log targets given signed)
+
+  no_bad_signature : TargetsHold state order → MayBeGiven state order → ⊥
+  no_bad_signature targets given = none wrong_signature (targets, given, no_bad_countersignature targets given)
+
+  no_wrong_state : TargetsHold state order → ⊥
+  no_wrong_state targets = none wrong_state (targets, no_bad_signature targets)
+
+  pub passes_or_fails : ⊥
+  passes_or_fails = first_fails_or_all (TargetHoldsIn state) order.targets (λ place target first. none (wrong_target place) (target, first)) no_wrong_state
+
+-- ---- the step
+
+order_clear : IsClearWhole order_format
+order_clear = IsClearWhole-from_exact order_exact
+
+-- bytes that are given as an order have one answer, and lead to one state
+pub one_order_step : (state : State) (text draw : List ℕ) (a b : Reply) (m n : State) → IsBytes text → OrderStep state text draw a m → OrderStep state text draw b n → (a ≡ b) × (m ≡ n)
+one_order_step state text draw a b m n are (spells_none p) (spells_none q) = (p.answered ∙ sym q.answered, p.stays ∙ sym q.stays)
+one_order_step state text draw a b m n are (spells_none p) (fails_check q) = absurd (p.none q.order q.spelled)
+one_order_step state text draw a b m n are (spells_none p) (is_obeyed q) = absurd (p.none q.order q.spelled)
+one_order_step state text draw a b m n are (fails_check p) (spells_none q) = absurd (q.none p.order p.spelled)
+one_order_step state text draw a b m n are (fails_check p) (fails_check q) =
+    let same : p.order ≡ q.order = order_clear.one_value text p.order q.order are p.spelled q.spelled in
+    let refusals : p.refusal ≡ q.refusal = one_failure state q.order p.refusal q.refusal (subst (λ (o : Order). Fails state o p.refusal) same p.fails) q.fails in
+    (p.answered ∙ ap refused refusals ∙ sym q.answered, p.stays ∙ sym q.stays)
+one_order_step state text draw a b m n are (fails_check p) (is_obeyed q) =
+    let same : p.order ≡ q.order = order_clear.one_value text p.order q.order are p.spelled q.spelled in
+    absurd (passes_fail_nothing state q.order p.refusal q.passes (subst (λ (o : Order). Fails state o p.refusal) same p.fails))
+one_order_step state text draw a b m n are (is_obeyed p) (spells_none q) = absurd (q.none p.order p.spelled)
+one_order_step state text draw a b m n are (is_obeyed p) (fails_check q) =
+    let same : q.order ≡ p.order = order_clear.one_value text q.order p.order are q.spelled p.spelled in
+    absurd (passes_fail_nothing state p.order q.refusal p.passes (subst (λ (o : Order). Fails state o q.refusal) same q.fails))
+one_order_step state text draw a b m n are (is_obeyed p) (is_obeyed q) =
+    let same : p.order ≡ q.order = order_clear.one_value text p.order q.order are p.spelled q.spelled in
+    let states : m ≡ n = p.follows ∙ ap (λ (o : Order). obeyed state o draw) same ∙ sym q.follows in
+    (p.answered ∙ ap (λ (s : State). reply.Done (number_of (entries_of s.log)) (length s.log)) states ∙ sym q.answered, states)
+
+-- a refused order leaves the state
+pub refused_order_leaves : (state : State) (text draw : List ℕ) (refusal : ℕ) (next : State) → OrderStep state text draw (reply.Refused refusal) next → next ≡ state
+refused_order_leaves state text draw n next (spells_none p) = p.stays
+refused_order_leaves state text draw n next (fails_check p) = p.stays
+refused_order_leaves state text draw n next (is_obeyed p) = absurd (grind (arith, p.answered))
+
+-- no bytes are without an answer
+pub some_order_step : (state : State) (text draw : List ℕ) → IsBytes text → ((answer : Reply) (next : State) → OrderStep state text draw answer next → ⊥) → ⊥
+some_order_step state text draw are none =
+    elim (order_clear.always text are) [
+      | inl some ↦ passes_or_fails state some.value
+          (λ passes. none (reply.Done (number_of (entries_of (obeyed state some.value draw).log)) (length (obeyed state some.value draw).log)) (obeyed state some.value draw)
+          (is_obeyed (record { order = some.value; spelled = some.spelled; passes = passes; follows = refl; answered = refl })))
+          (λ refusal fails. none (refused refusal) state
+          (fails_check (record { order = some.value; spelled = some.spelled; refusal = refusal; fails = fails; answered = refl; stays = refl })))
+      | inr failing ↦ none (refused bad_text) state (spells_none (record {
+        none = λ order spelled. order_clear.never_both text order failing.offset are spelled failing.fails;
+        answered = refl;
+        stays = refl;
+      }))
+    ]

@@ -1,0 +1,221 @@
+-- Each step of the machine leads from a state that a device can have to such a state.
+use Rattle.std.proofs.Common.{◌≡◌, ◌≤◌, ◌<◌, ℕ, zero, suc, ◌+◌, List, [], ◌∷◌, inl, inr, length, Option, None, Some, Bool, true, false, refl, sym, ap, subst, ◌∙◌, arith}
+use Rattle.std.specs.Prelude.{◌==◌, ◌&&◌, not, nat_lt, All, IsTrue, Result, Ok, Err, if◌then◌else◌}
+use Rattle.std.proofs.lemmas.List.Elements.{All-nil, All-cons}
+use Rattle.mb_format.specs.Combinators.{items}
+use Rattle.mb_model.specs.declared.order.Act.{Act}
+use Rattle.mb_model.specs.declared.order.Act.TheVariants as act
+use Rattle.mb_model.specs.declared.order.ChangeKind.{ChangeKind}
+use Rattle.mb_model.specs.declared.order.ChangeKind.TheVariants.{Establish, Surrender, Load, Emergency}
+use Rattle.mb_model.specs.declared.order.Countersignature.{Countersignature}
+use Rattle.mb_model.specs.declared.order.Order.{Order}
+use Rattle.mb_model.specs.declared.order.Target.{Target}
+use Rattle.mb_model.specs.declared.entry.Entry.{Entry}
+use Rattle.mb_model.specs.declared.entry.Entry.TheVariants.{Succession}
+use Rattle.mb_model.specs.declared.event.Event.{Event}
+use Rattle.mb_model.specs.declared.event.Event.TheVariants as event
+use Rattle.mb_model.specs.declared.event.Answered.{Answered}
+use Rattle.mb_model.specs.declared.reply.Reply.{Reply}
+use Rattle.mb_model.specs.declared.reply.Reply.TheVariants as reply
+use Rattle.mb_model.specs.declared.state.State.{State}
+use Rattle.mb_model.specs.OrderFormat.{Climb, climbed, countersignature_format, countersignatures_format, order_format}
+use Rattle.mb_model.specs.Layers.{is_runnable}
+use Rattle.mb_model.specs.Rules.{kind_of, change_of, renews, Condition}
+use Rattle.mb_model.specs.Log.{entries_of, used}
+use Rattle.mb_model.specs.Signing.{public_of}
+use Rattle.mb_model.specs.Refusals.{Refusal, wrong_phase, wrong_layer, refused}
+use Rattle.mb_model.specs.OrderStep.{IsCountersigned, needs_succession, next_key, RegionHasRoom, Passes, succeeded, carried_out, obeyed, OrderStep, spells_none, fails_check, is_obeyed}
+use Rattle.mb_model.specs.LayerEvents.{Outcome, put_event, get_event, drop_event, sign_event}
+use Rattle.mb_model.specs.Machine.{Phase, off, dead, ratchet, World, Told, boot_event, awake, awake_in, status_event, go_event, region_event, CommandStep, Machine, Step, answered, lacks_memory, loses_power, Run}
+use Rattle.mb_model.specs.Valid.{IsValidState, Valid}
+use Rattle.mb_model_lemmas.proofs.LogLemmas.{used-push}
+use Rattle.mb_model_lemmas.specs.RegionLaws.{KeepsStatesValid}
+use Rattle.mb_model_lemmas.proofs.ValidStates.{put_keeps, get_keeps, drop_keeps, sign_keeps}
+use Rattle.mb_model_lemmas.proofs.ValidLogs.{entries_of-signed}
+use Rattle.mb_model_lemmas.proofs.ValidOrders.{IsAbove, succeeded_valid, changed_valid, keyed_valid}
+
+-- ---- the countersignatures of an order that is spelled
+
+-- each of some countersignatures in a row is of a layer above the one before the first
+climbing : (n : ℕ) (climb : Climb) (k : ℕ) (cs : List Countersignature) → k ≤ climb.below
+    → (items countersignature_format climbed n climb).Allowed cs → All (λ by. k < by.layer) cs
+unfolding items
+climbing zero climb k cs low allowed = subst (All (λ (by : Countersignature). k < by.layer)) (sym allowed) (All-nil (λ (by : Countersignature). k < by.layer))
+climbing (suc n) climb k [] low allowed = absurd allowed
+climbing (suc n) climb k (c ∷ cs) low allowed =
+    let P : Countersignature → Type 0 = λ by. k < by.layer in
+    let above : climb.below + 1 ≤ c.layer = allowed.0.0.0 in
+    All-cons P c cs (omega (arith, above, low)) (climbing n (climbed climb c) k cs (omega (arith, above, low)) allowed.1)
+
+above_by : (a : Act) (layer : ℕ) (targets : List Target) (cs : List Countersignature)
+    → (countersignatures_format (record { layer = layer; targets = targets; act = a })).Allowed cs → All (IsAbove (change_of (kind_of a)) layer) cs
+unfolding countersignatures_format
+above_by (act.Establish owner trust) layer targets cs allowed = λ i d within. absurd (omega (arith, within, allowed.0.1))
+above_by act.Surrender layer targets cs allowed = λ i d within. absurd (omega (arith, within, allowed.0.1))
+above_by (act.NewKey kind) layer targets cs allowed = λ i d within. absurd (omega (arith, within, allowed.0.1))
+above_by (act.Load payload) layer targets cs allowed =
+    λ i d within. (refl, climbing (length cs) (record { below = layer; left = length cs }) layer cs (omega arith) allowed.1 i d within)
+above_by (act.Emergency payload) layer targets cs allowed =
+    λ i d within. (refl, climbing (length cs) (record { below = layer; left = length cs }) layer cs (omega arith) allowed.1 i d within)
+
+pub all_above : (order : Order) → order_format.Allowed order → All (IsAbove (change_of (kind_of order.act)) order.layer) order.countersignatures
+unfolding order_format
+all_above order allowed = above_by order.act order.layer order.targets order.countersignatures allowed.1.1
+
+-- ---- orders
+
+-- a succession leaves the layers and the regions, and the new key has signed nothing
+over_succession_condition : (state : State) (draw : List ℕ) (kind : Option ChangeKind) (k : ℕ) → Condition state.layers kind k → Condition (succeeded state draw).layers kind k
+unfolding succeeded
+over_succession_condition state draw kind k is = is
+
+over_succession_signed : (state : State) (draw : List ℕ) (order : Order) → All (IsCountersigned state order) order.countersignatures → All (IsCountersigned (succeeded state draw) order) order.countersignatures
+unfolding succeeded
+over_succession_signed state draw order is = is
+
+over_succession_room : (state : State) (draw : List ℕ) (L : ℕ) (a : Act) → RegionHasRoom state L a → RegionHasRoom (succeeded state draw) L a
+unfolding succeeded
+over_succession_room state draw L (act.Establish owner trust) is = is
+over_succession_room state draw L act.Surrender is = is
+over_succession_room state draw L (act.Load payload) is = is
+over_succession_room state draw L (act.Emergency payload) is = is
+over_succession_room state draw L (act.NewKey kind) is = is
+
+never : (n : ℕ) → n ≡ 31 → n ≡ 0 → ⊥
+never n e f = omega (arith, e, f)
+
+used_anew : (state : State) (draw : List ℕ) → used (entries_of (succeeded state draw).log) ≡ 0
+unfolding succeeded
+used_anew state draw =
+    let entry : Entry = Succession (length state.log) (public_of (next_key state draw)) in
+    ap used (entries_of-signed state entry) ∙ used-push (entries_of state.log) entry
+
+-- an order leads to a valid state, where the device key has an index for it
+carried_by : (ready : State) (order : Order) (draw : List ℕ) (a : Act) → order.act ≡ a → IsValidState ready
+    → Condition ready.layers (change_of (kind_of a)) order.layer → All (IsAbove (change_of (kind_of a)) order.layer) order.countersignatures
+    → All (IsCountersigned ready order) order.countersignatures
+    → (used (entries_of ready.log) ≡ 31 → IsTrue (renews (change_of (kind_of a)) order.layer))
+    → RegionHasRoom ready order.layer a
+    → IsValidState (carried_out ready order a draw)
+carried_by ready order draw (act.Establish owner trust) is valid allowed above signed index room =
+    changed_valid ready Establish order draw valid (record { kind_is = ap (λ (x : Act). change_of (kind_of x)) is; allowed = allowed; above = above; signed = signed; index = index })
+carried_by ready order draw act.Surrender is valid allowed above signed index room =
+    changed_valid ready Surrender order draw valid (record { kind_is = ap (λ (x : Act). change_of (kind_of x)) is; allowed = allowed; above = above; signed = signed; index = index })
+carried_by ready order draw (act.Load payload) is valid allowed above signed index room =
+    changed_valid ready Load order draw valid (record { kind_is = ap (λ (x : Act). change_of (kind_of x)) is; allowed = allowed; above = above; signed = signed; index = index })
+carried_by ready order draw (act.Emergency payload) is valid allowed above signed index room =
+    changed_valid ready Emergency order draw valid (record { kind_is = ap (λ (x : Act). change_of (kind_of x)) is; allowed = allowed; above = above; signed = signed; index = index })
+carried_by ready order draw (act.NewKey kind) is valid allowed above signed index room =
+    keyed_valid ready order.layer kind draw valid allowed (λ e. absurd (grind (arith, index e))) room
+
+-- where a succession is needed, the last index is left, and else the order takes it
+needed_last : (n : ℕ) (b : Bool) → ((n == 31) && not b) ≡ true → n ≡ 31
+needed_last n true e = absurd (grind (arith, e))
+needed_last n false e = grind (arith, e)
+
+not_needed : (n : ℕ) (b : Bool) → ((n == 31) && not b) ≡ false → n ≡ 31 → IsTrue b
+not_needed n true e last = refl
+not_needed n false e last = absurd (grind (arith, e, last))
+
+-- the order finds an index, and then is carried out
+pub obeyed_valid : (state : State) (order : Order) (draw : List ℕ) → IsValidState state → order_format.Allowed order → Passes state order
+    → IsValidState (obeyed state order draw)
+unfolding obeyed
+obeyed_valid state order draw valid allowed passes =
+    let above = all_above order allowed in
+    (elim (needs_succession state order) as (λ b. needs_succession state order ≡ b → IsValidState (carried_out (if b then succeeded state draw else state) order order.act draw)) [
+      | true ↦ λ e.
+          let last : used (entries_of state.log) ≡ 31 = needed_last (used (entries_of state.log)) (renews (change_of (kind_of order.act)) order.layer) e in
+          carried_by (succeeded state draw) order draw order.act refl (succeeded_valid state draw valid last)
+          (over_succession_condition state draw (change_of (kind_of order.act)) order.layer passes.condition) above
+          (over_succession_signed state draw order passes.countersignatures)
+          (λ f. absurd (never (used (entries_of (succeeded state draw).log)) f (used_anew state draw)))
+          (over_succession_room state draw order.layer order.act passes.keys)
+      | false ↦ λ e.
+          carried_by state order draw order.act refl valid passes.condition above passes.countersignatures
+          (not_needed (used (entries_of state.log)) (renews (change_of (kind_of order.act)) order.layer) e) passes.keys
+    ]) refl
+
+pub order_step_valid : (state : State) (text draw : List ℕ) (answer : Reply) (next : State) → IsValidState state → OrderStep state text draw answer next → IsValidState next
+order_step_valid state text draw answer next valid (spells_none step) = subst IsValidState (sym step.stays) valid
+order_step_valid state text draw answer next valid (fails_check step) = subst IsValidState (sym step.stays) valid
+order_step_valid state text draw answer next valid (is_obeyed step) =
+    subst IsValidState (sym step.follows) (obeyed_valid state step.order draw valid step.spelled.allowed step.passes)
+
+-- ---- the machine
+
+booted_valid : (world : World) (phase : Phase) (state : Option State) → Valid world.state → Valid (boot_event world phase state).1.state
+booted_valid world off (Some state) valid = valid
+booted_valid world off None valid = valid
+booted_valid world dead state valid = valid
+booted_valid world (ratchet r) state valid = valid
+
+status_valid : (world : World) (on : Result (ℕ × State) Refusal) → Valid world.state → Valid (status_event world on).1.state
+status_valid world (Err refusal) valid = valid
+status_valid world (Ok on) valid = valid
+
+go_on : (last runs : Bool) (world : World) (r : ℕ) → Valid world.state
+    → Valid (let told : Told = if last then (refused wrong_phase, world) else if runs then (reply.At (r + 1), record world { phase = ratchet (r + 1) }) else (refused wrong_layer, world) in told).1.state
+go_on true runs world r valid = valid
+go_on false true world r valid = valid
+go_on false false world r valid = valid
+
+pub go_valid : (world : World) (on : Result (ℕ × State) Refusal) → Valid world.state → Valid (go_event world on).1.state
+go_valid world (Err refusal) valid = valid
+go_valid world (Ok on) valid = go_on (nat_lt 2 on.0) (is_runnable on.1.layers (on.0 + 1)) world on.0 valid
+
+awake_valid : (world : World) → Valid world.state → (on : ℕ × State) → awake world.phase world.state ≡ Ok on → IsValidState on.1
+awake_valid world valid on e = awake_by world.phase world.state on valid e
+  where
+    awake_by : (phase : Phase) (state : Option State) (on : ℕ × State) → Valid state → awake phase state ≡ Ok on → IsValidState on.1
+    awake_by off state on valid e = absurd (grind (arith, e))
+    awake_by dead state on valid e = absurd (grind (arith, e))
+    awake_by (ratchet r) None on valid e = absurd (grind (arith, e))
+    awake_by (ratchet r) (Some state) on valid e =
+        let same : ◌≡◌ {A = ℕ × State} (r, state) on = cc in
+        subst (λ (p : ℕ × State). IsValidState p.1) same valid
+
+region_event_valid : (world : World) (L : ℕ) (event : State → Outcome) (on : Result (ℕ × State) Refusal) → awake world.phase world.state ≡ on
+    → KeepsStatesValid L event → Valid world.state → Valid (region_event world L event on).1.state
+region_event_valid world L event (Err refusal) e keeps valid = valid
+region_event_valid world L event (Ok on) e keeps valid = keeps on.1 on.0 (awake_valid world valid on e)
+
+command_valid : (world : World) (text draw : List ℕ) (on : Result (ℕ × State) Refusal) (answer : Reply) (next : World) → awake world.phase world.state ≡ on
+    → Valid world.state → CommandStep world text draw on answer next → Valid next.state
+command_valid world text draw (Err refusal) answer next e valid step = subst (λ (w : World). Valid w.state) (sym step.1) valid
+command_valid world text draw (Ok on) answer next e valid (inl obeyed) =
+    subst (λ (w : World). Valid w.state) (sym obeyed.1.2) (order_step_valid on.1 text draw answer obeyed.1.0 (awake_valid world valid on e) obeyed.1.1)
+command_valid world text draw (Ok on) answer next e valid (inr late) = subst (λ (w : World). Valid w.state) (sym late.2) valid
+
+-- what an event is told to come to is where it comes to
+told_valid : (answer : Reply) (next : World) (told : Told) → ◌≡◌ {A = Told} (answer, next) told → Valid told.1.state → Valid next.state
+told_valid answer next told e valid = subst (λ (t : Told). Valid t.1.state) (sym e) valid
+
+pub machine_valid : (world : World) (e : Event) (answer : Reply) (next : World) → Valid world.state → Machine world e answer next → Valid next.state
+machine_valid world event.Boot answer next valid is = told_valid answer next _ is (booted_valid world world.phase world.state valid)
+machine_valid world event.Off answer next valid is = subst (λ (w : World). Valid w.state) (sym is.1) valid
+machine_valid world event.Tamper answer next valid is = subst (λ (w : World). Valid w.state) (sym is.1) tt
+machine_valid world (event.Cut count tear) answer next valid is = subst (λ (w : World). Valid w.state) (sym is.1) valid
+machine_valid world event.Status answer next valid is = told_valid answer next _ is (status_valid world (awake_in world) valid)
+machine_valid world (event.Command text draw) answer next valid is = command_valid world text draw (awake_in world) answer next refl valid is
+machine_valid world event.Go answer next valid is = told_valid answer next _ is (go_valid world (awake_in world) valid)
+machine_valid world (event.Put L name value) answer next valid is = told_valid answer next _ is (region_event_valid world L (put_event L name value) (awake_in world) refl (put_keeps L name value) valid)
+machine_valid world (event.Get L name) answer next valid is = told_valid answer next _ is (region_event_valid world L (get_event L name) (awake_in world) refl (get_keeps L name) valid)
+machine_valid world (event.Drop L name) answer next valid is = told_valid answer next _ is (region_event_valid world L (drop_event L name) (awake_in world) refl (drop_keeps L name) valid)
+machine_valid world (event.Sign L key message) answer next valid is = told_valid answer next _ is (region_event_valid world L (sign_event L key message) (awake_in world) refl (sign_keeps L key message) valid)
+
+-- each step leads from a valid state to a valid one
+pub step_valid : (world : World) (e : Event) (answer : Reply) (next : World) → Valid world.state → Step world e answer next → Valid next.state
+step_valid world e answer next valid (answered machine) = machine_valid world e answer next valid machine
+step_valid world e answer next valid (lacks_memory lacks) = subst (λ (w : World). Valid w.state) (sym lacks.stays) valid
+step_valid world e answer next valid (loses_power lost) =
+    let left : Valid lost.state = elim (lost.counts) [
+      | inl before ↦ subst Valid (sym before) valid
+      | inr after ↦ subst Valid (sym after) (machine_valid world e lost.told lost.whole valid lost.machine)
+    ] in
+    subst (λ (w : World). Valid w.state) (sym lost.follows) left
+
+-- and so does a run
+pub run_valid : (world : World) (answered : List Answered) (next : World) → Valid world.state → Run world answered next → Valid next.state
+run_valid world [] next valid same = subst (λ (w : World). Valid w.state) (sym same) valid
+run_valid world (this ∷ rest) next valid run = run_valid run.0 rest next (step_valid world this.event this.reply run.0 valid run.1) run.2

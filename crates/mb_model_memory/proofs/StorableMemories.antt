@@ -1,0 +1,227 @@
+-- A state for which a memory stands can be stored, and so can that of a new device.
+use Rattle.std.proofs.Common.{◌≡◌, ◌≤◌, ℕ, List, [], ◌∷◌, ◌++◌, inl, inr, length, map, take, Option, None, Some, Bool, true, false, sym, subst, arith, length-append}
+use Rattle.std.specs.Prelude.{All, unwrap_or, if◌then◌else◌}
+use Rattle.std.specs.Option.{option_or}
+use Rattle.std.specs.List.{list_any, AllByRecursion}
+use Rattle.std.proofs.lemmas.List.{length-map}
+use Rattle.std.proofs.lemmas.List.Elements.{All-nil, All-cons, All-push, All-filter, All-append, All-from_recursion, recursion_from_All}
+use Rattle.mb_format.specs.Combinators.{optional}
+use Rattle.mb_format.proofs.Compositions.{items_all}
+use Rattle.mb_model.specs.declared.key.KeySeed.{KeySeed}
+use Rattle.mb_model.specs.declared.key.PublicKey.{PublicKey}
+use Rattle.mb_model.specs.declared.layer.Layers.{Layers}
+use Rattle.mb_model.specs.declared.entry.Entry.{Entry}
+use Rattle.mb_model.specs.declared.entry.Entry.TheVariants.{Birth, Change, NewKey, Succession}
+use Rattle.mb_model.specs.declared.entry.SignedEntry.{SignedEntry}
+use Rattle.mb_model.specs.declared.region.Region.{Region}
+use Rattle.mb_model.specs.declared.region.RegionKey.{RegionKey}
+use Rattle.mb_model.specs.declared.state.Codes.{Codes}
+use Rattle.mb_model.specs.declared.state.State.{State}
+use Rattle.mb_model.specs.declared.stored.Fate.{Fate}
+use Rattle.mb_model.specs.declared.stored.Fate.TheVariants.{Keep, Empty, DropConfiguration, AddKey}
+use Rattle.mb_model.specs.declared.stored.Outgoing.{Outgoing}
+use Rattle.mb_model.specs.declared.stored.Pending.{Pending}
+use Rattle.mb_model.specs.declared.stored.Public.{Public}
+use Rattle.mb_model.specs.declared.stored.Root.{Root}
+use Rattle.mb_model.specs.Layers.{unowned_layers}
+use Rattle.mb_model.specs.Log.{entries_of, layers_in, last_of, layers_of}
+use Rattle.mb_model.specs.Regions.{is_epoch}
+use Rattle.mb_model.specs.LayerEvents.{has_number}
+use Rattle.mb_model.specs.KeyFormat.{public_key_format, key_seed_format}
+use Rattle.mb_model.specs.LayerFormat.{layers_format}
+use Rattle.mb_model.specs.EntryFormat.{birth_format, change_format, entry_format, signed_entry_format}
+use Rattle.mb_model.specs.RootFormat.{region_key_format, fate_format, pending_format, root_format}
+use Rattle.mb_model.specs.RegionFormat.{secret_format, secrets_format, keys_format, region_format, SpellsRegion}
+use Rattle.mb_model.specs.Flash.{codes_format, public_format, with_signature, without_signature, public_of_parts}
+use Rattle.mb_model.specs.OrderStep.{signed_by}
+use Rattle.mb_model.specs.StoredLog.{signed_for, outgoing_of, completed}
+use Rattle.mb_model.specs.Meaning.{Contents, HoldsContents, fated, fate_of_two, fate_of_three, meant, StandsFor}
+use Rattle.mb_model.specs.Valid.{IsValidState}
+use Rattle.mb_model.specs.Factory.{layers_at_birth, serial_from, birth_entry, state_at_birth}
+use Rattle.mb_model.proofs.Places.{length-part}
+use Rattle.mb_model_lemmas.proofs.PublicLemmas.{root_pending, public_few, public_entries, signed_front, unsigned_rest, entry_from_signed, length-signed_for}
+use Rattle.mb_model_memory.specs.Storable.{IsStorableRegion, IsStorableState}
+use Rattle.mb_model_memory.proofs.CommitLemmas.{live_contents}
+use Rattle.mb_model_memory.proofs.StorableFormats.{keep_allowed, small_number, born_seed_allowed, born_public_allowed, unowned_allowed, layers_allowed, layers_of_version_two, first_layer_allowed, first_codes_allowed, birth_allowed, signed_allowed}
+use Rattle.mb_model_memory.proofs.StorableOrders.{empty_storable}
+
+-- ---- the root
+
+root_serial : (root : Root) → root_format.Allowed root → length root.serial ≡ 16
+unfolding root_format
+root_serial root is = is.1.1.0
+
+root_device : (root : Root) → root_format.Allowed root → key_seed_format.Allowed root.device
+unfolding root_format
+root_device root is = is.1.1.1.0
+
+fate_two : (pending : Option Pending) → (optional pending_format).Allowed pending → fate_format.Allowed (fate_of_two pending)
+unfolding pending_format
+fate_two None is = keep_allowed
+fate_two (Some pending) is = is.1.1.1.0
+
+fate_three : (pending : Option Pending) → (optional pending_format).Allowed pending → fate_format.Allowed (fate_of_three pending)
+unfolding pending_format
+fate_three None is = keep_allowed
+fate_three (Some pending) is = is.1.1.1.1
+
+-- ---- regions
+
+pub spelled_storable : (bytes : List ℕ) (region : Region) → SpellsRegion bytes region → IsStorableRegion region
+unfolding region_format secrets_format keys_format
+spelled_storable bytes region (inl none) = subst IsStorableRegion (sym none.1) empty_storable
+spelled_storable bytes region (inr spelled) =
+    let secrets = spelled.allowed.1.0 in
+    let keys = spelled.allowed.1.1 in
+    record {
+      secrets = All-from_recursion secret_format.Allowed region.secrets (items_all secret_format (length region.secrets) region.secrets secrets.1).1;
+      few_secrets = secrets.0.1;
+      keys = All-from_recursion region_key_format.Allowed region.keys (items_all region_key_format (length region.keys) region.keys keys.1).1;
+      few_keys = keys.0.1;
+    }
+
+added_key : (key : RegionKey) → fate_format.Allowed (AddKey key) → region_key_format.Allowed key
+unfolding fate_format
+added_key key is = is.1
+
+added_all : (b : Bool) (key : RegionKey) (keys : List RegionKey) → region_key_format.Allowed key → All region_key_format.Allowed keys → All region_key_format.Allowed (if b then keys else keys ++ key ∷ [])
+added_all true key keys own are = are
+added_all false key keys own are = All-push region_key_format.Allowed keys key are own
+
+-- what is left of a region by a fate that is stored, where it has no more keys than it may
+pub fated_storable : (fate : Fate) (region : Region) → fate_format.Allowed fate → IsStorableRegion region → length (fated fate region).keys ≤ 8 → IsStorableRegion (fated fate region)
+unfolding fated
+fated_storable Keep region allowed is few = is
+fated_storable Empty region allowed is few = empty_storable
+fated_storable DropConfiguration region allowed is few = record {
+  secrets = is.secrets;
+  few_secrets = is.few_secrets;
+  keys = All-filter (λ (key : RegionKey). is_epoch key.kind) region_key_format.Allowed region.keys is.keys;
+  few_keys = few;
+}
+fated_storable (AddKey key) region allowed is few = record {
+  secrets = is.secrets;
+  few_secrets = is.few_secrets;
+  keys = added_all (list_any (has_number key.number) region.keys) key region.keys (added_key key allowed) is.keys;
+  few_keys = few;
+}
+
+-- ---- the public record
+
+public_codes : (public : Public) → public_format.Allowed public → codes_format.Allowed public.codes
+unfolding public_format
+public_codes public is = is.1.0
+
+-- ---- the log
+
+mapped_signed : (key : KeySeed) (index : ℕ) (unsigned : List Entry) → AllByRecursion entry_format.Allowed unsigned → All signed_entry_format.Allowed (map (signed_by key index) unsigned)
+mapped_signed key index [] are = All-nil signed_entry_format.Allowed
+mapped_signed key index (entry ∷ more) are =
+    All-cons signed_entry_format.Allowed (signed_by key index entry) (map (signed_by key index) more) (signed_allowed key index entry are.0) (mapped_signed key index more are.1)
+
+all_signed : (device : KeySeed) (uses : ℕ) (outgoing : Option Outgoing) (unsigned : List Entry) → AllByRecursion entry_format.Allowed unsigned → All signed_entry_format.Allowed (signed_for device uses outgoing unsigned)
+all_signed device uses None unsigned are = mapped_signed device _ unsigned are
+all_signed device uses (Some outgoing) [] are = All-nil signed_entry_format.Allowed
+all_signed device uses (Some outgoing) (first ∷ rest) are =
+    All-cons signed_entry_format.Allowed _ (map (signed_by device 0) rest) (signed_allowed outgoing.seed _ first are.0) (mapped_signed device 0 rest are.1)
+
+-- the layers that entries name can be stored
+abbrev NamesAllowed : Option Layers → Type 0
+NamesAllowed None = Unit {0}
+NamesAllowed (Some layers) = (layers_format 2).Allowed layers
+
+entry_names : (entry : Entry) → entry_format.Allowed entry → NamesAllowed (layers_in entry)
+unfolding entry_format birth_format change_format
+entry_names (Birth version serial key layers) is = layers_of_version_two version layers is.1.1.1.1
+entry_names (Change version position number kind layer cosigned layers kept next) is = layers_of_version_two version layers is.1.1.1.1.1.1.1.1.0
+entry_names (NewKey position number key_number layer kind key) is = tt
+entry_names (Succession position key) is = tt
+
+either_names : (later own : Option Layers) → NamesAllowed later → NamesAllowed own → NamesAllowed (option_or later own)
+either_names None own is_later is_own = is_own
+either_names (Some layers) own is_later is_own = is_later
+
+last_names : (log : List SignedEntry) → AllByRecursion signed_entry_format.Allowed log → NamesAllowed (last_of layers_in (entries_of log))
+unfolding last_of
+last_names [] are = tt
+last_names (signed ∷ rest) are = either_names (last_of layers_in (entries_of rest)) (layers_in signed.entry) (last_names rest are.1) (entry_names signed.entry (entry_from_signed signed are.0))
+
+named_or_none : (named : Option Layers) → NamesAllowed named → (layers_format 2).Allowed (unwrap_or named unowned_layers)
+named_or_none None is = layers_allowed unowned_layers unowned_allowed unowned_allowed unowned_allowed
+named_or_none (Some layers) is = is
+
+pub layers_of-allowed : (log : List SignedEntry) → All signed_entry_format.Allowed log → (layers_format 2).Allowed (layers_of (entries_of log))
+unfolding layers_of
+layers_of-allowed log are = named_or_none (last_of layers_in (entries_of log)) (last_names log (recursion_from_All signed_entry_format.Allowed log are))
+
+-- ---- the state
+
+completed_allowed : (root : Root) (codes : Codes) (signed : List SignedEntry) (unsigned : List Entry) → public_format.Allowed (public_of_parts codes signed unsigned)
+    → All signed_entry_format.Allowed (completed root signed unsigned)
+unfolding completed
+completed_allowed root codes signed unsigned is =
+    let are = public_entries (public_of_parts codes signed unsigned) is in
+    All-append signed_entry_format.Allowed signed (signed_for root.device root.uses (outgoing_of root.pending) unsigned) (signed_front signed (map without_signature unsigned) are)
+    (all_signed root.device root.uses (outgoing_of root.pending) unsigned (recursion_from_All entry_format.Allowed unsigned (unsigned_rest signed unsigned are)))
+
+completed_few : (root : Root) (codes : Codes) (signed : List SignedEntry) (unsigned : List Entry) → public_format.Allowed (public_of_parts codes signed unsigned)
+    → length (completed root signed unsigned) ≤ 128
+unfolding completed
+completed_few root codes signed unsigned is =
+    let few = public_few (public_of_parts codes signed unsigned) is in
+    omega (
+      arith,
+      few,
+      length-append signed (signed_for root.device root.uses (outgoing_of root.pending) unsigned),
+      length-signed_for root.device root.uses (outgoing_of root.pending) unsigned,
+      length-append (map with_signature signed) (map without_signature unsigned),
+      length-map signed with_signature,
+      length-map unsigned without_signature,
+    )
+
+pub meant_storable : (flash bbram : List ℕ) (contents : Contents) → HoldsContents flash bbram contents → length (meant contents).two.keys ≤ 8 → length (meant contents).three.keys ≤ 8
+    → IsStorableState (meant contents)
+unfolding meant
+meant_storable flash bbram c holds few_two few_three =
+    let root : root_format.Allowed c.root = holds.root.holds.spelled.allowed in
+    let public : public_format.Allowed (public_of_parts c.codes c.signed c.unsigned) = holds.public.begins.spelled.allowed in
+    let pending : (optional pending_format).Allowed c.root.pending = root_pending c.root root in
+    let log : All signed_entry_format.Allowed (completed c.root c.signed c.unsigned) = completed_allowed c.root c.codes c.signed c.unsigned public in
+    record {
+      serial = root_serial c.root root;
+      device = root_device c.root root;
+      layers = layers_of-allowed (completed c.root c.signed c.unsigned) log;
+      codes = public_codes (public_of_parts c.codes c.signed c.unsigned) public;
+      log = log;
+      few = completed_few c.root c.codes c.signed c.unsigned public;
+      two = fated_storable (fate_of_two c.root.pending) c.two (fate_two c.root.pending pending) (spelled_storable holds.two.bytes c.two holds.two.spelled) few_two;
+      three = fated_storable (fate_of_three c.root.pending) c.three (fate_three c.root.pending pending) (spelled_storable holds.three.bytes c.three holds.three.spelled) few_three;
+    }
+
+pub stands_storable : (flash bbram : List ℕ) (state : State) → StandsFor flash bbram (Some state) → IsValidState state → IsStorableState state
+stands_storable flash bbram state stands valid =
+    let live = live_contents flash bbram state stands in
+    let own : IsValidState (meant live.contents) = subst IsValidState live.means valid in
+    subst IsStorableState (sym live.means) (meant_storable flash bbram live.contents live.holds own.two.few own.three.few)
+
+-- ---- a new device
+
+pub birth_storable : (maker : KeySeed) (index : ℕ) (owner : PublicKey) (code noise : List ℕ) → public_key_format.Allowed owner → length code ≤ 32768 → 48 ≤ length noise
+    → IsStorableState (state_at_birth maker index owner code noise)
+unfolding state_at_birth
+birth_storable maker index owner code noise is short long =
+    let serial : length (serial_from noise) ≡ 16 = length-part 32 16 noise (omega (arith, long)) in
+    let layers : (layers_format 2).Allowed (layers_at_birth owner code) =
+    layers_allowed (layers_at_birth owner code) (first_layer_allowed owner code 1 _ is (small_number 1 (omega arith))) unowned_allowed unowned_allowed
+    in
+    let entry : entry_format.Allowed (birth_entry owner code noise) = birth_allowed (serial_from noise) _ (layers_at_birth owner code) serial (born_public_allowed (take 32 noise) (serial_from noise) 0) layers in
+    record {
+      serial = serial;
+      device = born_seed_allowed (take 32 noise) (serial_from noise) 0;
+      layers = layers;
+      codes = first_codes_allowed code short;
+      log = All-cons signed_entry_format.Allowed (signed_by maker index (birth_entry owner code noise)) [] (signed_allowed maker index (birth_entry owner code noise) entry) (All-nil signed_entry_format.Allowed);
+      few = omega arith;
+      two = empty_storable;
+      three = empty_storable;
+    }

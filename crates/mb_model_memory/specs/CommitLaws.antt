@@ -1,0 +1,186 @@
+-- Laws of what a memory holds while the work of an order is done. Does a device stand for one state from the commit on,
+-- wherever the work is broken off?
+use Rattle.std.specs.Prelude.{◌≡◌, ℕ, List, [], None, Some}
+use Rattle.mb_format.specs.Format.{IsBytes}
+use Rattle.mb_model.specs.declared.order.Order.{Order}
+use Rattle.mb_model.specs.declared.entry.Entry.{Entry}
+use Rattle.mb_model.specs.declared.entry.SignedEntry.{SignedEntry}
+use Rattle.mb_model.specs.declared.region.Region.{Region}
+use Rattle.mb_model.specs.declared.state.Codes.{Codes}
+use Rattle.mb_model.specs.declared.state.State.{State}
+use Rattle.mb_model.specs.declared.stored.Root.{Root}
+use Rattle.mb_model.specs.Log.{entries_of, layers_of}
+use Rattle.mb_model.specs.OrderFormat.{order_format}
+use Rattle.mb_model.specs.RootFormat.{root_format}
+use Rattle.mb_model.specs.OrderStep.{Passes, obeyed}
+use Rattle.mb_model.specs.Valid.{IsValidState}
+use Rattle.mb_model.specs.Memory.{AreSized, current, HoldsRecord}
+use Rattle.mb_model.specs.StoredLog.{AreCounted, HasIndex}
+use Rattle.mb_model.specs.Flash.{flash_area, HoldsPublic}
+use Rattle.mb_model.specs.Meaning.{HoldsRegion, Contents, HoldsContents, meant, StandsFor}
+use Rattle.mb_model.specs.Clean.{root_of, IsCleanFor}
+use Rattle.mb_model.specs.Work.{new_entries}
+use Rattle.mb_model_memory.specs.Commits.{root_for, committed, two_done, three_done, both_done, IsUnderWay}
+use Rattle.mb_model_memory.specs.Commits.{at_rest}
+use Rattle.mb_model_memory.specs.InForce.{AgreeInForce, AgreeBesides}
+
+-- ---- the commit
+
+-- what is committed means the state after the order
+abbrev pub CommitsMeanTheirOrder : Type 0
+CommitsMeanTheirOrder =
+    (state : State) (order : Order) (draw : List ℕ) (area : ℕ) → IsValidState state → order_format.Allowed order
+    → Passes state order → meant (committed state order draw area) ≡ obeyed state order draw
+
+-- its unsigned entries are as many as its root says, and can be signed
+abbrev pub CommitsAreCounted : Type 0
+CommitsAreCounted =
+    (state : State) (order : Order) (draw : List ℕ) (area : ℕ)
+    → AreCounted (root_for state order draw area).pending (new_entries state order draw)
+
+-- and where the device key signs, its root has used an index for that
+abbrev pub CommitsHaveAnIndex : Type 0
+CommitsHaveAnIndex =
+    (state : State) (order : Order) (draw : List ℕ) (area : ℕ)
+    → HasIndex (root_for state order draw area) (root_for state order draw area).pending
+
+-- so a memory that holds it stands for the state after the order
+abbrev pub CommittedMemoriesStand : Type 0
+CommittedMemoriesStand =
+    (flash bbram : List ℕ) (state : State) (order : Order) (draw : List ℕ) (area : ℕ) → AreSized flash bbram
+    → IsValidState state → order_format.Allowed order → Passes state order
+    → HoldsContents flash bbram (committed state order draw area)
+    → StandsFor flash bbram (Some (obeyed state order draw))
+
+-- ---- the work
+
+-- contents mean the same, once what is to be done to region 2 is done
+abbrev pub TwoDoneMeansTheSame : Type 0
+TwoDoneMeansTheSame = (contents : Contents) → meant (two_done contents) ≡ meant contents
+
+-- or what is to be done to region 3
+abbrev pub ThreeDoneMeansTheSame : Type 0
+ThreeDoneMeansTheSame = (contents : Contents) → meant (three_done contents) ≡ meant contents
+
+-- or both
+abbrev pub BothDoneMeansTheSame : Type 0
+BothDoneMeansTheSame = (contents : Contents) → meant (both_done contents) ≡ meant contents
+
+-- and once each entry is signed, in either area of the flash, and nothing is pending
+abbrev pub SettledMeansTheSame : Type 0
+SettledMeansTheSame = (contents : Contents) (area : ℕ) → meant (at_rest (meant contents) area) ≡ meant contents
+
+-- so a memory stands for one state, however far the work has come
+abbrev pub WorkUnderWayStands : Type 0
+WorkUnderWayStands =
+    (flash bbram : List ℕ) (contents now : Contents) → AreSized flash bbram
+    → HasIndex contents.root contents.root.pending → IsUnderWay contents now → HoldsContents flash bbram now
+    → StandsFor flash bbram (Some (meant contents))
+
+-- and what is done again, wherever the work was broken off, ends where it would have ended
+abbrev pub WorkEndsTheSame : Type 0
+WorkEndsTheSame = (contents now : Contents) → IsUnderWay contents now → both_done now ≡ both_done contents
+
+-- ---- nothing is pending
+
+-- what is stored of a state where nothing is pending means that state
+abbrev pub RestMeansItsState : Type 0
+RestMeansItsState =
+    (state : State) (area : ℕ) → state.layers ≡ layers_of (entries_of state.log) → meant (at_rest state area) ≡ state
+
+-- so a memory that holds it stands for that state
+abbrev pub RestingMemoriesStand : Type 0
+RestingMemoriesStand =
+    (flash bbram : List ℕ) (state : State) (area : ℕ) → AreSized flash bbram
+    → state.layers ≡ layers_of (entries_of state.log) → HoldsContents flash bbram (at_rest state area)
+    → StandsFor flash bbram (Some state)
+
+-- contents of which nothing is pending are just that of the state that they mean
+abbrev pub NothingPendingIsRest : Type 0
+NothingPendingIsRest =
+    (contents : Contents) → contents.root.pending ≡ None → AreCounted contents.root.pending contents.unsigned
+    → contents ≡ at_rest (meant contents) contents.root.area
+
+-- a memory that is clean for a state, and stands for it, holds just that
+abbrev pub CleanMemoriesAreAtRest : Type 0
+CleanMemoriesAreAtRest =
+    (flash bbram : List ℕ) (state : State) (clean : IsCleanFor bbram state) → IsBytes bbram
+    → StandsFor flash bbram (Some state) → HoldsContents flash bbram (at_rest state clean.area)
+
+-- ---- what counts
+
+-- memories with the same bytes in force stand for the same live state
+abbrev pub AgreeingMemoriesStandForOne : Type 0
+AgreeingMemoriesStandForOne =
+    (flash bbram other_flash other_bbram : List ℕ) (state : State) → AreSized other_flash other_bbram
+    → AgreeInForce flash bbram other_flash other_bbram
+    → StandsFor flash bbram (Some state) → StandsFor other_flash other_bbram (Some state)
+
+-- whichever of the two comes first
+abbrev pub AgreementGoesBothWays : Type 0
+AgreementGoesBothWays =
+    (flash bbram other_flash other_bbram : List ℕ) → AgreeInForce flash bbram other_flash other_bbram
+    → AgreeInForce other_flash other_bbram flash bbram
+
+-- of a dead device the flash counts for nothing
+abbrev pub DeadFlashIsAny : Type 0
+DeadFlashIsAny =
+    (flash bbram other_flash : List ℕ) → AreSized other_flash bbram
+    → StandsFor flash bbram None → StandsFor other_flash bbram None
+
+-- ---- one piece after another
+
+-- where the area in force of slot 2 holds another region, and all else in force is as it was, the contents are the same
+-- but for that region
+abbrev pub TwoIsReplaced : Type 0
+TwoIsReplaced =
+    (flash bbram other_bbram : List ℕ) (contents : Contents) (region : Region) → AgreeBesides 2 bbram other_bbram
+    → HoldsRegion (current other_bbram 2) region → HoldsContents flash bbram contents
+    → HoldsContents flash other_bbram (record contents { two = region })
+
+-- so it is with region 3
+abbrev pub ThreeIsReplaced : Type 0
+ThreeIsReplaced =
+    (flash bbram other_bbram : List ℕ) (contents : Contents) (region : Region) → AgreeBesides 3 bbram other_bbram
+    → HoldsRegion (current other_bbram 3) region → HoldsContents flash bbram contents
+    → HoldsContents flash other_bbram (record contents { three = region })
+
+-- and with the root, where the area of the flash that it names holds codes and entries
+abbrev pub RootIsReplaced : Type 0
+RootIsReplaced =
+    (flash bbram other_bbram : List ℕ) (contents : Contents) (root : Root) (codes : Codes) (signed : List SignedEntry)
+    (unsigned : List Entry) → AgreeBesides 1 bbram other_bbram
+    → HoldsRecord root_format (current other_bbram 1) root → HoldsPublic flash root codes signed unsigned
+    → HoldsContents flash bbram contents
+    → HoldsContents flash other_bbram
+    (record contents { root = root; codes = codes; signed = signed; unsigned = unsigned })
+
+-- what is written to the flash area that the root does not name leaves the contents
+abbrev pub OtherFlashIsFree : Type 0
+OtherFlashIsFree =
+    (flash bbram other_flash : List ℕ) (contents : Contents)
+    → flash_area other_flash contents.root.area ≡ flash_area flash contents.root.area
+    → HoldsContents flash bbram contents → HoldsContents other_flash bbram contents
+
+-- ---- an order from rest to rest
+
+-- Where nothing is pending, the root that commits an order makes the memory hold what is committed. The flash holds the
+-- public record before.
+abbrev pub OrderIsCommitted : Type 0
+OrderIsCommitted =
+    (flash bbram other_bbram : List ℕ) (state : State) (order : Order) (draw : List ℕ) (area other_area : ℕ)
+    → AgreeBesides 1 bbram other_bbram
+    → HoldsRecord root_format (current other_bbram 1) (root_for state order draw other_area)
+    → HoldsPublic flash (root_for state order draw other_area) (obeyed state order draw).codes state.log
+    (new_entries state order draw)
+    → HoldsContents flash bbram (at_rest state area)
+    → HoldsContents flash other_bbram (committed state order draw other_area)
+
+-- Where what is to be done to both regions is done, the root of the state that is meant puts the memory at rest. The
+-- flash holds the signed record before.
+abbrev pub WorkIsFinished : Type 0
+WorkIsFinished =
+    (flash bbram other_bbram : List ℕ) (contents : Contents) (area : ℕ) → AgreeBesides 1 bbram other_bbram
+    → HoldsRecord root_format (current other_bbram 1) (root_of (meant contents) area)
+    → HoldsPublic flash (root_of (meant contents) area) contents.codes (meant contents).log []
+    → HoldsContents flash bbram (both_done contents) → HoldsContents flash other_bbram (at_rest (meant contents) area)

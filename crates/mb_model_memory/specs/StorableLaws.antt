@@ -1,0 +1,95 @@
+-- Laws of what can be stored. Can a device come to a state that it has no room or no spelling for?
+use Rattle.std.specs.Prelude.{ℕ, ◌≤◌, List, [], length, All, Some}
+use Rattle.mb_model.specs.declared.event.Event.{Event}
+use Rattle.mb_model.specs.declared.event.Answered.{Answered}
+use Rattle.mb_model.specs.declared.key.KeySeed.{KeySeed}
+use Rattle.mb_model.specs.declared.key.PublicKey.{PublicKey}
+use Rattle.mb_model.specs.declared.order.Order.{Order}
+use Rattle.mb_model.specs.declared.reply.Reply.{Reply}
+use Rattle.mb_model.specs.declared.region.Region.{Region}
+use Rattle.mb_model.specs.declared.state.State.{State}
+use Rattle.mb_model.specs.declared.stored.Public.{Public}
+use Rattle.mb_model.specs.declared.stored.Root.{Root}
+use Rattle.mb_model.specs.KeyFormat.{public_key_format}
+use Rattle.mb_model.specs.OrderFormat.{order_format}
+use Rattle.mb_model.specs.RootFormat.{root_format}
+use Rattle.mb_model.specs.Flash.{public_format, public_of_parts}
+use Rattle.mb_model.specs.OrderStep.{Passes, obeyed}
+use Rattle.mb_model.specs.Machine.{World, Step, Run}
+use Rattle.mb_model.specs.Valid.{IsValidState, Valid}
+use Rattle.mb_model.specs.Meaning.{StandsFor}
+use Rattle.mb_model.specs.Clean.{root_of}
+use Rattle.mb_model.specs.Factory.{state_at_birth}
+use Rattle.mb_model.specs.Script.{IsScriptEvent}
+use Rattle.mb_model.specs.Work.{new_entries}
+use Rattle.mb_model_memory.specs.Commits.{root_for}
+use Rattle.mb_model_memory.specs.Storable.{IsStorableRegion, IsStorableState, Storable, HasRegionRecord}
+
+-- a valid state for which a memory stands can be stored
+abbrev pub StoredStatesAreStorable : Type 0
+StoredStatesAreStorable =
+    (flash bbram : List ℕ) (state : State) → StandsFor flash bbram (Some state) → IsValidState state
+    → IsStorableState state
+
+-- so can that of a new device, whose owner has a spelling and whose code and noise have the lengths that they may have
+abbrev pub BornStatesAreStorable : Type 0
+BornStatesAreStorable =
+    (maker : KeySeed) (index : ℕ) (owner : PublicKey) (code noise : List ℕ) → public_key_format.Allowed owner
+    → length code ≤ 32768 → 48 ≤ length noise → IsStorableState (state_at_birth maker index owner code noise)
+
+-- and the state after an order that passes
+abbrev pub ObeyedStatesAreStorable : Type 0
+ObeyedStatesAreStorable =
+    (state : State) (order : Order) (draw : List ℕ) → order_format.Allowed order → Passes state order
+    → IsStorableState state → IsStorableState (obeyed state order draw)
+
+-- each step of an event that a script can give leads from a valid state that can be stored to one that can be stored
+abbrev pub StepsKeepStorable : Type 0
+StepsKeepStorable =
+    (world : World) (event : Event) (answer : Reply) (next : World) → IsScriptEvent event → Valid world.state
+    → Storable world.state → Step world event answer next → Storable next.state
+
+-- and so does a run of such events
+abbrev pub RunsKeepStorable : Type 0
+RunsKeepStorable =
+    (world : World) (answered : List Answered) (next : World) → All (λ this. IsScriptEvent this.event) answered
+    → Valid world.state → Storable world.state → Run world answered next → Storable next.state
+
+-- ---- its records
+
+-- the root of a valid state that can be stored has a spelling, where nothing is pending
+abbrev pub RestingRootsAreAllowed : Type 0
+RestingRootsAreAllowed =
+    (state : State) (area : ℕ) → area ≤ 1 → IsValidState state → IsStorableState state
+    → root_format.Allowed (root_of state area)
+
+-- and where an order is committed
+abbrev pub CommittedRootsAreAllowed : Type 0
+CommittedRootsAreAllowed =
+    (state : State) (order : Order) (draw : List ℕ) (area : ℕ) → area ≤ 1 → IsValidState state → IsStorableState state
+    → order_format.Allowed order → Passes state order → root_format.Allowed (root_for state order draw area)
+
+-- so has its public record, where nothing is pending
+abbrev pub RestingPublicsAreAllowed : Type 0
+RestingPublicsAreAllowed =
+    (state : State) → IsValidState state → IsStorableState state
+    → public_format.Allowed (public_of_parts state.codes state.log [])
+
+-- and where an order is committed
+abbrev pub CommittedPublicsAreAllowed : Type 0
+CommittedPublicsAreAllowed =
+    (state : State) (order : Order) (draw : List ℕ) → IsStorableState state → order_format.Allowed order
+    → Passes state order
+    → public_format.Allowed (public_of_parts (obeyed state order draw).codes state.log (new_entries state order draw))
+
+-- each region that can be stored has a record
+abbrev pub StorableRegionsHaveRecords : Type 0
+StorableRegionsHaveRecords = (region : Region) → IsStorableRegion region → HasRegionRecord region
+
+-- each root that has a spelling has room in an area of the battery-backed memory
+abbrev pub RootsHaveRoom : Type 0
+RootsHaveRoom = (root : Root) → root_format.Allowed root → length (root_format.spelling root) ≤ 4094
+
+-- and each public record that has one, in an area of the flash
+abbrev pub PublicsHaveRoom : Type 0
+PublicsHaveRoom = (public : Public) → public_format.Allowed public → length (public_format.spelling public) ≤ 470000

@@ -1,0 +1,29 @@
+//! Laws of what can be stored.
+
+ghost use Rattle.mb_model_memory.specs.StorableLaws.{StoredStatesAreStorable, BornStatesAreStorable, ObeyedStatesAreStorable, StepsKeepStorable, RunsKeepStorable, RestingRootsAreAllowed, CommittedRootsAreAllowed, RestingPublicsAreAllowed, CommittedPublicsAreAllowed, StorableRegionsHaveRecords, RootsHaveRoom, PublicsHaveRoom};
+
+/// A valid state for which a memory stands can be stored again, and so can that of a new device.
+pub fn stored_states_are_storable()
+    ensures stands { StoredStatesAreStorable }
+    ensures born { BornStatesAreStorable }
+{}
+
+/// Each step of an event that a script can give leads from a valid state that can be stored to one that can be stored. So
+/// does a run of such events, and an order that passes.
+pub fn steps_keep_states_storable()
+    ensures order { ObeyedStatesAreStorable }
+    ensures step { StepsKeepStorable }
+    ensures run { RunsKeepStorable }
+{}
+
+/// What can be stored has its records: the root and the public record have spellings, where nothing is pending and where
+/// an order is committed, each region has a record, and all of these have room.
+pub fn storable_states_have_records()
+    ensures root { RestingRootsAreAllowed }
+    ensures committed_root { CommittedRootsAreAllowed }
+    ensures public_record { RestingPublicsAreAllowed }
+    ensures committed_public { CommittedPublicsAreAllowed }
+    ensures region { StorableRegionsHaveRecords }
+    ensures root_room { RootsHaveRoom }
+    ensures public_room { PublicsHaveRoom }
+{}

@@ -1,0 +1,218 @@
+-- What a step comes to that is answered by a statement: a key of a region has signed it.
+use Rattle.std.proofs.Common.{◌≡◌, ◌<◌, ℕ, ◌+◌, List, [], ◌∷◌, inl, inr, length, Option, None, Some, Bool, true, false, refl, sym, ap, ◌∙◌, arith}
+use Rattle.std.specs.Prelude.{Result, Ok, Err, not, nat_lt, nat_le, ◌&&◌, ◌||◌, find, if◌then◌else◌, Contains, suc, cond}
+use Rattle.std.specs.List.{list_any}
+use Rattle.mb_model.specs.declared.event.Event.{Event}
+use Rattle.mb_model.specs.declared.event.Event.TheVariants as event
+use Rattle.mb_model.specs.declared.region.RegionKey.{RegionKey}
+use Rattle.mb_model.specs.declared.region.Secret.{Secret}
+use Rattle.mb_model.specs.declared.reply.Reply.{Reply}
+use Rattle.mb_model.specs.declared.reply.Reply.TheVariants as reply
+use Rattle.mb_model.specs.declared.state.State.{State}
+use Rattle.mb_model.specs.Layers.{is_runnable}
+use Rattle.mb_model.specs.Refusals.{Refusal, wrong_layer, key_spent, refused}
+use Rattle.mb_model.specs.OrderStep.{region_of, OrderStep, spells_none, fails_check, is_obeyed}
+use Rattle.mb_model.specs.LayerEvents.{Outcome, on_region, has_name, has_number, value_reply, put_event, get_event, drop_event, statement_of, sign_with, sign_event}
+use Rattle.mb_model.specs.Listing.{is_signed}
+use Rattle.mb_model.specs.ChainFormat.{statement_format}
+use Rattle.mb_model.specs.Machine.{Phase, off, dead, ratchet, World, Told, boot_event, awake_in, status_of, status_event, go_event, region_event, CommandStep, Machine, Step, answered, lacks_memory, loses_power}
+use Rattle.mb_model_lemmas.proofs.RefusalLemmas.{awake_state}
+use Rattle.mb_model_memory.proofs.StorableSteps.{found_number}
+use Rattle.mb_model_runs.proofs.KeptByRuns.{with_one_use}
+
+-- a key of the region of layer L signs this of a message in a state
+pub record SignsIn (state : State) (L : ℕ) (message : List ℕ) (n index : ℕ) (statement : List ℕ) (after : State) : Type 0 where
+  pub key : RegionKey
+  pub within : Contains (region_of state L).keys key
+  pub few : key.uses < 32
+  pub number_is : key.number ≡ n
+  pub index_is : key.uses ≡ index
+  pub statement_is : statement ≡ statement_format.spelling (statement_of state key message)
+  pub after_is : after ≡ with_one_use state L key.number
+
+-- and so in a world, at the event that asks for it
+pub record StepSigns (world : World) (given : Event) (n index : ℕ) (statement : List ℕ) (next : World) : Type 0 where
+  pub state : State
+  pub after : State
+  pub L : ℕ
+  pub message : List ℕ
+  pub asked : given ≡ event.Sign L n message
+  pub was : world.state ≡ Some state
+  pub is : next.state ≡ Some after
+  pub signs : SignsIn state L message n index statement after
+
+-- ---- the event by which a layer signs
+
+found_within : {X : Type 0} (p : X → Bool) (xs : List X) (x : X) → find p xs ≡ Some x → Contains xs x
+found_within p [] x e = absurd (grind (arith, e))
+found_within {X} p (y ∷ ys) x e = by (p y) e (found_within p ys x)
+  where
+    by : (b : Bool) → cond b (Some y) (find p ys) ≡ Some x → (find p ys ≡ Some x → Contains ys x) → Contains (y ∷ ys) x
+    by true e more = (0, omega arith, cc)
+    by false e more =
+        let at = more e in
+        (suc at.0, omega (arith, at.1), at.2)
+
+signed_parts : (a b c d : ℕ) (s t : List ℕ) → reply.Signed a c s ≡ reply.Signed b d t → (a ≡ b) × (c ≡ d) × (s ≡ t)
+signed_parts a b c d s t e = (cc, cc, cc)
+
+fresh_is_few : (uses : ℕ) → nat_le 32 uses ≡ false → uses < 32
+fresh_is_few uses e = grind (arith, e)
+
+-- where the outcome's reply is this statement, the key that was asked for has signed it
+abbrev Signs : State → ℕ → ℕ → List ℕ → ℕ → ℕ → List ℕ → Outcome → Type 0
+Signs state L number message n index statement outcome =
+    outcome.0 ≡ reply.Signed n index statement → (number ≡ n) × SignsIn state L message n index statement outcome.1
+
+either_signs : (state : State) (L number : ℕ) (message : List ℕ) (n index : ℕ) (statement : List ℕ) (b : Bool) (x y : Outcome)
+    → (b ≡ true → Signs state L number message n index statement x) → (b ≡ false → Signs state L number message n index statement y)
+    → Signs state L number message n index statement (if b then x else y)
+either_signs state L number message n index statement true x y first second = first refl
+either_signs state L number message n index statement false x y first second = second refl
+
+sign_with_signs : (L : ℕ) (found : Option RegionKey) (number : ℕ) (message : List ℕ) (state : State) (n index : ℕ) (statement : List ℕ)
+    → find (has_number number) (region_of state L).keys ≡ found → Signs state L number message n index statement (sign_with L found message state)
+sign_with_signs L None number message state n index statement is = λ e. absurd (grind (arith, e))
+sign_with_signs L (Some key) number message state n index statement is =
+    let stated : List ℕ = statement_format.spelling (statement_of state key message) in
+    either_signs state L number message n index statement (nat_le 32 key.uses) (refused key_spent, state) (reply.Signed key.number key.uses stated, with_one_use state L key.number)
+    (λ spent e. absurd (grind (arith, e)))
+    (λ fresh e.
+    let parts = signed_parts key.number n key.uses index stated statement e in (
+      sym (found_number number (region_of state L).keys key is) ∙ parts.0,
+      record {
+        key = key;
+        within = found_within (has_number number) (region_of state L).keys key is;
+        few = fresh_is_few key.uses fresh;
+        number_is = parts.0;
+        index_is = parts.1;
+        statement_is = sym parts.2;
+        after_is = refl;
+      },
+    ))
+
+sign_signs : (L number : ℕ) (message : List ℕ) (state : State) (n index : ℕ) (statement : List ℕ) → Signs state L number message n index statement (sign_event L number message state)
+unfolding sign_event
+sign_signs L number message state n index statement =
+    sign_with_signs L (find (has_number number) (region_of state L).keys) number message state n index statement refl
+
+on_region_signs : (r L number : ℕ) (message : List ℕ) (state : State) (n index : ℕ) (statement : List ℕ)
+    → Signs state L number message n index statement (on_region r L (sign_event L number message) state)
+on_region_signs r L number message state n index statement =
+    either_signs state L number message n index statement (nat_lt L r || not (is_runnable state.layers L)) (refused wrong_layer, state) (sign_event L number message state)
+    (λ past e. absurd (grind (arith, e)))
+    (λ here. sign_signs L number message state n index statement)
+
+-- ---- every other event
+
+-- what is told is not this statement
+not_told : (n index : ℕ) (statement : List ℕ) (next : World) (told : Told) → is_signed told.0 ≡ false → ◌≡◌ {A = Told} (reply.Signed n index statement, next) told → ⊥
+not_told n index statement next told unsigned e =
+    let clash : true ≡ false = ap (λ (t : Told). is_signed t.0) e ∙ unsigned in
+    grind (arith, clash)
+
+not_signed : (n index : ℕ) (statement : List ℕ) (other : Reply) → is_signed other ≡ false → reply.Signed n index statement ≡ other → ⊥
+not_signed n index statement other unsigned e =
+    let clash : true ≡ false = ap is_signed e ∙ unsigned in
+    grind (arith, clash)
+
+boot_unsigned : (world : World) (phase : Phase) (state : Option State) → is_signed (boot_event world phase state).0 ≡ false
+boot_unsigned world off (Some state) = refl
+boot_unsigned world off None = refl
+boot_unsigned world dead state = refl
+boot_unsigned world (ratchet r) state = refl
+
+status_unsigned : (world : World) (on : Result (ℕ × State) Refusal) → is_signed (status_event world on).0 ≡ false
+unfolding status_of
+status_unsigned world (Err refusal) = refl
+status_unsigned world (Ok on) = refl
+
+either_told : (b : Bool) (x y : Told) → is_signed x.0 ≡ false → is_signed y.0 ≡ false → is_signed (if b then x else y).0 ≡ false
+either_told true x y first second = first
+either_told false x y first second = second
+
+go_unsigned : (world : World) (on : Result (ℕ × State) Refusal) → is_signed (go_event world on).0 ≡ false
+go_unsigned world (Err refusal) = refl
+go_unsigned world (Ok on) =
+    either_told (nat_lt 2 on.0) _ _ refl (either_told (is_runnable on.1.layers (on.0 + 1)) _ _ refl refl)
+
+either_unsigned : (b : Bool) (x y : Outcome) → is_signed x.0 ≡ false → is_signed y.0 ≡ false → is_signed (if b then x else y).0 ≡ false
+either_unsigned true x y first second = first
+either_unsigned false x y first second = second
+
+put_unsigned : (L : ℕ) (name value : List ℕ) (state : State) → is_signed (put_event L name value state).0 ≡ false
+unfolding put_event
+put_unsigned L name value state =
+    either_unsigned (not (list_any (has_name name) (region_of state L).secrets) && nat_le 16 (length (region_of state L).secrets)) _ _ refl refl
+
+value_unsigned : (secret : Option Secret) → is_signed (value_reply secret) ≡ false
+value_unsigned None = refl
+value_unsigned (Some secret) = refl
+
+get_unsigned : (L : ℕ) (name : List ℕ) (state : State) → is_signed (get_event L name state).0 ≡ false
+unfolding get_event
+get_unsigned L name state = value_unsigned (find (has_name name) (region_of state L).secrets)
+
+drop_unsigned : (L : ℕ) (name : List ℕ) (state : State) → is_signed (drop_event L name state).0 ≡ false
+unfolding drop_event
+drop_unsigned L name state = either_unsigned (list_any (has_name name) (region_of state L).secrets) _ _ refl refl
+
+region_unsigned : (world : World) (L : ℕ) (does : State → Outcome) (on : Result (ℕ × State) Refusal) → ((state : State) → is_signed (does state).0 ≡ false)
+    → is_signed (region_event world L does on).0 ≡ false
+region_unsigned world L does (Err refusal) each = refl
+region_unsigned world L does (Ok on) each =
+    either_unsigned (nat_lt L on.0 || not (is_runnable on.1.layers L)) (refused wrong_layer, on.1) (does on.1) refl (each on.1)
+
+order_unsigned : (state : State) (text draw : List ℕ) (answer : Reply) (next : State) → OrderStep state text draw answer next → is_signed answer ≡ false
+order_unsigned state text draw answer next (spells_none p) = ap is_signed p.answered
+order_unsigned state text draw answer next (fails_check p) = ap is_signed p.answered
+order_unsigned state text draw answer next (is_obeyed p) = ap is_signed p.answered
+
+command_unsigned : (world : World) (text draw : List ℕ) (on : Result (ℕ × State) Refusal) (answer : Reply) (next : World) → CommandStep world text draw on answer next → is_signed answer ≡ false
+command_unsigned world text draw (Err refusal) answer next x = ap is_signed x.0
+command_unsigned world text draw (Ok on) answer next (inl x) = order_unsigned on.1 text draw answer x.1.0 x.1.1
+command_unsigned world text draw (Ok on) answer next (inr x) = ap is_signed x.1
+
+-- ---- the step
+
+region_signs : (world : World) (L number : ℕ) (message : List ℕ) (on : Result (ℕ × State) Refusal) (n index : ℕ) (statement : List ℕ) (next : World) → awake_in world ≡ on
+    → ◌≡◌ {A = Told} (reply.Signed n index statement, next) (region_event world L (sign_event L number message) on) → StepSigns world (event.Sign L number message) n index statement next
+region_signs world L number message (Err refusal) n index statement next is e = absurd (not_told n index statement next (refused refusal, world) refl e)
+region_signs world L number message (Ok on) n index statement next is e =
+    let outcome : Outcome = on_region on.0 L (sign_event L number message) on.1 in
+    let told : reply.Signed n index statement ≡ outcome.0 = ap (λ (t : Told). t.0) e in
+    let signs = on_region_signs on.0 L number message on.1 n index statement (sym told) in
+    record {
+      state = on.1;
+      after = outcome.1;
+      L = L;
+      message = message;
+      asked = ap (λ m. event.Sign L m message) signs.0;
+      was = awake_state world.phase world.state on is;
+      is = ap (λ (t : Told). t.1.state) e;
+      signs = signs.1;
+    }
+
+machine_signs : (world : World) (given : Event) (n index : ℕ) (statement : List ℕ) (next : World) → Machine world given (reply.Signed n index statement) next
+    → StepSigns world given n index statement next
+machine_signs world event.Boot n index statement next x = absurd (not_told n index statement next _ (boot_unsigned world world.phase world.state) x)
+machine_signs world event.Off n index statement next x = absurd (not_signed n index statement reply.Off refl x.0)
+machine_signs world event.Tamper n index statement next x = absurd (not_signed n index statement reply.Tampered refl x.0)
+machine_signs world (event.Cut count tear) n index statement next x = absurd (not_signed n index statement reply.Armed refl x.0)
+machine_signs world event.Status n index statement next x = absurd (not_told n index statement next _ (status_unsigned world (awake_in world)) x)
+machine_signs world (event.Command text draw) n index statement next x =
+    absurd (not_signed n index statement (reply.Signed n index statement) (command_unsigned world text draw (awake_in world) (reply.Signed n index statement) next x) refl)
+machine_signs world event.Go n index statement next x = absurd (not_told n index statement next _ (go_unsigned world (awake_in world)) x)
+machine_signs world (event.Put L name value) n index statement next x =
+    absurd (not_told n index statement next _ (region_unsigned world L (put_event L name value) (awake_in world) (put_unsigned L name value)) x)
+machine_signs world (event.Get L name) n index statement next x =
+    absurd (not_told n index statement next _ (region_unsigned world L (get_event L name) (awake_in world) (get_unsigned L name)) x)
+machine_signs world (event.Drop L name) n index statement next x =
+    absurd (not_told n index statement next _ (region_unsigned world L (drop_event L name) (awake_in world) (drop_unsigned L name)) x)
+machine_signs world (event.Sign L key message) n index statement next x = region_signs world L key message (awake_in world) n index statement next refl x
+
+pub step_signs : (world : World) (given : Event) (n index : ℕ) (statement : List ℕ) (next : World) → Step world given (reply.Signed n index statement) next
+    → StepSigns world given n index statement next
+step_signs world given n index statement next (answered x) = machine_signs world given n index statement next x
+step_signs world given n index statement next (lacks_memory p) = absurd (not_signed n index statement reply.NoMemory refl p.answered)
+step_signs world given n index statement next (loses_power p) = absurd (not_signed n index statement reply.Stopped refl p.answered)

@@ -1,0 +1,87 @@
+-- Laws of statements. Is what a key once stated accepted with a later chain?
+use Rattle.std.specs.Prelude.{◌≡◌, ℕ, ◌<◌, List, All, Contains, Some}
+use Rattle.mb_format.specs.Format.{IsBytes, Spells}
+use Rattle.mb_model.specs.declared.key.PublicKey.{PublicKey}
+use Rattle.mb_model.specs.declared.event.Answered.{Answered}
+use Rattle.mb_model.specs.declared.event.Event.{Event}
+use Rattle.mb_model.specs.declared.event.Event.TheVariants.{Sign}
+use Rattle.mb_model.specs.declared.entry.SignedEntry.{SignedEntry}
+use Rattle.mb_model.specs.declared.entry.Statement.{Statement}
+use Rattle.mb_model.specs.declared.region.RegionKey.{RegionKey}
+use Rattle.mb_model.specs.declared.reply.Reply.TheVariants as reply
+use Rattle.mb_model.specs.declared.state.State.{State}
+use Rattle.mb_model.specs.Log.{entries_of}
+use Rattle.mb_model.specs.Script.{IsScriptEvent}
+use Rattle.mb_model.specs.Signing.{public_of}
+use Rattle.mb_model.specs.ChainFormat.{statement_format, chain_format}
+use Rattle.mb_model.specs.OrderStep.{region_of}
+use Rattle.mb_model.specs.LayerEvents.{statement_of}
+use Rattle.mb_model.specs.Machine.{World, Step, Run}
+use Rattle.mb_model.specs.Valid.{Valid}
+use Rattle.mb_model.specs.Attach.{cut_at, stated_chain}
+use Rattle.mb_model.specs.Acceptance.{IsBornOf, KeyEntry, key_of, IsStated, report_of, Accepts}
+use Rattle.mb_model.specs.Runs.{worlds_of, StaysAccepted, IsAcceptedIn}
+use Rattle.mb_model_memory.specs.Storable.{Storable}
+
+-- ---- statements
+
+-- In this state a key of the region of layer L, with the number n, signs a statement of a message at its next index.
+pub record IsStatedIn
+    (state : State)
+    (L : ℕ)
+    (message : List ℕ)
+    (n index : ℕ)
+    (statement : List ℕ) : Type 0 where
+  pub key : RegionKey
+  pub within : Contains (region_of state L).keys key
+  pub number_is : key.number ≡ n
+  pub index_is : key.uses ≡ index
+  pub left : key.uses < 32
+  pub statement_is : statement ≡ statement_format.spelling (statement_of state key message)
+
+-- An event that is answered by a statement has asked for it, and a key of the state before has signed it.
+abbrev pub StatementsAreOfKeys : Type 0
+StatementsAreOfKeys =
+    (world : World) (event : Event) (n index : ℕ) (statement : List ℕ) (next : World)
+    → Step world event (reply.Signed n index statement) next
+    → (state : State) × (world.state ≡ Some state)
+    × (L : ℕ) × (message : List ℕ) × (event ≡ Sign L n message) × IsStatedIn state L message n index statement
+
+-- ---- the chain with a statement
+
+-- what the log tells of a key of layer L
+abbrev pub entry_of : ℕ → RegionKey → KeyEntry
+entry_of L key = record { layer = L; kind = key.kind; key = public_of key.seed }
+
+-- What a key that is there and has an index left states, attached to the log of the state then, or of a later live one
+-- of a run, is accepted for the key, where the maker signed the device's birth.
+abbrev pub StatementsAreAccepted : Type 0
+StatementsAreAccepted =
+    (maker : PublicKey) (world : World) (answered : List Answered) (next : World) (state later : State)
+    (L : ℕ) (key : RegionKey) (message bytes : List ℕ)
+    → Valid world.state → world.state ≡ Some state → Contains (region_of state L).keys key → key.uses < 32
+    → Run world answered next → next.state ≡ Some later → IsBornOf maker later.log
+    → Spells chain_format bytes (stated_chain later.log (statement_of state key message))
+    → Accepts maker bytes key.number
+    (report_of (stated_chain later.log (statement_of state key message)) key.number (entry_of L key))
+
+-- The statement by which an event was answered, in a valid state that can be stored, is accepted with the log of each
+-- later live state of a run. The events are those of a script.
+abbrev pub AnswersStayAccepted : Type 0
+AnswersStayAccepted =
+    (world : World) (event : Event) (n index : ℕ) (bytes : List ℕ) (mid : World)
+    (answered : List Answered) (next : World) (run : Run mid answered next)
+    → IsScriptEvent event → All (λ this. IsScriptEvent this.event) answered
+    → Valid world.state → Storable world.state → Step world event (reply.Signed n index bytes) mid
+    → All (IsAcceptedIn n bytes) (worlds_of mid answered next run)
+
+-- A statement that the key did not sign is not accepted: no key that the log gives this number, up to the statement's
+-- configuration, verifies it.
+abbrev pub ForeignStatementsAreNotAccepted : Type 0
+ForeignStatementsAreNotAccepted =
+    (maker : PublicKey) (log : List SignedEntry) (n : ℕ) (bytes : List ℕ) (statement : Statement)
+    → IsBytes bytes → Spells statement_format bytes statement
+    → IsBytes (chain_format.spelling (stated_chain log statement))
+    → ((made : KeyEntry) → key_of (entries_of (cut_at statement.number log)) n ≡ Some made
+    → IsStated (entries_of (cut_at statement.number log)) n made.key statement → ⊥)
+    → StaysAccepted maker log n bytes → ⊥

@@ -1,9 +1,0 @@
-use Rattle.mb_run_laws.proofs.OfficerLemmas as lemmas
-use Rattle.mb_run_laws.proofs.officers.tools_make_right_orders.Goals as goal
-
-pub returns : goal.returns
-returns c = record {
-  signed = lemmas.signed_order_passes;
-  stays = lemmas.countersigned_stays_signed;
-  countersigned = lemmas.countersigned_order_passes;
-}

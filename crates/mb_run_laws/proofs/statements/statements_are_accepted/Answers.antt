@@ -1,5 +1,0 @@
-use Rattle.mb_run_laws.proofs.StatementLemmas as lemmas
-use Rattle.mb_run_laws.proofs.statements.statements_are_accepted.Goals as goal
-
-pub returns : goal.returns
-returns c = record { stated = lemmas.statement_accepted; answered = lemmas.answer_stays_accepted; foreign = lemmas.foreign_not_accepted }

@@ -1,5 +1,0 @@
-use Rattle.mb_storing.proofs.RestLemmas as lemmas
-use Rattle.mb_storing.proofs.commits.orders_begin_and_end_with_a_root.Goals as goal
-
-pub returns : goal.returns
-returns c = record { begins = lemmas.order_committed; ends = lemmas.work_finished }

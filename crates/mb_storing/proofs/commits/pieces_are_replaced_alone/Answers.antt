@@ -1,5 +1,0 @@
-use Rattle.mb_storing.proofs.FrameLemmas as lemmas
-use Rattle.mb_storing.proofs.commits.pieces_are_replaced_alone.Goals as goal
-
-pub returns : goal.returns
-returns c = record { two = lemmas.two_replaced; three = lemmas.three_replaced; root = lemmas.root_replaced; flash = lemmas.other_flash }

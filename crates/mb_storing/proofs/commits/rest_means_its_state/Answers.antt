@@ -1,5 +1,0 @@
-use Rattle.mb_storing.proofs.RestLemmas as lemmas
-use Rattle.mb_storing.proofs.commits.rest_means_its_state.Goals as goal
-
-pub returns : goal.returns
-returns c = record { means = lemmas.rest_means; stands = lemmas.rest_stands; only = lemmas.nothing_pending; clean = lemmas.clean_and_stands }

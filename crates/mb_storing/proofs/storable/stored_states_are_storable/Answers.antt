@@ -1,5 +1,0 @@
-use Rattle.mb_storing.proofs.StorableMemories as lemmas
-use Rattle.mb_storing.proofs.storable.stored_states_are_storable.Goals as goal
-
-pub returns : goal.returns
-returns c = record { stands = lemmas.stands_storable; born = lemmas.birth_storable }

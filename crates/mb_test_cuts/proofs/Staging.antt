@@ -1,0 +1,40 @@
+-- An image that stands for a state gives the calls what they require.
+use Rattle.std.proofs.Common.{◌≡◌, ℕ, Bool, List, [], length, Some, sym, ap, subst, arith, length-append}
+use Rattle.mb_model.specs.declared.state.State.{State}
+use Rattle.mb_model.specs.Board.{Memory, IsLoaded, image_of}
+use Rattle.mb_model.specs.Meaning.{StandsFor, IsWellFormed}
+use Rattle.mb_model_lemmas.proofs.FaultLemmas.{image_parts}
+use Rattle.mb_model_memory.proofs.CommitLemmas.{live_contents}
+use Rattle.mb_boot.specs.Booting.{StandsForValid, KeepsState}
+use Rattle.mb_test_cuts.specs.Staged.{IsLive, HoldsImage, IsReady}
+
+pub live_length : (image : List ℕ) → IsLive image → length image ≡ 1077248
+live_length image live =
+    let formed : IsWellFormed image (Some live.state) = live.well_formed in
+    omega (arith, ap length formed.image_is.0, length-append formed.flash formed.bbram, formed.image_is.1.flash, formed.image_is.1.bbram)
+
+stands_here : (image : List ℕ) (memory : Memory) (live : IsLive image) → IsLoaded memory → image_of memory ≡ image
+    → StandsFor memory.flash memory.bbram (Some live.state)
+stands_here image memory live loaded same =
+    let formed : IsWellFormed image (Some live.state) = live.well_formed in
+    let parts = image_parts image formed.flash formed.bbram memory.flash memory.bbram formed.image_is (sym same, loaded) in
+    subst (λ (bbram : List ℕ). StandsFor memory.flash bbram (Some live.state)) parts.1
+    (subst (λ (flash : List ℕ). StandsFor flash formed.bbram (Some live.state)) parts.0 formed.stands)
+
+pub ready : (image : List ℕ) (power : Bool) (memory : Memory) → IsLive image → HoldsImage image power memory → IsReady memory
+ready image power memory live holds =
+    let stands = stands_here image memory live holds.loaded holds.same in
+    let contents = live_contents memory.flash memory.bbram live.state stands in
+    record {
+      loaded = holds.loaded;
+      stands = record { state = Some live.state; stands = stands; valid = live.well_formed.valid };
+      two = record { region = contents.contents.two; holds = contents.holds.two };
+      three = record { region = contents.contents.three; holds = contents.holds.three };
+    }
+
+-- the memory still has its length after a boot
+pub still_loaded : (before after : Memory) → StandsForValid before → KeepsState before after → IsLoaded after
+still_loaded before after stands keeps = (keeps.kept stands.state stands.stands).sized
+
+pub is_live : (image : List ℕ) (state : State) → IsWellFormed image (Some state) → IsLive image
+is_live image state formed = record { state = state; well_formed = formed }

@@ -1,0 +1,526 @@
+//! Images as orders leave them, and that of a new device, written by another program.
+
+ghost use Rattle.std.specs.Prelude.{◌≡◌, ◌<◌, IfOk};
+ghost use Rattle.mb_test_cuts.specs.Staged.{IsLive};
+
+use super::states::{Device, read};
+use hex::FromHex;
+use mb_lms::HashCount;
+use mb_model::{FLASH_LENGTH, IMAGE_LENGTH, KeySeed};
+use mb_signer::{OneUse, Uses, sign, take_index};
+use std::alloc::Global;
+use std::marker::Brand;
+use std::sync::ledger::{Blank, Ledger};
+use std::test::Fail;
+
+/// What an order has left, and what it stands for. Bytes are in hexadecimal.
+pub struct Left {
+    /// The device key that signed every entry so far but the birth.
+    identifier: &'static str,
+    seed: &'static str,
+    /// The public record up to the number of entries.
+    codes: &'static str,
+    pub entries: &'static [&'static str],
+    /// How many of them are not signed yet.
+    unsigned: usize,
+    pub root: &'static str,
+    /// The records of regions 2 and 3.
+    pub two: &'static str,
+    pub three: &'static str,
+    /// How many indices of the device key are used afterwards.
+    pub uses: u32,
+    /// How many secrets and keys region 2 has afterwards, and region 3.
+    pub items: [usize; 4],
+    /// The SHA-256 hash of all signatures afterwards, one after another.
+    pub signatures: &'static str,
+}
+
+/// A load of layer 3, whose one entry is not signed: region 2 stays, and region 3 loses its configuration keys.
+pub const ENTRY: Left = Left {
+    identifier: "e4f1a113ee7ce457619d3d0d324c363a",
+    seed: "9340c5a93a0446d41683fa018ee70553484f9ac0794cd0c20074f6d1e05dddd0",
+    codes: "01010000000f636f6465206f66206c6179657220310100000011636f64652033206f66206c6179657220320100000011636f\
+        64652037206f66206c617965722033",
+    entries: &[
+        "000144b1defcf7561087015f8d830d65b10000000500000003e4f1a113ee7ce457619d3d0d324c363a0a2faeec89cf7f98b4\
+            874cd75da154ba6c8fc75266461579084cd47e20d933f7070000000005000000035fbf6e19e56a012089bf1ee10e30e07dc4\
+            3caf0ed4b61d72dc82c678bbb59b85f770acbdd748edd0b30b8ed1543afdbf3cdc5a15226b47b541482fdb80594d173303cd\
+            de06a5cf52120227461d1ba1ed0000000100010001",
+        "01000000010000000101020000070000000005000000035fbf6e19e56a012089bf1ee10e30e07dc43caf0ed4b61d72dc82c6\
+            78bbb59b85f770acbdd748edd0b30b8ed1543afdbf3cdc5a15226b47b541482fdb80594d173303cdde06a5cf52120227461d\
+            1ba1ed0000000101000000000500000003d7fa2bbf985c7c1b2fcd5493f0d0ab60e05304e71bd5429fe4a75a367036f41aff\
+            327c57e5a17d8e9f94ae177816f284000100",
+        "01000000020000000201030001070000000005000000035fbf6e19e56a012089bf1ee10e30e07dc43caf0ed4b61d72dc82c6\
+            78bbb59b85f770acbdd748edd0b30b8ed1543afdbf3cdc5a15226b47b541482fdb80594d173303cdde06a5cf52120227461d\
+            1ba1ed0000000101000000000500000003d7fa2bbf985c7c1b2fcd5493f0d0ab60e05304e71bd5429fe4a75a367036f41aff\
+            327c57e5a17d8e9f94ae177816f284010000000005000000038333187cb3b737ebf980e9c4cec15628273e14a2f3abd45113\
+            badcfbbbdd2e90bbe5fbb92c9ed212190834fb7c4a0e1600",
+        "01000000030000000304020002070000000005000000035fbf6e19e56a012089bf1ee10e30e07dc43caf0ed4b61d72dc82c6\
+            78bbb59b85f770acbdd748edd0b30b8ed1543afdbf3cdc5a15226b47b541482fdb80594d173303cdde06a5cf52120227461d\
+            1ba1ed0000000107000000000500000003d7fa2bbf985c7c1b2fcd5493f0d0ab60e05304e71bd5429fe4a75a367036f41aff\
+            327c57e5a17d8e9f94ae177816f284074e3ae267177e7c6306cf1519bcee14a30d2066d06696f033c93c642e41f164000000\
+            03010000000005000000038333187cb3b737ebf980e9c4cec15628273e14a2f3abd45113badcfbbbdd2e90bbe5fbb92c9ed2\
+            12190834fb7c4a0e1600",
+        "01000000040000000404030001070000000005000000035fbf6e19e56a012089bf1ee10e30e07dc43caf0ed4b61d72dc82c6\
+            78bbb59b85f770acbdd748edd0b30b8ed1543afdbf3cdc5a15226b47b541482fdb80594d173303cdde06a5cf52120227461d\
+            1ba1ed0000000107000000000500000003d7fa2bbf985c7c1b2fcd5493f0d0ab60e05304e71bd5429fe4a75a367036f41aff\
+            327c57e5a17d8e9f94ae177816f284074e3ae267177e7c6306cf1519bcee14a30d2066d06696f033c93c642e41f164000000\
+            03070000000005000000038333187cb3b737ebf980e9c4cec15628273e14a2f3abd45113badcfbbbdd2e90bbe5fbb92c9ed2\
+            12190834fb7c4a0e1671455d294399cbc197ffdffa05fa843281a17912bfe71cfa93bdfa8740a2eada0000000400",
+        "0200000005000000040000000102010000000500000003bb85e69f768b454548412a965c34361904d55322d6e1a1ce148abc\
+            d37d8729edb333db58136f7c425ad9e363015c4751",
+        "02000000060000000400000002030000000005000000032b98f80d867125f7622b17092bb5aec0e24e9db181225ff6f05590\
+            bb8abc5f7eb809c1ea0690966dcc75a8d61c4c05f0",
+        "01000000070000000503030003070000000005000000035fbf6e19e56a012089bf1ee10e30e07dc43caf0ed4b61d72dc82c6\
+            78bbb59b85f770acbdd748edd0b30b8ed1543afdbf3cdc5a15226b47b541482fdb80594d173303cdde06a5cf52120227461d\
+            1ba1ed0000000107000000000500000003d7fa2bbf985c7c1b2fcd5493f0d0ab60e05304e71bd5429fe4a75a367036f41aff\
+            327c57e5a17d8e9f94ae177816f284074e3ae267177e7c6306cf1519bcee14a30d2066d06696f033c93c642e41f164000000\
+            03070000000005000000038333187cb3b737ebf980e9c4cec15628273e14a2f3abd45113badcfbbbdd2e90bbe5fbb92c9ed2\
+            12190834fb7c4a0e168a1fbb6807d67656348895b194f25da407dd96516bff0afd8028878c1197c3c90000000700",
+    ],
+    unsigned: 1,
+    root: "01000144b1defcf7561087015f8d830d65b1e4f1a113ee7ce457619d3d0d324c363a9340c5a93a0446d41683fa018ee70553\
+        484f9ac0794cd0c20074f6d1e05dddd0070101000002",
+    two: "01010370696e043132333400000004010000000101bb85e69f768b454548412a965c3436199a21ceb74d969db602db1cb46e\
+        4a5eefe94cd49a7cafd9830ae5d03bf0a7862d00",
+    three: "01000100000002002b98f80d867125f7622b17092bb5aec0baef31f723051f380f1ce09412fd2358fc74211fc5054269b941\
+        06e0d3ee50f200",
+    uses: 7,
+    items: [1, 1, 0, 1],
+    signatures: "01b38531e312a2775cb766308b66d4638b111d2f06faa9562f92241491afabff",
+};
+
+/// A load of layer 1, by which the device has its next key: both regions lose their configuration keys.
+pub const RENEWAL: Left = Left {
+    identifier: "e4f1a113ee7ce457619d3d0d324c363a",
+    seed: "9340c5a93a0446d41683fa018ee70553484f9ac0794cd0c20074f6d1e05dddd0",
+    codes: "010100000011636f64652037206f66206c6179657220310100000011636f64652033206f66206c6179657220320100000011\
+        636f64652034206f66206c617965722033",
+    entries: &[
+        "000144b1defcf7561087015f8d830d65b10000000500000003e4f1a113ee7ce457619d3d0d324c363a0a2faeec89cf7f98b4\
+            874cd75da154ba6c8fc75266461579084cd47e20d933f7070000000005000000035fbf6e19e56a012089bf1ee10e30e07dc4\
+            3caf0ed4b61d72dc82c678bbb59b85f770acbdd748edd0b30b8ed1543afdbf3cdc5a15226b47b541482fdb80594d173303cd\
+            de06a5cf52120227461d1ba1ed0000000100010001",
+        "01000000010000000101020000070000000005000000035fbf6e19e56a012089bf1ee10e30e07dc43caf0ed4b61d72dc82c6\
+            78bbb59b85f770acbdd748edd0b30b8ed1543afdbf3cdc5a15226b47b541482fdb80594d173303cdde06a5cf52120227461d\
+            1ba1ed0000000101000000000500000003d7fa2bbf985c7c1b2fcd5493f0d0ab60e05304e71bd5429fe4a75a367036f41aff\
+            327c57e5a17d8e9f94ae177816f284000100",
+        "01000000020000000201030001070000000005000000035fbf6e19e56a012089bf1ee10e30e07dc43caf0ed4b61d72dc82c6\
+            78bbb59b85f770acbdd748edd0b30b8ed1543afdbf3cdc5a15226b47b541482fdb80594d173303cdde06a5cf52120227461d\
+            1ba1ed0000000101000000000500000003d7fa2bbf985c7c1b2fcd5493f0d0ab60e05304e71bd5429fe4a75a367036f41aff\
+            327c57e5a17d8e9f94ae177816f284010000000005000000038333187cb3b737ebf980e9c4cec15628273e14a2f3abd45113\
+            badcfbbbdd2e90bbe5fbb92c9ed212190834fb7c4a0e1600",
+        "01000000030000000304020002070000000005000000035fbf6e19e56a012089bf1ee10e30e07dc43caf0ed4b61d72dc82c6\
+            78bbb59b85f770acbdd748edd0b30b8ed1543afdbf3cdc5a15226b47b541482fdb80594d173303cdde06a5cf52120227461d\
+            1ba1ed0000000107000000000500000003d7fa2bbf985c7c1b2fcd5493f0d0ab60e05304e71bd5429fe4a75a367036f41aff\
+            327c57e5a17d8e9f94ae177816f284074e3ae267177e7c6306cf1519bcee14a30d2066d06696f033c93c642e41f164000000\
+            03010000000005000000038333187cb3b737ebf980e9c4cec15628273e14a2f3abd45113badcfbbbdd2e90bbe5fbb92c9ed2\
+            12190834fb7c4a0e1600",
+        "01000000040000000404030001070000000005000000035fbf6e19e56a012089bf1ee10e30e07dc43caf0ed4b61d72dc82c6\
+            78bbb59b85f770acbdd748edd0b30b8ed1543afdbf3cdc5a15226b47b541482fdb80594d173303cdde06a5cf52120227461d\
+            1ba1ed0000000107000000000500000003d7fa2bbf985c7c1b2fcd5493f0d0ab60e05304e71bd5429fe4a75a367036f41aff\
+            327c57e5a17d8e9f94ae177816f284074e3ae267177e7c6306cf1519bcee14a30d2066d06696f033c93c642e41f164000000\
+            03070000000005000000038333187cb3b737ebf980e9c4cec15628273e14a2f3abd45113badcfbbbdd2e90bbe5fbb92c9ed2\
+            12190834fb7c4a0e1671455d294399cbc197ffdffa05fa843281a17912bfe71cfa93bdfa8740a2eada0000000400",
+        "0200000005000000040000000102010000000500000003bb85e69f768b454548412a965c34361904d55322d6e1a1ce148abc\
+            d37d8729edb333db58136f7c425ad9e363015c4751",
+        "02000000060000000400000002030000000005000000032b98f80d867125f7622b17092bb5aec0e24e9db181225ff6f05590\
+            bb8abc5f7eb809c1ea0690966dcc75a8d61c4c05f0",
+        "01000000070000000503010003070000000005000000035fbf6e19e56a012089bf1ee10e30e07dc43caf0ed4b61d72dc82c6\
+            78bbb59b85f770acbdd748edd0b30b8ed1543afdbf1ade00d5fee253685c8cfd93b9ffa077902cb800f17c56b0219de339c5\
+            7018b50000000707000000000500000003d7fa2bbf985c7c1b2fcd5493f0d0ab60e05304e71bd5429fe4a75a367036f41aff\
+            327c57e5a17d8e9f94ae177816f284074e3ae267177e7c6306cf1519bcee14a30d2066d06696f033c93c642e41f164000000\
+            03070000000005000000038333187cb3b737ebf980e9c4cec15628273e14a2f3abd45113badcfbbbdd2e90bbe5fbb92c9ed2\
+            12190834fb7c4a0e1671455d294399cbc197ffdffa05fa843281a17912bfe71cfa93bdfa8740a2eada000000040100000005\
+            000000032d1af7fd08008d8dd9a148ef6cc79d253652daeb0c7e82247b05dee5fdf71554453da4ce7fad613a836383778d28\
+            8045",
+    ],
+    unsigned: 1,
+    root: "01000144b1defcf7561087015f8d830d65b12d1af7fd08008d8dd9a148ef6cc79d25033278925c04cad78d674354d0031cf5\
+        c327978eeb39d359ec346ac5e1bae43100010101e4f1a113ee7ce457619d3d0d324c363a9340c5a93a0446d41683fa018ee7\
+        0553484f9ac0794cd0c20074f6d1e05dddd0070202",
+    two: "01010370696e043132333400000004010000000101bb85e69f768b454548412a965c3436199a21ceb74d969db602db1cb46e\
+        4a5eefe94cd49a7cafd9830ae5d03bf0a7862d00",
+    three: "01000100000002002b98f80d867125f7622b17092bb5aec0baef31f723051f380f1ce09412fd2358fc74211fc5054269b941\
+        06e0d3ee50f200",
+    uses: 0,
+    items: [1, 0, 0, 1],
+    signatures: "b47f6a96e6fb389433b667fff12420f36b6e4fb22e5daf595c32767d088a8e26",
+};
+
+/// A new key of region 3, which its fate has.
+pub const NEW_KEY: Left = Left {
+    identifier: "e4f1a113ee7ce457619d3d0d324c363a",
+    seed: "9340c5a93a0446d41683fa018ee70553484f9ac0794cd0c20074f6d1e05dddd0",
+    codes: "01010000000f636f6465206f66206c6179657220310100000011636f64652033206f66206c6179657220320100000011636f\
+        64652034206f66206c617965722033",
+    entries: &[
+        "000144b1defcf7561087015f8d830d65b10000000500000003e4f1a113ee7ce457619d3d0d324c363a0a2faeec89cf7f98b4\
+            874cd75da154ba6c8fc75266461579084cd47e20d933f7070000000005000000035fbf6e19e56a012089bf1ee10e30e07dc4\
+            3caf0ed4b61d72dc82c678bbb59b85f770acbdd748edd0b30b8ed1543afdbf3cdc5a15226b47b541482fdb80594d173303cd\
+            de06a5cf52120227461d1ba1ed0000000100010001",
+        "01000000010000000101020000070000000005000000035fbf6e19e56a012089bf1ee10e30e07dc43caf0ed4b61d72dc82c6\
+            78bbb59b85f770acbdd748edd0b30b8ed1543afdbf3cdc5a15226b47b541482fdb80594d173303cdde06a5cf52120227461d\
+            1ba1ed0000000101000000000500000003d7fa2bbf985c7c1b2fcd5493f0d0ab60e05304e71bd5429fe4a75a367036f41aff\
+            327c57e5a17d8e9f94ae177816f284000100",
+        "01000000020000000201030001070000000005000000035fbf6e19e56a012089bf1ee10e30e07dc43caf0ed4b61d72dc82c6\
+            78bbb59b85f770acbdd748edd0b30b8ed1543afdbf3cdc5a15226b47b541482fdb80594d173303cdde06a5cf52120227461d\
+            1ba1ed0000000101000000000500000003d7fa2bbf985c7c1b2fcd5493f0d0ab60e05304e71bd5429fe4a75a367036f41aff\
+            327c57e5a17d8e9f94ae177816f284010000000005000000038333187cb3b737ebf980e9c4cec15628273e14a2f3abd45113\
+            badcfbbbdd2e90bbe5fbb92c9ed212190834fb7c4a0e1600",
+        "01000000030000000304020002070000000005000000035fbf6e19e56a012089bf1ee10e30e07dc43caf0ed4b61d72dc82c6\
+            78bbb59b85f770acbdd748edd0b30b8ed1543afdbf3cdc5a15226b47b541482fdb80594d173303cdde06a5cf52120227461d\
+            1ba1ed0000000107000000000500000003d7fa2bbf985c7c1b2fcd5493f0d0ab60e05304e71bd5429fe4a75a367036f41aff\
+            327c57e5a17d8e9f94ae177816f284074e3ae267177e7c6306cf1519bcee14a30d2066d06696f033c93c642e41f164000000\
+            03010000000005000000038333187cb3b737ebf980e9c4cec15628273e14a2f3abd45113badcfbbbdd2e90bbe5fbb92c9ed2\
+            12190834fb7c4a0e1600",
+        "01000000040000000404030001070000000005000000035fbf6e19e56a012089bf1ee10e30e07dc43caf0ed4b61d72dc82c6\
+            78bbb59b85f770acbdd748edd0b30b8ed1543afdbf3cdc5a15226b47b541482fdb80594d173303cdde06a5cf52120227461d\
+            1ba1ed0000000107000000000500000003d7fa2bbf985c7c1b2fcd5493f0d0ab60e05304e71bd5429fe4a75a367036f41aff\
+            327c57e5a17d8e9f94ae177816f284074e3ae267177e7c6306cf1519bcee14a30d2066d06696f033c93c642e41f164000000\
+            03070000000005000000038333187cb3b737ebf980e9c4cec15628273e14a2f3abd45113badcfbbbdd2e90bbe5fbb92c9ed2\
+            12190834fb7c4a0e1671455d294399cbc197ffdffa05fa843281a17912bfe71cfa93bdfa8740a2eada0000000400",
+        "0200000005000000040000000102010000000500000003bb85e69f768b454548412a965c34361904d55322d6e1a1ce148abc\
+            d37d8729edb333db58136f7c425ad9e363015c4751",
+        "02000000060000000400000002030000000005000000032b98f80d867125f7622b17092bb5aec0e24e9db181225ff6f05590\
+            bb8abc5f7eb809c1ea0690966dcc75a8d61c4c05f0",
+        "02000000070000000400000003030100000005000000032d1af7fd08008d8dd9a148ef6cc79d253652daeb0c7e82247b05de\
+            e5fdf71554453da4ce7fad613a836383778d288045",
+    ],
+    unsigned: 1,
+    root: "01000144b1defcf7561087015f8d830d65b1e4f1a113ee7ce457619d3d0d324c363a9340c5a93a0446d41683fa018ee70553\
+        484f9ac0794cd0c20074f6d1e05dddd007010100000300000003012d1af7fd08008d8dd9a148ef6cc79d25033278925c04ca\
+        d78d674354d0031cf5c327978eeb39d359ec346ac5e1bae43100",
+    two: "01010370696e043132333400000004010000000101bb85e69f768b454548412a965c3436199a21ceb74d969db602db1cb46e\
+        4a5eefe94cd49a7cafd9830ae5d03bf0a7862d00",
+    three: "01000100000002002b98f80d867125f7622b17092bb5aec0baef31f723051f380f1ce09412fd2358fc74211fc5054269b941\
+        06e0d3ee50f200",
+    uses: 7,
+    items: [1, 1, 0, 2],
+    signatures: "1b0a864b5ef909ccf550dc8f7c8bbb37dc01f477479902374994ed488be401e9",
+};
+
+/// A surrender of layer 2 at the last index of the device key: the next device key and the change are not signed, and both
+/// regions are emptied.
+pub const SUCCESSION: Left = Left {
+    identifier: "e4f1a113ee7ce457619d3d0d324c363a",
+    seed: "9340c5a93a0446d41683fa018ee70553484f9ac0794cd0c20074f6d1e05dddd0",
+    codes: "01010000000f636f6465206f66206c6179657220310000",
+    entries: &[
+        "000144b1defcf7561087015f8d830d65b10000000500000003e4f1a113ee7ce457619d3d0d324c363a0a2faeec89cf7f98b4\
+            874cd75da154ba6c8fc75266461579084cd47e20d933f7070000000005000000035fbf6e19e56a012089bf1ee10e30e07dc4\
+            3caf0ed4b61d72dc82c678bbb59b85f770acbdd748edd0b30b8ed1543afdbf3cdc5a15226b47b541482fdb80594d173303cd\
+            de06a5cf52120227461d1ba1ed0000000100010001",
+        "01000000010000000101020000070000000005000000035fbf6e19e56a012089bf1ee10e30e07dc43caf0ed4b61d72dc82c6\
+            78bbb59b85f770acbdd748edd0b30b8ed1543afdbf3cdc5a15226b47b541482fdb80594d173303cdde06a5cf52120227461d\
+            1ba1ed0000000101000000000500000003d7fa2bbf985c7c1b2fcd5493f0d0ab60e05304e71bd5429fe4a75a367036f41aff\
+            327c57e5a17d8e9f94ae177816f284000100",
+        "01000000020000000202020000070000000005000000035fbf6e19e56a012089bf1ee10e30e07dc43caf0ed4b61d72dc82c6\
+            78bbb59b85f770acbdd748edd0b30b8ed1543afdbf3cdc5a15226b47b541482fdb80594d173303cdde06a5cf52120227461d\
+            1ba1ed000000010001000100",
+        "01000000030000000301020000070000000005000000035fbf6e19e56a012089bf1ee10e30e07dc43caf0ed4b61d72dc82c6\
+            78bbb59b85f770acbdd748edd0b30b8ed1543afdbf3cdc5a15226b47b541482fdb80594d173303cdde06a5cf52120227461d\
+            1ba1ed0000000101000000000500000003d7fa2bbf985c7c1b2fcd5493f0d0ab60e05304e71bd5429fe4a75a367036f41aff\
+            327c57e5a17d8e9f94ae177816f284000100",
+        "01000000040000000402020000070000000005000000035fbf6e19e56a012089bf1ee10e30e07dc43caf0ed4b61d72dc82c6\
+            78bbb59b85f770acbdd748edd0b30b8ed1543afdbf3cdc5a15226b47b541482fdb80594d173303cdde06a5cf52120227461d\
+            1ba1ed000000010001000100",
+        "01000000050000000501020000070000000005000000035fbf6e19e56a012089bf1ee10e30e07dc43caf0ed4b61d72dc82c6\
+            78bbb59b85f770acbdd748edd0b30b8ed1543afdbf3cdc5a15226b47b541482fdb80594d173303cdde06a5cf52120227461d\
+            1ba1ed0000000101000000000500000003d7fa2bbf985c7c1b2fcd5493f0d0ab60e05304e71bd5429fe4a75a367036f41aff\
+            327c57e5a17d8e9f94ae177816f284000100",
+        "01000000060000000602020000070000000005000000035fbf6e19e56a012089bf1ee10e30e07dc43caf0ed4b61d72dc82c6\
+            78bbb59b85f770acbdd748edd0b30b8ed1543afdbf3cdc5a15226b47b541482fdb80594d173303cdde06a5cf52120227461d\
+            1ba1ed000000010001000100",
+        "01000000070000000701020000070000000005000000035fbf6e19e56a012089bf1ee10e30e07dc43caf0ed4b61d72dc82c6\
+            78bbb59b85f770acbdd748edd0b30b8ed1543afdbf3cdc5a15226b47b541482fdb80594d173303cdde06a5cf52120227461d\
+            1ba1ed0000000101000000000500000003d7fa2bbf985c7c1b2fcd5493f0d0ab60e05304e71bd5429fe4a75a367036f41aff\
+            327c57e5a17d8e9f94ae177816f284000100",
+        "01000000080000000802020000070000000005000000035fbf6e19e56a012089bf1ee10e30e07dc43caf0ed4b61d72dc82c6\
+            78bbb59b85f770acbdd748edd0b30b8ed1543afdbf3cdc5a15226b47b541482fdb80594d173303cdde06a5cf52120227461d\
+            1ba1ed000000010001000100",
+        "01000000090000000901020000070000000005000000035fbf6e19e56a012089bf1ee10e30e07dc43caf0ed4b61d72dc82c6\
+            78bbb59b85f770acbdd748edd0b30b8ed1543afdbf3cdc5a15226b47b541482fdb80594d173303cdde06a5cf52120227461d\
+            1ba1ed0000000101000000000500000003d7fa2bbf985c7c1b2fcd5493f0d0ab60e05304e71bd5429fe4a75a367036f41aff\
+            327c57e5a17d8e9f94ae177816f284000100",
+        "010000000a0000000a02020000070000000005000000035fbf6e19e56a012089bf1ee10e30e07dc43caf0ed4b61d72dc82c6\
+            78bbb59b85f770acbdd748edd0b30b8ed1543afdbf3cdc5a15226b47b541482fdb80594d173303cdde06a5cf52120227461d\
+            1ba1ed000000010001000100",
+        "010000000b0000000b01020000070000000005000000035fbf6e19e56a012089bf1ee10e30e07dc43caf0ed4b61d72dc82c6\
+            78bbb59b85f770acbdd748edd0b30b8ed1543afdbf3cdc5a15226b47b541482fdb80594d173303cdde06a5cf52120227461d\
+            1ba1ed0000000101000000000500000003d7fa2bbf985c7c1b2fcd5493f0d0ab60e05304e71bd5429fe4a75a367036f41aff\
+            327c57e5a17d8e9f94ae177816f284000100",
+        "010000000c0000000c02020000070000000005000000035fbf6e19e56a012089bf1ee10e30e07dc43caf0ed4b61d72dc82c6\
+            78bbb59b85f770acbdd748edd0b30b8ed1543afdbf3cdc5a15226b47b541482fdb80594d173303cdde06a5cf52120227461d\
+            1ba1ed000000010001000100",
+        "010000000d0000000d01020000070000000005000000035fbf6e19e56a012089bf1ee10e30e07dc43caf0ed4b61d72dc82c6\
+            78bbb59b85f770acbdd748edd0b30b8ed1543afdbf3cdc5a15226b47b541482fdb80594d173303cdde06a5cf52120227461d\
+            1ba1ed0000000101000000000500000003d7fa2bbf985c7c1b2fcd5493f0d0ab60e05304e71bd5429fe4a75a367036f41aff\
+            327c57e5a17d8e9f94ae177816f284000100",
+        "010000000e0000000e02020000070000000005000000035fbf6e19e56a012089bf1ee10e30e07dc43caf0ed4b61d72dc82c6\
+            78bbb59b85f770acbdd748edd0b30b8ed1543afdbf3cdc5a15226b47b541482fdb80594d173303cdde06a5cf52120227461d\
+            1ba1ed000000010001000100",
+        "010000000f0000000f01020000070000000005000000035fbf6e19e56a012089bf1ee10e30e07dc43caf0ed4b61d72dc82c6\
+            78bbb59b85f770acbdd748edd0b30b8ed1543afdbf3cdc5a15226b47b541482fdb80594d173303cdde06a5cf52120227461d\
+            1ba1ed0000000101000000000500000003d7fa2bbf985c7c1b2fcd5493f0d0ab60e05304e71bd5429fe4a75a367036f41aff\
+            327c57e5a17d8e9f94ae177816f284000100",
+        "01000000100000001002020000070000000005000000035fbf6e19e56a012089bf1ee10e30e07dc43caf0ed4b61d72dc82c6\
+            78bbb59b85f770acbdd748edd0b30b8ed1543afdbf3cdc5a15226b47b541482fdb80594d173303cdde06a5cf52120227461d\
+            1ba1ed000000010001000100",
+        "01000000110000001101020000070000000005000000035fbf6e19e56a012089bf1ee10e30e07dc43caf0ed4b61d72dc82c6\
+            78bbb59b85f770acbdd748edd0b30b8ed1543afdbf3cdc5a15226b47b541482fdb80594d173303cdde06a5cf52120227461d\
+            1ba1ed0000000101000000000500000003d7fa2bbf985c7c1b2fcd5493f0d0ab60e05304e71bd5429fe4a75a367036f41aff\
+            327c57e5a17d8e9f94ae177816f284000100",
+        "01000000120000001202020000070000000005000000035fbf6e19e56a012089bf1ee10e30e07dc43caf0ed4b61d72dc82c6\
+            78bbb59b85f770acbdd748edd0b30b8ed1543afdbf3cdc5a15226b47b541482fdb80594d173303cdde06a5cf52120227461d\
+            1ba1ed000000010001000100",
+        "01000000130000001301020000070000000005000000035fbf6e19e56a012089bf1ee10e30e07dc43caf0ed4b61d72dc82c6\
+            78bbb59b85f770acbdd748edd0b30b8ed1543afdbf3cdc5a15226b47b541482fdb80594d173303cdde06a5cf52120227461d\
+            1ba1ed0000000101000000000500000003d7fa2bbf985c7c1b2fcd5493f0d0ab60e05304e71bd5429fe4a75a367036f41aff\
+            327c57e5a17d8e9f94ae177816f284000100",
+        "01000000140000001402020000070000000005000000035fbf6e19e56a012089bf1ee10e30e07dc43caf0ed4b61d72dc82c6\
+            78bbb59b85f770acbdd748edd0b30b8ed1543afdbf3cdc5a15226b47b541482fdb80594d173303cdde06a5cf52120227461d\
+            1ba1ed000000010001000100",
+        "01000000150000001501020000070000000005000000035fbf6e19e56a012089bf1ee10e30e07dc43caf0ed4b61d72dc82c6\
+            78bbb59b85f770acbdd748edd0b30b8ed1543afdbf3cdc5a15226b47b541482fdb80594d173303cdde06a5cf52120227461d\
+            1ba1ed0000000101000000000500000003d7fa2bbf985c7c1b2fcd5493f0d0ab60e05304e71bd5429fe4a75a367036f41aff\
+            327c57e5a17d8e9f94ae177816f284000100",
+        "01000000160000001602020000070000000005000000035fbf6e19e56a012089bf1ee10e30e07dc43caf0ed4b61d72dc82c6\
+            78bbb59b85f770acbdd748edd0b30b8ed1543afdbf3cdc5a15226b47b541482fdb80594d173303cdde06a5cf52120227461d\
+            1ba1ed000000010001000100",
+        "01000000170000001701020000070000000005000000035fbf6e19e56a012089bf1ee10e30e07dc43caf0ed4b61d72dc82c6\
+            78bbb59b85f770acbdd748edd0b30b8ed1543afdbf3cdc5a15226b47b541482fdb80594d173303cdde06a5cf52120227461d\
+            1ba1ed0000000101000000000500000003d7fa2bbf985c7c1b2fcd5493f0d0ab60e05304e71bd5429fe4a75a367036f41aff\
+            327c57e5a17d8e9f94ae177816f284000100",
+        "01000000180000001802020000070000000005000000035fbf6e19e56a012089bf1ee10e30e07dc43caf0ed4b61d72dc82c6\
+            78bbb59b85f770acbdd748edd0b30b8ed1543afdbf3cdc5a15226b47b541482fdb80594d173303cdde06a5cf52120227461d\
+            1ba1ed000000010001000100",
+        "01000000190000001901020000070000000005000000035fbf6e19e56a012089bf1ee10e30e07dc43caf0ed4b61d72dc82c6\
+            78bbb59b85f770acbdd748edd0b30b8ed1543afdbf3cdc5a15226b47b541482fdb80594d173303cdde06a5cf52120227461d\
+            1ba1ed0000000101000000000500000003d7fa2bbf985c7c1b2fcd5493f0d0ab60e05304e71bd5429fe4a75a367036f41aff\
+            327c57e5a17d8e9f94ae177816f284000100",
+        "010000001a0000001a02020000070000000005000000035fbf6e19e56a012089bf1ee10e30e07dc43caf0ed4b61d72dc82c6\
+            78bbb59b85f770acbdd748edd0b30b8ed1543afdbf3cdc5a15226b47b541482fdb80594d173303cdde06a5cf52120227461d\
+            1ba1ed000000010001000100",
+        "010000001b0000001b01020000070000000005000000035fbf6e19e56a012089bf1ee10e30e07dc43caf0ed4b61d72dc82c6\
+            78bbb59b85f770acbdd748edd0b30b8ed1543afdbf3cdc5a15226b47b541482fdb80594d173303cdde06a5cf52120227461d\
+            1ba1ed0000000101000000000500000003d7fa2bbf985c7c1b2fcd5493f0d0ab60e05304e71bd5429fe4a75a367036f41aff\
+            327c57e5a17d8e9f94ae177816f284000100",
+        "010000001c0000001c02020000070000000005000000035fbf6e19e56a012089bf1ee10e30e07dc43caf0ed4b61d72dc82c6\
+            78bbb59b85f770acbdd748edd0b30b8ed1543afdbf3cdc5a15226b47b541482fdb80594d173303cdde06a5cf52120227461d\
+            1ba1ed000000010001000100",
+        "010000001d0000001d01020000070000000005000000035fbf6e19e56a012089bf1ee10e30e07dc43caf0ed4b61d72dc82c6\
+            78bbb59b85f770acbdd748edd0b30b8ed1543afdbf3cdc5a15226b47b541482fdb80594d173303cdde06a5cf52120227461d\
+            1ba1ed0000000101000000000500000003d7fa2bbf985c7c1b2fcd5493f0d0ab60e05304e71bd5429fe4a75a367036f41aff\
+            327c57e5a17d8e9f94ae177816f284000100",
+        "010000001e0000001e02020000070000000005000000035fbf6e19e56a012089bf1ee10e30e07dc43caf0ed4b61d72dc82c6\
+            78bbb59b85f770acbdd748edd0b30b8ed1543afdbf3cdc5a15226b47b541482fdb80594d173303cdde06a5cf52120227461d\
+            1ba1ed000000010001000100",
+        "010000001f0000001f01020000070000000005000000035fbf6e19e56a012089bf1ee10e30e07dc43caf0ed4b61d72dc82c6\
+            78bbb59b85f770acbdd748edd0b30b8ed1543afdbf3cdc5a15226b47b541482fdb80594d173303cdde06a5cf52120227461d\
+            1ba1ed0000000101000000000500000003d7fa2bbf985c7c1b2fcd5493f0d0ab60e05304e71bd5429fe4a75a367036f41aff\
+            327c57e5a17d8e9f94ae177816f284000100",
+        "03000000200000000500000003bb85e69f768b454548412a965c34361904d55322d6e1a1ce148abcd37d8729edb333db5813\
+            6f7c425ad9e363015c4751",
+        "01000000210000002002020000070000000005000000035fbf6e19e56a012089bf1ee10e30e07dc43caf0ed4b61d72dc82c6\
+            78bbb59b85f770acbdd748edd0b30b8ed1543afdbf3cdc5a15226b47b541482fdb80594d173303cdde06a5cf52120227461d\
+            1ba1ed000000010001000100",
+    ],
+    unsigned: 2,
+    root: "01000144b1defcf7561087015f8d830d65b1bb85e69f768b454548412a965c3436199a21ceb74d969db602db1cb46e4a5eef\
+        e94cd49a7cafd9830ae5d03bf0a7862d01010201e4f1a113ee7ce457619d3d0d324c363a9340c5a93a0446d41683fa018ee7\
+        0553484f9ac0794cd0c20074f6d1e05dddd0200101",
+    two: "",
+    three: "",
+    uses: 1,
+    items: [0, 0, 0, 0],
+    signatures: "4734347d11c43d04e7f4bfe83f55f09257c9460314a9a20ccd08ff7c52db6474",
+};
+
+/// A new device, in which nothing is left to be done.
+pub const BORN: Left = Left {
+    identifier: "e4f1a113ee7ce457619d3d0d324c363a",
+    seed: "9340c5a93a0446d41683fa018ee70553484f9ac0794cd0c20074f6d1e05dddd0",
+    codes: "01010000000f636f6465206f66206c6179657220310000",
+    entries: &[
+        "000144b1defcf7561087015f8d830d65b10000000500000003e4f1a113ee7ce457619d3d0d324c363a0a2faeec89cf7f98b4874c\
+            d75da154ba6c8fc75266461579084cd47e20d933f7070000000005000000035fbf6e19e56a012089bf1ee10e30e07dc43caf\
+            0ed4b61d72dc82c678bbb59b85f770acbdd748edd0b30b8ed1543afdbf3cdc5a15226b47b541482fdb80594d173303cdde06\
+            a5cf52120227461d1ba1ed0000000100010001",
+    ],
+    unsigned: 0,
+    root: "01000144b1defcf7561087015f8d830d65b1e4f1a113ee7ce457619d3d0d324c363a9340c5a93a0446d41683fa018ee7055348\
+        4f9ac0794cd0c20074f6d1e05dddd00000",
+    two: "",
+    three: "",
+    uses: 0,
+    items: [0, 0, 0, 0],
+    signatures: "6375e911546068bfae125746efe9903ae70edaddccb0e0838381759e3d99381e",
+};
+
+/// Where the second area of the flash begins.
+const SECOND_AREA: usize = 524_288;
+
+/// Where the signature of the birth stands in its area, and what the other record has there.
+const SIGNATURE: usize = 201;
+
+pub const OTHER: u8 = 0x11;
+
+/// Where that signature ends, with which the record ends too.
+const RECORD_END: usize = SIGNATURE + 2348;
+
+fn key_of(left: &Left) -> Result<KeySeed, Fail> {
+    Ok(KeySeed {
+        identifier: <[u8; 16] as FromHex>::from_hex(left.identifier)?,
+        seed: <[u8; 32] as FromHex>::from_hex(left.seed)?,
+    })
+}
+
+/// The right by which the entry of this number is signed, from 1.
+fn right_at(number: usize) -> Result<OneUse, Fail> {
+    let before = u32::try_from(number)?.saturating_sub(1);
+    if before > 32 {
+        return Err("no index is left")?;
+    }
+    Ok(take_index(&mut Uses::stored(before)).ok_or("no index is left")?)
+}
+
+/// Puts that the entry of this number is signed, and its signature. The birth, which has number 0, is signed by zeros.
+fn put_signature<L: Ledger>(
+    record: &mut Vec<u8>,
+    left: &Left,
+    number: usize,
+    entry: &[u8],
+    hashes: &mut HashCount<L>,
+) -> Result<(), Fail> {
+    let mut signature = [0; 2348];
+    if number > 0 {
+        let key = key_of(left)?;
+        let right = right_at(number)?;
+        sign(right, &key, &[3], entry, &mut signature, hashes);
+    }
+    record.push(1)?;
+    record.extend_from_slice(&signature)?;
+    Ok(())
+}
+
+fn put_entry<L: Ledger>(
+    alloc: Global,
+    record: &mut Vec<u8>,
+    left: &Left,
+    number: usize,
+    hashes: &mut HashCount<L>,
+) -> Result<(), Fail> {
+    let text = left.entries.get(number).ok_or("no entry")?;
+    let entry = hex::decode(alloc, text)?;
+    record.extend_from_slice(&entry)?;
+    if number >= left.entries.len().saturating_sub(left.unsigned) {
+        record.push(0)?;
+        return Ok(());
+    }
+    put_signature(record, left, number, &entry, hashes)
+}
+
+/// The public record, of which the last entries are not signed.
+fn record_of<L: Ledger>(
+    alloc: Global,
+    left: &Left,
+    hashes: &mut HashCount<L>,
+) -> Result<Vec<u8>, Fail> {
+    let mut record = hex::decode(alloc, left.codes)?;
+    let count = u16::try_from(left.entries.len())?;
+    record.extend_from_slice(&count.to_be_bytes())?;
+    for number in 0..left.entries.len() {
+        put_entry(alloc, &mut record, left, number, hashes)?;
+    }
+    Ok(record)
+}
+
+/// Puts the length of a record and the record into the image, and fills it up to this end.
+fn put(
+    image: &mut Vec<u8>,
+    length: &[u8],
+    record: &[u8],
+    end: usize,
+    fill: u8,
+) -> Result<(), Fail> {
+    image.extend_from_slice(length)?;
+    image.extend_from_slice(record)?;
+    image.resize(end, fill)?;
+    Ok(())
+}
+
+/// Puts a record into the next two areas, of which the first is in force, up to this end.
+fn put_areas(alloc: Global, image: &mut Vec<u8>, record: &str, end: usize) -> Result<(), Fail> {
+    let record = hex::decode(alloc, record)?;
+    let length = u16::try_from(record.len())?;
+    put(image, &length.to_be_bytes(), &record, end, 0)
+}
+
+/// Puts the flash with the public record.
+fn put_flash<L: Ledger>(
+    alloc: Global,
+    image: &mut Vec<u8>,
+    left: &Left,
+    hashes: &mut HashCount<L>,
+) -> Result<(), Fail> {
+    let record = record_of(alloc, left, hashes)?;
+    let length = u32::try_from(record.len())?;
+    put(image, &length.to_be_bytes(), &record, FLASH_LENGTH, 0xff)
+}
+
+/// The image, with the first of two areas in force everywhere.
+fn image_of<L: Ledger>(
+    alloc: Global,
+    left: &Left,
+    hashes: &mut HashCount<L>,
+) -> Result<Vec<u8>, Fail> {
+    let mut image = Vec::new(alloc);
+    put_flash(alloc, &mut image, left, hashes)?;
+    put(&mut image, &[], &[0xa5], FLASH_LENGTH + 4096, 0)?;
+    put_areas(alloc, &mut image, left.root, FLASH_LENGTH + 12288)?;
+    put_areas(alloc, &mut image, left.two, FLASH_LENGTH + 20480)?;
+    put_areas(alloc, &mut image, left.three, IMAGE_LENGTH)?;
+    Ok(image)
+}
+
+/// The image of a new device whose flash has the same record in both areas, but for the signature of the birth.
+fn with_two_records(alloc: Global, image: &[u8]) -> Result<Vec<u8>, Fail> {
+    let area = image.get(..SECOND_AREA).ok_or("the image is short")?;
+    let front = image.get(..SIGNATURE).ok_or("the image is short")?;
+    let rest = image
+        .get(SECOND_AREA + RECORD_END..)
+        .ok_or("the image is short")?;
+    let mut both = Vec::new(alloc);
+    both.extend_from_slice(area)?;
+    both.extend_from_slice(front)?;
+    both.resize(SECOND_AREA + RECORD_END, OTHER)?;
+    both.extend_from_slice(rest)?;
+    Ok(both)
+}
+
+fn device_counted<L: Ledger>(
+    alloc: Global,
+    left: &Left,
+    is_copied: bool,
+    blank: Blank,
+) -> Result<Box<Device>, Fail>
+    requires name { blank.name ≡ L.name }
+    requires parts { blank.parts ≡ L.parts }
+    requires some { 0 < blank.parts }
+    ensures { IfOk result (λ device. IsLive device.value.image.items) }
+{
+    let mut hashes = HashCount::<L>::begin(alloc, blank);
+    let mut image = image_of(alloc, left, &mut hashes)?;
+    if is_copied {
+        image = with_two_records(alloc, &image)?;
+    }
+    read(alloc, image, &mut hashes)
+}
+
+/// The device that an order left; its flash may have another such record in its second area.
+pub fn device_of(alloc: Global, left: &Left, is_copied: bool) -> Result<Box<Device>, Fail>
+    ensures { IfOk result (λ device. IsLive device.value.image.items) }
+{
+    device_counted::<Brand>(alloc, left, is_copied, Blank::new(1))
+}

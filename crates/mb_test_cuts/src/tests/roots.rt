@@ -1,0 +1,77 @@
+//! A root that is put in force, where the selector held zero.
+
+ghost use Rattle.std.specs.Prelude.{◌≤◌};
+ghost use Rattle.mb_test_cuts.specs.Staged.{IsLive};
+
+use super::boots::comes_up_at_last;
+use super::calls::{Call, stopped};
+use super::images::{BORN, OTHER, device_of};
+use super::states::Device;
+use mb_model::State;
+use std::alloc::Global;
+use std::process::Abort;
+use std::test::Fail;
+
+/// The root of a new device whose public record stands in the second area of the flash.
+const NEXT_ROOT: &str =
+    "01010144b1defcf7561087015f8d830d65b1e4f1a113ee7ce457619d3d0d324c363a9340c5a93a0446d41683fa018ee7055348\
+    4f9ac0794cd0c20074f6d1e05dddd00000";
+
+/// Whether the state is that of the second record.
+fn is_next(state: &State) -> bool {
+    state
+        .log
+        .as_slice()
+        .first()
+        .is_some_and(|signed| signed.signature[0] == OTHER)
+}
+
+/// Power fails in the write of this number of a root: this one of the two is in force then, and the device comes up with
+/// it.
+fn expect_torn(
+    rt: &impl Abort,
+    alloc: Global,
+    device: &Device,
+    count: u32,
+    fill: u8,
+    is_put: bool,
+) -> Result<(), Fail>
+    requires live { IsLive device.now.image.items }
+    requires least { 1 ≤ count }
+    requires most { count ≤ 100000 }
+{
+    let after = stopped(alloc, &device.image, Call::PutRoot(NEXT_ROOT), count, fill)?;
+    assert!(rt; after.stopped);
+    assert!(rt; is_next(&after.device.state) == is_put);
+    comes_up_at_last(rt, alloc, &after.device, fill)?;
+    Ok(())
+}
+
+/// Which of the two roots is in force after that, at which fill.
+fn expect(rt: &impl Abort, alloc: Global, count: u32, rows: &[(u8, bool)]) -> Result<(), Fail>
+    requires least { 1 ≤ count }
+    requires most { count ≤ 100000 }
+{
+    let device = device_of(alloc, &BORN, true)?;
+    for (fill, is_put) in rows {
+        expect_torn(rt, alloc, &device, count, *fill, *is_put)?;
+    }
+    Ok(())
+}
+
+/// With what the bytes of a torn root are filled: it is never in force.
+const ROOT: &[(u8, bool)] = &[(0, false), (0xff, false), (0x7e, false), (1, false)];
+
+/// With what a torn selector is filled. It counts by its parity: 0 and 0x7e leave the root before in force, 0xff and 1 put
+/// the next one there.
+const SELECTOR: &[(u8, bool)] = &[(0, false), (0xff, true), (0x7e, false), (1, true)];
+
+#[test]
+fn torn_root_is_not_in_force(rt: HostRuntime) -> Result<(), Fail> {
+    expect(&rt, rt.alloc(), 1, ROOT)
+}
+
+#[test]
+fn torn_selector_is_the_one_or_the_other(rt: HostRuntime) -> Result<(), Fail> {
+    expect(&rt, rt.alloc(), 2, SELECTOR)
+}

@@ -1,0 +1,9 @@
+//! The program served by `top`, over a host in memory and the simulated board: what each command makes, and whole
+//! lives of devices.
+//!
+//! This crate has tests alone, of `mb_top`. What they expect are values of another program, and the ends that the
+//! rules of the commands give.
+#![tactic(auto)]
+
+#[cfg(test)]
+mod tests;
