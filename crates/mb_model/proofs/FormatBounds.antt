@@ -21,6 +21,8 @@ use Rattle.mb_model.specs.ChainFormat.{statement_format, chain_word, chain_forma
 use Rattle.mb_model.specs.RootFormat.{region_key_format, outgoing_format, FateTag, keep_tag, empty_tag, drop_tag, add_tag, fate_byte, fate_rows, fate_tag, added_in, fate_by, fate_format, pending_format, root_format}
 use Rattle.mb_model.specs.RegionFormat.{is_name, secret_format, secrets_format, least_keys, keys_format, region_format}
 use Rattle.mb_model.specs.Flash.{code_format, codes_format, public_entry_format, public_format}
+use Rattle.mb_model.specs.HeaderFormat.{code_length_format, slot_format, entry_bytes_format, most_unsigned, unsigned_format, header_word, header_format, log_format}
+use Rattle.mb_model.proofs.HeaderFormatLaws.{few_unsigned}
 
 -- ---- keys and layers
 
@@ -264,3 +266,26 @@ public_entry_short = bounds.as_record_short _ _ (bounds.pair_short entry_short (
 pub public_short : IsShort public_format 444818
 unfolding public_format
 public_short = bounds.then_value_short (bounds.mark_short (1 ∷ [])) (bounds.as_record_short _ _ (bounds.pair_short codes_short (bounds.counted_short 1 128 wide16 public_entry_short)))
+
+-- ---- headers and sectors of the log
+
+slot_short : IsShort slot_format 5
+unfolding slot_format code_length_format
+slot_short = bounds.as_record_short _ _ (bounds.both_short (bounds.between_short 0 2 wide8) (λ which h. bounds.either_short (which == 0) (bounds.between_short 0 0 wide32) (bounds.between_short 0 32768 wide32)))
+
+entry_bytes_short : IsShort entry_bytes_format 402
+unfolding entry_bytes_format
+entry_bytes_short = bounds.sized_short 1 400 wide16
+
+unsigned_short : (signed : ℕ) → IsShort (unsigned_format signed) 805
+unfolding unsigned_format
+unsigned_short signed = bounds.as_value_short _ _ (bounds.short_more (bounds.counted_short 0 (most_unsigned signed) wide8 entry_bytes_short) (omega (arith, few_unsigned signed)))
+
+pub header_short : IsShort header_format 826
+unfolding header_format
+header_short = bounds.then_value_short (bounds.mark_short header_word)
+    (bounds.as_record_short _ _ (bounds.pair_short slot_short (bounds.pair_short slot_short (bounds.pair_short slot_short (bounds.both_short (bounds.between_short 1 128 wide16) (λ signed h. unsigned_short signed))))))
+
+pub log_short : IsShort log_format 2750
+unfolding log_format
+log_short = bounds.pair_short entry_bytes_short bounds.raw_short

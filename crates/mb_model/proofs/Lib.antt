@@ -4,5 +4,6 @@ pub mod KeyFormatLaws
 pub mod EntryFormatLaws
 pub mod OrderFormatLaws
 pub mod RecordFormatLaws
+pub mod HeaderFormatLaws
 pub mod FormatBounds
 pub mod OrderReach

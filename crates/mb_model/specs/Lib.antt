@@ -40,6 +40,8 @@ pub mod Valid
 pub mod Memory
 pub mod StoredLog
 pub mod Flash
+pub mod Sectors
+pub mod HeaderFormat
 pub mod Meaning
 pub mod Faults
 pub mod Clean

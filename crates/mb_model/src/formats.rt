@@ -13,6 +13,7 @@ ghost use Rattle.mb_model.specs.ChainFormat.{statement_format, chain_format};
 ghost use Rattle.mb_model.specs.RootFormat.{region_key_format, root_format};
 ghost use Rattle.mb_model.specs.RegionFormat.{secret_format, region_format};
 ghost use Rattle.mb_model.specs.Flash.{public_entry_format, public_format};
+ghost use Rattle.mb_model.specs.HeaderFormat.{slot_format, header_format, log_format};
 
 /// At each place of any bytes one value of the format is spelled, or one place fails.
 pub fn formats_are_clear()
@@ -35,6 +36,9 @@ pub fn formats_are_clear()
     ensures region { IsClear region_format }
     ensures public_entry { IsClear public_entry_format }
     ensures public_record { IsClear public_format }
+    ensures slot { IsClear slot_format }
+    ensures header { IsClear header_format }
+    ensures log_sector { IsClear log_format }
 {}
 
 /// Any bytes as a whole spell one value of the format, or fail at one place: one after the last field, where bytes are
@@ -61,6 +65,8 @@ pub fn formats_are_short()
     ensures root { IsShort root_format 229 }
     ensures region { IsShort region_format 3091 }
     ensures public_record { IsShort public_format 444818 }
+    ensures header { IsShort header_format 826 }
+    ensures log_sector { IsShort log_format 2750 }
 {}
 
 /// To read an order no more bytes are looked at than the longest order has.

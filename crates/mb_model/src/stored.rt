@@ -1,5 +1,6 @@
 //! What stands in a device's memory: the decoded records.
 
+use crate::bytes::Bytes;
 use crate::entry::PublicEntries;
 use crate::key::KeySeed;
 use crate::region::RegionKey;
@@ -58,4 +59,31 @@ pub struct Root {
 pub struct Public {
     pub codes: Codes,
     pub entries: PublicEntries,
+}
+
+/// Where in the flash the code of a layer stands, and how much code it is. Each layer has two slots there, 1 and 2.
+#[derive(Clone, Copy, PartialEq, Eq)]
+pub struct Slot {
+    /// The slot, 1 or 2; 0 if the layer has no code.
+    pub which: u8,
+    /// The length of the code in bytes, at most 32,768; 0 if the layer has no code.
+    pub length: u32,
+}
+
+/// The header of a flash in segments: where the code of each layer stands, how many entries of the log are signed, and
+/// the entries that are not signed yet.
+#[derive(Drop)]
+pub struct Header {
+    /// Where the code of layer 1 stands.
+    pub one: Slot,
+    /// Where the code of layer 2 stands.
+    pub two: Slot,
+    /// Where the code of layer 3 stands.
+    pub three: Slot,
+    /// The number of signed entries, 1 to 128.
+    pub signed: u32,
+    /// The first unsigned entry as bytes, 1 to 400 of them; none if every entry is signed.
+    pub first: Option<Bytes>,
+    /// The second unsigned entry as bytes, 1 to 400 of them; none if at most one entry is unsigned.
+    pub second: Option<Bytes>,
 }

@@ -3,6 +3,7 @@ use Rattle.mb_model.proofs.KeyFormatLaws as keys
 use Rattle.mb_model.proofs.EntryFormatLaws as entries
 use Rattle.mb_model.proofs.OrderFormatLaws as orders
 use Rattle.mb_model.proofs.RecordFormatLaws as records
+use Rattle.mb_model.proofs.HeaderFormatLaws as headers
 use Rattle.mb_model.proofs.formats.formats_are_clear.Goals as goal
 
 pub returns-clause-public_key : goal.returns-clause-public_key
@@ -61,3 +62,12 @@ returns-clause-public_entry c = IsClear-from_exact records.public_entry_exact
 
 pub returns-clause-public_record : goal.returns-clause-public_record
 returns-clause-public_record c = IsClear-from_exact records.public_exact
+
+pub returns-clause-slot : goal.returns-clause-slot
+returns-clause-slot c = IsClear-from_exact headers.slot_exact
+
+pub returns-clause-header : goal.returns-clause-header
+returns-clause-header c = IsClear-from_exact headers.header_exact
+
+pub returns-clause-log_sector : goal.returns-clause-log_sector
+returns-clause-log_sector c = IsClear-from_exact headers.log_exact

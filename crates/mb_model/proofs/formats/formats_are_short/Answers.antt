@@ -27,3 +27,9 @@ returns-clause-region c = bounds.region_short
 
 pub returns-clause-public_record : goal.returns-clause-public_record
 returns-clause-public_record c = bounds.public_short
+
+pub returns-clause-header : goal.returns-clause-header
+returns-clause-header c = bounds.header_short
+
+pub returns-clause-log_sector : goal.returns-clause-log_sector
+returns-clause-log_sector c = bounds.log_short
