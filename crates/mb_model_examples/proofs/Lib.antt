@@ -5,6 +5,7 @@ pub mod TextExampleProofs
 pub mod WorkloadExampleProofs
 pub mod DigitProofs
 pub mod RecordProofs
+pub mod HeaderProofs
 pub mod StepProofs
 pub mod LayerProofs
 pub mod OrderProofs

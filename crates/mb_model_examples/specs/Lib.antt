@@ -5,6 +5,7 @@ pub mod WorkloadExamples
 pub mod SigningExamples
 pub mod RecordValues
 pub mod RecordExamples
+pub mod HeaderExamples
 pub mod Device
 pub mod StepExamples
 pub mod LayerExamples

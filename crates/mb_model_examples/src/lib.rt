@@ -23,7 +23,7 @@ pub use events::{
 };
 pub use formats::{failing_examples, spelling_examples};
 pub use orders::{obeyed_orders, refused_orders, succession_examples, verified_orders};
-pub use records::{failing_records, records_are_spelled};
+pub use records::{failing_headers, failing_records, headers_are_spelled, records_are_spelled};
 pub use rules::{
     admission_examples, authority_examples, change_examples, condition_examples, life_examples,
     standing_examples, target_examples,

@@ -1,6 +1,7 @@
 //! Records: values and their bytes, and bytes that fail.
 
 ghost use Rattle.mb_model_examples.specs.RecordExamples.{KeyRecords, LayerRecords, EntryRecords, RootRecords, RegionRecords, StatementRecords, ChainRecords, PublicRecords, BodyRecords, FailingRecords};
+ghost use Rattle.mb_model_examples.specs.HeaderExamples.{HeaderRecords, LogRecords, FailingHeaders};
 
 /// How keys, layers, entries, roots, regions, statements, chains, the public record and the signed part of orders are
 /// spelled, by an independent program.
@@ -19,4 +20,15 @@ pub fn records_are_spelled()
 /// Where bytes that spell no entry, root or region fail.
 pub fn failing_records()
     ensures { FailingRecords }
+{}
+
+/// How headers of a flash in segments and a sector of its log are spelled, by an independent program.
+pub fn headers_are_spelled()
+    ensures headers { HeaderRecords }
+    ensures log { LogRecords }
+{}
+
+/// Where bytes that spell no header fail.
+pub fn failing_headers()
+    ensures { FailingHeaders }
 {}
