@@ -3,3 +3,4 @@ pub mod ClearTexts
 pub mod ReplyLemmas
 pub mod WorkloadLemmas
 pub mod TrustLemmas
+pub mod SectorLemmas

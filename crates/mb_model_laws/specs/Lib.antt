@@ -2,5 +2,6 @@ pub mod LayerLaws
 pub mod StepLaws
 pub mod TextLaws
 pub mod MeaningLaws
+pub mod SectorLaws
 pub mod ChainLaws
 pub mod TrustLaws

@@ -12,6 +12,7 @@ mod meaning;
 mod reader;
 mod refusals;
 mod regions;
+mod sectors;
 mod signing;
 mod steps;
 mod texts;
@@ -40,6 +41,7 @@ pub use regions::{
     orders_keep_regions_valid, region_keys_are_alive, region_keys_have_numbers, regions_stay_valid,
     valid_states_have_valid_regions,
 };
+pub use sectors::sectors_are_apart;
 pub use signing::{
     keys_are_sized, nodes_are_leaves_or_inner, signatures_bear_their_index, signatures_verify,
 };
