@@ -1,0 +1,4 @@
+pub mod Beginnings
+pub mod Bounds
+pub mod Ends
+pub mod Uncopied

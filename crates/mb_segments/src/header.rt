@@ -1,0 +1,270 @@
+//! Headers of the flash as bytes.
+
+ghost use Rattle.std.specs.Prelude.{◌≡◌, ◌≤◌, length, IfOk};
+ghost use Rattle.mb_format.specs.Combinators.{mark};
+ghost use Rattle.mb_model.specs.HeaderFormat.{code_length_format, slot_format, entry_bytes_format, most_unsigned, unsigned_format, header_word, header_format};
+ghost use Rattle.mb_bytes.specs.Reads.{bad_at, Reads, ReadsAs};
+ghost use Rattle.mb_bytes.specs.Puts.{Puts, Writes};
+ghost use Rattle.std.specs.Option.{option_copied};
+ghost use Rattle.mb_segments.specs.Beginnings.{FindsBeginning, ReadsBeginning};
+ghost use Rattle.mb_segments.specs.Bounds.{TextsFit, HeaderFits};
+ghost use Rattle.mb_segments.specs.Ends.{end_at};
+ghost use Rattle.mb_segments.specs.Uncopied.{texts_of, header_of};
+
+use crate::end::HeaderEnd;
+use mb_bytes::{
+    Cursor, bytes_after_u16, put_after_u16, put_slice, put_u8, put_u16, put_u32, u8_between,
+    u16_between, u32_between,
+};
+use mb_model::{BadRecord, Bytes, Header, NoMemory, Slot};
+use std::alloc::Global;
+
+/// The word by which a header is known.
+const WORD: [u8; 4] = *b"MBH1";
+
+/// The most bytes of a layer's code.
+const CODE_LIMIT: u32 = 32_768;
+
+/// The most bytes of an entry.
+const ENTRY_LIMIT: u16 = 400;
+
+/// The most entries of a log.
+const ENTRIES: u16 = 128;
+
+/// The unsigned entries of a header as bytes, where they stand.
+#[derive(Clone, Copy)]
+pub struct StoredTexts<'a> {
+    pub first: Option<&'a [u8]>,
+    pub second: Option<&'a [u8]>,
+}
+
+/// A header whose unsigned entries are not copied, but borrowed from the bytes that were read.
+#[derive(Clone, Copy)]
+pub struct StoredHeader<'a> {
+    /// Where the code of layer 1 stands.
+    pub one: Slot,
+    /// Where the code of layer 2 stands.
+    pub two: Slot,
+    /// Where the code of layer 3 stands.
+    pub three: Slot,
+    /// The number of signed entries, 1 to 128.
+    pub signed: u32,
+    /// The first unsigned entry as bytes, 1 to 400 of them; none if every entry is signed.
+    pub first: Option<&'a [u8]>,
+    /// The second unsigned entry as bytes, 1 to 400 of them; none if at most one entry is unsigned.
+    pub second: Option<&'a [u8]>,
+}
+
+// ---- reading
+
+fn word_at(cursor: &mut Cursor<'_>) -> Result<(), BadRecord>
+    ensures { Reads bad_at (mark header_word) cursor.old result cursor.new }
+{
+    let at = cursor.offset();
+    let word = cursor.take_array::<4>()?;
+    if word != WORD {
+        return Err(BadRecord { at });
+    }
+    Ok(())
+}
+
+/// The length of the code in a slot: 0 where no slot is named.
+#[tactic(auto, unfolding(mb_model::specs::HeaderFormat::code_length_format))]
+fn code_length_at(cursor: &mut Cursor<'_>, which: u8) -> Result<u32, BadRecord>
+    ensures { Reads bad_at (code_length_format which) cursor.old result cursor.new }
+{
+    if which == 0 {
+        u32_between(cursor, 0, 0)
+    } else {
+        u32_between(cursor, 0, CODE_LIMIT)
+    }
+}
+
+#[tactic(auto, unfolding(mb_model::specs::HeaderFormat::slot_format))]
+fn slot_at(cursor: &mut Cursor<'_>) -> Result<Slot, BadRecord>
+    ensures { Reads bad_at slot_format cursor.old result cursor.new }
+{
+    let which = u8_between(cursor, 0, 2)?;
+    let length = code_length_at(cursor, which)?;
+    Ok(Slot { which, length })
+}
+
+/// The bytes of an entry after their number.
+#[tactic(auto, unfolding(mb_model::specs::HeaderFormat::entry_bytes_format))]
+pub(crate) fn text_at<'a>(cursor: &mut Cursor<'a>) -> Result<&'a [u8], BadRecord>
+    ensures { ReadsAs (λ text. text.now) bad_at entry_bytes_format cursor.old result cursor.new }
+{
+    bytes_after_u16(cursor, 1, ENTRY_LIMIT)
+}
+
+/// How many entries may be unsigned beside so many that are signed.
+fn most_unsigned(signed: u16) -> u8
+    requires { signed ≤ 128 }
+    ensures { result ≡ most_unsigned signed }
+{
+    if signed <= ENTRIES - 2 {
+        2
+    } else {
+        (ENTRIES - signed) as u8
+    }
+}
+
+#[tactic(auto, unfolding(mb_model::specs::HeaderFormat::unsigned_format, mb_format::specs::Combinators::items))]
+fn texts_at<'a>(cursor: &mut Cursor<'a>, signed: u16) -> Result<StoredTexts<'a>, BadRecord>
+    requires { signed ≤ 128 }
+    ensures { ReadsAs texts_of bad_at (unsigned_format signed) cursor.old result cursor.new }
+{
+    let count = u8_between(cursor, 0, most_unsigned(signed))?;
+    if count == 0 {
+        return Ok(StoredTexts {
+            first: None,
+            second: None,
+        });
+    }
+    let first = text_at(cursor)?;
+    if count == 1 {
+        return Ok(StoredTexts {
+            first: Some(first),
+            second: None,
+        });
+    }
+    let second = text_at(cursor)?;
+    Ok(StoredTexts {
+        first: Some(first),
+        second: Some(second),
+    })
+}
+
+#[tactic(auto, unfolding(mb_model::specs::HeaderFormat::header_format))]
+fn stored_header_at<'a>(cursor: &mut Cursor<'a>) -> Result<StoredHeader<'a>, BadRecord>
+    ensures { ReadsAs header_of bad_at header_format cursor.old result cursor.new }
+{
+    word_at(cursor)?;
+    let one = slot_at(cursor)?;
+    let two = slot_at(cursor)?;
+    let three = slot_at(cursor)?;
+    let signed = u16_between(cursor, 1, ENTRIES)?;
+    let texts = texts_at(cursor, signed)?;
+    Ok(StoredHeader {
+        one,
+        two,
+        three,
+        signed: signed as u32,
+        first: texts.first,
+        second: texts.second,
+    })
+}
+
+/// Finds the header at the beginning of a sector, whatever bytes follow it; `None` exactly if there is none. Takes no
+/// memory: the unsigned entries are borrowed from the sector, which has at most 4,194,304 bytes.
+pub fn header_at(sector: &[u8]) -> Option<StoredHeader<'_>>
+    requires { length sector.now ≤ 4194304 }
+    ensures { FindsBeginning header_of header_format sector.now result }
+{
+    let mut cursor = Cursor::new(sector);
+    match stored_header_at(&mut cursor) {
+        Ok(header) => Some(header),
+        Err(_) => None,
+    }
+}
+
+fn copy_text(alloc: Global, text: Option<&[u8]>) -> Result<Option<Bytes>, NoMemory>
+    ensures { IfOk result (λ copied. copied ≡ option_copied text.entry) }
+{
+    match text {
+        Some(bytes) => Ok(Some(Bytes::copy(alloc, bytes)?)),
+        None => Ok(None),
+    }
+}
+
+fn copy_header(alloc: Global, stored: StoredHeader<'_>) -> Result<Header, NoMemory>
+    ensures { IfOk result (λ header. header ≡ header_of stored.entry) }
+{
+    Ok(Header {
+        one: stored.one,
+        two: stored.two,
+        three: stored.three,
+        signed: stored.signed,
+        first: copy_text(alloc, stored.first)?,
+        second: copy_text(alloc, stored.second)?,
+    })
+}
+
+/// Reads the header at the beginning of a sector, whatever bytes follow it. Else `Bad` with the offset of the first field
+/// that lacks bytes or is not allowed, or `NoMemory`. The sector has at most 4,194,304 bytes.
+pub fn read_header(alloc: Global, sector: &[u8]) -> Result<Header, HeaderEnd>
+    requires { length sector.now ≤ 4194304 }
+    ensures { ReadsBeginning end_at header_format sector.now result }
+{
+    let mut cursor = Cursor::new(sector);
+    let stored = stored_header_at(&mut cursor)?;
+    Ok(copy_header(alloc, stored)?)
+}
+
+// ---- writing
+
+#[tactic(auto, unfolding(mb_model::specs::HeaderFormat::slot_format))]
+fn put_slot(out: &mut Vec<u8>, slot: Slot) -> Result<(), NoMemory>
+    ensures { Puts (slot_format.spelling slot) out.old result out.new }
+{
+    put_u8(out, slot.which)?;
+    put_u32(out, slot.length)
+}
+
+/// Appends the bytes of an entry, 1 to 400, after their number.
+#[tactic(auto, unfolding(mb_model::specs::HeaderFormat::entry_bytes_format))]
+pub(crate) fn put_text(out: &mut Vec<u8>, text: &[u8]) -> Result<(), NoMemory>
+    requires { length text.now ≤ 400 }
+    ensures { Puts (entry_bytes_format.spelling text.now) out.old result out.new }
+{
+    put_after_u16(out, text)
+}
+
+#[tactic(auto, unfolding(mb_model::specs::HeaderFormat::unsigned_format, mb_format::specs::Combinators::items))]
+fn put_texts(out: &mut Vec<u8>, header: &Header) -> Result<(), NoMemory>
+    requires { TextsFit header.now.first header.now.second }
+    ensures { Puts ((unsigned_format header.now.signed).spelling (header.now.first, header.now.second))
+        out.old result out.new }
+{
+    match (&header.first, &header.second) {
+        (Some(first), Some(second)) => {
+            put_u8(out, 2)?;
+            put_text(out, first.as_slice())?;
+            put_text(out, second.as_slice())
+        }
+        (Some(first), None) => {
+            put_u8(out, 1)?;
+            put_text(out, first.as_slice())
+        }
+        (None, _) => put_u8(out, 0),
+    }
+}
+
+#[tactic(auto, unfolding(mb_model::specs::HeaderFormat::header_format))]
+fn put_header(out: &mut Vec<u8>, header: &Header) -> Result<(), NoMemory>
+    requires { HeaderFits header.now }
+    ensures { Puts (header_format.spelling header.now) out.old result out.new }
+{
+    put_slice(out, &WORD)?;
+    put_slot(out, header.one)?;
+    put_slot(out, header.two)?;
+    put_slot(out, header.three)?;
+    put_u16(out, header.signed as u16)?;
+    put_texts(out, header)
+}
+
+/// Appends the bytes of a header that has a spelling, at most 826, or leaves `out` as it was. The answer is Ok if the
+/// capacity of `out` holds them.
+pub fn write_header(header: &Header, out: &mut Vec<u8>) -> Result<(), NoMemory>
+    requires { header_format.Allowed header.now }
+    ensures { Writes (header_format.spelling header.now) out.old result out.new }
+{
+    let length = out.len();
+    match put_header(out, header) {
+        Ok(()) => Ok(()),
+        Err(error) => {
+            out.truncate(length);
+            Err(error)
+        }
+    }
+}
