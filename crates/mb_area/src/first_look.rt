@@ -1,11 +1,10 @@
 //! What is left to be done in a device that comes up.
 
-ghost use Rattle.std.specs.Prelude.{◌≡◌, IsOk, IfOk, true};
+ghost use Rattle.std.specs.Prelude.{◌≡◌, IsOk, IfOk};
 ghost use Rattle.mb_model.specs.declared.stored.Root.{Root};
 ghost use Rattle.mb_model.specs.Memory.{other};
 ghost use Rattle.mb_model.specs.Meaning.{RootIn};
-ghost use Rattle.mb_model.specs.Board.{IsLoaded};
-ghost use Rattle.mb_layout.specs.Rooms.{HasRoom};
+ghost use Rattle.mb_board.specs.Calls.{IsUp};
 ghost use Rattle.mb_area.specs.Roots.{HasSomeRoot};
 ghost use Rattle.mb_area.specs.Look.{IsLooked};
 
@@ -34,20 +33,12 @@ pub enum LookEnd {
 
 /// What is left to be done, by the root in force and its other area. Nothing is written, and no memory is taken.
 pub fn look<B: Board>(up: Up<R1>, b: &mut B, room: &mut Room) -> Result<Looked, LookEnd>
-    requires on { B.power b.old ≡ true }
-    requires level { B.level b.old ≡ 1 }
-    requires loaded { IsLoaded (B.memory b.old) }
-    requires root { HasSomeRoot (B.memory b.old) }
-    requires room { HasRoom room.old }
+    requires up { IsUp 1 (B.seen b.old) }
+    requires root { HasSomeRoot (B.seen b.old).memory }
     ensures ok { IsOk result }
-    ensures looked { (root : Root) → RootIn (B.memory b.old).bbram root
-        → IfOk result (λ looked. IsLooked looked root (other (B.memory b.old).bbram 1)) }
-    ensures memory { B.memory b.new ≡ B.memory b.old }
-    ensures power { B.power b.new ≡ B.power b.old }
-    ensures level { B.level b.new ≡ B.level b.old }
-    ensures ledger { B.ledger b.new ≡ B.ledger b.old }
-    ensures meter { B.meter b.new ≡ B.meter b.old }
-    ensures room { HasRoom room.new }
+    ensures looked { (root : Root) → RootIn (B.seen b.old).memory.bbram root
+        → IfOk result (λ looked. IsLooked looked root (other (B.seen b.old).memory.bbram 1)) }
+    ensures same { B.seen b.new ≡ B.seen b.old }
     ensures public { room.new.public ≡ room.old.public }
 {
     let root = read_root(b, room);

@@ -1,16 +1,14 @@
 //! The root in its slot.
 
-ghost use Rattle.std.specs.Prelude.{◌≡◌, ◌≤◌, ◌-◌, ◌⊎◌, length, OnOk, IsOk, true, vec_capacity};
+ghost use Rattle.std.specs.Prelude.{◌≡◌, ◌≤◌, ◌-◌, ◌⊎◌, length, OnOk, IsOk, vec_capacity};
 ghost use Rattle.mb_format.specs.Format.{Spells};
 ghost use Rattle.mb_model.specs.declared.stored.Root.{Root};
 ghost use Rattle.mb_model.specs.RootFormat.{root_format};
 ghost use Rattle.mb_model.specs.Memory.{IsBlank, current, other, HoldsRecord};
 ghost use Rattle.mb_model.specs.Meaning.{RootIn};
-ghost use Rattle.mb_model.specs.Board.{IsLoaded};
-ghost use Rattle.mb_board.specs.Calls.{power_of, level_of, IsMetered};
+ghost use Rattle.mb_board.specs.Calls.{IsUp, Ran};
 ghost use Rattle.mb_model_memory.specs.InForce.{AgreeBesides};
 ghost use Rattle.mb_slot.specs.Slots.{CanUse, IsSameBut, IsSameButOther};
-ghost use Rattle.mb_layout.specs.Rooms.{HasRoom};
 ghost use Rattle.mb_model_memory.specs.Holding.{KeepsContents};
 ghost use Rattle.mb_area.specs.Roots.{HoldsSomeRoot, HasSomeRoot, CommitsRoot, Finishes, KeepsOrFinishes, MeansByRoot, KeepsOrMeansByRoot, MeansAsReady, settled_root};
 
@@ -38,15 +36,11 @@ fn held_root(area: &[u8]) -> Root
 
 /// The root in force.
 pub fn read_root<B: Board>(b: &B, room: &mut Room) -> Root
-    requires on { B.power b.now ≡ true }
-    requires level { B.level b.now ≤ 1 }
-    requires loaded { IsLoaded (B.memory b.now) }
-    requires root { HasSomeRoot (B.memory b.now) }
-    requires room { HasRoom room.old }
-    ensures holds { RootIn (B.memory b.now).bbram result }
-    ensures root { (root : Root) → RootIn (B.memory b.now).bbram root → root ≡ result }
+    requires can_use { CanUse (B.seen b.now) 1 }
+    requires root { HasSomeRoot (B.seen b.now).memory }
+    ensures holds { RootIn (B.seen b.now).memory.bbram result }
+    ensures root { (root : Root) → RootIn (B.seen b.now).memory.bbram root → root ≡ result }
     ensures area { result.area ≤ 1 }
-    ensures room { HasRoom room.new }
     ensures public { room.new.public ≡ room.old.public }
 {
     make_area(&mut room.area);
@@ -68,22 +62,16 @@ fn root_bytes(root: &Root, out: &mut Vec<u8>)
 
 /// Puts the root in force. Where power fails, this one or the one before is in force. There are at most two write calls.
 fn store_root<B: Board>(b: &mut B, root: &Root, room: &mut Room) -> Result<(), Stopped>
-    requires can_use { CanUse (B.power b.old) (B.level b.old) (B.memory b.old) 1 }
+    requires can_use { CanUse (B.seen b.old) 1 }
     requires allowed { root_format.Allowed root.now }
-    requires room { HasRoom room.old }
-    ensures done { OnOk result (HoldsRecord root_format (current (B.memory b.new).bbram 1) root.now) }
-    ensures either { (current (B.memory b.new).bbram 1 ≡ current (B.memory b.old).bbram 1)
-        ⊎ HoldsRecord root_format (current (B.memory b.new).bbram 1) root.now }
-    ensures left { OnOk result (other (B.memory b.new).bbram 1 ≡ current (B.memory b.old).bbram 1) }
-    ensures besides { AgreeBesides 1 (B.memory b.old).bbram (B.memory b.new).bbram }
-    ensures rest { IsSameBut 1 (B.memory b.old).bbram (B.memory b.new).bbram }
-    ensures sized { IsLoaded (B.memory b.new) }
-    ensures flash { (B.memory b.new).flash ≡ (B.memory b.old).flash }
-    ensures power { B.power b.new ≡ power_of result }
-    ensures level { B.level b.new ≡ level_of result (B.level b.old) }
-    ensures ledger { B.ledger b.new ≡ B.ledger b.old }
-    ensures meter { IsMetered 2 result (B.meter b.old) (B.meter b.new) }
-    ensures room { HasRoom room.new }
+    ensures done { OnOk result (HoldsRecord root_format (current (B.seen b.new).memory.bbram 1) root.now) }
+    ensures either { (current (B.seen b.new).memory.bbram 1 ≡ current (B.seen b.old).memory.bbram 1)
+        ⊎ HoldsRecord root_format (current (B.seen b.new).memory.bbram 1) root.now }
+    ensures left { OnOk result (other (B.seen b.new).memory.bbram 1 ≡ current (B.seen b.old).memory.bbram 1) }
+    ensures besides { AgreeBesides 1 (B.seen b.old).memory.bbram (B.seen b.new).memory.bbram }
+    ensures rest { IsSameBut 1 (B.seen b.old).memory.bbram (B.seen b.new).memory.bbram }
+    ensures flash { (B.seen b.new).memory.flash ≡ (B.seen b.old).memory.flash }
+    ensures ran { Ran 2 result (B.seen b.old) (B.seen b.new) }
     ensures public { room.new.public ≡ room.old.public }
 {
     root_bytes(root, &mut room.other);
@@ -101,24 +89,16 @@ pub fn commit_root<B: Board>(
     root: &Root,
     room: &mut Room,
 ) -> Result<Unsettled, Off>
-    requires on { B.power b.old ≡ true }
-    requires level { B.level b.old ≡ 1 }
-    requires loaded { IsLoaded (B.memory b.old) }
+    requires up { IsUp 1 (B.seen b.old) }
     requires allowed { root_format.Allowed root.now }
-    requires room { HasRoom room.old }
-    ensures done { OnOk result (CommitsRoot root.now (B.memory b.old) (B.memory b.new)) }
-    ensures either { KeepsContents (B.memory b.old) (B.memory b.new)
-        ⊎ CommitsRoot root.now (B.memory b.old) (B.memory b.new) }
-    ensures means { OnOk result (MeansByRoot root.now (B.memory b.old) (B.memory b.new)) }
-    ensures means_either { KeepsOrMeansByRoot root.now (B.memory b.old) (B.memory b.new) }
-    ensures rest { IsSameBut 1 (B.memory b.old).bbram (B.memory b.new).bbram }
-    ensures sized { IsLoaded (B.memory b.new) }
-    ensures flash { (B.memory b.new).flash ≡ (B.memory b.old).flash }
-    ensures power { B.power b.new ≡ power_of result }
-    ensures level { B.level b.new ≡ level_of result (B.level b.old) }
-    ensures ledger { B.ledger b.new ≡ B.ledger b.old }
-    ensures meter { IsMetered 2 result (B.meter b.old) (B.meter b.new) }
-    ensures room { HasRoom room.new }
+    ensures done { OnOk result (CommitsRoot root.now (B.seen b.old).memory (B.seen b.new).memory) }
+    ensures either { KeepsContents (B.seen b.old).memory (B.seen b.new).memory
+        ⊎ CommitsRoot root.now (B.seen b.old).memory (B.seen b.new).memory }
+    ensures means { OnOk result (MeansByRoot root.now (B.seen b.old).memory (B.seen b.new).memory) }
+    ensures means_either { KeepsOrMeansByRoot root.now (B.seen b.old).memory (B.seen b.new).memory }
+    ensures rest { IsSameBut 1 (B.seen b.old).memory.bbram (B.seen b.new).memory.bbram }
+    ensures flash { (B.seen b.new).memory.flash ≡ (B.seen b.old).memory.flash }
+    ensures ran { Ran 2 result (B.seen b.old) (B.seen b.new) }
     ensures public { room.new.public ≡ room.old.public }
 {
     match store_root(b, root, room) {
@@ -147,22 +127,14 @@ fn settled_root(root: &Root) -> Root
 /// most two write calls.
 #[tactic(auto, using(crate::proofs::Rooted::root_finished, crate::proofs::Rooted::finished_or_kept, crate::proofs::Rooted::finished_means, crate::proofs::Rooted::settled_allowed))]
 pub fn finish_root<B: Board>(u: Unsettled, b: &mut B, room: &mut Room) -> Result<Unwiped, Off>
-    requires on { B.power b.old ≡ true }
-    requires level { B.level b.old ≡ 1 }
-    requires loaded { IsLoaded (B.memory b.old) }
-    requires root { HasSomeRoot (B.memory b.old) }
-    requires room { HasRoom room.old }
-    ensures done { OnOk result (Finishes (B.memory b.old) (B.memory b.new)) }
-    ensures either { KeepsOrFinishes (B.memory b.old) (B.memory b.new) }
-    ensures means { MeansAsReady (B.memory b.old) (B.memory b.new) }
-    ensures rest { IsSameBut 1 (B.memory b.old).bbram (B.memory b.new).bbram }
-    ensures sized { IsLoaded (B.memory b.new) }
-    ensures flash { (B.memory b.new).flash ≡ (B.memory b.old).flash }
-    ensures power { B.power b.new ≡ power_of result }
-    ensures level { B.level b.new ≡ level_of result (B.level b.old) }
-    ensures ledger { B.ledger b.new ≡ B.ledger b.old }
-    ensures meter { IsMetered 2 result (B.meter b.old) (B.meter b.new) }
-    ensures room { HasRoom room.new }
+    requires up { IsUp 1 (B.seen b.old) }
+    requires root { HasSomeRoot (B.seen b.old).memory }
+    ensures done { OnOk result (Finishes (B.seen b.old).memory (B.seen b.new).memory) }
+    ensures either { KeepsOrFinishes (B.seen b.old).memory (B.seen b.new).memory }
+    ensures means { MeansAsReady (B.seen b.old).memory (B.seen b.new).memory }
+    ensures rest { IsSameBut 1 (B.seen b.old).memory.bbram (B.seen b.new).memory.bbram }
+    ensures flash { (B.seen b.new).memory.flash ≡ (B.seen b.old).memory.flash }
+    ensures ran { Ran 2 result (B.seen b.old) (B.seen b.new) }
     ensures public { room.new.public ≡ room.old.public }
 {
     let root = settled_root(&read_root(b, room));
@@ -182,20 +154,14 @@ fn unwiped(u: Unsettled) -> Unwiped {
 /// most one write call.
 #[tactic(auto, using(crate::proofs::Rooted::kept_in_force))]
 pub fn wipe_root<B: Board>(w: Unwiped, b: &mut B) -> Result<Up<R1>, Off>
-    requires on { B.power b.old ≡ true }
-    requires level { B.level b.old ≡ 1 }
-    requires loaded { IsLoaded (B.memory b.old) }
-    ensures blank { OnOk result (IsBlank (other (B.memory b.new).bbram 1)) }
-    ensures contents { KeepsContents (B.memory b.old) (B.memory b.new) }
-    ensures idle { IsBlank (other (B.memory b.old).bbram 1)
-        → IsOk result × (B.memory b.new ≡ B.memory b.old) × (B.meter b.new ≡ B.meter b.old) }
-    ensures rest { IsSameButOther 1 (B.memory b.old).bbram (B.memory b.new).bbram }
-    ensures sized { IsLoaded (B.memory b.new) }
-    ensures flash { (B.memory b.new).flash ≡ (B.memory b.old).flash }
-    ensures power { B.power b.new ≡ power_of result }
-    ensures level { B.level b.new ≡ level_of result (B.level b.old) }
-    ensures ledger { B.ledger b.new ≡ B.ledger b.old }
-    ensures meter { IsMetered 1 result (B.meter b.old) (B.meter b.new) }
+    requires up { IsUp 1 (B.seen b.old) }
+    ensures blank { OnOk result (IsBlank (other (B.seen b.new).memory.bbram 1)) }
+    ensures contents { KeepsContents (B.seen b.old).memory (B.seen b.new).memory }
+    ensures idle { IsBlank (other (B.seen b.old).memory.bbram 1)
+        → IsOk result × ((B.seen b.new).memory ≡ (B.seen b.old).memory) × ((B.seen b.new).meter ≡ (B.seen b.old).meter) }
+    ensures rest { IsSameButOther 1 (B.seen b.old).memory.bbram (B.seen b.new).memory.bbram }
+    ensures flash { (B.seen b.new).memory.flash ≡ (B.seen b.old).memory.flash }
+    ensures ran { Ran 1 result (B.seen b.old) (B.seen b.new) }
 {
     let Unwiped { up } = w;
     match wipe_other(b, ROOT_SLOT) {

@@ -1,7 +1,7 @@
 -- What a write call of a board leaves. What can a power loss do in the middle of a write?
 use Rattle.std.specs.Prelude.{◌≡◌, ℕ, ◌+◌, ◌≤◌, nat_lt, List, length, Bool, true, false, if◌then◌else◌}
 use Rattle.std.specs.Prelude.{Result, Ok, Err, OnErr}
-use Rattle.mb_model.specs.Board.{Memory, Meter, Held, phase_at, put}
+use Rattle.mb_model.specs.Board.{Memory, Ledger, Meter, Held, IsLoaded, phase_at, put}
 
 -- after a stop power is off
 abbrev pub power_of : {A E : Type 0} → Result A E → Bool
@@ -52,3 +52,37 @@ pub record IsMetered (n : ℕ) {A E : Type 0} (result : Result A E) (before afte
   pub stops : after.stops ≡ stops_by result before.stops
   pub writes : after.writes ≤ before.writes + n
   pub cut : OnErr result (before.armed ≡ true)
+
+-- ---- all that a board shows
+
+-- All that a board shows: its power, its level, its memory, its events, and what it counts.
+pub record Seen : Type 0 where
+  pub power : Bool
+  pub level : ℕ
+  pub memory : Memory
+  pub ledger : Ledger
+  pub meter : Meter
+
+-- what a board holds that shows this
+abbrev pub held_in : Seen → Held
+held_in seen = held_by seen.memory seen.power seen.level seen.meter
+
+-- A board that shows this can be used: power is on, and both memories have the lengths of a loaded board's.
+pub record IsUsable (seen : Seen) : Type 0 where
+  pub on : seen.power ≡ true
+  pub loaded : IsLoaded seen.memory
+
+-- A board that shows this can be used, and its ratchet stands at this level.
+pub record IsUp (level : ℕ) (seen : Seen) : Type 0 where
+  pub on : seen.power ≡ true
+  pub at_level : seen.level ≡ level
+  pub loaded : IsLoaded seen.memory
+
+-- What calls with this result leave of a board, whatever they write in at most n write calls. At a stop power is off
+-- and the level 0, and else both are as before. The memories keep their lengths, and the events and answers stay.
+pub record Ran (n : ℕ) {A E : Type 0} (result : Result A E) (before after : Seen) : Type 0 where
+  pub power : after.power ≡ power_of result
+  pub level : after.level ≡ level_of result before.level
+  pub sized : IsLoaded after.memory
+  pub ledger : after.ledger ≡ before.ledger
+  pub meter : IsMetered n result before.meter after.meter

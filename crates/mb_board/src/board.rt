@@ -4,9 +4,9 @@ ghost use Rattle.std.specs.Prelude.{◌≡◌, ◌+◌, ◌*◌, ◌/◌, ◌-�
 ghost use Rattle.mb_format.specs.Format.{IsBytes};
 ghost use Rattle.mb_model.specs.Pieces.{part};
 ghost use Rattle.mb_model.specs.Script.{IsScriptEvent};
-ghost use Rattle.mb_model.specs.Board.{Memory, Ledger, Meter, IsLoaded, image_of, put, erased, loaded, power_after, memory_after, armed_after};
+ghost use Rattle.mb_model.specs.Board.{IsLoaded, image_of, put, erased, loaded, power_after, memory_after, armed_after};
 ghost use Rattle.mb_model.specs.Acknowledged.{MayAnswer};
-ghost use Rattle.mb_board.specs.Calls.{power_of, level_of, metered, Torn, held_by};
+ghost use Rattle.mb_board.specs.Calls.{power_of, level_of, metered, Torn, Seen, held_in};
 ghost use Rattle.mb_board.specs.Reach.{Reached, Readable};
 
 use mb_model::{Answered, Event, Events, NoMemory, Reply};
@@ -22,73 +22,67 @@ pub struct Stopped;
 /// A write call (`flash_erase`, `flash_program`, `bbram_write`) is stopped only by a power loss that was armed. Then the
 /// bytes in its range are any, power is off, and no power loss is armed any more. All else is as before.
 pub trait Board: Register {
-    /// The bytes of both memories.
-    ghost memory: { Self → Memory };
-
-    /// The events, and what the board held at the last answer.
-    ghost ledger: { Self → Ledger };
-
-    /// Whether a power loss is armed, the count of stops, and the count of write calls.
-    ghost meter: { Self → Meter };
+    /// All that it shows.
+    ghost seen: { Self → Seen };
 
     /// The bytes of the flash from `at` on.
     fn flash_read(&self, at: u32, out: &mut [u8])
-        requires on { Self.power self.now ≡ true }
-        requires within { at + length out.old ≤ length (memory self.now).flash }
-        ensures { out.new ≡ part at (length out.old) (memory self.now).flash };
+        requires on { (seen self.now).power ≡ true }
+        requires within { at + length out.old ≤ length (seen self.now).memory.flash }
+        ensures { out.new ≡ part at (length out.old) (seen self.now).memory.flash };
 
     /// Sets each byte of a sector of 4,096 bytes to 0xFF.
     fn flash_erase(&mut self, sector: u16) -> Result<(), Stopped>
-        requires on { Self.power self.old ≡ true }
-        requires within { 4096 * sector + 4096 ≤ length (memory self.old).flash }
-        ensures erased { OnOk result ((memory self.new).flash ≡ put (4096 * sector) (erased 4096) (memory self.old).flash) }
-        ensures torn { Torn (4096 * sector) 4096 (memory self.old).flash (memory self.new).flash }
-        ensures bbram { (memory self.new).bbram ≡ (memory self.old).bbram }
-        ensures power { Self.power self.new ≡ power_of result }
-        ensures level { Self.level self.new ≡ level_of result (Self.level self.old) }
-        ensures ledger { ledger self.new ≡ ledger self.old }
-        ensures meter { meter self.new ≡ metered result (meter self.old) }
-        ensures stopped { OnErr result ((meter self.old).armed ≡ true) };
+        requires on { (seen self.old).power ≡ true }
+        requires within { 4096 * sector + 4096 ≤ length (seen self.old).memory.flash }
+        ensures erased { OnOk result ((seen self.new).memory.flash ≡ put (4096 * sector) (erased 4096) (seen self.old).memory.flash) }
+        ensures torn { Torn (4096 * sector) 4096 (seen self.old).memory.flash (seen self.new).memory.flash }
+        ensures bbram { (seen self.new).memory.bbram ≡ (seen self.old).memory.bbram }
+        ensures power { (seen self.new).power ≡ power_of result }
+        ensures level { (seen self.new).level ≡ level_of result (seen self.old).level }
+        ensures ledger { (seen self.new).ledger ≡ (seen self.old).ledger }
+        ensures meter { (seen self.new).meter ≡ metered result (seen self.old).meter }
+        ensures stopped { OnErr result ((seen self.old).meter.armed ≡ true) };
 
     /// Stores bytes in flash that has been erased there, within one sector.
     fn flash_program(&mut self, at: u32, bytes: &[u8]) -> Result<(), Stopped>
-        requires on { Self.power self.old ≡ true }
+        requires on { (seen self.old).power ≡ true }
         requires some { 0 < length bytes.now }
-        requires within { at + length bytes.now ≤ length (memory self.old).flash }
+        requires within { at + length bytes.now ≤ length (seen self.old).memory.flash }
         requires one_sector { at / 4096 ≡ (at + length bytes.now - 1) / 4096 }
-        requires blank { part at (length bytes.now) (memory self.old).flash ≡ erased (length bytes.now) }
-        ensures stored { OnOk result ((memory self.new).flash ≡ put at bytes.now (memory self.old).flash) }
-        ensures torn { Torn at (length bytes.now) (memory self.old).flash (memory self.new).flash }
-        ensures bbram { (memory self.new).bbram ≡ (memory self.old).bbram }
-        ensures power { Self.power self.new ≡ power_of result }
-        ensures level { Self.level self.new ≡ level_of result (Self.level self.old) }
-        ensures ledger { ledger self.new ≡ ledger self.old }
-        ensures meter { meter self.new ≡ metered result (meter self.old) }
-        ensures stopped { OnErr result ((meter self.old).armed ≡ true) };
+        requires blank { part at (length bytes.now) (seen self.old).memory.flash ≡ erased (length bytes.now) }
+        ensures stored { OnOk result ((seen self.new).memory.flash ≡ put at bytes.now (seen self.old).memory.flash) }
+        ensures torn { Torn at (length bytes.now) (seen self.old).memory.flash (seen self.new).memory.flash }
+        ensures bbram { (seen self.new).memory.bbram ≡ (seen self.old).memory.bbram }
+        ensures power { (seen self.new).power ≡ power_of result }
+        ensures level { (seen self.new).level ≡ level_of result (seen self.old).level }
+        ensures ledger { (seen self.new).ledger ≡ (seen self.old).ledger }
+        ensures meter { (seen self.new).meter ≡ metered result (seen self.old).meter }
+        ensures stopped { OnErr result ((seen self.old).meter.armed ≡ true) };
 
     /// The bytes of the battery-backed memory from `at` on, which the level has to reach: the life byte, the selector of a
     /// slot, or a part of one of its areas.
     fn bbram_read(&self, at: u16, out: &mut [u8])
-        requires on { Self.power self.now ≡ true }
-        requires within { at + length out.old ≤ length (memory self.now).bbram }
-        requires reached { Readable (Self.level self.now) at (length out.old) }
-        ensures { out.new ≡ part at (length out.old) (memory self.now).bbram };
+        requires on { (seen self.now).power ≡ true }
+        requires within { at + length out.old ≤ length (seen self.now).memory.bbram }
+        requires reached { Readable (seen self.now).level at (length out.old) }
+        ensures { out.new ≡ part at (length out.old) (seen self.now).memory.bbram };
 
     /// Stores bytes in the battery-backed memory, where the level has to reach: the selector of a slot, or a part of one
     /// of its areas.
     fn bbram_write(&mut self, at: u16, bytes: &[u8]) -> Result<(), Stopped>
-        requires on { Self.power self.old ≡ true }
+        requires on { (seen self.old).power ≡ true }
         requires some { 0 < length bytes.now }
-        requires within { at + length bytes.now ≤ length (memory self.old).bbram }
-        requires reached { Reached (Self.level self.old) at (length bytes.now) }
-        ensures stored { OnOk result ((memory self.new).bbram ≡ put at bytes.now (memory self.old).bbram) }
-        ensures torn { Torn at (length bytes.now) (memory self.old).bbram (memory self.new).bbram }
-        ensures flash { (memory self.new).flash ≡ (memory self.old).flash }
-        ensures power { Self.power self.new ≡ power_of result }
-        ensures level { Self.level self.new ≡ level_of result (Self.level self.old) }
-        ensures ledger { ledger self.new ≡ ledger self.old }
-        ensures meter { meter self.new ≡ metered result (meter self.old) }
-        ensures stopped { OnErr result ((meter self.old).armed ≡ true) };
+        requires within { at + length bytes.now ≤ length (seen self.old).memory.bbram }
+        requires reached { Reached (seen self.old).level at (length bytes.now) }
+        ensures stored { OnOk result ((seen self.new).memory.bbram ≡ put at bytes.now (seen self.old).memory.bbram) }
+        ensures torn { Torn at (length bytes.now) (seen self.old).memory.bbram (seen self.new).memory.bbram }
+        ensures flash { (seen self.new).memory.flash ≡ (seen self.old).memory.flash }
+        ensures power { (seen self.new).power ≡ power_of result }
+        ensures level { (seen self.new).level ≡ level_of result (seen self.old).level }
+        ensures ledger { (seen self.new).ledger ≡ (seen self.old).ledger }
+        ensures meter { (seen self.new).meter ≡ metered result (seen self.old).meter }
+        ensures stopped { OnErr result ((seen self.old).meter.armed ≡ true) };
 
     /// Loads an image, the flash followed by the battery-backed memory, and the events that will be handed out. Room
     /// for all answers is taken. If an allocation fails, of which no clause says when, the board is as before.
@@ -96,63 +90,67 @@ pub trait Board: Register {
         requires image { length image.now ≡ 1077248 }
         requires count { length events ≤ 65536 }
         requires events { All IsScriptEvent events }
-        requires off { Self.power self.old ≡ false }
-        requires none_out { (ledger self.old).out ≡ None }
-        ensures power { Self.power self.new ≡ false }
-        ensures sized { OnOk result (IsLoaded (memory self.new)) }
-        ensures image { OnOk result (image_of (memory self.new) ≡ image.now) }
-        ensures ledger { OnOk result (ledger self.new ≡ loaded (memory self.new) events) }
-        ensures meter { OnOk result (meter self.new ≡ record (meter self.old) { armed = false; writes = 0 }) }
-        ensures err_memory { OnErr result (memory self.new ≡ memory self.old) }
-        ensures err_ledger { OnErr result (ledger self.new ≡ ledger self.old) }
-        ensures err_meter { OnErr result (meter self.new ≡ meter self.old) };
+        requires off { (seen self.old).power ≡ false }
+        requires none_out { (seen self.old).ledger.out ≡ None }
+        ensures power { (seen self.new).power ≡ false }
+        ensures sized { OnOk result (IsLoaded (seen self.new).memory) }
+        ensures image { OnOk result (image_of (seen self.new).memory ≡ image.now) }
+        ensures ledger { OnOk result ((seen self.new).ledger ≡ loaded (seen self.new).memory events) }
+        ensures meter { OnOk result ((seen self.new).meter ≡ record (seen self.old).meter { armed = false; writes = 0 }) }
+        ensures err_memory { OnErr result ((seen self.new).memory ≡ (seen self.old).memory) }
+        ensures err_ledger { OnErr result ((seen self.new).ledger ≡ (seen self.old).ledger) }
+        ensures err_meter { OnErr result ((seen self.new).meter ≡ (seen self.old).meter) };
 
     /// How many events wait.
     fn events_left(&self) -> u32
-        ensures { result ≡ length (ledger self.now).waiting };
+        ensures { result ≡ length (seen self.now).ledger.waiting };
 
     /// The first event that waits, which is out until it is answered; `None` exactly where none waits. `Off` and `Tamper`
     /// turn power off, `Tamper` zeroes the battery-backed memory, and `Cut` arms a power loss.
     fn take(&mut self) -> Option<Event>
-        requires { (ledger self.old).out ≡ None }
-        ensures none { IfNone result (((ledger self.old).waiting ≡ []) × (ledger self.new ≡ ledger self.old)) }
-        ensures some { IfSome result (λ event. (rest : List Event) × ((ledger self.old).waiting ≡ event ∷ rest)
-            × (ledger self.new ≡ record (ledger self.old) { waiting = rest; out = Some event })) }
-        ensures power { Self.power self.new ≡ power_after result (Self.power self.old) }
-        ensures level { Self.level self.new ≡ Self.level self.old }
-        ensures memory { memory self.new ≡ memory_after result (memory self.old) }
-        ensures meter { meter self.new ≡ record (meter self.old) { armed = armed_after result (meter self.old).armed; writes = 0 } }
-        ensures flash_bytes { IsBytes (memory self.new).flash }
-        ensures bbram_bytes { IsBytes (memory self.new).bbram };
+        requires { (seen self.old).ledger.out ≡ None }
+        ensures none { IfNone result (((seen self.old).ledger.waiting ≡ []) × ((seen self.new).ledger ≡ (seen self.old).ledger)) }
+        ensures some { IfSome result (λ event. (rest : List Event) × ((seen self.old).ledger.waiting ≡ event ∷ rest)
+            × ((seen self.new).ledger ≡ record (seen self.old).ledger { waiting = rest; out = Some event })) }
+        ensures power { (seen self.new).power ≡ power_after result (seen self.old).power }
+        ensures level { (seen self.new).level ≡ (seen self.old).level }
+        ensures memory { (seen self.new).memory ≡ memory_after result (seen self.old).memory }
+        ensures meter { (seen self.new).meter ≡ record (seen self.old).meter { armed = armed_after result (seen self.old).meter.armed; writes = 0 } }
+        ensures flash_bytes { IsBytes (seen self.new).memory.flash }
+        ensures bbram_bytes { IsBytes (seen self.new).memory.bbram };
 
     /// Answers the event that is out, which has to be one step from the world at the answer before to the world now.
     fn answer(&mut self, event: Event, reply: Reply)
-        requires out { (ledger self.old).out ≡ Some event }
-        requires step { MayAnswer (ledger self.old).standing
-            (held_by (memory self.old) (Self.power self.old) (Self.level self.old) (meter self.old)) event reply }
-        ensures ledger { ledger self.new ≡ record (ledger self.old) {
+        requires out { (seen self.old).ledger.out ≡ Some event }
+        requires step { MayAnswer (seen self.old).ledger.standing
+            (held_in (seen self.old)) event reply }
+        ensures ledger { (seen self.new).ledger ≡ record (seen self.old).ledger {
           out = None;
-          answered = (ledger self.old).answered ++ record { event = event; reply = reply } ∷ [];
-          standing = held_by (memory self.old) (Self.power self.old) (Self.level self.old) (meter self.old);
+          answered = (seen self.old).ledger.answered ++ record { event = event; reply = reply } ∷ [];
+          standing = held_in (seen self.old);
         } }
-        ensures power { Self.power self.new ≡ Self.power self.old }
-        ensures level { Self.level self.new ≡ Self.level self.old }
-        ensures memory { memory self.new ≡ memory self.old }
-        ensures meter { meter self.new ≡ meter self.old };
+        ensures power { (seen self.new).power ≡ (seen self.old).power }
+        ensures level { (seen self.new).level ≡ (seen self.old).level }
+        ensures memory { (seen self.new).memory ≡ (seen self.old).memory }
+        ensures meter { (seen self.new).meter ≡ (seen self.old).meter };
 
     /// The events that were answered since the load, in order.
     fn answered(&self) -> &[Answered]
-        ensures { result.now ≡ (ledger self.now).answered };
+        ensures { result.now ≡ (seen self.now).ledger.answered };
 
     /// The image: the flash, and then the battery-backed memory.
     fn copy_image(&self, out: &mut [u8])
-        requires loaded { IsLoaded (memory self.now) }
+        requires loaded { IsLoaded (seen self.now).memory }
         requires room { length out.old ≡ 1077248 }
-        ensures { out.new ≡ image_of (memory self.now) };
+        ensures { out.new ≡ image_of (seen self.now).memory };
 
-    ghost keeps_memory: { (a b : Self) → Self.rest a ≡ Self.rest b → memory a ≡ memory b };
+    ghost sees_power: { (a : Self) → (seen a).power ≡ Self.power a };
 
-    ghost keeps_ledger: { (a b : Self) → Self.rest a ≡ Self.rest b → ledger a ≡ ledger b };
+    ghost sees_level: { (a : Self) → (seen a).level ≡ Self.level a };
 
-    ghost keeps_meter: { (a b : Self) → Self.rest a ≡ Self.rest b → meter a ≡ meter b };
+    ghost keeps_memory: { (a b : Self) → Self.rest a ≡ Self.rest b → (seen a).memory ≡ (seen b).memory };
+
+    ghost keeps_ledger: { (a b : Self) → Self.rest a ≡ Self.rest b → (seen a).ledger ≡ (seen b).ledger };
+
+    ghost keeps_meter: { (a b : Self) → Self.rest a ≡ Self.rest b → (seen a).meter ≡ (seen b).meter };
 }

@@ -2,7 +2,7 @@
 
 ghost use Rattle.std.specs.Prelude.{◌≡◌, ◌+◌, ◌*◌, ◌-◌, ◌/◌, ◌<◌, ◌≤◌, ◌++◌, ◌∷◌, [], List, Some, None, true, false, length, IfOk, IfSome, IfNone, OnOk, OnErr, All, vec_len, vec_capacity};
 ghost use Rattle.std.specs.Result.{is_ok};
-ghost use Rattle.std.proofs.Common.{ap};
+ghost use Rattle.std.proofs.Common.{ap, refl};
 ghost use Rattle.mb_format.specs.Format.{IsBytes};
 ghost use Rattle.mb_model.specs.Pieces.{part};
 ghost use Rattle.mb_model.specs.Script.{IsScriptEvent};
@@ -161,11 +161,13 @@ impl Register for SimBoard {
 // Where a call has clauses here, they say more than the trait's: which write call is stopped, what its range holds then,
 // and that nothing else changes the power loss that is armed. `torn` follows from `left`; the check wants it written out.
 impl Board for SimBoard {
-    ghost memory = { λ board. board.memory };
-
-    ghost ledger = { λ board. board.ledger };
-
-    ghost meter = { λ board. meter_of board.fuse };
+    ghost seen = { λ board. record {
+      power = board.power;
+      level = board.level;
+      memory = board.memory;
+      ledger = board.ledger;
+      meter = meter_of board.fuse;
+    } };
 
     fn flash_read(&self, at: u32, out: &mut [u8]) {
         let start = at as usize;
@@ -342,6 +344,10 @@ impl Board for SimBoard {
         flash.copy_from_slice(self.flash.as_slice());
         bbram.copy_from_slice(self.bbram.as_slice());
     }
+
+    ghost sees_power = { λ a. refl };
+
+    ghost sees_level = { λ a. refl };
 
     ghost keeps_memory = { λ a b same. ap (λ (rest : Rest). rest.memory) same };
 

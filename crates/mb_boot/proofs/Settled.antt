@@ -29,7 +29,7 @@ use Rattle.mb_model_memory.proofs.StorableRecords.{region_record, public_room}
 use Rattle.mb_area.specs.Roots.{HasSomeRoot, Finishes, KeepsOrFinishes, IsReadyToFinish}
 use Rattle.mb_area.specs.Records.{BeginsSome}
 use Rattle.mb_region.specs.Fates.{IsPending, AppliesFate}
-use Rattle.mb_completion.specs.Completions.{HasLog, PendingIsSigned}
+use Rattle.mb_boot.specs.Completions.{HasLog, PendingIsSigned}
 use Rattle.mb_boot.specs.Settling.{IsLive, IsOnlyRoot, AppliesBoth, SpellsSigned, SignsRecord, Settles}
 
 -- ---- the meaning

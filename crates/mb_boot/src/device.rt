@@ -1,13 +1,11 @@
 //! A device that comes up.
 
-ghost use Rattle.std.specs.Prelude.{◌≡◌, ◌+◌, ◌≤◌, ◌==◌, OnOk, IfOk, Option, true, false};
+ghost use Rattle.std.specs.Prelude.{◌≡◌, ◌+◌, ◌≤◌, ◌==◌, OnOk, Option, true, false};
 ghost use Rattle.std.specs.Option.{is_none};
 ghost use Rattle.mb_model.specs.declared.state.State.{State};
 ghost use Rattle.mb_model.specs.Memory.{life_byte, other};
 ghost use Rattle.mb_model.specs.Meaning.{StandsFor};
-ghost use Rattle.mb_model.specs.Board.{IsLoaded};
-ghost use Rattle.mb_board.specs.Calls.{power_of, level_of, IsMetered};
-ghost use Rattle.mb_layout.specs.Rooms.{HasRoom};
+ghost use Rattle.mb_board.specs.Calls.{IsMetered, IsUp, IsUsable, Ran};
 ghost use Rattle.mb_model_memory.specs.Holding.{KeepsContents, KeepsMeaning};
 ghost use Rattle.mb_boot.specs.Settling.{IsLive};
 ghost use Rattle.mb_boot.specs.Booting.{IsFoundAs, Rests, IsWiped, Cleans, IsQuiet, StandsForValid, KeepsState, IfUnwritten, stop_of, power_at, HasLevel, is_zeroised};
@@ -36,9 +34,8 @@ pub enum BootEnd {
 
 /// Whether the life byte says that the device is dead.
 fn is_dead<B: Board>(b: &B) -> bool
-    requires on { B.power b.now ≡ true }
-    requires loaded { IsLoaded (B.memory b.now) }
-    ensures { result ≡ (life_byte (B.memory b.now).bbram == 0) }
+    requires usable { IsUsable (B.seen b.now) }
+    ensures { result ≡ (life_byte (B.seen b.now).memory.bbram == 0) }
 {
     let mut life = [0; 1];
     b.bbram_read(0, &mut life);
@@ -53,19 +50,11 @@ fn settle_and_wipe<B: Board, L: Ledger>(
     room: &mut Room,
     hashes: &mut HashCount<L>,
 ) -> Result<Up<R1>, Off>
-    requires on { B.power b.old ≡ true }
-    requires level { B.level b.old ≡ 1 }
-    requires loaded { IsLoaded (B.memory b.old) }
-    requires live { IsLive (B.memory b.old) }
-    requires room { HasRoom room.old }
-    ensures rests { OnOk result (Rests (B.memory b.old) (B.memory b.new)) }
-    ensures meaning { KeepsMeaning (B.memory b.old) (B.memory b.new) }
-    ensures sized { IsLoaded (B.memory b.new) }
-    ensures power { B.power b.new ≡ power_of result }
-    ensures level { B.level b.new ≡ level_of result (B.level b.old) }
-    ensures ledger { B.ledger b.new ≡ B.ledger b.old }
-    ensures meter { IsMetered 237 result (B.meter b.old) (B.meter b.new) }
-    ensures room { HasRoom room.new }
+    requires up { IsUp 1 (B.seen b.old) }
+    requires live { IsLive (B.seen b.old).memory }
+    ensures rests { OnOk result (Rests (B.seen b.old).memory (B.seen b.new).memory) }
+    ensures meaning { KeepsMeaning (B.seen b.old).memory (B.seen b.new).memory }
+    ensures ran { Ran 237 result (B.seen b.old) (B.seen b.new) }
     ensures cost { hashes.new ≤ hashes.old + 70946 }
 {
     let w = settle(u, b, room, hashes)?;
@@ -82,21 +71,13 @@ fn bring_to_rest<B: Board, L: Ledger>(
     room: &mut Room,
     hashes: &mut HashCount<L>,
 ) -> Result<Up<R1>, Off>
-    requires on { B.power b.old ≡ true }
-    requires level { B.level b.old ≡ 1 }
-    requires loaded { IsLoaded (B.memory b.old) }
-    requires live { IsLive (B.memory b.old) }
-    requires looked { IsFoundAs looked (B.memory b.old).bbram }
-    requires room { HasRoom room.old }
-    ensures rests { OnOk result (Rests (B.memory b.old) (B.memory b.new)) }
-    ensures meaning { KeepsMeaning (B.memory b.old) (B.memory b.new) }
-    ensures quiet { IsQuiet (B.memory b.old) (B.memory b.new) (B.meter b.old) (B.meter b.new) }
-    ensures sized { IsLoaded (B.memory b.new) }
-    ensures power { B.power b.new ≡ power_of result }
-    ensures level { B.level b.new ≡ level_of result (B.level b.old) }
-    ensures ledger { B.ledger b.new ≡ B.ledger b.old }
-    ensures meter { IsMetered 237 result (B.meter b.old) (B.meter b.new) }
-    ensures room { HasRoom room.new }
+    requires up { IsUp 1 (B.seen b.old) }
+    requires live { IsLive (B.seen b.old).memory }
+    requires looked { IsFoundAs looked (B.seen b.old).memory.bbram }
+    ensures rests { OnOk result (Rests (B.seen b.old).memory (B.seen b.new).memory) }
+    ensures meaning { KeepsMeaning (B.seen b.old).memory (B.seen b.new).memory }
+    ensures quiet { IsQuiet (B.seen b.old).memory (B.seen b.new).memory (B.seen b.old).meter (B.seen b.new).meter }
+    ensures ran { Ran 237 result (B.seen b.old) (B.seen b.new) }
     ensures cost { hashes.new ≤ hashes.old + 70946 }
 {
     match looked {
@@ -109,19 +90,13 @@ fn bring_to_rest<B: Board, L: Ledger>(
 /// Wipes the areas of both regions that are not in force. There are at most two write calls.
 #[tactic(auto, using(crate::proofs::Booted::contents_then, crate::proofs::Booted::two_leaves_root, crate::proofs::Booted::three_leaves_root, crate::proofs::Booted::both_wiped))]
 fn wipe_regions<B: Board>(up: Up<R1>, b: &mut B) -> Result<Up<R1>, Off>
-    requires on { B.power b.old ≡ true }
-    requires level { B.level b.old ≡ 1 }
-    requires loaded { IsLoaded (B.memory b.old) }
-    ensures wiped { OnOk result (IsWiped (B.memory b.new).bbram) }
-    ensures root { other (B.memory b.new).bbram 1 ≡ other (B.memory b.old).bbram 1 }
-    ensures contents { KeepsContents (B.memory b.old) (B.memory b.new) }
-    ensures idle { IsWiped (B.memory b.old).bbram
-        → (B.memory b.new ≡ B.memory b.old) × (B.meter b.new ≡ B.meter b.old) }
-    ensures sized { IsLoaded (B.memory b.new) }
-    ensures power { B.power b.new ≡ power_of result }
-    ensures level { B.level b.new ≡ level_of result (B.level b.old) }
-    ensures ledger { B.ledger b.new ≡ B.ledger b.old }
-    ensures meter { IsMetered 2 result (B.meter b.old) (B.meter b.new) }
+    requires up { IsUp 1 (B.seen b.old) }
+    ensures wiped { OnOk result (IsWiped (B.seen b.new).memory.bbram) }
+    ensures root { other (B.seen b.new).memory.bbram 1 ≡ other (B.seen b.old).memory.bbram 1 }
+    ensures contents { KeepsContents (B.seen b.old).memory (B.seen b.new).memory }
+    ensures idle { IsWiped (B.seen b.old).memory.bbram
+        → ((B.seen b.new).memory ≡ (B.seen b.old).memory) × ((B.seen b.new).meter ≡ (B.seen b.old).meter) }
+    ensures ran { Ran 2 result (B.seen b.old) (B.seen b.new) }
 {
     let up = wipe_region::<Up<R1>, Two, B>(up, b)?;
     let up = wipe_region::<Up<R1>, Three, B>(up, b)?;
@@ -136,20 +111,12 @@ fn come_up<B: Board, L: Ledger>(
     room: &mut Room,
     hashes: &mut HashCount<L>,
 ) -> Result<Up<R1>, Off>
-    requires on { B.power b.old ≡ true }
-    requires level { B.level b.old ≡ 1 }
-    requires loaded { IsLoaded (B.memory b.old) }
-    requires live { IsLive (B.memory b.old) }
-    requires room { HasRoom room.old }
-    ensures clean { OnOk result (Cleans (B.memory b.old) (B.memory b.new)) }
-    ensures meaning { KeepsMeaning (B.memory b.old) (B.memory b.new) }
-    ensures quiet { IsQuiet (B.memory b.old) (B.memory b.new) (B.meter b.old) (B.meter b.new) }
-    ensures sized { IsLoaded (B.memory b.new) }
-    ensures power { B.power b.new ≡ power_of result }
-    ensures level { B.level b.new ≡ level_of result (B.level b.old) }
-    ensures ledger { B.ledger b.new ≡ B.ledger b.old }
-    ensures meter { IsMetered 239 result (B.meter b.old) (B.meter b.new) }
-    ensures room { HasRoom room.new }
+    requires up { IsUp 1 (B.seen b.old) }
+    requires live { IsLive (B.seen b.old).memory }
+    ensures clean { OnOk result (Cleans (B.seen b.old).memory (B.seen b.new).memory) }
+    ensures meaning { KeepsMeaning (B.seen b.old).memory (B.seen b.new).memory }
+    ensures quiet { IsQuiet (B.seen b.old).memory (B.seen b.new).memory (B.seen b.old).meter (B.seen b.new).meter }
+    ensures ran { Ran 239 result (B.seen b.old) (B.seen b.new) }
     ensures cost { hashes.new ≤ hashes.old + 70946 }
 {
     let looked = match look(up, b, room) {
@@ -171,19 +138,11 @@ pub fn finish_order<B: Board, L: Ledger>(
     room: &mut Room,
     hashes: &mut HashCount<L>,
 ) -> Result<Up<R1>, Off>
-    requires on { B.power b.old ≡ true }
-    requires level { B.level b.old ≡ 1 }
-    requires loaded { IsLoaded (B.memory b.old) }
-    requires live { IsLive (B.memory b.old) }
-    requires room { HasRoom room.old }
-    ensures clean { OnOk result (Cleans (B.memory b.old) (B.memory b.new)) }
-    ensures meaning { KeepsMeaning (B.memory b.old) (B.memory b.new) }
-    ensures sized { IsLoaded (B.memory b.new) }
-    ensures power { B.power b.new ≡ power_of result }
-    ensures level { B.level b.new ≡ level_of result (B.level b.old) }
-    ensures ledger { B.ledger b.new ≡ B.ledger b.old }
-    ensures meter { IsMetered 239 result (B.meter b.old) (B.meter b.new) }
-    ensures room { HasRoom room.new }
+    requires up { IsUp 1 (B.seen b.old) }
+    requires live { IsLive (B.seen b.old).memory }
+    ensures clean { OnOk result (Cleans (B.seen b.old).memory (B.seen b.new).memory) }
+    ensures meaning { KeepsMeaning (B.seen b.old).memory (B.seen b.new).memory }
+    ensures ran { Ran 239 result (B.seen b.old) (B.seen b.new) }
     ensures cost { hashes.new ≤ hashes.old + 70946 }
 {
     let up = settle_and_wipe(u, b, room, hashes)?;
@@ -193,35 +152,35 @@ pub fn finish_order<B: Board, L: Ledger>(
 
 /// Turns power on.
 fn wake<B: Board>(off: Off, b: &mut B) -> Zero
-    requires { B.power b.old ≡ false }
-    ensures power { B.power b.new ≡ true }
-    ensures level { B.level b.new ≡ 0 }
-    ensures memory { B.memory b.new ≡ B.memory b.old }
-    ensures ledger { B.ledger b.new ≡ B.ledger b.old }
-    ensures meter { B.meter b.new ≡ B.meter b.old }
+    requires { (B.seen b.old).power ≡ false }
+    ensures power { (B.seen b.new).power ≡ true }
+    ensures level { (B.seen b.new).level ≡ 0 }
+    ensures memory { (B.seen b.new).memory ≡ (B.seen b.old).memory }
+    ensures ledger { (B.seen b.new).ledger ≡ (B.seen b.old).ledger }
+    ensures meter { (B.seen b.new).meter ≡ (B.seen b.old).meter }
 {
     off.power_on(b)
 }
 
 /// Raises the level to 1.
 fn climb<B: Board>(zero: Zero, b: &mut B) -> Up<R1>
-    requires power { B.power b.old ≡ true }
-    requires level { B.level b.old ≡ 0 }
-    ensures power { B.power b.new ≡ true }
-    ensures level { B.level b.new ≡ 1 }
-    ensures memory { B.memory b.new ≡ B.memory b.old }
-    ensures ledger { B.ledger b.new ≡ B.ledger b.old }
-    ensures meter { B.meter b.new ≡ B.meter b.old }
+    requires power { (B.seen b.old).power ≡ true }
+    requires level { (B.seen b.old).level ≡ 0 }
+    ensures power { (B.seen b.new).power ≡ true }
+    ensures level { (B.seen b.new).level ≡ 1 }
+    ensures memory { (B.seen b.new).memory ≡ (B.seen b.old).memory }
+    ensures ledger { (B.seen b.new).ledger ≡ (B.seen b.old).ledger }
+    ensures meter { (B.seen b.new).meter ≡ (B.seen b.old).meter }
 {
     zero.advance(b)
 }
 
 /// Turns power off.
 fn give_up<B: Board>(up: Up<R1>, b: &mut B) -> Off
-    ensures power { B.power b.new ≡ false }
-    ensures memory { B.memory b.new ≡ B.memory b.old }
-    ensures ledger { B.ledger b.new ≡ B.ledger b.old }
-    ensures meter { B.meter b.new ≡ B.meter b.old }
+    ensures power { (B.seen b.new).power ≡ false }
+    ensures memory { (B.seen b.new).memory ≡ (B.seen b.old).memory }
+    ensures ledger { (B.seen b.new).ledger ≡ (B.seen b.old).ledger }
+    ensures meter { (B.seen b.new).meter ≡ (B.seen b.old).meter }
 {
     up.off(b)
 }
@@ -239,19 +198,18 @@ pub fn boot<B: Board, L: Ledger>(
     b: &mut B,
     hashes: &mut HashCount<L>,
 ) -> Result<(Up<R1>, Room), BootEnd>
-    requires off { B.power b.old ≡ false }
-    requires stands { StandsForValid (B.memory b.old) }
-    ensures clean { OnOk result (Cleans (B.memory b.old) (B.memory b.new)) }
-    ensures meaning { KeepsState (B.memory b.old) (B.memory b.new) }
-    ensures zeroised { (state : Option State) → StandsFor (B.memory b.old).flash (B.memory b.old).bbram state
+    requires off { (B.seen b.old).power ≡ false }
+    requires stands { StandsForValid (B.seen b.old).memory }
+    ensures clean { OnOk result (Cleans (B.seen b.old).memory (B.seen b.new).memory) }
+    ensures meaning { KeepsState (B.seen b.old).memory (B.seen b.new).memory }
+    ensures zeroised { (state : Option State) → StandsFor (B.seen b.old).memory.flash (B.seen b.old).memory.bbram state
         → is_zeroised result ≡ is_none state }
-    ensures quiet { IsQuiet (B.memory b.old) (B.memory b.new) (B.meter b.old) (B.meter b.new) }
-    ensures unwritten { IfUnwritten result (B.memory b.new ≡ B.memory b.old) (B.meter b.new ≡ B.meter b.old) }
-    ensures power { B.power b.new ≡ power_at result }
-    ensures level { HasLevel result (B.level b.new) }
-    ensures ledger { B.ledger b.new ≡ B.ledger b.old }
-    ensures meter { IsMetered 239 (stop_of result) (B.meter b.old) (B.meter b.new) }
-    ensures room { IfOk result (λ up. HasRoom up.1) }
+    ensures quiet { IsQuiet (B.seen b.old).memory (B.seen b.new).memory (B.seen b.old).meter (B.seen b.new).meter }
+    ensures unwritten { IfUnwritten result ((B.seen b.new).memory ≡ (B.seen b.old).memory) ((B.seen b.new).meter ≡ (B.seen b.old).meter) }
+    ensures power { (B.seen b.new).power ≡ power_at result }
+    ensures level { HasLevel result (B.seen b.new).level }
+    ensures ledger { (B.seen b.new).ledger ≡ (B.seen b.old).ledger }
+    ensures meter { IsMetered 239 (stop_of result) (B.seen b.old).meter (B.seen b.new).meter }
     ensures cost { hashes.new ≤ hashes.old + 70946 }
 {
     let zero = wake(off, b);

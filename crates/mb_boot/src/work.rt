@@ -1,16 +1,14 @@
 //! What an order has left to be done.
 
-ghost use Rattle.std.specs.Prelude.{◌≡◌, ◌≤◌, ◌+◌, length, OnOk, true};
-ghost use Rattle.mb_model.specs.Board.{IsLoaded};
+ghost use Rattle.std.specs.Prelude.{◌≡◌, ◌≤◌, ◌+◌, length, OnOk};
 ghost use Rattle.mb_model.specs.Meaning.{fate_of_two, fate_of_three};
-ghost use Rattle.mb_board.specs.Calls.{power_of, level_of, IsMetered};
-ghost use Rattle.mb_layout.specs.Rooms.{HasRoom};
+ghost use Rattle.mb_board.specs.Calls.{IsUp, IsUsable, Ran};
 ghost use Rattle.mb_model_memory.specs.Holding.{KeepsContents, KeepsMeaning};
 ghost use Rattle.mb_boot.specs.Settling.{IsLive, IsOnlyRoot, AppliesBoth, SpellsSigned, SignsRecord, Settles};
 
+use crate::pending::sign_pending;
 use mb_area::{Unsettled, Unwiped, finish_root, read_public, read_root, write_public};
 use mb_board::Board;
-use mb_completion::sign_pending;
 use mb_layout::Room;
 use mb_lms::HashCount;
 use mb_model::{Fate, Root};
@@ -46,22 +44,14 @@ fn apply_fates<B: Board>(
     root: &Root,
     room: &mut Room,
 ) -> Result<Unsettled, Off>
-    requires on { B.power b.old ≡ true }
-    requires level { B.level b.old ≡ 1 }
-    requires loaded { IsLoaded (B.memory b.old) }
-    requires live { IsLive (B.memory b.old) }
-    requires root { IsOnlyRoot (B.memory b.old).bbram root.now }
-    requires room { HasRoom room.old }
-    ensures done { OnOk result (AppliesBoth (B.memory b.old) (B.memory b.new)) }
-    ensures meaning { KeepsMeaning (B.memory b.old) (B.memory b.new) }
-    ensures root { IsOnlyRoot (B.memory b.new).bbram root.now }
-    ensures sized { IsLoaded (B.memory b.new) }
-    ensures flash { (B.memory b.new).flash ≡ (B.memory b.old).flash }
-    ensures power { B.power b.new ≡ power_of result }
-    ensures level { B.level b.new ≡ level_of result (B.level b.old) }
-    ensures ledger { B.ledger b.new ≡ B.ledger b.old }
-    ensures meter { IsMetered 4 result (B.meter b.old) (B.meter b.new) }
-    ensures room { HasRoom room.new }
+    requires up { IsUp 1 (B.seen b.old) }
+    requires live { IsLive (B.seen b.old).memory }
+    requires root { IsOnlyRoot (B.seen b.old).memory.bbram root.now }
+    ensures done { OnOk result (AppliesBoth (B.seen b.old).memory (B.seen b.new).memory) }
+    ensures meaning { KeepsMeaning (B.seen b.old).memory (B.seen b.new).memory }
+    ensures root { IsOnlyRoot (B.seen b.new).memory.bbram root.now }
+    ensures flash { (B.seen b.new).memory.flash ≡ (B.seen b.old).memory.flash }
+    ensures ran { Ran 4 result (B.seen b.old) (B.seen b.new) }
 {
     let u = apply_fate::<Unsettled, Two, B>(u, b, &fate_of_two(root), room)?;
     let u = apply_fate::<Unsettled, Three, B>(u, b, &fate_of_three(root), room)?;
@@ -71,14 +61,11 @@ fn apply_fates<B: Board>(
 /// Replaces `public` of the room by the record in force with every entry signed.
 #[tactic(auto, using(crate::proofs::Settled::some_record))]
 fn sign_record<B: Board, L: Ledger>(b: &B, root: &Root, room: &mut Room, hashes: &mut HashCount<L>)
-    requires on { B.power b.now ≡ true }
-    requires loaded { IsLoaded (B.memory b.now) }
-    requires live { IsLive (B.memory b.now) }
-    requires root { IsOnlyRoot (B.memory b.now).bbram root.now }
-    requires room { HasRoom room.old }
-    ensures signed { SpellsSigned (B.memory b.now) room.new.public.items }
+    requires usable { IsUsable (B.seen b.now) }
+    requires live { IsLive (B.seen b.now).memory }
+    requires root { IsOnlyRoot (B.seen b.now).memory.bbram root.now }
+    ensures signed { SpellsSigned (B.seen b.now).memory room.new.public.items }
     ensures short { length room.new.public.items ≤ 470000 }
-    ensures room { HasRoom room.new }
     ensures cost { hashes.new ≤ hashes.old + 70946 }
 {
     read_public(b, root.area, room);
@@ -94,21 +81,13 @@ fn write_signed<B: Board, L: Ledger>(
     room: &mut Room,
     hashes: &mut HashCount<L>,
 ) -> Result<Unsettled, Off>
-    requires on { B.power b.old ≡ true }
-    requires level { B.level b.old ≡ 1 }
-    requires loaded { IsLoaded (B.memory b.old) }
-    requires live { IsLive (B.memory b.old) }
-    requires root { IsOnlyRoot (B.memory b.old).bbram root.now }
-    requires room { HasRoom room.old }
-    ensures contents { KeepsContents (B.memory b.old) (B.memory b.new) }
-    ensures signed { OnOk result (SignsRecord (B.memory b.old) (B.memory b.new)) }
-    ensures sized { IsLoaded (B.memory b.new) }
-    ensures bbram { (B.memory b.new).bbram ≡ (B.memory b.old).bbram }
-    ensures power { B.power b.new ≡ power_of result }
-    ensures level { B.level b.new ≡ level_of result (B.level b.old) }
-    ensures ledger { B.ledger b.new ≡ B.ledger b.old }
-    ensures meter { IsMetered 230 result (B.meter b.old) (B.meter b.new) }
-    ensures room { HasRoom room.new }
+    requires up { IsUp 1 (B.seen b.old) }
+    requires live { IsLive (B.seen b.old).memory }
+    requires root { IsOnlyRoot (B.seen b.old).memory.bbram root.now }
+    ensures contents { KeepsContents (B.seen b.old).memory (B.seen b.new).memory }
+    ensures signed { OnOk result (SignsRecord (B.seen b.old).memory (B.seen b.new).memory) }
+    ensures bbram { (B.seen b.new).memory.bbram ≡ (B.seen b.old).memory.bbram }
+    ensures ran { Ran 230 result (B.seen b.old) (B.seen b.new) }
     ensures cost { hashes.new ≤ hashes.old + 70946 }
 {
     sign_record(b, root, room, hashes);
@@ -126,19 +105,11 @@ pub fn settle<B: Board, L: Ledger>(
     room: &mut Room,
     hashes: &mut HashCount<L>,
 ) -> Result<Unwiped, Off>
-    requires on { B.power b.old ≡ true }
-    requires level { B.level b.old ≡ 1 }
-    requires loaded { IsLoaded (B.memory b.old) }
-    requires live { IsLive (B.memory b.old) }
-    requires room { HasRoom room.old }
-    ensures settled { OnOk result (Settles (B.memory b.old) (B.memory b.new)) }
-    ensures meaning { KeepsMeaning (B.memory b.old) (B.memory b.new) }
-    ensures sized { IsLoaded (B.memory b.new) }
-    ensures power { B.power b.new ≡ power_of result }
-    ensures level { B.level b.new ≡ level_of result (B.level b.old) }
-    ensures ledger { B.ledger b.new ≡ B.ledger b.old }
-    ensures meter { IsMetered 236 result (B.meter b.old) (B.meter b.new) }
-    ensures room { HasRoom room.new }
+    requires up { IsUp 1 (B.seen b.old) }
+    requires live { IsLive (B.seen b.old).memory }
+    ensures settled { OnOk result (Settles (B.seen b.old).memory (B.seen b.new).memory) }
+    ensures meaning { KeepsMeaning (B.seen b.old).memory (B.seen b.new).memory }
+    ensures ran { Ran 236 result (B.seen b.old) (B.seen b.new) }
     ensures cost { hashes.new ≤ hashes.old + 70946 }
 {
     let root = read_root(b, room);

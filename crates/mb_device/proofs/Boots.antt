@@ -17,7 +17,6 @@ use Rattle.mb_model.specs.Memory.{IsBlank}
 use Rattle.mb_model.specs.Refusals.{zeroised, refused}
 use Rattle.mb_model.specs.Valid.{Valid}
 use Rattle.mb_board.specs.Calls.{held_by}
-use Rattle.mb_layout.specs.Rooms.{HasRoom}
 use Rattle.mb_model_memory.specs.Holding.{Means, IsReady}
 use Rattle.mb_device_orders.specs.Remembering.{Knows}
 use Rattle.mb_boot.specs.Booting.{Cleans, KeepsState}
@@ -75,16 +74,16 @@ module _ (state : Off) (before : Memory) (power : Bool) (level : ℕ) (meter : M
 
   -- it has come up
   pub boots : (up : Up R1) (running : Running) (after : Memory) (on : Bool) (high : ℕ) (counted : Meter) → (booted : IsBooted world after)
-      → ((live : State) → IsReady after live → Knows running.known live) → HasRoom running.room → on ≡ true → high ≡ 1 → counted.armed ≡ meter.armed
+      → ((live : State) → IsReady after live → Knows running.known live) → on ≡ true → high ≡ 1 → counted.armed ≡ meter.armed
       → Steps world event.Boot reply.Booted (device.One up running) (held_by after on high counted)
-  boots up running after on high counted booted knows room is_on is_high armed =
+  boots up running after on high counted booted knows is_on is_high armed =
       let same : world ≡ record { state = Some booted.state; phase = off; armed = counted.armed } = the_off world booted.state counted.armed sound.fits booted.live (sound.shown.armed ∙ sym armed) in
       subst (λ (w : World). Steps w event.Boot reply.Booted (device.One up running) (held_by after on high counted)) (sym same)
       (record {
         next = live_world 1 booted.state counted.armed;
         step = answered (boot_live (record { state = Some booted.state; phase = off; armed = counted.armed }) booted.state refl refl);
         sound = live_sound (device.One up running) 1 after on high counted booted.state booted.ready is_on is_high (omega arith)
-            (record { phase = refl; room = room; state = booted.state; live = refl; knows = knows booted.state booted.ready });
+            (record { phase = refl; state = booted.state; live = refl; knows = knows booted.state booted.ready });
       })
 
   -- power failed

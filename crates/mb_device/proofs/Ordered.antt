@@ -12,7 +12,6 @@ use Rattle.mb_model.specs.OrderStep.{OrderStep, spells_none, fails_check, is_obe
 use Rattle.mb_model.specs.Valid.{Valid}
 use Rattle.mb_model_lemmas.proofs.ValidSteps.{machine_valid}
 use Rattle.mb_board.specs.Calls.{held_by}
-use Rattle.mb_layout.specs.Rooms.{HasRoom}
 use Rattle.mb_device_orders.specs.declared.remembering.Known.{Known}
 use Rattle.mb_device_orders.specs.Obeying.{IsOrderAnswered, lacks, tells, IsOrderCut}
 use Rattle.mb_device.specs.declared.device.Device.{Device}
@@ -38,18 +37,18 @@ module _ (before : Device) (running : Running) (text draw : List ℕ) (old : Mem
 
   pub order_told : (after : Device) (running_new : Running) (answer : Reply) (new : Memory) (power_new : Bool) (level_new : ℕ) (meter_new : Meter)
       → IsOrderAnswered own.state text draw running_new.known answer old new → power_new ≡ power → level_new ≡ level → meter_new.armed ≡ meter.armed → power ≡ true → level ≡ 1
-      → ((w : World) → IsRunning 1 running_new w → Fits after w) → HasRoom running_new.room → Steps world (event.Command text draw) answer after (held_by new power_new level_new meter_new)
-  order_told after running_new answer new power_new level_new meter_new (lacks wanted same knows) same_power same_level same_armed on at fits room =
+      → ((w : World) → IsRunning 1 running_new w → Fits after w) → Steps world (event.Command text draw) answer after (held_by new power_new level_new meter_new)
+  order_told after running_new answer new power_new level_new meter_new (lacks wanted same knows) same_power same_level same_armed on at fits =
       steps.lacks before after (held_by old power level meter) (held_by new power_new level_new meter_new) world (event.Command text draw) answer wanted refl
       (same_parts old new power power_new level level_new meter meter_new same same_power same_level same_armed) sound
-      (fits world (record { phase = own.phase; room = room; state = own.state; live = own.live; knows = knows }))
-  order_told after running_new answer new power_new level_new meter_new (tells next step ready knows) same_power same_level same_armed on at fits room =
+      (fits world (record { phase = own.phase; state = own.state; live = own.live; knows = knows }))
+  order_told after running_new answer new power_new level_new meter_new (tells next step ready knows) same_power same_level same_armed on at fits =
       let armed : world.armed ≡ meter_new.armed = sound.shown.armed ∙ sym same_armed in
       record {
         next = live_world 1 next meter_new.armed;
         step = answered (subst (λ (b : Bool). Machine world (event.Command text draw) answer (live_world 1 next b)) armed (order_so next answer step));
         sound = live_sound after 1 new power_new level_new meter_new next ready (same_power ∙ on) (same_level ∙ at) (omega arith)
-            (fits (live_world 1 next meter_new.armed) (record { phase = refl; room = room; state = next; live = refl; knows = knows }));
+            (fits (live_world 1 next meter_new.armed) (record { phase = refl; state = next; live = refl; knows = knows }));
       }
 
   -- power failed

@@ -96,7 +96,7 @@ is_tampered before after held now world sound is_off same =
 -- ---- a cut
 
 still_runs : (r : ℕ) (running : Running) (world : World) → IsRunning r running world → IsRunning r running (record world { armed = true })
-still_runs r running world own = record { phase = own.phase; room = own.room; state = own.state; live = own.live; knows = own.knows }
+still_runs r running world own = record { phase = own.phase; state = own.state; live = own.live; knows = own.knows }
 
 still_fits : (device : Device) (world : World) → Fits device world → Fits device (record world { armed = true })
 still_fits (device.Off state) world fits = fits

@@ -71,7 +71,7 @@ goes_on before after r running memory new power power_new level level_new meter 
       next = next;
       step = answered (subst (λ (w : World). Machine world event.Go (reply.At (r + 1)) w) there machine);
       sound = live_sound after (r + 1) new power_new level_new meter_new own.state (subst (λ (m : Memory). IsReady m own.state) (sym same) ready) on at (omega arith)
-          (fits next (record { phase = refl; room = own.room; state = own.state; live = refl; knows = own.knows }));
+          (fits next (record { phase = refl; state = own.state; live = refl; knows = own.knows }));
     }
 
 -- it may run, or not

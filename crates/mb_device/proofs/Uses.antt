@@ -23,7 +23,6 @@ use Rattle.mb_model.specs.OrderStep.{region_of, with_region}
 use Rattle.mb_model.specs.Refusals.{Refusal, wrong_layer, region_full, key_spent, refused}
 use Rattle.mb_model.specs.Valid.{Valid, IsValidState}
 use Rattle.mb_board.specs.Calls.{held_by, power_of, level_of, IsMetered}
-use Rattle.mb_layout.specs.Rooms.{HasRoom}
 use Rattle.mb_model_lemmas.proofs.ValidSteps.{machine_valid}
 use Rattle.mb_log.specs.Figures.{figures_of}
 use Rattle.mb_model_memory.specs.Holding.{IsReady}
@@ -166,13 +165,13 @@ module _ (r L : ℕ) (before : Device) (running : Running) (e : Event) (old : Me
 
   pub use_told : (after : Device) (running_new : Running) (answer : Reply) (new : Memory) (power_new : Bool) (level_new : ℕ) (meter_new : Meter)
       → IsAnswered (layer_outcome L e use_is.own.state) answer old new → power_new ≡ power → level_new ≡ level
-      → meter_new.armed ≡ meter.armed → power ≡ true → level ≡ r → ((w : World) → IsRunning r running_new w → Fits after w) → running_new.known ≡ running.known → HasRoom running_new.room
+      → meter_new.armed ≡ meter.armed → power ≡ true → level ≡ r → ((w : World) → IsRunning r running_new w → Fits after w) → running_new.known ≡ running.known
       → Steps world e answer after (held_by new power_new level_new meter_new)
-  use_told after running_new answer new power_new level_new meter_new (lacks wanted same) same_power same_level same_armed on at fits known room =
+  use_told after running_new answer new power_new level_new meter_new (lacks wanted same) same_power same_level same_armed on at fits known =
       let held_same : held_by new power_new level_new meter_new ≡ held_by old power level meter = same_parts old new power power_new level level_new meter meter_new same same_power same_level same_armed in
       steps.lacks before after (held_by old power level meter) (held_by new power_new level_new meter_new) world e answer wanted (wants e use_is.layer) held_same use_is.sound
-      (fits world (record { phase = use_is.own.phase; room = room; state = use_is.own.state; live = use_is.own.live; knows = subst (λ (k : Known). Knows k use_is.own.state) (sym known) use_is.own.knows }))
-  use_told after running_new answer new power_new level_new meter_new (tells told ready) same_power same_level same_armed on at fits known room =
+      (fits world (record { phase = use_is.own.phase; state = use_is.own.state; live = use_is.own.live; knows = subst (λ (k : Known). Knows k use_is.own.state) (sym known) use_is.own.knows }))
+  use_told after running_new answer new power_new level_new meter_new (tells told ready) same_power same_level same_armed on at fits known =
       let next : State = (layer_outcome L e use_is.own.state).1 in
       let knows : Knows running_new.known next =
       subst (λ (k : Known). Knows k next) (sym known) (keeps_known running.known L e use_is.own.state use_is.layer use_is.own.knows) in
@@ -182,7 +181,7 @@ module _ (r L : ℕ) (before : Device) (running : Running) (e : Event) (old : Me
         step = answered (subst (λ (a : Reply). Machine world e a (live_world r next meter_new.armed)) (sym told)
             (subst (λ (b : Bool). Machine world e (layer_outcome L e use_is.own.state).0 (live_world r next b)) armed use_machine));
         sound = live_sound after r new power_new level_new meter_new next ready (same_power ∙ on) (same_level ∙ at) use_is.some
-            (fits (live_world r next meter_new.armed) (record { phase = refl; room = room; state = next; live = refl; knows = knows }));
+            (fits (live_world r next meter_new.armed) (record { phase = refl; state = next; live = refl; knows = knows }));
       }
 
   -- power failed
@@ -203,11 +202,11 @@ module _ (r L : ℕ) (before : Device) (running : Running) (e : Event) (old : Me
   -- what comes of it
   pub use_comes : {S : Type 0} (after : Device) (running_new : Running) (result : Result (S × Reply) Off) (new : Memory) (power_new : Bool) (level_new : ℕ) (meter_new : Meter)
       → ComesTo use_is.own.state (layer_outcome L e use_is.own.state) old new result → power_new ≡ power_of result → level_new ≡ level_of result level → IsMetered 3 result meter meter_new
-      → power ≡ true → level ≡ r → ((w : World) → IsRunning r running_new w → Fits after w) → running_new.known ≡ running.known → HasRoom running_new.room
+      → power ≡ true → level ≡ r → ((w : World) → IsRunning r running_new w → Fits after w) → running_new.known ≡ running.known
       → IsUsed world e after result (held_by new power_new level_new meter_new)
-  use_comes {S} after running_new (Ok told) new power_new level_new meter_new comes is_power is_level metered on at fits known room =
-      use_told after running_new told.1 new power_new level_new meter_new comes (is_power ∙ sym on) is_level metered.armed on at fits known room
-  use_comes {S} after running_new (Err state) new power_new level_new meter_new comes is_power is_level metered on at fits known room =
+  use_comes {S} after running_new (Ok told) new power_new level_new meter_new comes is_power is_level metered on at fits known =
+      use_told after running_new told.1 new power_new level_new meter_new comes (is_power ∙ sym on) is_level metered.armed on at fits known
+  use_comes {S} after running_new (Err state) new power_new level_new meter_new comes is_power is_level metered on at fits known =
       use_cut state new power_new level_new meter_new comes is_power metered.armed metered.cut
 
 -- a device that is not awake refuses it

@@ -11,7 +11,6 @@ use Rattle.mb_model.specs.Clean.{Clean}
 use Rattle.mb_model.specs.Machine.{World, Step, off, dead, ratchet}
 use Rattle.mb_model.specs.Script.{IsScriptEvent}
 use Rattle.mb_model.specs.Valid.{Valid}
-use Rattle.mb_layout.specs.Rooms.{HasRoom}
 use Rattle.mb_device_orders.specs.Remembering.{Knows}
 use Rattle.mb_device.specs.declared.device.Device.{Device}
 use Rattle.mb_device.specs.declared.device.Device.TheVariants as device
@@ -20,7 +19,6 @@ use Rattle.mb_device.specs.declared.device.Running.{Running}
 -- layer r runs in a live device, whose state is remembered
 pub record IsRunning (r : ℕ) (running : Running) (world : World) : Type 0 where
   pub phase : world.phase ≡ ratchet r
-  pub room : HasRoom running.room
   pub state : State
   pub live : world.state ≡ Some state
   pub knows : Knows running.known state

@@ -3,7 +3,7 @@
 ghost use Rattle.std.specs.Prelude.{◌≡◌, Ok};
 ghost use Rattle.mb_model.specs.declared.event.Event.TheVariants as event;
 ghost use Rattle.mb_model.specs.Layers.{is_runnable};
-ghost use Rattle.mb_board.specs.Calls.{held_by};
+ghost use Rattle.mb_board.specs.Calls.{held_in};
 ghost use Rattle.mb_device.specs.Sound.{HasSound, StepsFrom};
 ghost use Rattle.mb_device.specs.Stepping.{stop_told};
 
@@ -25,13 +25,13 @@ impl Running {
 impl Device {
     /// Answers `go`: the next layer runs, where it may. There is no way back but a boot.
     pub(crate) fn go<B: Board>(self, b: &mut B) -> (Device, Reply)
-        requires sound { HasSound self (held_by (B.memory b.old) (B.power b.old) (B.level b.old) (B.meter b.old)) }
-        ensures steps { StepsFrom self (held_by (B.memory b.old) (B.power b.old) (B.level b.old) (B.meter b.old)) event.Go result
-            (held_by (B.memory b.new) (B.power b.new) (B.level b.new) (B.meter b.new)) }
+        requires sound { HasSound self (held_in (B.seen b.old)) }
+        ensures steps { StepsFrom self (held_in (B.seen b.old)) event.Go result
+            (held_in (B.seen b.new)) }
         ensures goes_on { stop_told result.1 ≡ Ok tt }
-        ensures memory { B.memory b.new ≡ B.memory b.old }
-        ensures ledger { B.ledger b.new ≡ B.ledger b.old }
-        ensures meter { B.meter b.new ≡ B.meter b.old }
+        ensures memory { (B.seen b.new).memory ≡ (B.seen b.old).memory }
+        ensures ledger { (B.seen b.new).ledger ≡ (B.seen b.old).ledger }
+        ensures meter { (B.seen b.new).meter ≡ (B.seen b.old).meter }
     {
         match self {
             Device::Off(off) => (Device::Off(off), Refusal::Off.reply()),

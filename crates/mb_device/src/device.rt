@@ -4,7 +4,7 @@ ghost use Rattle.std.specs.Prelude.{◌≡◌, false};
 ghost use Rattle.mb_model.specs.Acknowledged.{Shows};
 ghost use Rattle.mb_model.specs.Machine.{World};
 ghost use Rattle.mb_model.specs.Valid.{Valid};
-ghost use Rattle.mb_board.specs.Calls.{held_by};
+ghost use Rattle.mb_board.specs.Calls.{held_in};
 ghost use Rattle.mb_device.specs.Sound.{IsSound};
 
 use mb_board::Board;
@@ -39,10 +39,10 @@ pub enum Device {
 impl Device {
     /// The device on a board whose power is off.
     pub fn start<B: Board>(b: &B) -> Device
-        requires off { B.power b.now ≡ false }
-        ensures started { (world : World) → Shows (held_by (B.memory b.now) (B.power b.now) (B.level b.now) (B.meter b.now)) world
+        requires off { (B.seen b.now).power ≡ false }
+        ensures started { (world : World) → Shows (held_in (B.seen b.now)) world
             → Valid world.state
-            → IsSound result (held_by (B.memory b.now) (B.power b.now) (B.level b.now) (B.meter b.now)) world }
+            → IsSound result (held_in (B.seen b.now)) world }
     {
         Device::Off(Off::first(b))
     }

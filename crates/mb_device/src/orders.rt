@@ -3,7 +3,7 @@
 ghost use Rattle.std.specs.Prelude.{◌≡◌, ◌+◌, ◌≤◌};
 ghost use Rattle.mb_format.specs.Format.{IsBytes};
 ghost use Rattle.mb_model.specs.declared.event.Event.TheVariants as event;
-ghost use Rattle.mb_board.specs.Calls.{held_by, IsMetered};
+ghost use Rattle.mb_board.specs.Calls.{held_in, IsMetered};
 ghost use Rattle.mb_device.specs.Sound.{HasSound, StepsFrom};
 ghost use Rattle.mb_device.specs.Stepping.{stop_told, IfNothingTold};
 
@@ -27,14 +27,14 @@ fn take_order<B: Board, L: Ledger>(
     draw: &[u8; 32],
     hashes: &mut HashCount<L>,
 ) -> (Device, Reply)
-    requires flash_bytes { IsBytes (B.memory b.old).flash }
-    requires bbram_bytes { IsBytes (B.memory b.old).bbram }
-    requires sound { HasSound (Device.One up running) (held_by (B.memory b.old) (B.power b.old) (B.level b.old) (B.meter b.old)) }
-    ensures steps { StepsFrom (Device.One up running) (held_by (B.memory b.old) (B.power b.old) (B.level b.old) (B.meter b.old)) (event.Command text.now draw.now) result
-        (held_by (B.memory b.new) (B.power b.new) (B.level b.new) (B.meter b.new)) }
-    ensures untold { IfNothingTold result.1 (B.memory b.old) (B.memory b.new) (B.meter b.old) (B.meter b.new) }
-    ensures ledger { B.ledger b.new ≡ B.ledger b.old }
-    ensures meter { IsMetered 471 (stop_told result.1) (B.meter b.old) (B.meter b.new) }
+    requires flash_bytes { IsBytes (B.seen b.old).memory.flash }
+    requires bbram_bytes { IsBytes (B.seen b.old).memory.bbram }
+    requires sound { HasSound (Device.One up running) (held_in (B.seen b.old)) }
+    ensures steps { StepsFrom (Device.One up running) (held_in (B.seen b.old)) (event.Command text.now draw.now) result
+        (held_in (B.seen b.new)) }
+    ensures untold { IfNothingTold result.1 (B.seen b.old).memory (B.seen b.new).memory (B.seen b.old).meter (B.seen b.new).meter }
+    ensures ledger { (B.seen b.new).ledger ≡ (B.seen b.old).ledger }
+    ensures meter { IsMetered 471 (stop_told result.1) (B.seen b.old).meter (B.seen b.new).meter }
     ensures cost { hashes.new ≤ hashes.old + 139744 }
 {
     let mut known = running.known;
@@ -55,14 +55,14 @@ impl Device {
         draw: &[u8; 32],
         hashes: &mut HashCount<L>,
     ) -> (Device, Reply)
-        requires flash_bytes { IsBytes (B.memory b.old).flash }
-        requires bbram_bytes { IsBytes (B.memory b.old).bbram }
-        requires sound { HasSound self (held_by (B.memory b.old) (B.power b.old) (B.level b.old) (B.meter b.old)) }
-        ensures steps { StepsFrom self (held_by (B.memory b.old) (B.power b.old) (B.level b.old) (B.meter b.old)) (event.Command text.now draw.now) result
-            (held_by (B.memory b.new) (B.power b.new) (B.level b.new) (B.meter b.new)) }
-        ensures untold { IfNothingTold result.1 (B.memory b.old) (B.memory b.new) (B.meter b.old) (B.meter b.new) }
-        ensures ledger { B.ledger b.new ≡ B.ledger b.old }
-        ensures meter { IsMetered 471 (stop_told result.1) (B.meter b.old) (B.meter b.new) }
+        requires flash_bytes { IsBytes (B.seen b.old).memory.flash }
+        requires bbram_bytes { IsBytes (B.seen b.old).memory.bbram }
+        requires sound { HasSound self (held_in (B.seen b.old)) }
+        ensures steps { StepsFrom self (held_in (B.seen b.old)) (event.Command text.now draw.now) result
+            (held_in (B.seen b.new)) }
+        ensures untold { IfNothingTold result.1 (B.seen b.old).memory (B.seen b.new).memory (B.seen b.old).meter (B.seen b.new).meter }
+        ensures ledger { (B.seen b.new).ledger ≡ (B.seen b.old).ledger }
+        ensures meter { IsMetered 471 (stop_told result.1) (B.seen b.old).meter (B.seen b.new).meter }
         ensures cost { hashes.new ≤ hashes.old + 139744 }
     {
         match self {

@@ -2,7 +2,7 @@
 
 ghost use Rattle.std.specs.Prelude.{◌≡◌, ◌+◌, ◌≤◌, false};
 ghost use Rattle.mb_model.specs.declared.event.Event.TheVariants as event;
-ghost use Rattle.mb_board.specs.Calls.{held_by, IsMetered};
+ghost use Rattle.mb_board.specs.Calls.{held_in, IsMetered};
 ghost use Rattle.mb_boot.specs.Booting.{IsQuiet};
 ghost use Rattle.mb_device.specs.Sound.{HasSound, StepsFrom};
 ghost use Rattle.mb_device.specs.Stepping.{stop_told, IfNothingTold, IsOff};
@@ -25,13 +25,13 @@ fn come_up<B: Board, L: Ledger>(
     b: &mut B,
     hashes: &mut HashCount<L>,
 ) -> (Device, Reply)
-    requires sound { HasSound (Device.Off off) (held_by (B.memory b.old) (B.power b.old) (B.level b.old) (B.meter b.old)) }
-    ensures steps { StepsFrom (Device.Off off) (held_by (B.memory b.old) (B.power b.old) (B.level b.old) (B.meter b.old)) event.Boot result
-        (held_by (B.memory b.new) (B.power b.new) (B.level b.new) (B.meter b.new)) }
-    ensures quiet { IsQuiet (B.memory b.old) (B.memory b.new) (B.meter b.old) (B.meter b.new) }
-    ensures untold { IfNothingTold result.1 (B.memory b.old) (B.memory b.new) (B.meter b.old) (B.meter b.new) }
-    ensures ledger { B.ledger b.new ≡ B.ledger b.old }
-    ensures meter { IsMetered 239 (stop_told result.1) (B.meter b.old) (B.meter b.new) }
+    requires sound { HasSound (Device.Off off) (held_in (B.seen b.old)) }
+    ensures steps { StepsFrom (Device.Off off) (held_in (B.seen b.old)) event.Boot result
+        (held_in (B.seen b.new)) }
+    ensures quiet { IsQuiet (B.seen b.old).memory (B.seen b.new).memory (B.seen b.old).meter (B.seen b.new).meter }
+    ensures untold { IfNothingTold result.1 (B.seen b.old).memory (B.seen b.new).memory (B.seen b.old).meter (B.seen b.new).meter }
+    ensures ledger { (B.seen b.new).ledger ≡ (B.seen b.old).ledger }
+    ensures meter { IsMetered 239 (stop_told result.1) (B.seen b.old).meter (B.seen b.new).meter }
     ensures cost { hashes.new ≤ hashes.old + 70946 }
 {
     match boot(alloc, off, b, hashes) {
@@ -54,13 +54,13 @@ impl Device {
         b: &mut B,
         hashes: &mut HashCount<L>,
     ) -> (Device, Reply)
-        requires sound { HasSound self (held_by (B.memory b.old) (B.power b.old) (B.level b.old) (B.meter b.old)) }
-        ensures steps { StepsFrom self (held_by (B.memory b.old) (B.power b.old) (B.level b.old) (B.meter b.old)) event.Boot result
-            (held_by (B.memory b.new) (B.power b.new) (B.level b.new) (B.meter b.new)) }
-        ensures quiet { IsQuiet (B.memory b.old) (B.memory b.new) (B.meter b.old) (B.meter b.new) }
-        ensures untold { IfNothingTold result.1 (B.memory b.old) (B.memory b.new) (B.meter b.old) (B.meter b.new) }
-        ensures ledger { B.ledger b.new ≡ B.ledger b.old }
-        ensures meter { IsMetered 239 (stop_told result.1) (B.meter b.old) (B.meter b.new) }
+        requires sound { HasSound self (held_in (B.seen b.old)) }
+        ensures steps { StepsFrom self (held_in (B.seen b.old)) event.Boot result
+            (held_in (B.seen b.new)) }
+        ensures quiet { IsQuiet (B.seen b.old).memory (B.seen b.new).memory (B.seen b.old).meter (B.seen b.new).meter }
+        ensures untold { IfNothingTold result.1 (B.seen b.old).memory (B.seen b.new).memory (B.seen b.old).meter (B.seen b.new).meter }
+        ensures ledger { (B.seen b.new).ledger ≡ (B.seen b.old).ledger }
+        ensures meter { IsMetered 239 (stop_told result.1) (B.seen b.old).meter (B.seen b.new).meter }
         ensures cost { hashes.new ≤ hashes.old + 70946 }
     {
         match self {
@@ -74,12 +74,12 @@ impl Device {
 
     /// The device once power has gone.
     pub(crate) fn power_off<B: Board>(self, b: &mut B) -> Device
-        requires off { B.power b.old ≡ false }
+        requires off { (B.seen b.old).power ≡ false }
         ensures device { IsOff result }
-        ensures power { B.power b.new ≡ false }
-        ensures memory { B.memory b.new ≡ B.memory b.old }
-        ensures ledger { B.ledger b.new ≡ B.ledger b.old }
-        ensures meter { B.meter b.new ≡ B.meter b.old }
+        ensures power { (B.seen b.new).power ≡ false }
+        ensures memory { (B.seen b.new).memory ≡ (B.seen b.old).memory }
+        ensures ledger { (B.seen b.new).ledger ≡ (B.seen b.old).ledger }
+        ensures meter { (B.seen b.new).meter ≡ (B.seen b.old).meter }
     {
         Device::Off(match self {
             Device::Off(off) => off,

@@ -3,12 +3,10 @@
 ghost use Rattle.std.specs.Prelude.{◌≡◌, ◌+◌, ◌≤◌, true, Ok, IfOk};
 ghost use Rattle.mb_format.specs.Format.{IsBytes};
 ghost use Rattle.mb_model.specs.declared.state.State.{State};
-ghost use Rattle.mb_model.specs.Board.{IsLoaded};
 ghost use Rattle.mb_model.specs.Layers.{is_runnable};
 ghost use Rattle.mb_model.specs.Machine.{World};
 ghost use Rattle.mb_model.specs.Script.{IsScriptEvent};
-ghost use Rattle.mb_board.specs.Calls.{held_by, power_of, level_of, IsMetered};
-ghost use Rattle.mb_layout.specs.Rooms.{HasRoom};
+ghost use Rattle.mb_board.specs.Calls.{held_in, IsMetered, Ran, IsUp};
 ghost use Rattle.mb_model_memory.specs.Holding.{IsReady};
 ghost use Rattle.mb_model_memory.specs.Answering.{ComesTo, TellsOfWrites};
 ghost use Rattle.mb_device_orders.specs.Remembering.{Knows, IsRemembered};
@@ -37,25 +35,17 @@ fn ask<S: Reaches<L>, L: Named, B: Board, C: Ledger>(
     event: &Event,
     hashes: &mut HashCount<C>,
 ) -> Result<(S, Reply), Off>
-    requires on { B.power b.old ≡ true }
-    requires level { B.level b.old ≡ S.stage }
-    requires loaded { IsLoaded (B.memory b.old) }
-    requires bytes { IsBytes (B.memory b.old).bbram }
-    requires room { HasRoom running.old.room }
-    requires remembered { IsRemembered running.old.known (B.memory b.old) }
+    requires up { IsUp S.stage (B.seen b.old) }
+    requires bytes { IsBytes (B.seen b.old).memory.bbram }
+    requires remembered { IsRemembered running.old.known (B.seen b.old).memory }
     requires runs { is_runnable running.old.known.figures.layers L.place ≡ true }
     requires event { IsLayerEvent event.now }
     requires script { IsScriptEvent event.now }
-    ensures told { (state : State) → IsReady (B.memory b.old) state → Knows running.old.known state
-        → ComesTo state (layer_outcome L.place event.now state) (B.memory b.old) (B.memory b.new) result }
-    ensures writes { TellsOfWrites result (B.memory b.old) (B.memory b.new) (B.meter b.old) (B.meter b.new) }
+    ensures told { (state : State) → IsReady (B.seen b.old).memory state → Knows running.old.known state
+        → ComesTo state (layer_outcome L.place event.now state) (B.seen b.old).memory (B.seen b.new).memory result }
+    ensures writes { TellsOfWrites result (B.seen b.old).memory (B.seen b.new).memory (B.seen b.old).meter (B.seen b.new).meter }
     ensures known { running.new.known ≡ running.old.known }
-    ensures sized { IsLoaded (B.memory b.new) }
-    ensures room { HasRoom running.new.room }
-    ensures power { B.power b.new ≡ power_of result }
-    ensures level { B.level b.new ≡ level_of result (B.level b.old) }
-    ensures ledger { B.ledger b.new ≡ B.ledger b.old }
-    ensures meter { IsMetered 3 result (B.meter b.old) (B.meter b.new) }
+    ensures ran { Ran 3 result (B.seen b.old) (B.seen b.new) }
     ensures cost { hashes.new ≤ hashes.old + 35473 }
 {
     let number = running.known.figures.number;
@@ -86,23 +76,19 @@ fn use_region<S: Reaches<L>, L: Named, B: Board, C: Ledger>(
     event: &Event,
     hashes: &mut HashCount<C>,
 ) -> Result<(S, Reply), Off>
-    requires on { B.power b.old ≡ true }
-    requires level { B.level b.old ≡ S.stage }
+    requires up { IsUp S.stage (B.seen b.old) }
     requires some { 1 ≤ S.stage }
-    requires loaded { IsLoaded (B.memory b.old) }
-    requires bytes { IsBytes (B.memory b.old).bbram }
-    requires room { HasRoom running.old.room }
-    requires remembered { IsRemembered running.old.known (B.memory b.old) }
+    requires bytes { IsBytes (B.seen b.old).memory.bbram }
+    requires remembered { IsRemembered running.old.known (B.seen b.old).memory }
     requires runs { is_runnable running.old.known.figures.layers L.place ≡ true }
     requires event { IsLayerEvent event.now }
     requires named { L.place ≡ region_named event.now }
     requires script { IsScriptEvent event.now }
-    ensures steps { (world : World) (before after : Whole) → IsSound before (held_by (B.memory b.old) (B.power b.old) (B.level b.old) (B.meter b.old)) world → IsRunning S.stage running.old world
+    ensures steps { (world : World) (before after : Whole) → IsSound before (held_in (B.seen b.old)) world → IsRunning S.stage running.old world
         → ((w : World) → IsRunning S.stage running.new w → Fits after w)
-        → IsUsed world event.now after result (held_by (B.memory b.new) (B.power b.new) (B.level b.new) (B.meter b.new)) }
-    ensures writes { TellsOfWrites result (B.memory b.old) (B.memory b.new) (B.meter b.old) (B.meter b.new) }
-    ensures ledger { B.ledger b.new ≡ B.ledger b.old }
-    ensures stopped { IsMetered 3 result (B.meter b.old) (B.meter b.new) }
+        → IsUsed world event.now after result (held_in (B.seen b.new)) }
+    ensures writes { TellsOfWrites result (B.seen b.old).memory (B.seen b.new).memory (B.seen b.old).meter (B.seen b.new).meter }
+    ensures ran { Ran 3 result (B.seen b.old) (B.seen b.new) }
     ensures told { IfOk result (λ used. stop_told used.1 ≡ Ok tt) }
     ensures cost { hashes.new ≤ hashes.old + 35473 }
 {
@@ -119,16 +105,16 @@ fn use_at_one<B: Board, C: Ledger>(
     event: &Event,
     hashes: &mut HashCount<C>,
 ) -> (Device, Reply)
-    requires bytes { IsBytes (B.memory b.old).bbram }
+    requires bytes { IsBytes (B.seen b.old).memory.bbram }
     requires event { IsLayerEvent event.now }
     requires region { region ≡ region_named event.now }
     requires script { IsScriptEvent event.now }
-    requires sound { HasSound (Device.One up running) (held_by (B.memory b.old) (B.power b.old) (B.level b.old) (B.meter b.old)) }
-    ensures steps { StepsFrom (Device.One up running) (held_by (B.memory b.old) (B.power b.old) (B.level b.old) (B.meter b.old)) event.now result
-        (held_by (B.memory b.new) (B.power b.new) (B.level b.new) (B.meter b.new)) }
-    ensures untold { IfNothingTold result.1 (B.memory b.old) (B.memory b.new) (B.meter b.old) (B.meter b.new) }
-    ensures ledger { B.ledger b.new ≡ B.ledger b.old }
-    ensures meter { IsMetered 3 (stop_told result.1) (B.meter b.old) (B.meter b.new) }
+    requires sound { HasSound (Device.One up running) (held_in (B.seen b.old)) }
+    ensures steps { StepsFrom (Device.One up running) (held_in (B.seen b.old)) event.now result
+        (held_in (B.seen b.new)) }
+    ensures untold { IfNothingTold result.1 (B.seen b.old).memory (B.seen b.new).memory (B.seen b.old).meter (B.seen b.new).meter }
+    ensures ledger { (B.seen b.new).ledger ≡ (B.seen b.old).ledger }
+    ensures meter { IsMetered 3 (stop_told result.1) (B.seen b.old).meter (B.seen b.new).meter }
     ensures cost { hashes.new ≤ hashes.old + 35473 }
 {
     let mut running = running;
@@ -159,16 +145,16 @@ fn use_at_two<B: Board, C: Ledger>(
     event: &Event,
     hashes: &mut HashCount<C>,
 ) -> (Device, Reply)
-    requires bytes { IsBytes (B.memory b.old).bbram }
+    requires bytes { IsBytes (B.seen b.old).memory.bbram }
     requires event { IsLayerEvent event.now }
     requires region { region ≡ region_named event.now }
     requires script { IsScriptEvent event.now }
-    requires sound { HasSound (Device.Two up running) (held_by (B.memory b.old) (B.power b.old) (B.level b.old) (B.meter b.old)) }
-    ensures steps { StepsFrom (Device.Two up running) (held_by (B.memory b.old) (B.power b.old) (B.level b.old) (B.meter b.old)) event.now result
-        (held_by (B.memory b.new) (B.power b.new) (B.level b.new) (B.meter b.new)) }
-    ensures untold { IfNothingTold result.1 (B.memory b.old) (B.memory b.new) (B.meter b.old) (B.meter b.new) }
-    ensures ledger { B.ledger b.new ≡ B.ledger b.old }
-    ensures meter { IsMetered 3 (stop_told result.1) (B.meter b.old) (B.meter b.new) }
+    requires sound { HasSound (Device.Two up running) (held_in (B.seen b.old)) }
+    ensures steps { StepsFrom (Device.Two up running) (held_in (B.seen b.old)) event.now result
+        (held_in (B.seen b.new)) }
+    ensures untold { IfNothingTold result.1 (B.seen b.old).memory (B.seen b.new).memory (B.seen b.old).meter (B.seen b.new).meter }
+    ensures ledger { (B.seen b.new).ledger ≡ (B.seen b.old).ledger }
+    ensures meter { IsMetered 3 (stop_told result.1) (B.seen b.old).meter (B.seen b.new).meter }
     ensures cost { hashes.new ≤ hashes.old + 35473 }
 {
     let mut running = running;
@@ -199,16 +185,16 @@ fn use_at_three<B: Board, C: Ledger>(
     event: &Event,
     hashes: &mut HashCount<C>,
 ) -> (Device, Reply)
-    requires bytes { IsBytes (B.memory b.old).bbram }
+    requires bytes { IsBytes (B.seen b.old).memory.bbram }
     requires event { IsLayerEvent event.now }
     requires region { region ≡ region_named event.now }
     requires script { IsScriptEvent event.now }
-    requires sound { HasSound (Device.Three up running) (held_by (B.memory b.old) (B.power b.old) (B.level b.old) (B.meter b.old)) }
-    ensures steps { StepsFrom (Device.Three up running) (held_by (B.memory b.old) (B.power b.old) (B.level b.old) (B.meter b.old)) event.now result
-        (held_by (B.memory b.new) (B.power b.new) (B.level b.new) (B.meter b.new)) }
-    ensures untold { IfNothingTold result.1 (B.memory b.old) (B.memory b.new) (B.meter b.old) (B.meter b.new) }
-    ensures ledger { B.ledger b.new ≡ B.ledger b.old }
-    ensures meter { IsMetered 3 (stop_told result.1) (B.meter b.old) (B.meter b.new) }
+    requires sound { HasSound (Device.Three up running) (held_in (B.seen b.old)) }
+    ensures steps { StepsFrom (Device.Three up running) (held_in (B.seen b.old)) event.now result
+        (held_in (B.seen b.new)) }
+    ensures untold { IfNothingTold result.1 (B.seen b.old).memory (B.seen b.new).memory (B.seen b.old).meter (B.seen b.new).meter }
+    ensures ledger { (B.seen b.new).ledger ≡ (B.seen b.old).ledger }
+    ensures meter { IsMetered 3 (stop_told result.1) (B.seen b.old).meter (B.seen b.new).meter }
     ensures cost { hashes.new ≤ hashes.old + 35473 }
 {
     let mut running = running;
@@ -235,16 +221,16 @@ impl Device {
         event: &Event,
         hashes: &mut HashCount<C>,
     ) -> (Device, Reply)
-        requires bytes { IsBytes (B.memory b.old).bbram }
+        requires bytes { IsBytes (B.seen b.old).memory.bbram }
         requires event { IsLayerEvent event.now }
         requires region { region ≡ region_named event.now }
         requires script { IsScriptEvent event.now }
-        requires sound { HasSound self (held_by (B.memory b.old) (B.power b.old) (B.level b.old) (B.meter b.old)) }
-        ensures steps { StepsFrom self (held_by (B.memory b.old) (B.power b.old) (B.level b.old) (B.meter b.old)) event.now result
-            (held_by (B.memory b.new) (B.power b.new) (B.level b.new) (B.meter b.new)) }
-        ensures untold { IfNothingTold result.1 (B.memory b.old) (B.memory b.new) (B.meter b.old) (B.meter b.new) }
-        ensures ledger { B.ledger b.new ≡ B.ledger b.old }
-        ensures meter { IsMetered 3 (stop_told result.1) (B.meter b.old) (B.meter b.new) }
+        requires sound { HasSound self (held_in (B.seen b.old)) }
+        ensures steps { StepsFrom self (held_in (B.seen b.old)) event.now result
+            (held_in (B.seen b.new)) }
+        ensures untold { IfNothingTold result.1 (B.seen b.old).memory (B.seen b.new).memory (B.seen b.old).meter (B.seen b.new).meter }
+        ensures ledger { (B.seen b.new).ledger ≡ (B.seen b.old).ledger }
+        ensures meter { IsMetered 3 (stop_told result.1) (B.seen b.old).meter (B.seen b.new).meter }
         ensures cost { hashes.new ≤ hashes.old + 35473 }
     {
         match self {

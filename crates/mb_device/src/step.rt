@@ -5,7 +5,7 @@ ghost use Rattle.mb_format.specs.Format.{IsBytes};
 ghost use Rattle.mb_model.specs.Board.{Held, IsLoaded};
 ghost use Rattle.mb_model.specs.Machine.{World};
 ghost use Rattle.mb_model.specs.Script.{IsScriptEvent};
-ghost use Rattle.mb_board.specs.Calls.{held_by, IsMetered};
+ghost use Rattle.mb_board.specs.Calls.{held_in, IsMetered};
 ghost use Rattle.mb_boot.specs.Booting.{IsQuiet};
 ghost use Rattle.mb_device.specs.Sound.{IsSound, HasSound, taken, CanStep, Steps};
 ghost use Rattle.mb_device.specs.Stepping.{stop_told, IfNothingTold, IfBoot};
@@ -30,16 +30,16 @@ impl Device {
         event: &Event,
         hashes: &mut HashCount<L>,
     ) -> (Device, Reply)
-        requires flash_bytes { IsBytes (B.memory b.old).flash }
-        requires bbram_bytes { IsBytes (B.memory b.old).bbram }
-        requires can_step { CanStep self event.now (held_by (B.memory b.old) (B.power b.old) (B.level b.old) (B.meter b.old)) }
+        requires flash_bytes { IsBytes (B.seen b.old).memory.flash }
+        requires bbram_bytes { IsBytes (B.seen b.old).memory.bbram }
+        requires can_step { CanStep self event.now (held_in (B.seen b.old)) }
         ensures steps { (before : Held) (world : World) → IsSound self before world
-            → held_by (B.memory b.old) (B.power b.old) (B.level b.old) (B.meter b.old) ≡ taken event.now before
-            → Steps world event.now result.1 result.0 (held_by (B.memory b.new) (B.power b.new) (B.level b.new) (B.meter b.new)) }
-        ensures untold { IfNothingTold result.1 (B.memory b.old) (B.memory b.new) (B.meter b.old) (B.meter b.new) }
-        ensures quiet { IfBoot event.now (IsQuiet (B.memory b.old) (B.memory b.new) (B.meter b.old) (B.meter b.new)) }
-        ensures ledger { B.ledger b.new ≡ B.ledger b.old }
-        ensures meter { IsMetered 471 (stop_told result.1) (B.meter b.old) (B.meter b.new) }
+            → held_in (B.seen b.old) ≡ taken event.now before
+            → Steps world event.now result.1 result.0 (held_in (B.seen b.new)) }
+        ensures untold { IfNothingTold result.1 (B.seen b.old).memory (B.seen b.new).memory (B.seen b.old).meter (B.seen b.new).meter }
+        ensures quiet { IfBoot event.now (IsQuiet (B.seen b.old).memory (B.seen b.new).memory (B.seen b.old).meter (B.seen b.new).meter) }
+        ensures ledger { (B.seen b.new).ledger ≡ (B.seen b.old).ledger }
+        ensures meter { IsMetered 471 (stop_told result.1) (B.seen b.old).meter (B.seen b.new).meter }
         ensures cost { hashes.new ≤ hashes.old + 139744 }
     {
         match event {
@@ -68,14 +68,14 @@ impl Device {
         b: &mut B,
         hashes: &mut HashCount<L>,
     ) -> Device
-        requires none_out { (B.ledger b.old).out ≡ None }
-        requires events { All IsScriptEvent (B.ledger b.old).waiting }
-        requires standing { (B.ledger b.old).standing ≡ held_by (B.memory b.old) (B.power b.old) (B.level b.old) (B.meter b.old) }
-        requires sound { HasSound self (held_by (B.memory b.old) (B.power b.old) (B.level b.old) (B.meter b.old)) }
-        ensures served { (world : World) → IsSound self (held_by (B.memory b.old) (B.power b.old) (B.level b.old) (B.meter b.old)) world
-            → IsServedFrom world (B.ledger b.old) (B.ledger b.new) (held_by (B.memory b.new) (B.power b.new) (B.level b.new) (B.meter b.new)) }
-        ensures standing { (B.ledger b.new).standing ≡ held_by (B.memory b.new) (B.power b.new) (B.level b.new) (B.meter b.new) }
-        ensures loaded { IsLoaded (B.memory b.new) }
+        requires none_out { (B.seen b.old).ledger.out ≡ None }
+        requires events { All IsScriptEvent (B.seen b.old).ledger.waiting }
+        requires standing { (B.seen b.old).ledger.standing ≡ held_in (B.seen b.old) }
+        requires sound { HasSound self (held_in (B.seen b.old)) }
+        ensures served { (world : World) → IsSound self (held_in (B.seen b.old)) world
+            → IsServedFrom world (B.seen b.old).ledger (B.seen b.new).ledger (held_in (B.seen b.new)) }
+        ensures standing { (B.seen b.new).ledger.standing ≡ held_in (B.seen b.new) }
+        ensures loaded { IsLoaded (B.seen b.new).memory }
     {
         let mut device = self;
         'events: while let Some(event) = b.take() {

@@ -1,12 +1,10 @@
 //! Orders committed.
 
-ghost use Rattle.std.specs.Prelude.{◌≡◌, ℕ, ◌≤◌, ◌+◌, ◌⊎◌, List, OnOk, true};
+ghost use Rattle.std.specs.Prelude.{◌≡◌, ℕ, ◌≤◌, ◌+◌, ◌⊎◌, List, OnOk};
 ghost use Rattle.mb_model.specs.declared.order.Order.{Order};
 ghost use Rattle.mb_model.specs.declared.state.State.{State};
-ghost use Rattle.mb_model.specs.Board.{IsLoaded};
 ghost use Rattle.mb_model.specs.OrderStep.{obeyed};
-ghost use Rattle.mb_board.specs.Calls.{power_of, level_of, IsMetered};
-ghost use Rattle.mb_layout.specs.Rooms.{HasRoom};
+ghost use Rattle.mb_board.specs.Calls.{IsUp, Ran};
 ghost use Rattle.mb_model_memory.specs.Holding.{Means, IsReady};
 ghost use Rattle.mb_device_orders.specs.Planning.{IsCommit, HasCommit};
 
@@ -31,23 +29,15 @@ pub fn commit<B: Board, L: Ledger>(
     room: &mut Room,
     hashes: &mut HashCount<L>,
 ) -> Result<Up<R1>, Off>
-    requires on { B.power b.old ≡ true }
-    requires level { B.level b.old ≡ 1 }
-    requires loaded { IsLoaded (B.memory b.old) }
-    requires commit { HasCommit (B.memory b.old) root.now room.old.public.items }
-    requires room { HasRoom room.old }
+    requires up { IsUp 1 (B.seen b.old) }
+    requires commit { HasCommit (B.seen b.old).memory root.now room.old.public.items }
     ensures done { (state : State) (order : Order) (draw : List ℕ)
-        → IsCommit (B.memory b.old) root.now room.old.public.items state order draw
-        → OnOk result (IsReady (B.memory b.new) (obeyed state order draw)) }
+        → IsCommit (B.seen b.old).memory root.now room.old.public.items state order draw
+        → OnOk result (IsReady (B.seen b.new).memory (obeyed state order draw)) }
     ensures counts { (state : State) (order : Order) (draw : List ℕ)
-        → IsCommit (B.memory b.old) root.now room.old.public.items state order draw
-        → Means (B.memory b.new) state ⊎ Means (B.memory b.new) (obeyed state order draw) }
-    ensures sized { IsLoaded (B.memory b.new) }
-    ensures power { B.power b.new ≡ power_of result }
-    ensures level { B.level b.new ≡ level_of result (B.level b.old) }
-    ensures ledger { B.ledger b.new ≡ B.ledger b.old }
-    ensures meter { IsMetered 471 result (B.meter b.old) (B.meter b.new) }
-    ensures room { HasRoom room.new }
+        → IsCommit (B.seen b.old).memory root.now room.old.public.items state order draw
+        → Means (B.seen b.new).memory state ⊎ Means (B.seen b.new).memory (obeyed state order draw) }
+    ensures ran { Ran 471 result (B.seen b.old) (B.seen b.new) }
     ensures cost { hashes.new ≤ hashes.old + 70946 }
 {
     let up = write_public(up, b, room)?;

@@ -1,15 +1,14 @@
 //! Orders read and judged.
 
-ghost use Rattle.std.specs.Prelude.{◌≡◌, ◌≤◌, ◌+◌, length, IfOk, true};
+ghost use Rattle.std.specs.Prelude.{◌≡◌, ◌≤◌, ◌+◌, length, IfOk};
 ghost use Rattle.mb_format.specs.Format.{IsBytes};
 ghost use Rattle.mb_model.specs.declared.region.Region.{Region};
 ghost use Rattle.mb_model.specs.declared.state.State.{State};
-ghost use Rattle.mb_model.specs.Board.{IsLoaded};
 ghost use Rattle.mb_model.specs.Memory.{current};
 ghost use Rattle.mb_model.specs.Meaning.{HoldsRegion};
 ghost use Rattle.mb_model.specs.Work.{view_of};
 ghost use Rattle.mb_orders.specs.Judging.{refusal_of};
-ghost use Rattle.mb_layout.specs.Rooms.{HasRoom};
+ghost use Rattle.mb_board.specs.Calls.{IsUp};
 ghost use Rattle.mb_region.specs.Regions.{HoldsSomeRegion};
 ghost use Rattle.mb_model_memory.specs.Holding.{IsReady};
 ghost use Rattle.mb_boot.specs.Settling.{IsOnlyRoot};
@@ -72,14 +71,10 @@ fn count_keys<L: Named, B: Board>(
     b: &B,
     room: &mut Room,
 ) -> Result<u32, NoMemory>
-    requires on { B.power b.now ≡ true }
-    requires level { B.level b.now ≡ 1 }
-    requires loaded { IsLoaded (B.memory b.now) }
-    requires held { HoldsSomeRegion (current (B.memory b.now).bbram L.place) }
-    requires room { HasRoom room.old }
-    ensures count { (region : Region) → HoldsRegion (current (B.memory b.now).bbram L.place) region
+    requires up { IsUp 1 (B.seen b.now) }
+    requires held { HoldsSomeRegion (current (B.seen b.now).memory.bbram L.place) }
+    ensures count { (region : Region) → HoldsRegion (current (B.seen b.now).memory.bbram L.place) region
         → IfOk result (λ count. count ≡ length region.keys) }
-    ensures room { HasRoom room.new }
 {
     let region = read_stored::<Up<R1>, L, B>(alloc, up, b, room)?;
     Ok(region.keys.as_slice().len() as u32)
@@ -95,19 +90,15 @@ fn view_now<B: Board>(
     root: &Root,
     room: &mut Room,
 ) -> Result<View, NoMemory>
-    requires on { B.power b.now ≡ true }
-    requires level { B.level b.now ≡ 1 }
-    requires loaded { IsLoaded (B.memory b.now) }
-    requires bytes { IsBytes (B.memory b.now).bbram }
-    requires remembered { IsRemembered known.now (B.memory b.now) }
-    requires root { IsOnlyRoot (B.memory b.now).bbram root.now }
-    requires room { HasRoom room.old }
-    ensures view { (state : State) → IsReady (B.memory b.now) state → Knows known.now state
+    requires up { IsUp 1 (B.seen b.now) }
+    requires bytes { IsBytes (B.seen b.now).memory.bbram }
+    requires remembered { IsRemembered known.now (B.seen b.now).memory }
+    requires root { IsOnlyRoot (B.seen b.now).memory.bbram root.now }
+    ensures view { (state : State) → IsReady (B.seen b.now).memory state → Knows known.now state
         → IfOk result (λ view. view ≡ view_of state) }
     ensures uses { IfOk result (λ view. view.uses ≤ 31) }
     ensures number { IfOk result (λ view. view.number ≤ 128) }
     ensures keys_made { IfOk result (λ view. view.keys_made ≤ 128) }
-    ensures room { HasRoom room.new }
 {
     let keys_two = count_keys::<Two, B>(alloc, up, b, room)?;
     let keys_three = count_keys::<Three, B>(alloc, up, b, room)?;
@@ -137,16 +128,12 @@ pub fn judge_text<B: Board, L: Ledger>(
     room: &mut Room,
     hashes: &mut HashCount<L>,
 ) -> Result<Judged, Reply>
-    requires on { B.power b.now ≡ true }
-    requires level { B.level b.now ≡ 1 }
-    requires loaded { IsLoaded (B.memory b.now) }
-    requires bytes { IsBytes (B.memory b.now).bbram }
-    requires remembered { IsRemembered known.now (B.memory b.now) }
-    requires room { HasRoom room.old }
-    ensures judged { (state : State) → IsReady (B.memory b.now) state → Knows known.now state
+    requires up { IsUp 1 (B.seen b.now) }
+    requires bytes { IsBytes (B.seen b.now).memory.bbram }
+    requires remembered { IsRemembered known.now (B.seen b.now).memory }
+    ensures judged { (state : State) → IsReady (B.seen b.now).memory state → Knows known.now state
         → JudgesText state text.now draw.now result }
-    ensures root { IfOk result (λ judged. IsOnlyRoot (B.memory b.now).bbram judged.root) }
-    ensures room { HasRoom room.new }
+    ensures root { IfOk result (λ judged. IsOnlyRoot (B.seen b.now).memory.bbram judged.root) }
     ensures cost { hashes.new ≤ hashes.old + 68798 }
 {
     let order = read_text(alloc, text)?;

@@ -1,11 +1,9 @@
 //! Orders answered.
 
-ghost use Rattle.std.specs.Prelude.{◌≡◌, ◌≤◌, ◌+◌, true};
+ghost use Rattle.std.specs.Prelude.{◌≡◌, ◌≤◌, ◌+◌};
 ghost use Rattle.mb_format.specs.Format.{IsBytes};
 ghost use Rattle.mb_model.specs.declared.state.State.{State};
-ghost use Rattle.mb_model.specs.Board.{IsLoaded};
-ghost use Rattle.mb_board.specs.Calls.{power_of, level_of, IsMetered};
-ghost use Rattle.mb_layout.specs.Rooms.{HasRoom};
+ghost use Rattle.mb_board.specs.Calls.{IsUp, Ran};
 ghost use Rattle.mb_model_memory.specs.Holding.{IsReady};
 ghost use Rattle.mb_model_memory.specs.Answering.{TellsOfWrites};
 ghost use Rattle.mb_device_orders.specs.Remembering.{Knows, IsRemembered};
@@ -39,21 +37,13 @@ pub fn obey<B: Board, L: Ledger>(
     room: &mut Room,
     hashes: &mut HashCount<L>,
 ) -> Result<(Up<R1>, Reply), Off>
-    requires on { B.power b.old ≡ true }
-    requires level { B.level b.old ≡ 1 }
-    requires loaded { IsLoaded (B.memory b.old) }
-    requires bytes { IsBytes (B.memory b.old).bbram }
-    requires remembered { IsRemembered known.old (B.memory b.old) }
-    requires room { HasRoom room.old }
-    ensures told { (state : State) → IsReady (B.memory b.old) state → Knows known.old state
-        → Obeys state text.now draw.now known.new (B.memory b.old) (B.memory b.new) result }
-    ensures writes { TellsOfWrites result (B.memory b.old) (B.memory b.new) (B.meter b.old) (B.meter b.new) }
-    ensures sized { IsLoaded (B.memory b.new) }
-    ensures power { B.power b.new ≡ power_of result }
-    ensures level { B.level b.new ≡ level_of result (B.level b.old) }
-    ensures ledger { B.ledger b.new ≡ B.ledger b.old }
-    ensures meter { IsMetered 471 result (B.meter b.old) (B.meter b.new) }
-    ensures room { HasRoom room.new }
+    requires up { IsUp 1 (B.seen b.old) }
+    requires bytes { IsBytes (B.seen b.old).memory.bbram }
+    requires remembered { IsRemembered known.old (B.seen b.old).memory }
+    ensures told { (state : State) → IsReady (B.seen b.old).memory state → Knows known.old state
+        → Obeys state text.now draw.now known.new (B.seen b.old).memory (B.seen b.new).memory result }
+    ensures writes { TellsOfWrites result (B.seen b.old).memory (B.seen b.new).memory (B.seen b.old).meter (B.seen b.new).meter }
+    ensures ran { Ran 471 result (B.seen b.old) (B.seen b.new) }
     ensures cost { hashes.new ≤ hashes.old + 139744 }
 {
     let judged = match judge_text(alloc, &up, b, known, text, draw, room, hashes) {

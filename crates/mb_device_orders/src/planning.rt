@@ -1,18 +1,17 @@
 //! What will be written of an order.
 
-ghost use Rattle.std.specs.Prelude.{◌≡◌, ℕ, ◌≤◌, ◌+◌, ◌-◌, ◌++◌, List, length, map, IfOk, OnOk, true};
+ghost use Rattle.std.specs.Prelude.{◌≡◌, ℕ, ◌≤◌, ◌+◌, ◌-◌, ◌++◌, List, length, map, IfOk, OnOk};
 ghost use Rattle.mb_format.specs.Format.{IsBytes, Spells};
 ghost use Rattle.mb_model.specs.declared.entry.Entry.{Entry};
 ghost use Rattle.mb_model.specs.declared.order.Order.{Order};
 ghost use Rattle.mb_model.specs.declared.state.State.{State};
 ghost use Rattle.mb_model.specs.declared.stored.Public.{Public};
-ghost use Rattle.mb_model.specs.Board.{IsLoaded};
 ghost use Rattle.mb_model.specs.Clean.{root_of};
 ghost use Rattle.mb_model.specs.Flash.{public_format, without_signature};
 ghost use Rattle.mb_model.specs.OrderStep.{code_after, codes_after, obeyed};
+ghost use Rattle.mb_board.specs.Calls.{IsUsable};
 ghost use Rattle.mb_log.specs.Figures.{figures_of};
 ghost use Rattle.mb_orders.specs.Judging.{plan_of};
-ghost use Rattle.mb_layout.specs.Rooms.{HasRoom};
 ghost use Rattle.mb_model_memory.specs.Commits.{root_for};
 ghost use Rattle.mb_model_memory.specs.Holding.{IsReady};
 ghost use Rattle.mb_device_orders.specs.Remembering.{Knows};
@@ -121,10 +120,8 @@ fn next_record(
 ) -> Result<(), NoMemory>
     requires short { length room.old.public.items ≤ 4194304 }
     requires takes { CanTake order.layer order.act entries.now room.old.public.items }
-    requires room { HasRoom room.old }
     ensures spelled { (public : Public) → Spells public_format room.old.public.items public
         → OnOk result (Spells public_format room.new.public.items (with_order order.layer order.act entries.now public)) }
-    ensures room { HasRoom room.new }
 {
     let stored = stored_record(alloc, &room.public)?;
     let next = with_order(stored, order, entries)?;
@@ -180,18 +177,15 @@ pub fn plan_commit<B: Board>(
     judged: Judged,
     room: &mut Room,
 ) -> Result<Planned, NoMemory>
-    requires on { B.power b.now ≡ true }
-    requires loaded { IsLoaded (B.memory b.now) }
-    requires bytes { IsBytes (B.memory b.now).bbram }
-    requires passed { HasPassed (B.memory b.now) judged }
-    requires room { HasRoom room.old }
-    ensures commit { (state : State) (text : List ℕ) (draw : List ℕ) → IsReady (B.memory b.now) state
+    requires usable { IsUsable (B.seen b.now) }
+    requires bytes { IsBytes (B.seen b.now).memory.bbram }
+    requires passed { HasPassed (B.seen b.now).memory judged }
+    ensures commit { (state : State) (text : List ℕ) (draw : List ℕ) → IsReady (B.seen b.now).memory state
         → IsPassed state text draw judged
-        → IfOk result (λ planned. IsCommit (B.memory b.now) planned.root room.new.public.items state judged.order draw) }
-    ensures knows { (state : State) (text : List ℕ) (draw : List ℕ) → IsReady (B.memory b.now) state
+        → IfOk result (λ planned. IsCommit (B.seen b.now).memory planned.root room.new.public.items state judged.order draw) }
+    ensures knows { (state : State) (text : List ℕ) (draw : List ℕ) → IsReady (B.seen b.now).memory state
         → Knows known.now state → IsPassed state text draw judged
         → IfOk result (λ planned. Knows planned.known (obeyed state judged.order draw)) }
-    ensures room { HasRoom room.new }
 {
     let Judged { order, plan, root } = judged;
     read_public(b, root.area, room);

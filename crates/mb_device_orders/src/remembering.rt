@@ -1,15 +1,14 @@
 //! What a device remembers.
 
-ghost use Rattle.std.specs.Prelude.{◌≡◌, ◌≤◌, [], List, length, true};
+ghost use Rattle.std.specs.Prelude.{◌≡◌, ◌≤◌, [], List, length};
 ghost use Rattle.mb_format.specs.Format.{Spells};
 ghost use Rattle.mb_model.specs.declared.entry.SignedEntry.{SignedEntry};
 ghost use Rattle.mb_model.specs.declared.state.Codes.{Codes};
 ghost use Rattle.mb_model.specs.declared.state.State.{State};
-ghost use Rattle.mb_model.specs.Board.{IsLoaded};
 ghost use Rattle.mb_model.specs.Flash.{public_format, public_of_parts};
 ghost use Rattle.mb_model.specs.Log.{entries_of};
 ghost use Rattle.mb_log.specs.Figures.{figures_of};
-ghost use Rattle.mb_layout.specs.Rooms.{HasRoom};
+ghost use Rattle.mb_board.specs.Calls.{IsUp};
 ghost use Rattle.mb_model_memory.specs.Holding.{IsReady, HasReady};
 ghost use Rattle.mb_device_orders.specs.Remembering.{Knows};
 
@@ -47,13 +46,9 @@ fn figures_in(bytes: &[u8]) -> Figures
 /// What the memory of a device that is ready tells of its state. Nothing is written, and no memory is taken.
 #[tactic(auto, using(crate::proofs::Remembered::ready_root, crate::proofs::Remembered::some_begins))]
 pub fn remember<B: Board>(_up: &Up<R1>, b: &B, room: &mut Room) -> Known
-    requires on { B.power b.now ≡ true }
-    requires level { B.level b.now ≡ 1 }
-    requires loaded { IsLoaded (B.memory b.now) }
-    requires ready { HasReady (B.memory b.now) }
-    requires room { HasRoom room.old }
-    ensures knows { (state : State) → IsReady (B.memory b.now) state → Knows result state }
-    ensures room { HasRoom room.new }
+    requires up { IsUp 1 (B.seen b.now) }
+    requires ready { HasReady (B.seen b.now).memory }
+    ensures knows { (state : State) → IsReady (B.seen b.now).memory state → Knows result state }
 {
     let root = read_root(b, room);
     read_public(b, root.area, room);

@@ -1,2 +1,3 @@
 pub mod Secrets
+pub mod Uses
 pub mod Statements

@@ -1,20 +1,18 @@
 //! Secrets that a layer keeps.
 
-ghost use Rattle.std.specs.Prelude.{◌≡◌, IfOk, IfSome, true};
-ghost use Rattle.mb_format.specs.Format.{IsBytes};
+ghost use Rattle.std.specs.Prelude.{◌≡◌, IfOk, IfSome};
 ghost use Rattle.mb_model.specs.declared.region.Region.{Region};
 ghost use Rattle.mb_model.specs.declared.state.State.{State};
-ghost use Rattle.mb_model.specs.Board.{IsLoaded};
 ghost use Rattle.mb_model.specs.Layers.{Runnable};
 ghost use Rattle.mb_model.specs.LayerEvents.{put_event, get_event, drop_event};
 ghost use Rattle.mb_model.specs.Log.{entries_of, number_of};
 ghost use Rattle.mb_model.specs.OrderStep.{region_of};
 ghost use Rattle.mb_model.specs.Script.{IsName, FitsMessage};
-ghost use Rattle.mb_board.specs.Calls.{power_of, level_of, IsMetered};
-ghost use Rattle.mb_layout.specs.Rooms.{HasRoom};
+ghost use Rattle.mb_board.specs.Calls.{IsUp, Ran};
 ghost use Rattle.mb_model_memory.specs.Holding.{IsReady, HasReady};
 ghost use Rattle.mb_model_memory.specs.Answering.{IsAnswered, ComesTo, TellsOfWrites};
 ghost use Rattle.mb_model_memory.specs.Storable.{HasRegionRecord};
+ghost use Rattle.mb_device_regions.specs.Uses.{CanAnswer};
 ghost use Rattle.mb_device_regions.specs.Secrets.{secret_of, PutsInto, DropsFrom};
 
 use crate::end::NotPut;
@@ -40,17 +38,13 @@ fn region_with<S: Reaches<L>, L: Named, B: Board>(
     number: u32,
     room: &mut Room,
 ) -> Result<Region, NotPut>
-    requires on { B.power b.now ≡ true }
-    requires level { B.level b.now ≡ S.stage }
-    requires loaded { IsLoaded (B.memory b.now) }
-    requires ready { HasReady (B.memory b.now) }
+    requires up { IsUp S.stage (B.seen b.now) }
+    requires ready { HasReady (B.seen b.now).memory }
     requires name { IsName name.now }
     requires value { FitsMessage value.now }
-    requires room { HasRoom room.old }
-    ensures put { (state : State) → IsReady (B.memory b.now) state
+    ensures put { (state : State) → IsReady (B.seen b.now).memory state
         → PutsInto (region_of state L.place) (secret_of name.now value.now number) result }
     ensures stored { IfOk result (λ region. HasRegionRecord region) }
-    ensures room { HasRoom room.new }
     ensures public { room.new.public ≡ room.old.public }
 {
     let mut region = load::<S, L, B>(alloc, s, b, room)?;
@@ -75,25 +69,15 @@ pub fn put_secret<S: Reaches<L>, L: Named, B: Board>(
     number: u32,
     room: &mut Room,
 ) -> Result<(S, Reply), Off>
-    requires on { B.power b.old ≡ true }
-    requires level { B.level b.old ≡ S.stage }
-    requires loaded { IsLoaded (B.memory b.old) }
-    requires bytes { IsBytes (B.memory b.old).bbram }
-    requires ready { HasReady (B.memory b.old) }
+    requires can_answer { CanAnswer S.stage (B.seen b.old) }
     requires name { IsName name.now }
     requires value { FitsMessage value.now }
-    requires room { HasRoom room.old }
-    ensures told { (state : State) → IsReady (B.memory b.old) state → Runnable state.layers L.place
+    ensures told { (state : State) → IsReady (B.seen b.old).memory state → Runnable state.layers L.place
         → number ≡ number_of (entries_of state.log)
-        → ComesTo state (put_event L.place name.now value.now state) (B.memory b.old) (B.memory b.new) result }
-    ensures writes { TellsOfWrites result (B.memory b.old) (B.memory b.new) (B.meter b.old) (B.meter b.new) }
-    ensures sized { IsLoaded (B.memory b.new) }
-    ensures flash { (B.memory b.new).flash ≡ (B.memory b.old).flash }
-    ensures power { B.power b.new ≡ power_of result }
-    ensures level { B.level b.new ≡ level_of result (B.level b.old) }
-    ensures ledger { B.ledger b.new ≡ B.ledger b.old }
-    ensures meter { IsMetered 3 result (B.meter b.old) (B.meter b.new) }
-    ensures room { HasRoom room.new }
+        → ComesTo state (put_event L.place name.now value.now state) (B.seen b.old).memory (B.seen b.new).memory result }
+    ensures writes { TellsOfWrites result (B.seen b.old).memory (B.seen b.new).memory (B.seen b.old).meter (B.seen b.new).meter }
+    ensures flash { (B.seen b.new).memory.flash ≡ (B.seen b.old).memory.flash }
+    ensures ran { Ran 3 result (B.seen b.old) (B.seen b.new) }
     ensures public { room.new.public ≡ room.old.public }
 {
     let region = match region_with::<S, L, B>(alloc, &s, b, name, value, number, room) {
@@ -114,14 +98,10 @@ pub fn get_secret<S: Reaches<L>, L: Named, B: Board>(
     name: &Bytes,
     room: &mut Room,
 ) -> Reply
-    requires on { B.power b.now ≡ true }
-    requires level { B.level b.now ≡ S.stage }
-    requires loaded { IsLoaded (B.memory b.now) }
-    requires ready { HasReady (B.memory b.now) }
-    requires room { HasRoom room.old }
-    ensures told { (state : State) → IsReady (B.memory b.now) state
-        → IsAnswered (get_event L.place name.now state) result (B.memory b.now) (B.memory b.now) }
-    ensures room { HasRoom room.new }
+    requires up { IsUp S.stage (B.seen b.now) }
+    requires ready { HasReady (B.seen b.now).memory }
+    ensures told { (state : State) → IsReady (B.seen b.now).memory state
+        → IsAnswered (get_event L.place name.now state) result (B.seen b.now).memory (B.seen b.now).memory }
     ensures public { room.new.public ≡ room.old.public }
 {
     match load::<S, L, B>(alloc, s, b, room) {
@@ -138,15 +118,11 @@ fn region_without<S: Reaches<L>, L: Named, B: Board>(
     name: &Bytes,
     room: &mut Room,
 ) -> Result<Option<Region>, NoMemory>
-    requires on { B.power b.now ≡ true }
-    requires level { B.level b.now ≡ S.stage }
-    requires loaded { IsLoaded (B.memory b.now) }
-    requires ready { HasReady (B.memory b.now) }
-    requires room { HasRoom room.old }
-    ensures dropped { (state : State) → IsReady (B.memory b.now) state
+    requires up { IsUp S.stage (B.seen b.now) }
+    requires ready { HasReady (B.seen b.now).memory }
+    ensures dropped { (state : State) → IsReady (B.seen b.now).memory state
         → DropsFrom (region_of state L.place) name.now result }
     ensures stored { IfOk result (λ found. IfSome found (λ region. HasRegionRecord region)) }
-    ensures room { HasRoom room.new }
     ensures public { room.new.public ≡ room.old.public }
 {
     let mut region = load::<S, L, B>(alloc, s, b, room)?;
@@ -167,22 +143,12 @@ pub fn drop_secret<S: Reaches<L>, L: Named, B: Board>(
     name: &Bytes,
     room: &mut Room,
 ) -> Result<(S, Reply), Off>
-    requires on { B.power b.old ≡ true }
-    requires level { B.level b.old ≡ S.stage }
-    requires loaded { IsLoaded (B.memory b.old) }
-    requires bytes { IsBytes (B.memory b.old).bbram }
-    requires ready { HasReady (B.memory b.old) }
-    requires room { HasRoom room.old }
-    ensures told { (state : State) → IsReady (B.memory b.old) state → Runnable state.layers L.place
-        → ComesTo state (drop_event L.place name.now state) (B.memory b.old) (B.memory b.new) result }
-    ensures writes { TellsOfWrites result (B.memory b.old) (B.memory b.new) (B.meter b.old) (B.meter b.new) }
-    ensures sized { IsLoaded (B.memory b.new) }
-    ensures flash { (B.memory b.new).flash ≡ (B.memory b.old).flash }
-    ensures power { B.power b.new ≡ power_of result }
-    ensures level { B.level b.new ≡ level_of result (B.level b.old) }
-    ensures ledger { B.ledger b.new ≡ B.ledger b.old }
-    ensures meter { IsMetered 3 result (B.meter b.old) (B.meter b.new) }
-    ensures room { HasRoom room.new }
+    requires can_answer { CanAnswer S.stage (B.seen b.old) }
+    ensures told { (state : State) → IsReady (B.seen b.old).memory state → Runnable state.layers L.place
+        → ComesTo state (drop_event L.place name.now state) (B.seen b.old).memory (B.seen b.new).memory result }
+    ensures writes { TellsOfWrites result (B.seen b.old).memory (B.seen b.new).memory (B.seen b.old).meter (B.seen b.new).meter }
+    ensures flash { (B.seen b.new).memory.flash ≡ (B.seen b.old).memory.flash }
+    ensures ran { Ran 3 result (B.seen b.old) (B.seen b.new) }
     ensures public { room.new.public ≡ room.old.public }
 {
     let region = match region_without::<S, L, B>(alloc, &s, b, name, room) {

@@ -1,17 +1,15 @@
 //! Messages that a layer has signed.
 
-ghost use Rattle.std.specs.Prelude.{◌≡◌, ◌+◌, ◌≤◌, ◌<◌, length, IfOk, true};
-ghost use Rattle.mb_format.specs.Format.{IsBytes};
+ghost use Rattle.std.specs.Prelude.{◌≡◌, ◌+◌, ◌≤◌, ◌<◌, length, IfOk};
 ghost use Rattle.mb_model.specs.declared.state.State.{State};
-ghost use Rattle.mb_model.specs.Board.{IsLoaded};
 ghost use Rattle.mb_model.specs.Layers.{Runnable};
 ghost use Rattle.mb_model.specs.LayerEvents.{sign_event};
 ghost use Rattle.mb_model.specs.Log.{entries_of, number_of};
 ghost use Rattle.mb_model.specs.Script.{FitsMessage};
-ghost use Rattle.mb_board.specs.Calls.{power_of, level_of, IsMetered};
-ghost use Rattle.mb_layout.specs.Rooms.{HasRoom};
-ghost use Rattle.mb_model_memory.specs.Holding.{IsReady, HasReady};
+ghost use Rattle.mb_board.specs.Calls.{Ran};
+ghost use Rattle.mb_model_memory.specs.Holding.{IsReady};
 ghost use Rattle.mb_model_memory.specs.Answering.{ComesTo, TellsOfWrites};
+ghost use Rattle.mb_device_regions.specs.Uses.{CanAnswer};
 ghost use Rattle.mb_device_regions.specs.Statements.{IsPrepared, stated};
 
 use mb_board::Board;
@@ -109,24 +107,14 @@ pub fn sign_message<S: Reaches<L>, L: Named, B: Board, Lg: Ledger>(
     room: &mut Room,
     hashes: &mut HashCount<Lg>,
 ) -> Result<(S, Reply), Off>
-    requires on { B.power b.old ≡ true }
-    requires level { B.level b.old ≡ S.stage }
-    requires loaded { IsLoaded (B.memory b.old) }
-    requires bytes { IsBytes (B.memory b.old).bbram }
-    requires ready { HasReady (B.memory b.old) }
+    requires can_answer { CanAnswer S.stage (B.seen b.old) }
     requires message { FitsMessage message.now }
-    requires room { HasRoom room.old }
-    ensures told { (state : State) → IsReady (B.memory b.old) state → Runnable state.layers L.place
+    ensures told { (state : State) → IsReady (B.seen b.old).memory state → Runnable state.layers L.place
         → serial.now ≡ state.serial → number ≡ number_of (entries_of state.log)
-        → ComesTo state (sign_event L.place key message.now state) (B.memory b.old) (B.memory b.new) result }
-    ensures writes { TellsOfWrites result (B.memory b.old) (B.memory b.new) (B.meter b.old) (B.meter b.new) }
-    ensures sized { IsLoaded (B.memory b.new) }
-    ensures flash { (B.memory b.new).flash ≡ (B.memory b.old).flash }
-    ensures power { B.power b.new ≡ power_of result }
-    ensures level { B.level b.new ≡ level_of result (B.level b.old) }
-    ensures ledger { B.ledger b.new ≡ B.ledger b.old }
-    ensures meter { IsMetered 3 result (B.meter b.old) (B.meter b.new) }
-    ensures room { HasRoom room.new }
+        → ComesTo state (sign_event L.place key message.now state) (B.seen b.old).memory (B.seen b.new).memory result }
+    ensures writes { TellsOfWrites result (B.seen b.old).memory (B.seen b.new).memory (B.seen b.old).meter (B.seen b.new).meter }
+    ensures flash { (B.seen b.new).memory.flash ≡ (B.seen b.old).memory.flash }
+    ensures ran { Ran 3 result (B.seen b.old) (B.seen b.new) }
     ensures public { room.new.public ≡ room.old.public }
     ensures cost { hashes.new ≤ hashes.old + 35473 }
 {

@@ -1,15 +1,13 @@
 //! The stored region of a device that is ready.
 
-ghost use Rattle.std.specs.Prelude.{◌≡◌, ◌⊎◌, OnOk, IfOk, true};
+ghost use Rattle.std.specs.Prelude.{◌≡◌, ◌⊎◌, OnOk, IfOk};
 ghost use Rattle.mb_format.specs.Format.{IsBytes};
 ghost use Rattle.mb_model.specs.declared.region.Region.{Region};
 ghost use Rattle.mb_model.specs.declared.state.State.{State};
-ghost use Rattle.mb_model.specs.Board.{IsLoaded};
 ghost use Rattle.mb_model.specs.Memory.{IsBlank, other};
 ghost use Rattle.mb_model.specs.OrderStep.{region_of, with_region};
 ghost use Rattle.mb_model.specs.Valid.{IsValidState};
-ghost use Rattle.mb_board.specs.Calls.{power_of, level_of, IsMetered};
-ghost use Rattle.mb_layout.specs.Rooms.{HasRoom};
+ghost use Rattle.mb_board.specs.Calls.{IsUp, Ran};
 ghost use Rattle.mb_model_memory.specs.Holding.{Means, IsReady, HasReady};
 ghost use Rattle.mb_model_memory.specs.Storable.{HasRegionRecord};
 ghost use Rattle.mb_slot.specs.Slots.{IsSameBut};
@@ -30,15 +28,11 @@ pub(crate) fn load<S: Reaches<L>, L: Named, B: Board>(
     b: &B,
     room: &mut Room,
 ) -> Result<Region, NoMemory>
-    requires on { B.power b.now ≡ true }
-    requires level { B.level b.now ≡ S.stage }
-    requires loaded { IsLoaded (B.memory b.now) }
-    requires ready { HasReady (B.memory b.now) }
-    requires room { HasRoom room.old }
-    ensures region { (state : State) → IsReady (B.memory b.now) state
+    requires up { IsUp S.stage (B.seen b.now) }
+    requires ready { HasReady (B.seen b.now).memory }
+    ensures region { (state : State) → IsReady (B.seen b.now).memory state
         → IfOk result (λ region. region ≡ region_of state L.place) }
     ensures kept { IfOk result (λ region. IsKeptRegion region) }
-    ensures room { HasRoom room.new }
     ensures public { room.new.public ≡ room.old.public }
 {
     read_stored::<S, L, B>(alloc, s, b, room)
@@ -51,22 +45,14 @@ fn exchange<S: Reaches<L>, L: Named, B: Board>(
     region: &Region,
     room: &mut Room,
 ) -> Result<S, Off>
-    requires on { B.power b.old ≡ true }
-    requires level { B.level b.old ≡ S.stage }
-    requires loaded { IsLoaded (B.memory b.old) }
+    requires up { IsUp S.stage (B.seen b.old) }
     requires stored { HasRegionRecord region.now }
-    requires room { HasRoom room.old }
-    ensures done { OnOk result (ReplacesRegion L.place region.now (B.memory b.old) (B.memory b.new)) }
-    ensures either { KeepsOrReplaces L.place region.now (B.memory b.old) (B.memory b.new) }
-    ensures blank { OnOk result (IsBlank (other (B.memory b.new).bbram L.place)) }
-    ensures rest { IsSameBut L.place (B.memory b.old).bbram (B.memory b.new).bbram }
-    ensures sized { IsLoaded (B.memory b.new) }
-    ensures flash { (B.memory b.new).flash ≡ (B.memory b.old).flash }
-    ensures power { B.power b.new ≡ power_of result }
-    ensures level { B.level b.new ≡ level_of result (B.level b.old) }
-    ensures ledger { B.ledger b.new ≡ B.ledger b.old }
-    ensures meter { IsMetered 3 result (B.meter b.old) (B.meter b.new) }
-    ensures room { HasRoom room.new }
+    ensures done { OnOk result (ReplacesRegion L.place region.now (B.seen b.old).memory (B.seen b.new).memory) }
+    ensures either { KeepsOrReplaces L.place region.now (B.seen b.old).memory (B.seen b.new).memory }
+    ensures blank { OnOk result (IsBlank (other (B.seen b.new).memory.bbram L.place)) }
+    ensures rest { IsSameBut L.place (B.seen b.old).memory.bbram (B.seen b.new).memory.bbram }
+    ensures flash { (B.seen b.new).memory.flash ≡ (B.seen b.old).memory.flash }
+    ensures ran { Ran 3 result (B.seen b.old) (B.seen b.new) }
     ensures public { room.new.public ≡ room.old.public }
 {
     let s = commit_region::<S, L, B>(s, b, region, room)?;
@@ -81,24 +67,16 @@ pub(crate) fn replace<S: Reaches<L>, L: Named, B: Board>(
     region: &Region,
     room: &mut Room,
 ) -> Result<S, Off>
-    requires on { B.power b.old ≡ true }
-    requires level { B.level b.old ≡ S.stage }
-    requires loaded { IsLoaded (B.memory b.old) }
-    requires bytes { IsBytes (B.memory b.old).bbram }
+    requires up { IsUp S.stage (B.seen b.old) }
+    requires bytes { IsBytes (B.seen b.old).memory.bbram }
     requires stored { HasRegionRecord region.now }
-    requires room { HasRoom room.old }
-    ensures done { (state : State) → IsReady (B.memory b.old) state
+    ensures done { (state : State) → IsReady (B.seen b.old).memory state
         → IsValidState (with_region state L.place region.now)
-        → OnOk result (IsReady (B.memory b.new) (with_region state L.place region.now)) }
-    ensures either { (state : State) → IsReady (B.memory b.old) state
-        → Means (B.memory b.new) state ⊎ Means (B.memory b.new) (with_region state L.place region.now) }
-    ensures sized { IsLoaded (B.memory b.new) }
-    ensures flash { (B.memory b.new).flash ≡ (B.memory b.old).flash }
-    ensures power { B.power b.new ≡ power_of result }
-    ensures level { B.level b.new ≡ level_of result (B.level b.old) }
-    ensures ledger { B.ledger b.new ≡ B.ledger b.old }
-    ensures meter { IsMetered 3 result (B.meter b.old) (B.meter b.new) }
-    ensures room { HasRoom room.new }
+        → OnOk result (IsReady (B.seen b.new).memory (with_region state L.place region.now)) }
+    ensures either { (state : State) → IsReady (B.seen b.old).memory state
+        → Means (B.seen b.new).memory state ⊎ Means (B.seen b.new).memory (with_region state L.place region.now) }
+    ensures flash { (B.seen b.new).memory.flash ≡ (B.seen b.old).memory.flash }
+    ensures ran { Ran 3 result (B.seen b.old) (B.seen b.new) }
     ensures public { room.new.public ≡ room.old.public }
 {
     exchange::<S, L, B>(s, b, region, room)

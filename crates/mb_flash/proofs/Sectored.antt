@@ -3,7 +3,7 @@ use Rattle.std.proofs.Common.{◌≡◌, ℕ, ◌+◌, ◌*◌, ◌/◌, ◌<◌
 use Rattle.std.proofs.Math.Seq.{take-add, take-append_seam, drop-append_seam}
 use Rattle.std.proofs.lemmas.List.{take-take, take-replicate, drop-drop, drop-take, append-nil}
 use Rattle.mb_model.specs.Pieces.{part}
-use Rattle.mb_model.specs.Board.{put, erased}
+use Rattle.mb_model.specs.Board.{Memory, IsLoaded, put, erased}
 use Rattle.mb_model.proofs.Places.{length-erased, part-put}
 use Rattle.mb_board.specs.Calls.{Torn}
 use Rattle.mb_slot.specs.Slots.{IsOutside, IsSameOutside}
@@ -29,6 +29,13 @@ pub torn_sector : (sector n : ℕ) (before after : List ℕ) → sector < 256 �
     → IsSameOutside (4096 * sector) 4096 before after
 torn_sector sector n before after less few sized torn =
     widened (4096 * sector) n 4096 before after few (torn_same (4096 * sector) n before after (omega arith) torn)
+
+-- both memories keep their lengths where a part of the flash was written
+pub sized_still : (at n : ℕ) (before after : Memory) → IsLoaded before → at + n ≤ 1048576 → Torn at n before.flash after.flash → after.bbram ≡ before.bbram → IsLoaded after
+sized_still at n before after loaded within torn same = record {
+  flash = (torn_same at n before.flash after.flash (omega (arith, loaded.flash)) torn).sized ∙ loaded.flash;
+  bbram = ap length same ∙ loaded.bbram;
+}
 
 -- an erased sector begins with erased bytes
 pub erased_start : (sector n : ℕ) (before after : List ℕ) → sector < 256 → n ≤ 4096 → length before ≡ 1048576

@@ -1,11 +1,10 @@
 //! A record at the start of an area of the flash.
 
-ghost use Rattle.std.specs.Prelude.{◌≡◌, ◌+◌, ◌-◌, ◌*◌, ◌≤◌, ◌++◌, ◌⊎◌, length, take, true, OnOk, Ok};
+ghost use Rattle.std.specs.Prelude.{◌≡◌, ◌+◌, ◌-◌, ◌*◌, ◌≤◌, ◌++◌, ◌⊎◌, length, take, OnOk, Ok};
 ghost use Rattle.std.specs.Int.{w32, to_be_bytes};
 ghost use Rattle.mb_model.specs.Pieces.{part};
-ghost use Rattle.mb_model.specs.Board.{IsLoaded};
 ghost use Rattle.mb_model.specs.Flash.{flash_area, BeginsArea};
-ghost use Rattle.mb_board.specs.Calls.{power_of, level_of, IsMetered};
+ghost use Rattle.mb_board.specs.Calls.{IsUsable, Ran};
 ghost use Rattle.mb_slot.specs.Slots.{IsSameOutside};
 ghost use Rattle.mb_flash.specs.Sectors.{sectors_for};
 
@@ -35,43 +34,33 @@ fn fill_first(count: u32, head: &[u8], piece: &mut [u8])
 /// needs, and none for a sector that holds its bytes already.
 #[tactic(auto, using(crate::proofs::Areas::begins, crate::proofs::Areas::other_kept, crate::proofs::Areas::stands_there))]
 pub fn write_area<B: Board>(b: &mut B, area: u16, bytes: &[u8]) -> Result<(), Stopped>
-    requires on { B.power b.old ≡ true }
-    requires loaded { IsLoaded (B.memory b.old) }
+    requires usable { IsUsable (B.seen b.old) }
     requires area { area ≤ 1 }
     requires short { length bytes.now ≤ 470000 }
-    ensures written { OnOk result (BeginsArea (flash_area (B.memory b.new).flash area) bytes.now) }
-    ensures idle { BeginsArea (flash_area (B.memory b.old).flash area) bytes.now
-        → (result ≡ Ok tt) × (B.memory b.new ≡ B.memory b.old) × (B.meter b.new ≡ B.meter b.old) }
-    ensures other { flash_area (B.memory b.new).flash (1 - area) ≡ flash_area (B.memory b.old).flash (1 - area) }
-    ensures same { IsSameOutside (524288 * area) 524288 (B.memory b.old).flash (B.memory b.new).flash }
-    ensures sized { IsLoaded (B.memory b.new) }
-    ensures bbram { (B.memory b.new).bbram ≡ (B.memory b.old).bbram }
-    ensures power { B.power b.new ≡ power_of result }
-    ensures level { B.level b.new ≡ level_of result (B.level b.old) }
-    ensures ledger { B.ledger b.new ≡ B.ledger b.old }
-    ensures meter { IsMetered (2 * sectors_for (4 + length bytes.now)) result (B.meter b.old) (B.meter b.new) }
+    ensures written { OnOk result (BeginsArea (flash_area (B.seen b.new).memory.flash area) bytes.now) }
+    ensures idle { BeginsArea (flash_area (B.seen b.old).memory.flash area) bytes.now
+        → (result ≡ Ok tt) × ((B.seen b.new).memory ≡ (B.seen b.old).memory) × ((B.seen b.new).meter ≡ (B.seen b.old).meter) }
+    ensures other { flash_area (B.seen b.new).memory.flash (1 - area) ≡ flash_area (B.seen b.old).memory.flash (1 - area) }
+    ensures same { IsSameOutside (524288 * area) 524288 (B.seen b.old).memory.flash (B.seen b.new).memory.flash }
+    ensures bbram { (B.seen b.new).memory.bbram ≡ (B.seen b.old).memory.bbram }
+    ensures ran { Ran (2 * sectors_for (4 + length bytes.now)) result (B.seen b.old) (B.seen b.new) }
 {
     write_lengthened(b, area, bytes)
 }
 
 /// Writes the length of the record and the record at the start of the area.
 fn write_lengthened<B: Board>(b: &mut B, area: u16, bytes: &[u8]) -> Result<(), Stopped>
-    requires on { B.power b.old ≡ true }
-    requires loaded { IsLoaded (B.memory b.old) }
+    requires usable { IsUsable (B.seen b.old) }
     requires area { area ≤ 1 }
     requires short { length bytes.now ≤ 470000 }
-    ensures stored { OnOk result (part (524288 * area) (4 + length bytes.now) (B.memory b.new).flash
+    ensures stored { OnOk result (part (524288 * area) (4 + length bytes.now) (B.seen b.new).memory.flash
         ≡ to_be_bytes w32 (length bytes.now) ++ bytes.now) }
-    ensures idle { part (524288 * area) (4 + length bytes.now) (B.memory b.old).flash
+    ensures idle { part (524288 * area) (4 + length bytes.now) (B.seen b.old).memory.flash
         ≡ to_be_bytes w32 (length bytes.now) ++ bytes.now
-        → (result ≡ Ok tt) × (B.memory b.new ≡ B.memory b.old) × (B.meter b.new ≡ B.meter b.old) }
-    ensures same { IsSameOutside (524288 * area) 524288 (B.memory b.old).flash (B.memory b.new).flash }
-    ensures sized { IsLoaded (B.memory b.new) }
-    ensures bbram { (B.memory b.new).bbram ≡ (B.memory b.old).bbram }
-    ensures power { B.power b.new ≡ power_of result }
-    ensures level { B.level b.new ≡ level_of result (B.level b.old) }
-    ensures ledger { B.ledger b.new ≡ B.ledger b.old }
-    ensures meter { IsMetered (2 * sectors_for (4 + length bytes.now)) result (B.meter b.old) (B.meter b.new) }
+        → (result ≡ Ok tt) × ((B.seen b.new).memory ≡ (B.seen b.old).memory) × ((B.seen b.new).meter ≡ (B.seen b.old).meter) }
+    ensures same { IsSameOutside (524288 * area) 524288 (B.seen b.old).memory.flash (B.seen b.new).memory.flash }
+    ensures bbram { (B.seen b.new).memory.bbram ≡ (B.seen b.old).memory.bbram }
+    ensures ran { Ran (2 * sectors_for (4 + length bytes.now)) result (B.seen b.old) (B.seen b.new) }
 {
     let (head, rest) = split_head(bytes);
     let mut piece = [0; SECTOR_LENGTH];

@@ -8,5 +8,4 @@ pub mod StoredRegion
 pub mod StoredEntries
 pub mod Uncopied
 pub mod Walks
-pub mod Rooms
 pub mod UnsignedEntries

@@ -1,8 +1,7 @@
 //! The buffers in which a device works.
 
-ghost use Rattle.std.specs.Prelude.{◌≡◌, ◌≤◌, length, vec_len, vec_capacity, IfOk};
+ghost use Rattle.std.specs.Prelude.{◌≡◌, ◌≤◌, [], length, vec_len, vec_capacity, IfOk};
 ghost use Rattle.mb_model.specs.Memory.{IsBlank};
-ghost use Rattle.mb_layout.specs.Rooms.{HasRoom, IsEmpty};
 
 use mb_model::NoMemory;
 use std::alloc::Global;
@@ -13,7 +12,7 @@ const PUBLIC_ROOM: usize = 470_000;
 /// The number of bytes of an area of the battery-backed memory.
 const AREA_ROOM: usize = 4_096;
 
-/// The buffers in which a device works, with room for all that it writes: 470,000, 4,096 and 4,096 bytes.
+/// The buffers in which a device works. They always have room for all that it writes: 470,000, 4,096 and 4,096 bytes.
 #[derive(Drop)]
 pub struct Room {
     /// The public record that is written next.
@@ -22,13 +21,15 @@ pub struct Room {
     pub area: Vec<u8>,
     /// More working space.
     pub other: Vec<u8>,
+    ghost public_room: { 470000 ≤ vec_capacity public },
+    ghost area_room: { 4096 ≤ vec_capacity area },
+    ghost other_room: { 4096 ≤ vec_capacity other },
 }
 
 impl Room {
     /// Empty buffers with their room. `NoMemory` where an allocation fails, of which no clause says when.
     pub fn new(alloc: Global) -> Result<Room, NoMemory>
-        ensures room { IfOk result (λ room. HasRoom room) }
-        ensures empty { IfOk result (λ room. IsEmpty room) }
+        ensures { IfOk result (λ room. (room.public.items ≡ []) × (room.area.items ≡ []) × (room.other.items ≡ [])) }
     {
         let public = Vec::with_capacity(alloc, PUBLIC_ROOM)?;
         let area = Vec::with_capacity(alloc, AREA_ROOM)?;

@@ -1,14 +1,12 @@
 //! Binding of the keys of regions.
 
-ghost use Rattle.std.specs.Prelude.{◌≡◌, ◌≤◌, ◌<◌, ◌⊎◌, length, OnOk, true};
+ghost use Rattle.std.specs.Prelude.{◌≡◌, ◌≤◌, ◌<◌, ◌⊎◌, length, OnOk};
 ghost use Rattle.mb_model.specs.declared.region.Region.{Region};
 ghost use Rattle.mb_model.specs.declared.state.State.{State};
-ghost use Rattle.mb_model.specs.Board.{IsLoaded};
 ghost use Rattle.mb_model.specs.Memory.{IsBlank, current, other};
 ghost use Rattle.mb_model.specs.Meaning.{HoldsRegion};
 ghost use Rattle.mb_model.specs.RegionFormat.{SpellsRegion};
-ghost use Rattle.mb_board.specs.Calls.{power_of, level_of, IsMetered};
-ghost use Rattle.mb_layout.specs.Rooms.{HasRoom};
+ghost use Rattle.mb_board.specs.Calls.{IsUp, Ran};
 ghost use Rattle.mb_model_memory.specs.Holding.{Means};
 ghost use Rattle.mb_model_memory.specs.InForce.{AgreeBesides};
 ghost use Rattle.mb_slot.specs.Slots.{CanUse, IsSameBut};
@@ -36,13 +34,11 @@ pub enum BindEnd<S> {
 /// The first key of this number in the region of the slot, as it is stored; `other` of the room is replaced by the bytes
 /// that stand for the region with one more use of it.
 fn next_use<B: Board>(b: &B, slot: u16, key: u32, room: &mut Room) -> Result<RegionKey, NotUsed>
-    requires can_use { CanUse (B.power b.now) (B.level b.now) (B.memory b.now) slot }
-    requires held { HoldsOrdered (current (B.memory b.now).bbram slot) }
-    requires room { HasRoom room.old }
-    ensures used { (region : Region) → HoldsRegion (current (B.memory b.now).bbram slot) region
+    requires can_use { CanUse (B.seen b.now) slot }
+    requires held { HoldsOrdered (current (B.seen b.now).memory.bbram slot) }
+    ensures used { (region : Region) → HoldsRegion (current (B.seen b.now).memory.bbram slot) region
         → FindsUse region key result room.new.other.items }
     ensures short { OnOk result (length room.new.other.items ≤ 4094) }
-    ensures room { HasRoom room.new }
     ensures public { room.new.public ≡ room.old.public }
 {
     read_area(b, slot, &mut room.area);
@@ -54,25 +50,17 @@ fn next_use<B: Board>(b: &B, slot: u16, key: u32, room: &mut Room) -> Result<Reg
 
 /// Replaces the stored region by the one for which `other` of the room stands, and then wipes the area before it.
 fn store<S: Reaches<L>, L: Named, B: Board>(s: S, b: &mut B, room: &mut Room) -> Result<S, Off>
-    requires on { B.power b.old ≡ true }
-    requires level { B.level b.old ≡ S.stage }
-    requires loaded { IsLoaded (B.memory b.old) }
+    requires up { IsUp S.stage (B.seen b.old) }
     requires short { length room.old.other.items ≤ 4094 }
-    requires room { HasRoom room.old }
     ensures done { (region : Region) → SpellsRegion room.old.other.items region
-        → OnOk result (ReplacesRegion L.place region (B.memory b.old) (B.memory b.new)) }
+        → OnOk result (ReplacesRegion L.place region (B.seen b.old).memory (B.seen b.new).memory) }
     ensures either { (region : Region) → SpellsRegion room.old.other.items region
-        → KeepsOrReplaces L.place region (B.memory b.old) (B.memory b.new) }
-    ensures blank { OnOk result (IsBlank (other (B.memory b.new).bbram L.place)) }
-    ensures besides { AgreeBesides L.place (B.memory b.old).bbram (B.memory b.new).bbram }
-    ensures rest { IsSameBut L.place (B.memory b.old).bbram (B.memory b.new).bbram }
-    ensures sized { IsLoaded (B.memory b.new) }
-    ensures flash { (B.memory b.new).flash ≡ (B.memory b.old).flash }
-    ensures power { B.power b.new ≡ power_of result }
-    ensures level { B.level b.new ≡ level_of result (B.level b.old) }
-    ensures ledger { B.ledger b.new ≡ B.ledger b.old }
-    ensures meter { IsMetered 3 result (B.meter b.old) (B.meter b.new) }
-    ensures room { HasRoom room.new }
+        → KeepsOrReplaces L.place region (B.seen b.old).memory (B.seen b.new).memory }
+    ensures blank { OnOk result (IsBlank (other (B.seen b.new).memory.bbram L.place)) }
+    ensures besides { AgreeBesides L.place (B.seen b.old).memory.bbram (B.seen b.new).memory.bbram }
+    ensures rest { IsSameBut L.place (B.seen b.old).memory.bbram (B.seen b.new).memory.bbram }
+    ensures flash { (B.seen b.new).memory.flash ≡ (B.seen b.old).memory.flash }
+    ensures ran { Ran 3 result (B.seen b.old) (B.seen b.new) }
     ensures public { room.new.public ≡ room.old.public }
 {
     let s = commit_record::<S, L, B>(s, b, &room.other, &mut room.area)?;
@@ -101,29 +89,21 @@ pub fn bind<S: Reaches<L>, L: Named, B: Board>(
     key: u32,
     room: &mut Room,
 ) -> Result<(S, OneUse, KeySeed), BindEnd<S>>
-    requires on { B.power b.old ≡ true }
-    requires level { B.level b.old ≡ S.stage }
-    requires loaded { IsLoaded (B.memory b.old) }
-    requires held { HoldsOrdered (current (B.memory b.old).bbram L.place) }
-    requires room { HasRoom room.old }
-    ensures bound { (region : Region) → HoldsRegion (current (B.memory b.old).bbram L.place) region → BindOf region key result }
-    ensures done { OnOk result (StoresUse L.place key (B.memory b.old) (B.memory b.new)) }
-    ensures either { KeepsOrStoresUse L.place key (B.memory b.old) (B.memory b.new) }
-    ensures means { HasNoFate L.place (B.memory b.old) → (state : State) → Means (B.memory b.old) state
-        → OnOk result (Means (B.memory b.new) (state_used L.place key state)) }
-    ensures means_either { HasNoFate L.place (B.memory b.old) → (state : State) → Means (B.memory b.old) state
-        → Means (B.memory b.new) state ⊎ Means (B.memory b.new) (state_used L.place key state) }
-    ensures blank { OnOk result (IsBlank (other (B.memory b.new).bbram L.place)) }
-    ensures unwritten { IsUnwritten result (B.memory b.old) (B.memory b.new) (B.meter b.old) (B.meter b.new) }
-    ensures besides { AgreeBesides L.place (B.memory b.old).bbram (B.memory b.new).bbram }
-    ensures rest { IsSameBut L.place (B.memory b.old).bbram (B.memory b.new).bbram }
-    ensures sized { IsLoaded (B.memory b.new) }
-    ensures flash { (B.memory b.new).flash ≡ (B.memory b.old).flash }
-    ensures power { B.power b.new ≡ power_of (power_in result) }
-    ensures level { B.level b.new ≡ level_of (power_in result) (B.level b.old) }
-    ensures ledger { B.ledger b.new ≡ B.ledger b.old }
-    ensures meter { IsMetered 3 (power_in result) (B.meter b.old) (B.meter b.new) }
-    ensures room { HasRoom room.new }
+    requires up { IsUp S.stage (B.seen b.old) }
+    requires held { HoldsOrdered (current (B.seen b.old).memory.bbram L.place) }
+    ensures bound { (region : Region) → HoldsRegion (current (B.seen b.old).memory.bbram L.place) region → BindOf region key result }
+    ensures done { OnOk result (StoresUse L.place key (B.seen b.old).memory (B.seen b.new).memory) }
+    ensures either { KeepsOrStoresUse L.place key (B.seen b.old).memory (B.seen b.new).memory }
+    ensures means { HasNoFate L.place (B.seen b.old).memory → (state : State) → Means (B.seen b.old).memory state
+        → OnOk result (Means (B.seen b.new).memory (state_used L.place key state)) }
+    ensures means_either { HasNoFate L.place (B.seen b.old).memory → (state : State) → Means (B.seen b.old).memory state
+        → Means (B.seen b.new).memory state ⊎ Means (B.seen b.new).memory (state_used L.place key state) }
+    ensures blank { OnOk result (IsBlank (other (B.seen b.new).memory.bbram L.place)) }
+    ensures unwritten { IsUnwritten result (B.seen b.old).memory (B.seen b.new).memory (B.seen b.old).meter (B.seen b.new).meter }
+    ensures besides { AgreeBesides L.place (B.seen b.old).memory.bbram (B.seen b.new).memory.bbram }
+    ensures rest { IsSameBut L.place (B.seen b.old).memory.bbram (B.seen b.new).memory.bbram }
+    ensures flash { (B.seen b.new).memory.flash ≡ (B.seen b.old).memory.flash }
+    ensures ran { Ran 3 (power_in result) (B.seen b.old) (B.seen b.new) }
     ensures public { room.new.public ≡ room.old.public }
 {
     let found = match next_use(b, L::number(), key, room) {

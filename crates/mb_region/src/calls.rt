@@ -1,16 +1,14 @@
 //! Regions by their places, and by the states that reach them.
 
-ghost use Rattle.std.specs.Prelude.{◌≡◌, ◌≤◌, ◌⊎◌, length, OnOk, IfOk, IsOk, true, vec_capacity};
+ghost use Rattle.std.specs.Prelude.{◌≡◌, ◌≤◌, ◌⊎◌, length, OnOk, IfOk, IsOk, vec_capacity};
 ghost use Rattle.mb_model.specs.declared.region.Region.{Region};
 ghost use Rattle.mb_model.specs.declared.state.State.{State};
 ghost use Rattle.mb_model.specs.declared.stored.Fate.TheVariants.{Keep};
-ghost use Rattle.mb_model.specs.Board.{IsLoaded};
 ghost use Rattle.mb_model.specs.Memory.{IsBlank, current, other};
 ghost use Rattle.mb_model.specs.Meaning.{HoldsRegion};
 ghost use Rattle.mb_model.specs.RegionFormat.{SpellsRegion};
 ghost use Rattle.mb_model.specs.OrderStep.{with_region};
-ghost use Rattle.mb_board.specs.Calls.{power_of, level_of, IsMetered};
-ghost use Rattle.mb_layout.specs.Rooms.{HasRoom};
+ghost use Rattle.mb_board.specs.Calls.{IsUp, Ran};
 ghost use Rattle.mb_model_memory.specs.Holding.{Means, KeepsContents};
 ghost use Rattle.mb_model_memory.specs.InForce.{AgreeBesides};
 ghost use Rattle.mb_model_memory.specs.Storable.{HasRegionRecord};
@@ -34,14 +32,10 @@ pub fn read_stored<S: Reaches<L>, L: Named, B: Board>(
     b: &B,
     room: &mut Room,
 ) -> Result<Region, NoMemory>
-    requires on { B.power b.now ≡ true }
-    requires level { B.level b.now ≡ S.stage }
-    requires loaded { IsLoaded (B.memory b.now) }
-    requires held { HoldsSomeRegion (current (B.memory b.now).bbram L.place) }
-    requires room { HasRoom room.old }
-    ensures region { (region : Region) → HoldsRegion (current (B.memory b.now).bbram L.place) region
+    requires up { IsUp S.stage (B.seen b.now) }
+    requires held { HoldsSomeRegion (current (B.seen b.now).memory.bbram L.place) }
+    ensures region { (region : Region) → HoldsRegion (current (B.seen b.now).memory.bbram L.place) region
         → IfOk result (λ it. it ≡ region) }
-    ensures room { HasRoom room.new }
     ensures public { room.new.public ≡ room.old.public }
 {
     load_region(alloc, b, L::number(), room)
@@ -55,24 +49,18 @@ pub fn commit_record<S: Reaches<L>, L: Named, B: Board>(
     bytes: &[u8],
     area: &mut Vec<u8>,
 ) -> Result<S, Off>
-    requires on { B.power b.old ≡ true }
-    requires level { B.level b.old ≡ S.stage }
-    requires loaded { IsLoaded (B.memory b.old) }
+    requires up { IsUp S.stage (B.seen b.old) }
     requires short { length bytes.now ≤ 4094 }
     requires room { 4096 ≤ vec_capacity area.old }
     ensures done { (region : Region) → SpellsRegion bytes.now region
-        → OnOk result (ReplacesRegion L.place region (B.memory b.old) (B.memory b.new)) }
+        → OnOk result (ReplacesRegion L.place region (B.seen b.old).memory (B.seen b.new).memory) }
     ensures either { (region : Region) → SpellsRegion bytes.now region
-        → KeepsOrReplaces L.place region (B.memory b.old) (B.memory b.new) }
-    ensures left { OnOk result (other (B.memory b.new).bbram L.place ≡ current (B.memory b.old).bbram L.place) }
-    ensures besides { AgreeBesides L.place (B.memory b.old).bbram (B.memory b.new).bbram }
-    ensures rest { IsSameBut L.place (B.memory b.old).bbram (B.memory b.new).bbram }
-    ensures sized { IsLoaded (B.memory b.new) }
-    ensures flash { (B.memory b.new).flash ≡ (B.memory b.old).flash }
-    ensures power { B.power b.new ≡ power_of result }
-    ensures level { B.level b.new ≡ level_of result (B.level b.old) }
-    ensures ledger { B.ledger b.new ≡ B.ledger b.old }
-    ensures meter { IsMetered 2 result (B.meter b.old) (B.meter b.new) }
+        → KeepsOrReplaces L.place region (B.seen b.old).memory (B.seen b.new).memory }
+    ensures left { OnOk result (other (B.seen b.new).memory.bbram L.place ≡ current (B.seen b.old).memory.bbram L.place) }
+    ensures besides { AgreeBesides L.place (B.seen b.old).memory.bbram (B.seen b.new).memory.bbram }
+    ensures rest { IsSameBut L.place (B.seen b.old).memory.bbram (B.seen b.new).memory.bbram }
+    ensures flash { (B.seen b.new).memory.flash ≡ (B.seen b.old).memory.flash }
+    ensures ran { Ran 2 result (B.seen b.old) (B.seen b.new) }
     ensures capacity { vec_capacity area.old ≤ vec_capacity area.new }
 {
     match replace(b, L::number(), bytes, area) {
@@ -89,27 +77,19 @@ pub fn commit_region<S: Reaches<L>, L: Named, B: Board>(
     region: &Region,
     room: &mut Room,
 ) -> Result<S, Off>
-    requires on { B.power b.old ≡ true }
-    requires level { B.level b.old ≡ S.stage }
-    requires loaded { IsLoaded (B.memory b.old) }
+    requires up { IsUp S.stage (B.seen b.old) }
     requires stored { HasRegionRecord region.now }
-    requires room { HasRoom room.old }
-    ensures done { OnOk result (ReplacesRegion L.place region.now (B.memory b.old) (B.memory b.new)) }
-    ensures either { KeepsOrReplaces L.place region.now (B.memory b.old) (B.memory b.new) }
-    ensures means { HasNoFate L.place (B.memory b.old) → (state : State) → Means (B.memory b.old) state
-        → OnOk result (Means (B.memory b.new) (with_region state L.place region.now)) }
-    ensures means_either { HasNoFate L.place (B.memory b.old) → (state : State) → Means (B.memory b.old) state
-        → Means (B.memory b.new) state ⊎ Means (B.memory b.new) (with_region state L.place region.now) }
-    ensures left { OnOk result (other (B.memory b.new).bbram L.place ≡ current (B.memory b.old).bbram L.place) }
-    ensures besides { AgreeBesides L.place (B.memory b.old).bbram (B.memory b.new).bbram }
-    ensures rest { IsSameBut L.place (B.memory b.old).bbram (B.memory b.new).bbram }
-    ensures sized { IsLoaded (B.memory b.new) }
-    ensures flash { (B.memory b.new).flash ≡ (B.memory b.old).flash }
-    ensures power { B.power b.new ≡ power_of result }
-    ensures level { B.level b.new ≡ level_of result (B.level b.old) }
-    ensures ledger { B.ledger b.new ≡ B.ledger b.old }
-    ensures meter { IsMetered 2 result (B.meter b.old) (B.meter b.new) }
-    ensures room { HasRoom room.new }
+    ensures done { OnOk result (ReplacesRegion L.place region.now (B.seen b.old).memory (B.seen b.new).memory) }
+    ensures either { KeepsOrReplaces L.place region.now (B.seen b.old).memory (B.seen b.new).memory }
+    ensures means { HasNoFate L.place (B.seen b.old).memory → (state : State) → Means (B.seen b.old).memory state
+        → OnOk result (Means (B.seen b.new).memory (with_region state L.place region.now)) }
+    ensures means_either { HasNoFate L.place (B.seen b.old).memory → (state : State) → Means (B.seen b.old).memory state
+        → Means (B.seen b.new).memory state ⊎ Means (B.seen b.new).memory (with_region state L.place region.now) }
+    ensures left { OnOk result (other (B.seen b.new).memory.bbram L.place ≡ current (B.seen b.old).memory.bbram L.place) }
+    ensures besides { AgreeBesides L.place (B.seen b.old).memory.bbram (B.seen b.new).memory.bbram }
+    ensures rest { IsSameBut L.place (B.seen b.old).memory.bbram (B.seen b.new).memory.bbram }
+    ensures flash { (B.seen b.new).memory.flash ≡ (B.seen b.old).memory.flash }
+    ensures ran { Ran 2 result (B.seen b.old) (B.seen b.new) }
     ensures public { room.new.public ≡ room.old.public }
 {
     match store_region(b, L::number(), region, room) {
@@ -126,25 +106,17 @@ pub fn apply_fate<S: Reaches<L>, L: Named, B: Board>(
     fate: &Fate,
     room: &mut Room,
 ) -> Result<S, Off>
-    requires on { B.power b.old ≡ true }
-    requires level { B.level b.old ≡ S.stage }
-    requires loaded { IsLoaded (B.memory b.old) }
-    requires pending { IsPending L.place fate.now (B.memory b.old) }
-    requires room { HasRoom room.old }
-    ensures done { OnOk result (AppliesFate L.place fate.now (B.memory b.old) (B.memory b.new)) }
-    ensures either { KeepsOrApplies L.place fate.now (B.memory b.old) (B.memory b.new) }
-    ensures meaning { (state : State) → Means (B.memory b.old) state → Means (B.memory b.new) state }
+    requires up { IsUp S.stage (B.seen b.old) }
+    requires pending { IsPending L.place fate.now (B.seen b.old).memory }
+    ensures done { OnOk result (AppliesFate L.place fate.now (B.seen b.old).memory (B.seen b.new).memory) }
+    ensures either { KeepsOrApplies L.place fate.now (B.seen b.old).memory (B.seen b.new).memory }
+    ensures meaning { (state : State) → Means (B.seen b.old).memory state → Means (B.seen b.new).memory state }
     ensures idle { fate.now ≡ Keep
-        → IsOk result × (B.memory b.new ≡ B.memory b.old) × (B.meter b.new ≡ B.meter b.old) }
-    ensures besides { AgreeBesides L.place (B.memory b.old).bbram (B.memory b.new).bbram }
-    ensures rest { IsSameBut L.place (B.memory b.old).bbram (B.memory b.new).bbram }
-    ensures sized { IsLoaded (B.memory b.new) }
-    ensures flash { (B.memory b.new).flash ≡ (B.memory b.old).flash }
-    ensures power { B.power b.new ≡ power_of result }
-    ensures level { B.level b.new ≡ level_of result (B.level b.old) }
-    ensures ledger { B.ledger b.new ≡ B.ledger b.old }
-    ensures meter { IsMetered 2 result (B.meter b.old) (B.meter b.new) }
-    ensures room { HasRoom room.new }
+        → IsOk result × ((B.seen b.new).memory ≡ (B.seen b.old).memory) × ((B.seen b.new).meter ≡ (B.seen b.old).meter) }
+    ensures besides { AgreeBesides L.place (B.seen b.old).memory.bbram (B.seen b.new).memory.bbram }
+    ensures rest { IsSameBut L.place (B.seen b.old).memory.bbram (B.seen b.new).memory.bbram }
+    ensures flash { (B.seen b.new).memory.flash ≡ (B.seen b.old).memory.flash }
+    ensures ran { Ran 2 result (B.seen b.old) (B.seen b.new) }
     ensures public { room.new.public ≡ room.old.public }
 {
     match finish_fate(b, L::number(), fate, room) {
@@ -156,22 +128,16 @@ pub fn apply_fate<S: Reaches<L>, L: Named, B: Board>(
 /// Sets each byte of the area of the region that is not in force to zero; writes nothing where each is zero already.
 /// There is at most one write call.
 pub fn wipe_region<S: Reaches<L>, L: Named, B: Board>(s: S, b: &mut B) -> Result<S, Off>
-    requires on { B.power b.old ≡ true }
-    requires level { B.level b.old ≡ S.stage }
-    requires loaded { IsLoaded (B.memory b.old) }
-    ensures blank { OnOk result (IsBlank (other (B.memory b.new).bbram L.place)) }
-    ensures current { current (B.memory b.new).bbram L.place ≡ current (B.memory b.old).bbram L.place }
-    ensures contents { KeepsContents (B.memory b.old) (B.memory b.new) }
-    ensures idle { IsBlank (other (B.memory b.old).bbram L.place)
-        → IsOk result × (B.memory b.new ≡ B.memory b.old) × (B.meter b.new ≡ B.meter b.old) }
-    ensures besides { AgreeBesides L.place (B.memory b.old).bbram (B.memory b.new).bbram }
-    ensures rest { IsSameButOther L.place (B.memory b.old).bbram (B.memory b.new).bbram }
-    ensures sized { IsLoaded (B.memory b.new) }
-    ensures flash { (B.memory b.new).flash ≡ (B.memory b.old).flash }
-    ensures power { B.power b.new ≡ power_of result }
-    ensures level { B.level b.new ≡ level_of result (B.level b.old) }
-    ensures ledger { B.ledger b.new ≡ B.ledger b.old }
-    ensures meter { IsMetered 1 result (B.meter b.old) (B.meter b.new) }
+    requires up { IsUp S.stage (B.seen b.old) }
+    ensures blank { OnOk result (IsBlank (other (B.seen b.new).memory.bbram L.place)) }
+    ensures current { current (B.seen b.new).memory.bbram L.place ≡ current (B.seen b.old).memory.bbram L.place }
+    ensures contents { KeepsContents (B.seen b.old).memory (B.seen b.new).memory }
+    ensures idle { IsBlank (other (B.seen b.old).memory.bbram L.place)
+        → IsOk result × ((B.seen b.new).memory ≡ (B.seen b.old).memory) × ((B.seen b.new).meter ≡ (B.seen b.old).meter) }
+    ensures besides { AgreeBesides L.place (B.seen b.old).memory.bbram (B.seen b.new).memory.bbram }
+    ensures rest { IsSameButOther L.place (B.seen b.old).memory.bbram (B.seen b.new).memory.bbram }
+    ensures flash { (B.seen b.new).memory.flash ≡ (B.seen b.old).memory.flash }
+    ensures ran { Ran 1 result (B.seen b.old) (B.seen b.new) }
 {
     match wipe_other(b, L::number()) {
         Ok(()) => Ok(s),

@@ -4,12 +4,10 @@ ghost use Rattle.std.specs.Prelude.{◌≡◌, ◌≤◌, ◌⊎◌, length, OnO
 ghost use Rattle.mb_format.specs.Format.{IsBytes};
 ghost use Rattle.mb_model.specs.declared.region.Region.{Region};
 ghost use Rattle.mb_model.specs.declared.stored.Fate.TheVariants.{Keep};
-ghost use Rattle.mb_model.specs.Board.{IsLoaded};
 ghost use Rattle.mb_model.specs.Memory.{current, other, HoldsInArea};
 ghost use Rattle.mb_model.specs.Meaning.{HoldsRegion, fated};
 ghost use Rattle.mb_model.specs.RegionFormat.{SpellsRegion};
-ghost use Rattle.mb_board.specs.Calls.{power_of, level_of, IsMetered};
-ghost use Rattle.mb_layout.specs.Rooms.{HasRoom};
+ghost use Rattle.mb_board.specs.Calls.{Ran};
 ghost use Rattle.mb_model_memory.specs.InForce.{AgreeBesides};
 ghost use Rattle.mb_model_memory.specs.Storable.{HasRegionRecord};
 ghost use Rattle.mb_slot.specs.Slots.{CanUse, IsSameBut};
@@ -29,21 +27,17 @@ fn commit_bytes<B: Board>(
     bytes: &[u8],
     area: &mut Vec<u8>,
 ) -> Result<(), Stopped>
-    requires can_use { CanUse (B.power b.old) (B.level b.old) (B.memory b.old) slot }
+    requires can_use { CanUse (B.seen b.old) slot }
     requires short { length bytes.now ≤ 4094 }
     requires room { 4096 ≤ vec_capacity area.old }
-    ensures done { OnOk result (HoldsInArea (current (B.memory b.new).bbram slot) bytes.now) }
-    ensures either { (current (B.memory b.new).bbram slot ≡ current (B.memory b.old).bbram slot)
-        ⊎ HoldsInArea (current (B.memory b.new).bbram slot) bytes.now }
-    ensures left { OnOk result (other (B.memory b.new).bbram slot ≡ current (B.memory b.old).bbram slot) }
-    ensures besides { AgreeBesides slot (B.memory b.old).bbram (B.memory b.new).bbram }
-    ensures rest { IsSameBut slot (B.memory b.old).bbram (B.memory b.new).bbram }
-    ensures sized { IsLoaded (B.memory b.new) }
-    ensures flash { (B.memory b.new).flash ≡ (B.memory b.old).flash }
-    ensures power { B.power b.new ≡ power_of result }
-    ensures level { B.level b.new ≡ level_of result (B.level b.old) }
-    ensures ledger { B.ledger b.new ≡ B.ledger b.old }
-    ensures meter { IsMetered 2 result (B.meter b.old) (B.meter b.new) }
+    ensures done { OnOk result (HoldsInArea (current (B.seen b.new).memory.bbram slot) bytes.now) }
+    ensures either { (current (B.seen b.new).memory.bbram slot ≡ current (B.seen b.old).memory.bbram slot)
+        ⊎ HoldsInArea (current (B.seen b.new).memory.bbram slot) bytes.now }
+    ensures left { OnOk result (other (B.seen b.new).memory.bbram slot ≡ current (B.seen b.old).memory.bbram slot) }
+    ensures besides { AgreeBesides slot (B.seen b.old).memory.bbram (B.seen b.new).memory.bbram }
+    ensures rest { IsSameBut slot (B.seen b.old).memory.bbram (B.seen b.new).memory.bbram }
+    ensures flash { (B.seen b.new).memory.flash ≡ (B.seen b.old).memory.flash }
+    ensures ran { Ran 2 result (B.seen b.old) (B.seen b.new) }
     ensures capacity { vec_capacity area.old ≤ vec_capacity area.new }
 {
     make_area(area);
@@ -59,23 +53,19 @@ pub(crate) fn replace<B: Board>(
     bytes: &[u8],
     area: &mut Vec<u8>,
 ) -> Result<(), Stopped>
-    requires can_use { CanUse (B.power b.old) (B.level b.old) (B.memory b.old) slot }
+    requires can_use { CanUse (B.seen b.old) slot }
     requires slot { IsRegionSlot slot }
     requires short { length bytes.now ≤ 4094 }
     requires room { 4096 ≤ vec_capacity area.old }
     ensures done { (region : Region) → SpellsRegion bytes.now region
-        → OnOk result (ReplacesRegion slot region (B.memory b.old) (B.memory b.new)) }
+        → OnOk result (ReplacesRegion slot region (B.seen b.old).memory (B.seen b.new).memory) }
     ensures either { (region : Region) → SpellsRegion bytes.now region
-        → KeepsOrReplaces slot region (B.memory b.old) (B.memory b.new) }
-    ensures left { OnOk result (other (B.memory b.new).bbram slot ≡ current (B.memory b.old).bbram slot) }
-    ensures besides { AgreeBesides slot (B.memory b.old).bbram (B.memory b.new).bbram }
-    ensures rest { IsSameBut slot (B.memory b.old).bbram (B.memory b.new).bbram }
-    ensures sized { IsLoaded (B.memory b.new) }
-    ensures flash { (B.memory b.new).flash ≡ (B.memory b.old).flash }
-    ensures power { B.power b.new ≡ power_of result }
-    ensures level { B.level b.new ≡ level_of result (B.level b.old) }
-    ensures ledger { B.ledger b.new ≡ B.ledger b.old }
-    ensures meter { IsMetered 2 result (B.meter b.old) (B.meter b.new) }
+        → KeepsOrReplaces slot region (B.seen b.old).memory (B.seen b.new).memory }
+    ensures left { OnOk result (other (B.seen b.new).memory.bbram slot ≡ current (B.seen b.old).memory.bbram slot) }
+    ensures besides { AgreeBesides slot (B.seen b.old).memory.bbram (B.seen b.new).memory.bbram }
+    ensures rest { IsSameBut slot (B.seen b.old).memory.bbram (B.seen b.new).memory.bbram }
+    ensures flash { (B.seen b.new).memory.flash ≡ (B.seen b.old).memory.flash }
+    ensures ran { Ran 2 result (B.seen b.old) (B.seen b.new) }
     ensures capacity { vec_capacity area.old ≤ vec_capacity area.new }
 {
     commit_bytes(b, slot, bytes, area)
@@ -103,22 +93,16 @@ pub(crate) fn store_region<B: Board>(
     region: &Region,
     room: &mut Room,
 ) -> Result<(), Stopped>
-    requires can_use { CanUse (B.power b.old) (B.level b.old) (B.memory b.old) slot }
+    requires can_use { CanUse (B.seen b.old) slot }
     requires slot { IsRegionSlot slot }
     requires stored { HasRegionRecord region.now }
-    requires room { HasRoom room.old }
-    ensures done { OnOk result (ReplacesRegion slot region.now (B.memory b.old) (B.memory b.new)) }
-    ensures either { KeepsOrReplaces slot region.now (B.memory b.old) (B.memory b.new) }
-    ensures left { OnOk result (other (B.memory b.new).bbram slot ≡ current (B.memory b.old).bbram slot) }
-    ensures besides { AgreeBesides slot (B.memory b.old).bbram (B.memory b.new).bbram }
-    ensures rest { IsSameBut slot (B.memory b.old).bbram (B.memory b.new).bbram }
-    ensures sized { IsLoaded (B.memory b.new) }
-    ensures flash { (B.memory b.new).flash ≡ (B.memory b.old).flash }
-    ensures power { B.power b.new ≡ power_of result }
-    ensures level { B.level b.new ≡ level_of result (B.level b.old) }
-    ensures ledger { B.ledger b.new ≡ B.ledger b.old }
-    ensures meter { IsMetered 2 result (B.meter b.old) (B.meter b.new) }
-    ensures room { HasRoom room.new }
+    ensures done { OnOk result (ReplacesRegion slot region.now (B.seen b.old).memory (B.seen b.new).memory) }
+    ensures either { KeepsOrReplaces slot region.now (B.seen b.old).memory (B.seen b.new).memory }
+    ensures left { OnOk result (other (B.seen b.new).memory.bbram slot ≡ current (B.seen b.old).memory.bbram slot) }
+    ensures besides { AgreeBesides slot (B.seen b.old).memory.bbram (B.seen b.new).memory.bbram }
+    ensures rest { IsSameBut slot (B.seen b.old).memory.bbram (B.seen b.new).memory.bbram }
+    ensures flash { (B.seen b.new).memory.flash ≡ (B.seen b.old).memory.flash }
+    ensures ran { Ran 2 result (B.seen b.old) (B.seen b.new) }
     ensures public { room.new.public ≡ room.old.public }
 {
     region_bytes(region, &mut room.other);
@@ -127,9 +111,9 @@ pub(crate) fn store_region<B: Board>(
 
 /// Replaces `area` by the area that is in force in the slot.
 pub fn read_area<B: Board>(b: &B, slot: u16, area: &mut Vec<u8>)
-    requires can_use { CanUse (B.power b.now) (B.level b.now) (B.memory b.now) slot }
+    requires can_use { CanUse (B.seen b.now) slot }
     requires room { 4096 ≤ vec_capacity area.old }
-    ensures read { area.new.items ≡ current (B.memory b.now).bbram slot }
+    ensures read { area.new.items ≡ current (B.seen b.now).memory.bbram slot }
     ensures bytes { IsBytes area.new.items }
     ensures capacity { vec_capacity area.old ≤ vec_capacity area.new }
 {
@@ -139,13 +123,11 @@ pub fn read_area<B: Board>(b: &B, slot: u16, area: &mut Vec<u8>)
 
 /// Replaces `other` of the room by the bytes that stand for the region in the slot after its fate.
 fn fate_bytes<B: Board>(b: &B, slot: u16, fate: &Fate, room: &mut Room)
-    requires can_use { CanUse (B.power b.now) (B.level b.now) (B.memory b.now) slot }
-    requires held { CanBeFated fate.now (current (B.memory b.now).bbram slot) }
-    requires room { HasRoom room.old }
-    ensures spelled { (region : Region) → HoldsRegion (current (B.memory b.now).bbram slot) region
+    requires can_use { CanUse (B.seen b.now) slot }
+    requires held { CanBeFated fate.now (current (B.seen b.now).memory.bbram slot) }
+    ensures spelled { (region : Region) → HoldsRegion (current (B.seen b.now).memory.bbram slot) region
         → SpellsRegion room.new.other.items (fated fate.now region) }
     ensures short { length room.new.other.items ≤ 4094 }
-    ensures room { HasRoom room.new }
     ensures public { room.new.public ≡ room.old.public }
 {
     read_area(b, slot, &mut room.area);
@@ -162,23 +144,17 @@ pub(crate) fn finish_fate<B: Board>(
     fate: &Fate,
     room: &mut Room,
 ) -> Result<(), Stopped>
-    requires can_use { CanUse (B.power b.old) (B.level b.old) (B.memory b.old) slot }
+    requires can_use { CanUse (B.seen b.old) slot }
     requires slot { IsRegionSlot slot }
-    requires pending { IsPending slot fate.now (B.memory b.old) }
-    requires room { HasRoom room.old }
-    ensures done { OnOk result (AppliesFate slot fate.now (B.memory b.old) (B.memory b.new)) }
-    ensures either { KeepsOrApplies slot fate.now (B.memory b.old) (B.memory b.new) }
+    requires pending { IsPending slot fate.now (B.seen b.old).memory }
+    ensures done { OnOk result (AppliesFate slot fate.now (B.seen b.old).memory (B.seen b.new).memory) }
+    ensures either { KeepsOrApplies slot fate.now (B.seen b.old).memory (B.seen b.new).memory }
     ensures idle { fate.now ≡ Keep
-        → (result ≡ Ok tt) × (B.memory b.new ≡ B.memory b.old) × (B.meter b.new ≡ B.meter b.old) }
-    ensures besides { AgreeBesides slot (B.memory b.old).bbram (B.memory b.new).bbram }
-    ensures rest { IsSameBut slot (B.memory b.old).bbram (B.memory b.new).bbram }
-    ensures sized { IsLoaded (B.memory b.new) }
-    ensures flash { (B.memory b.new).flash ≡ (B.memory b.old).flash }
-    ensures power { B.power b.new ≡ power_of result }
-    ensures level { B.level b.new ≡ level_of result (B.level b.old) }
-    ensures ledger { B.ledger b.new ≡ B.ledger b.old }
-    ensures meter { IsMetered 2 result (B.meter b.old) (B.meter b.new) }
-    ensures room { HasRoom room.new }
+        → (result ≡ Ok tt) × ((B.seen b.new).memory ≡ (B.seen b.old).memory) × ((B.seen b.new).meter ≡ (B.seen b.old).meter) }
+    ensures besides { AgreeBesides slot (B.seen b.old).memory.bbram (B.seen b.new).memory.bbram }
+    ensures rest { IsSameBut slot (B.seen b.old).memory.bbram (B.seen b.new).memory.bbram }
+    ensures flash { (B.seen b.new).memory.flash ≡ (B.seen b.old).memory.flash }
+    ensures ran { Ran 2 result (B.seen b.old) (B.seen b.new) }
     ensures public { room.new.public ≡ room.old.public }
 {
     if let Fate::Keep = fate {
@@ -195,12 +171,10 @@ pub(crate) fn load_region<B: Board>(
     slot: u16,
     room: &mut Room,
 ) -> Result<Region, NoMemory>
-    requires can_use { CanUse (B.power b.now) (B.level b.now) (B.memory b.now) slot }
-    requires held { HoldsSomeRegion (current (B.memory b.now).bbram slot) }
-    requires room { HasRoom room.old }
-    ensures region { (region : Region) → HoldsRegion (current (B.memory b.now).bbram slot) region
+    requires can_use { CanUse (B.seen b.now) slot }
+    requires held { HoldsSomeRegion (current (B.seen b.now).memory.bbram slot) }
+    ensures region { (region : Region) → HoldsRegion (current (B.seen b.now).memory.bbram slot) region
         → IfOk result (λ it. it ≡ region) }
-    ensures room { HasRoom room.new }
     ensures public { room.new.public ≡ room.old.public }
 {
     read_area(b, slot, &mut room.area);

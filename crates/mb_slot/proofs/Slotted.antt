@@ -3,7 +3,7 @@ use Rattle.std.proofs.Common.{◌≡◌, ◌≢◌, ℕ, zero, suc, ◌+◌, ◌
 use Rattle.std.proofs.lemmas.Bool.{cases_order}
 use mathlib.Core.Bool.{not-not}
 use Rattle.mb_model.specs.Pieces.{part}
-use Rattle.mb_model.specs.Board.{put}
+use Rattle.mb_model.specs.Board.{Memory, IsLoaded, put}
 use Rattle.mb_model.specs.Memory.{slots, area_length, life_byte, spare, selector_of, first_area, second_area, current, other}
 use Rattle.mb_model.proofs.Places.{part-put}
 use Rattle.mb_board.specs.Reach.{Reached, selector as in_selector, first_area as in_first, second_area as in_second}
@@ -100,6 +100,13 @@ other_written slot before after bytes least most sized count same whole =
     ∙ ap (λ (b : Bool). part (offset_of slot (not b)) 4096 after) kept
     ∙ ap (part (offset_of slot (not force)) 4096) whole
     ∙ part-put (offset_of slot (not force)) 4096 bytes before (sym count) (omega (arith, area_within slot (not force) least most))
+
+-- both memories keep their lengths where a part of one was written
+pub sized_still : (at n : ℕ) (before after : Memory) → IsLoaded before → at + n ≤ 28672 → Torn at n before.bbram after.bbram → after.flash ≡ before.flash → IsLoaded after
+sized_still at n before after loaded within torn same = record {
+  flash = ap length same ∙ loaded.flash;
+  bbram = (torn_same at n before.bbram after.bbram (omega (arith, loaded.bbram)) torn).sized ∙ loaded.bbram;
+}
 
 -- ---- what stays of the other slots
 

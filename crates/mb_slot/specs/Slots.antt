@@ -4,15 +4,16 @@ use Rattle.std.specs.Prelude.{◌≡◌, ◌≢◌, ℕ, ◌+◌, ◌<◌, ◌�
 use Rattle.std.specs.Prelude.{Bool, true, not, if◌then◌else◌}
 use Rattle.mb_model.specs.Memory.{slots, area_length, selector_of, current, other}
 use Rattle.mb_board.specs.Reach.{Reached}
-use Rattle.mb_model.specs.Board.{Memory, IsLoaded}
+use Rattle.mb_model.specs.Board.{IsLoaded}
+use Rattle.mb_board.specs.Calls.{Seen}
 
 -- A slot can be used where power is on, the level of the ratchet reaches it, and a memory is loaded.
-pub record CanUse (power : Bool) (level : ℕ) (memory : Memory) (slot : ℕ) : Type 0 where
-  pub on : power ≡ true
+pub record CanUse (seen : Seen) (slot : ℕ) : Type 0 where
+  pub on : seen.power ≡ true
   pub least : 1 ≤ slot
   pub most : slot ≤ 3
-  pub reached : level ≤ slot
-  pub loaded : IsLoaded memory
+  pub reached : seen.level ≤ slot
+  pub loaded : IsLoaded seen.memory
 
 -- ---- where the areas of a slot stand
 

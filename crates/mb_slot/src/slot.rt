@@ -2,8 +2,7 @@
 
 ghost use Rattle.std.specs.Prelude.{◌≡◌, ◌≢◌, ℕ, ◌≤◌, ◌%◌, ◌==◌, ◌⊎◌, ◌↔◌, length, IsTrue, OnOk, Ok};
 ghost use Rattle.mb_model.specs.Memory.{IsBlank, current, other};
-ghost use Rattle.mb_model.specs.Board.{IsLoaded};
-ghost use Rattle.mb_board.specs.Calls.{power_of, level_of, IsMetered};
+ghost use Rattle.mb_board.specs.Calls.{Ran};
 ghost use Rattle.mb_model_memory.specs.InForce.{AgreeBesides};
 ghost use Rattle.mb_slot.specs.Slots.{CanUse, is_first_in_force, offset_of, current_offset, other_offset, IsAreaAt, AreExchanged, IsSameBut, IsSameButOther};
 
@@ -11,8 +10,8 @@ use mb_board::{Board, Stopped};
 
 /// Whether the first area of the slot is in force.
 fn is_first_in_force<B: Board>(b: &B, slot: u16) -> bool
-    requires { CanUse (B.power b.now) (B.level b.now) (B.memory b.now) slot }
-    ensures { result ≡ is_first_in_force (B.memory b.now).bbram slot }
+    requires { CanUse (B.seen b.now) slot }
+    ensures { result ≡ is_first_in_force (B.seen b.now).memory.bbram slot }
 {
     let mut selector = [0; 1];
     b.bbram_read(slot, &mut selector);
@@ -34,33 +33,29 @@ fn offset_of(slot: u16, is_first: bool) -> u16
 
 /// The offset of the area that is in force in the slot.
 fn current_at<B: Board>(b: &B, slot: u16) -> u16
-    requires { CanUse (B.power b.now) (B.level b.now) (B.memory b.now) slot }
-    ensures { IsAreaAt (B.level b.now) (current_offset (B.memory b.now).bbram slot) result }
+    requires { CanUse (B.seen b.now) slot }
+    ensures { IsAreaAt (B.seen b.now).level (current_offset (B.seen b.now).memory.bbram slot) result }
 {
     offset_of(slot, is_first_in_force(b, slot))
 }
 
 /// The offset of the area that is not in force in the slot.
 fn other_at<B: Board>(b: &B, slot: u16) -> u16
-    requires { CanUse (B.power b.now) (B.level b.now) (B.memory b.now) slot }
-    ensures { IsAreaAt (B.level b.now) (other_offset (B.memory b.now).bbram slot) result }
+    requires { CanUse (B.seen b.now) slot }
+    ensures { IsAreaAt (B.seen b.now).level (other_offset (B.seen b.now).memory.bbram slot) result }
 {
     offset_of(slot, !is_first_in_force(b, slot))
 }
 
 /// Replaces the area that is not in force by these 4,096 bytes.
 fn write_other<B: Board>(b: &mut B, slot: u16, area: &[u8]) -> Result<(), Stopped>
-    requires can_use { CanUse (B.power b.old) (B.level b.old) (B.memory b.old) slot }
+    requires can_use { CanUse (B.seen b.old) slot }
     requires area { length area.now ≡ 4096 }
-    ensures done { OnOk result (other (B.memory b.new).bbram slot ≡ area.now) }
-    ensures current { current (B.memory b.new).bbram slot ≡ current (B.memory b.old).bbram slot }
-    ensures rest { IsSameButOther slot (B.memory b.old).bbram (B.memory b.new).bbram }
-    ensures sized { IsLoaded (B.memory b.new) }
-    ensures flash { (B.memory b.new).flash ≡ (B.memory b.old).flash }
-    ensures power { B.power b.new ≡ power_of result }
-    ensures level { B.level b.new ≡ level_of result (B.level b.old) }
-    ensures ledger { B.ledger b.new ≡ B.ledger b.old }
-    ensures meter { IsMetered 1 result (B.meter b.old) (B.meter b.new) }
+    ensures done { OnOk result (other (B.seen b.new).memory.bbram slot ≡ area.now) }
+    ensures current { current (B.seen b.new).memory.bbram slot ≡ current (B.seen b.old).memory.bbram slot }
+    ensures rest { IsSameButOther slot (B.seen b.old).memory.bbram (B.seen b.new).memory.bbram }
+    ensures flash { (B.seen b.new).memory.flash ≡ (B.seen b.old).memory.flash }
+    ensures ran { Ran 1 result (B.seen b.old) (B.seen b.new) }
 {
     b.bbram_write(other_at(b, slot), area)
 }
@@ -74,17 +69,13 @@ fn selector_for(is_first: bool) -> u8
 
 /// Puts the other area in force.
 fn flip<B: Board>(b: &mut B, slot: u16) -> Result<(), Stopped>
-    requires can_use { CanUse (B.power b.old) (B.level b.old) (B.memory b.old) slot }
-    ensures done { OnOk result (AreExchanged slot (B.memory b.old).bbram (B.memory b.new).bbram) }
-    ensures either { (current (B.memory b.new).bbram slot ≡ current (B.memory b.old).bbram slot)
-        ⊎ (current (B.memory b.new).bbram slot ≡ other (B.memory b.old).bbram slot) }
-    ensures rest { IsSameBut slot (B.memory b.old).bbram (B.memory b.new).bbram }
-    ensures sized { IsLoaded (B.memory b.new) }
-    ensures flash { (B.memory b.new).flash ≡ (B.memory b.old).flash }
-    ensures power { B.power b.new ≡ power_of result }
-    ensures level { B.level b.new ≡ level_of result (B.level b.old) }
-    ensures ledger { B.ledger b.new ≡ B.ledger b.old }
-    ensures meter { IsMetered 1 result (B.meter b.old) (B.meter b.new) }
+    requires can_use { CanUse (B.seen b.old) slot }
+    ensures done { OnOk result (AreExchanged slot (B.seen b.old).memory.bbram (B.seen b.new).memory.bbram) }
+    ensures either { (current (B.seen b.new).memory.bbram slot ≡ current (B.seen b.old).memory.bbram slot)
+        ⊎ (current (B.seen b.new).memory.bbram slot ≡ other (B.seen b.old).memory.bbram slot) }
+    ensures rest { IsSameBut slot (B.seen b.old).memory.bbram (B.seen b.new).memory.bbram }
+    ensures flash { (B.seen b.new).memory.flash ≡ (B.seen b.old).memory.flash }
+    ensures ran { Ran 1 result (B.seen b.old) (B.seen b.new) }
 {
     let selector = selector_for(!is_first_in_force(b, slot));
     b.bbram_write(slot, &[selector])
@@ -92,26 +83,26 @@ fn flip<B: Board>(b: &mut B, slot: u16) -> Result<(), Stopped>
 
 /// The area of 4,096 bytes that is in force in the slot.
 pub fn read_current<B: Board>(b: &B, slot: u16, out: &mut [u8])
-    requires can_use { CanUse (B.power b.now) (B.level b.now) (B.memory b.now) slot }
+    requires can_use { CanUse (B.seen b.now) slot }
     requires room { length out.old ≡ 4096 }
-    ensures { out.new ≡ current (B.memory b.now).bbram slot }
+    ensures { out.new ≡ current (B.seen b.now).memory.bbram slot }
 {
     b.bbram_read(current_at(b, slot), out);
 }
 
 /// The area of 4,096 bytes that is not in force in the slot.
 fn read_other<B: Board>(b: &B, slot: u16, out: &mut [u8])
-    requires can_use { CanUse (B.power b.now) (B.level b.now) (B.memory b.now) slot }
+    requires can_use { CanUse (B.seen b.now) slot }
     requires room { length out.old ≡ 4096 }
-    ensures { out.new ≡ other (B.memory b.now).bbram slot }
+    ensures { out.new ≡ other (B.seen b.now).memory.bbram slot }
 {
     b.bbram_read(other_at(b, slot), out);
 }
 
 /// Whether each byte of the area that is not in force is zero.
 pub fn is_other_blank<B: Board>(b: &B, slot: u16) -> bool
-    requires can_use { CanUse (B.power b.now) (B.level b.now) (B.memory b.now) slot }
-    ensures { IsTrue result ↔ IsBlank (other (B.memory b.now).bbram slot) }
+    requires can_use { CanUse (B.seen b.now) slot }
+    ensures { IsTrue result ↔ IsBlank (other (B.seen b.now).memory.bbram slot) }
 {
     let mut area = [0; 4096];
     read_other(b, slot, &mut area);
@@ -121,20 +112,16 @@ pub fn is_other_blank<B: Board>(b: &B, slot: u16) -> bool
 /// Puts an area of 4,096 bytes in force in the slot; the one that was in force becomes the other. Where power fails, the
 /// one or the other of them is in force, whole. There are at most two write calls.
 pub fn commit<B: Board>(b: &mut B, slot: u16, area: &[u8]) -> Result<(), Stopped>
-    requires can_use { CanUse (B.power b.old) (B.level b.old) (B.memory b.old) slot }
+    requires can_use { CanUse (B.seen b.old) slot }
     requires area { length area.now ≡ 4096 }
-    ensures done { OnOk result (current (B.memory b.new).bbram slot ≡ area.now) }
-    ensures left { OnOk result (other (B.memory b.new).bbram slot ≡ current (B.memory b.old).bbram slot) }
-    ensures either { (current (B.memory b.new).bbram slot ≡ current (B.memory b.old).bbram slot)
-        ⊎ (current (B.memory b.new).bbram slot ≡ area.now) }
-    ensures besides { AgreeBesides slot (B.memory b.old).bbram (B.memory b.new).bbram }
-    ensures rest { IsSameBut slot (B.memory b.old).bbram (B.memory b.new).bbram }
-    ensures sized { IsLoaded (B.memory b.new) }
-    ensures flash { (B.memory b.new).flash ≡ (B.memory b.old).flash }
-    ensures power { B.power b.new ≡ power_of result }
-    ensures level { B.level b.new ≡ level_of result (B.level b.old) }
-    ensures ledger { B.ledger b.new ≡ B.ledger b.old }
-    ensures meter { IsMetered 2 result (B.meter b.old) (B.meter b.new) }
+    ensures done { OnOk result (current (B.seen b.new).memory.bbram slot ≡ area.now) }
+    ensures left { OnOk result (other (B.seen b.new).memory.bbram slot ≡ current (B.seen b.old).memory.bbram slot) }
+    ensures either { (current (B.seen b.new).memory.bbram slot ≡ current (B.seen b.old).memory.bbram slot)
+        ⊎ (current (B.seen b.new).memory.bbram slot ≡ area.now) }
+    ensures besides { AgreeBesides slot (B.seen b.old).memory.bbram (B.seen b.new).memory.bbram }
+    ensures rest { IsSameBut slot (B.seen b.old).memory.bbram (B.seen b.new).memory.bbram }
+    ensures flash { (B.seen b.new).memory.flash ≡ (B.seen b.old).memory.flash }
+    ensures ran { Ran 2 result (B.seen b.old) (B.seen b.new) }
 {
     write_other(b, slot, area)?;
     flip(b, slot)
@@ -142,21 +129,17 @@ pub fn commit<B: Board>(b: &mut B, slot: u16, area: &[u8]) -> Result<(), Stopped
 
 /// Sets each byte of the area that is not in force to zero, where one is not. There is at most one write call.
 pub fn wipe_other<B: Board>(b: &mut B, slot: u16) -> Result<(), Stopped>
-    requires can_use { CanUse (B.power b.old) (B.level b.old) (B.memory b.old) slot }
-    ensures blank { OnOk result (IsBlank (other (B.memory b.new).bbram slot)) }
-    ensures current { current (B.memory b.new).bbram slot ≡ current (B.memory b.old).bbram slot }
-    ensures idle { IsBlank (other (B.memory b.old).bbram slot)
-        → (result ≡ Ok tt) × (B.memory b.new ≡ B.memory b.old) × (B.meter b.new ≡ B.meter b.old) }
+    requires can_use { CanUse (B.seen b.old) slot }
+    ensures blank { OnOk result (IsBlank (other (B.seen b.new).memory.bbram slot)) }
+    ensures current { current (B.seen b.new).memory.bbram slot ≡ current (B.seen b.old).memory.bbram slot }
+    ensures idle { IsBlank (other (B.seen b.old).memory.bbram slot)
+        → (result ≡ Ok tt) × ((B.seen b.new).memory ≡ (B.seen b.old).memory) × ((B.seen b.new).meter ≡ (B.seen b.old).meter) }
     ensures others { (m : ℕ) → 1 ≤ m → m ≤ 3 → m ≢ slot
-        → other (B.memory b.new).bbram m ≡ other (B.memory b.old).bbram m }
-    ensures besides { AgreeBesides slot (B.memory b.old).bbram (B.memory b.new).bbram }
-    ensures rest { IsSameButOther slot (B.memory b.old).bbram (B.memory b.new).bbram }
-    ensures sized { IsLoaded (B.memory b.new) }
-    ensures flash { (B.memory b.new).flash ≡ (B.memory b.old).flash }
-    ensures power { B.power b.new ≡ power_of result }
-    ensures level { B.level b.new ≡ level_of result (B.level b.old) }
-    ensures ledger { B.ledger b.new ≡ B.ledger b.old }
-    ensures meter { IsMetered 1 result (B.meter b.old) (B.meter b.new) }
+        → other (B.seen b.new).memory.bbram m ≡ other (B.seen b.old).memory.bbram m }
+    ensures besides { AgreeBesides slot (B.seen b.old).memory.bbram (B.seen b.new).memory.bbram }
+    ensures rest { IsSameButOther slot (B.seen b.old).memory.bbram (B.seen b.new).memory.bbram }
+    ensures flash { (B.seen b.new).memory.flash ≡ (B.seen b.old).memory.flash }
+    ensures ran { Ran 1 result (B.seen b.old) (B.seen b.new) }
 {
     if is_other_blank(b, slot) {
         return Ok(());

@@ -12,3 +12,4 @@ pub mod FactoryLemmas
 pub mod SummaryLemmas
 pub mod GenerateLemmas
 pub mod ChainLemmas
+pub mod EndCounterProofs

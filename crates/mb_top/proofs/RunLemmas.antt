@@ -24,7 +24,7 @@ use Rattle.mb_model_lemmas.proofs.ValidStates.{kept_rightly}
 use Rattle.mb_model_runs.proofs.SoundLemmas.{run_is_sound}
 use Rattle.mb_model_runs.proofs.StatementLemmas.{statements_stay_accepted}
 use Rattle.mb_top.specs.declared.end.End.{End}
-use Rattle.mb_top.specs.Ending.{HoldsAnswered, CarriesOutAfter, CarriesOutRest}
+use Rattle.mb_top.specs.Ending.{CarriesOutAfter, CarriesOutRest}
 use Rattle.mb_top.specs.Outputs.{writes}
 use Rattle.mb_top.proofs.CommandLemmas.{serve_goes}
 use Rattle.mb_top.proofs.ImageLemmas.{image_stored}
@@ -49,13 +49,13 @@ dark_held memory power level meter dark none = ap (λ (b : Bool). let h : Held =
 
 -- so it holds what it would have held at an answer
 pub loaded_holds : (memory : Memory) (events : List Event) (ledger : Ledger) (power : Bool) (level : ℕ) (meter : Meter) → ledger ≡ loaded memory events → power ≡ false → meter.armed ≡ false
-    → HoldsAnswered ledger memory power level meter
+    → ledger.standing ≡ held_by memory power level meter
 loaded_holds memory events ledger power level meter is dark none =
     ap (λ (l : Ledger). l.standing) is ∙ sym (dark_held memory power level meter dark none)
 
 -- a board whose image could not be loaded holds what it held
 pub unloaded_holds : (memory memory_new : Memory) (ledger ledger_new : Ledger) (power power_new : Bool) (level level_new : ℕ) (meter meter_new : Meter) → memory_new ≡ memory → ledger_new ≡ ledger
-    → meter_new ≡ meter → power ≡ false → power_new ≡ false → HoldsAnswered ledger memory power level meter → HoldsAnswered ledger_new memory_new power_new level_new meter_new
+    → meter_new ≡ meter → power ≡ false → power_new ≡ false → ledger.standing ≡ held_by memory power level meter → ledger_new.standing ≡ held_by memory_new power_new level_new meter_new
 unloaded_holds memory memory_new ledger ledger_new power power_new level level_new meter meter_new same_memory same_ledger same_meter dark dark_new holds =
     let part : Memory → Meter → Held = λ m n. record { memory = m; phase = off; armed = n.armed } in
     ap (λ (l : Ledger). l.standing) same_ledger ∙ holds

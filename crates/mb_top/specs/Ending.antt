@@ -6,8 +6,8 @@ use Rattle.mb_model.specs.declared.event.Answered.{Answered}
 use Rattle.mb_model.specs.declared.role.Role.{Role}
 use Rattle.mb_model.specs.declared.role.Place.{Place}
 use Rattle.mb_model.specs.Outside.{Outside, HoldsTooMuch, read_once, FailsToRead}
-use Rattle.mb_model.specs.Board.{Memory, Held, Ledger, Meter}
-use Rattle.mb_board.specs.Calls.{held_by}
+use Rattle.mb_model.specs.Board.{Held}
+use Rattle.mb_board.specs.Calls.{Seen, held_in}
 use Rattle.mb_model.specs.Commands.{Input, Command, Past, Ended, SaysLine, HasRead, CommandEnds, at_first, input_line}
 use Rattle.mb_model.specs.Commands.{role_word, place_words}
 use Rattle.mb_top.specs.Top.{Ends}
@@ -58,8 +58,8 @@ ended_at before answered final after status =
     record { before = before; after = after; answered = answered; final = final; status = status }
 
 -- a board holds what it held at its last answer
-abbrev pub HoldsAnswered : Ledger → Memory → Bool → ℕ → Meter → Type 0
-HoldsAnswered ledger memory power level meter = ledger.standing ≡ held_by memory power level meter
+abbrev pub HoldsAnswered : Seen → Type 0
+HoldsAnswered seen = seen.ledger.standing ≡ held_in seen
 
 -- A part is done and has ended so, or it will have ended so, once the line of its end is printed.
 abbrev pub EndsOncePrinted : (Outside → ℕ → Type 0) → Result (Unit {0}) End → Outside → Type 0

@@ -8,3 +8,4 @@ pub mod Summaries
 pub mod Chains
 pub mod Program
 pub mod Signing
+pub mod EndCounterExamples

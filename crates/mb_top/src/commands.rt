@@ -31,13 +31,12 @@ fn command<H: Host, B: Board>(
     host: &mut H,
     board: &mut B,
 ) -> Result<(), End>
-    requires off { B.power board.old ≡ false }
-    requires none_out { (B.ledger board.old).out ≡ None }
-    requires none_answered { (B.ledger board.old).answered ≡ [] }
-    ensures carried { CarriesOutWords (map string_bytes words.now) (B.ledger board.new).answered (B.ledger board.new).standing
+    requires off { (B.seen board.old).power ≡ false }
+    requires none_out { (B.seen board.old).ledger.out ≡ None }
+    requires none_answered { (B.seen board.old).ledger.answered ≡ [] }
+    ensures carried { CarriesOutWords (map string_bytes words.now) (B.seen board.new).ledger.answered (B.seen board.new).ledger.standing
         (H.outside host.old) result (H.outside host.new) }
-    ensures stays { HoldsAnswered (B.ledger board.old) (B.memory board.old) (B.power board.old) (B.level board.old) (B.meter board.old)
-        → HoldsAnswered (B.ledger board.new) (B.memory board.new) (B.power board.new) (B.level board.new) (B.meter board.new) }
+    ensures stays { HoldsAnswered (B.seen board.old) → HoldsAnswered (B.seen board.new) }
 {
     counted_command::<H, B, Brand>(alloc, words, host, board, Blank::new(1))
 }
@@ -53,13 +52,12 @@ fn counted_command<H: Host, B: Board, L: Ledger>(
     requires name { blank.name ≡ L.name }
     requires parts { blank.parts ≡ L.parts }
     requires some { 0 < blank.parts }
-    requires off { B.power board.old ≡ false }
-    requires none_out { (B.ledger board.old).out ≡ None }
-    requires none_answered { (B.ledger board.old).answered ≡ [] }
-    ensures carried { CarriesOutWords (map string_bytes words.now) (B.ledger board.new).answered (B.ledger board.new).standing
+    requires off { (B.seen board.old).power ≡ false }
+    requires none_out { (B.seen board.old).ledger.out ≡ None }
+    requires none_answered { (B.seen board.old).ledger.answered ≡ [] }
+    ensures carried { CarriesOutWords (map string_bytes words.now) (B.seen board.new).ledger.answered (B.seen board.new).ledger.standing
         (H.outside host.old) result (H.outside host.new) }
-    ensures stays { HoldsAnswered (B.ledger board.old) (B.memory board.old) (B.power board.old) (B.level board.old) (B.meter board.old)
-        → HoldsAnswered (B.ledger board.new) (B.memory board.new) (B.power board.new) (B.level board.new) (B.meter board.new) }
+    ensures stays { HoldsAnswered (B.seen board.old) → HoldsAnswered (B.seen board.new) }
 {
     let mut hashes = HashCount::<L>::begin(alloc, blank);
     match request_in(words) {
@@ -79,23 +77,22 @@ fn counted_command<H: Host, B: Board, L: Ledger>(
 
 /// Does what the words say, over this host and this board, and answers the exit status.
 pub fn top<H: Host, B: Board>(alloc: Global, words: &[String], host: &mut H, board: &mut B) -> u8
-    requires off { B.power board.old ≡ false }
-    requires none_out { (B.ledger board.old).out ≡ None }
-    requires none_waiting { (B.ledger board.old).waiting ≡ [] }
-    requires none_answered { (B.ledger board.old).answered ≡ [] }
+    requires off { (B.seen board.old).power ≡ false }
+    requires none_out { (B.seen board.old).ledger.out ≡ None }
+    requires none_waiting { (B.seen board.old).ledger.waiting ≡ [] }
+    requires none_answered { (B.seen board.old).ledger.answered ≡ [] }
     ensures ends { Ends (map string_bytes words.now) (record {
       before = H.outside host.old;
       after = H.outside host.new;
-      answered = (B.ledger board.new).answered;
-      final = (B.ledger board.new).standing;
+      answered = (B.seen board.new).ledger.answered;
+      final = (B.seen board.new).ledger.standing;
       status = result;
     }) }
     ensures complete { (asked : Asked) → IsRequest (map string_bytes words.now) asked
         → (files : List ℕ → Option (List ℕ)) → (H.outside host.old).files ≡ Some files → HasInputsFor (command_of asked) files
         → IsFaultless (H.outside host.old) (H.outside host.new)
         → (result ≡ 0) ⊎ (result ≡ 6) ⊎ ((result ≡ 7) × ComesToRefusal (command_of asked) files) }
-    ensures stays { HoldsAnswered (B.ledger board.old) (B.memory board.old) (B.power board.old) (B.level board.old) (B.meter board.old)
-        → HoldsAnswered (B.ledger board.new) (B.memory board.new) (B.power board.new) (B.level board.new) (B.meter board.new) }
+    ensures stays { HoldsAnswered (B.seen board.old) → HoldsAnswered (B.seen board.new) }
 {
     match command(alloc, words, host, board) {
         Ok(()) => 0,

@@ -40,13 +40,12 @@ pub fn generate<H: Host, B: Board, L: Ledger>(
 ) -> Result<(), End>
     requires least { 1 ≤ names.now.rounds }
     requires most { names.now.rounds ≤ 24 }
-    requires off { B.power board.old ≡ false }
-    requires none_out { (B.ledger board.old).out ≡ None }
-    requires none_answered { (B.ledger board.old).answered ≡ [] }
-    ensures carried { CarriesOutRest (generate (generate_files names.now)) at_first (B.ledger board.new).answered (B.ledger board.new).standing
+    requires off { (B.seen board.old).power ≡ false }
+    requires none_out { (B.seen board.old).ledger.out ≡ None }
+    requires none_answered { (B.seen board.old).ledger.answered ≡ [] }
+    ensures carried { CarriesOutRest (generate (generate_files names.now)) at_first (B.seen board.new).ledger.answered (B.seen board.new).ledger.standing
         (H.outside host.old) result (H.outside host.new) }
-    ensures stays { HoldsAnswered (B.ledger board.old) (B.memory board.old) (B.power board.old) (B.level board.old) (B.meter board.old)
-        → HoldsAnswered (B.ledger board.new) (B.memory board.new) (B.power board.new) (B.level board.new) (B.meter board.new) }
+    ensures stays { HoldsAnswered (B.seen board.old) → HoldsAnswered (B.seen board.new) }
 {
     let Ok(files) = workload(alloc, names.number, names.rounds, hashes) else {
         return Err(End::NoMemory);
@@ -89,13 +88,12 @@ fn load_workload<H: Host, B: Board, L: Ledger>(
     requires events { HasEvents files events }
     requires count { length events ≤ 65536 }
     requires each { All IsScriptEvent events }
-    requires off { B.power board.old ≡ false }
-    requires none_out { (B.ledger board.old).out ≡ None }
-    requires none_answered { (B.ledger board.old).answered ≡ [] }
-    ensures carried { CarriesOutRest (generate (generate_files names.now)) at_first (B.ledger board.new).answered (B.ledger board.new).standing
+    requires off { (B.seen board.old).power ≡ false }
+    requires none_out { (B.seen board.old).ledger.out ≡ None }
+    requires none_answered { (B.seen board.old).ledger.answered ≡ [] }
+    ensures carried { CarriesOutRest (generate (generate_files names.now)) at_first (B.seen board.new).ledger.answered (B.seen board.new).ledger.standing
         (H.outside host.old) result (H.outside host.new) }
-    ensures stays { HoldsAnswered (B.ledger board.old) (B.memory board.old) (B.power board.old) (B.level board.old) (B.meter board.old)
-        → HoldsAnswered (B.ledger board.new) (B.memory board.new) (B.power board.new) (B.level board.new) (B.meter board.new) }
+    ensures stays { HoldsAnswered (B.seen board.old) → HoldsAnswered (B.seen board.new) }
 {
     match board.load(alloc, files.image.as_slice(), events) {
         Ok(()) => {}
@@ -138,13 +136,13 @@ fn write_files<H: Host>(
 /// Prints the summary of what was answered, with the length of the log and the hash of the image as the board holds them
 /// now, for which the bytes make room. Where memory was wanted while the events were served, there is none.
 fn summarise<H: Host, B: Board>(mut image: Vec<u8>, host: &mut H, board: &B) -> Result<(), End>
-    requires loaded { IsLoaded (B.memory board.now) }
-    requires answered { (B.ledger board.now).standing.memory ≡ B.memory board.now }
+    requires loaded { IsLoaded (B.seen board.now).memory }
+    requires answered { (B.seen board.now).ledger.standing.memory ≡ (B.seen board.now).memory }
     requires room { length image.items ≡ 1077248 }
-    requires shown { (last : World) × Shows (B.ledger board.now).standing last }
-    ensures { (past : Past) → past.answered ≡ (B.ledger board.now).answered
-        → CarriesOutRest (summarise (B.ledger board.now).answered (B.ledger board.now).standing)
-        past (B.ledger board.now).answered (B.ledger board.now).standing
+    requires shown { (last : World) × Shows (B.seen board.now).ledger.standing last }
+    ensures { (past : Past) → past.answered ≡ (B.seen board.now).ledger.answered
+        → CarriesOutRest (summarise (B.seen board.now).ledger.answered (B.seen board.now).ledger.standing)
+        past (B.seen board.now).ledger.answered (B.seen board.now).ledger.standing
         (H.outside host.old) result (H.outside host.new) }
 {
     let answered = board.answered();

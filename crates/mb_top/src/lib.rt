@@ -12,6 +12,7 @@ mod audit;
 mod chain;
 mod chain_input;
 mod commands;
+mod counter_examples;
 mod end;
 mod factory;
 mod generate;
@@ -28,4 +29,5 @@ mod verify;
 mod words;
 
 pub use commands::top;
+pub use counter_examples::end_counter_examples;
 pub use line::{NoWords, USAGE, VERSION, program};

@@ -73,18 +73,17 @@ pub fn program<H: Host, B: Board>(
     host: &mut H,
     board: &mut B,
 ) -> u8
-    requires off { B.power board.old ≡ false }
-    requires none_out { (B.ledger board.old).out ≡ None }
-    requires none_waiting { (B.ledger board.old).waiting ≡ [] }
-    requires none_answered { (B.ledger board.old).answered ≡ [] }
+    requires off { (B.seen board.old).power ≡ false }
+    requires none_out { (B.seen board.old).ledger.out ≡ None }
+    requires none_waiting { (B.seen board.old).ledger.waiting ≡ [] }
+    requires none_answered { (B.seen board.old).ledger.answered ≡ [] }
     ensures words { IfOk words (λ words. ProgramEnds USAGE.now VERSION.now (map string_bytes words.items)
-        (ended_at (H.outside host.old) (B.ledger board.new).answered (B.ledger board.new).standing
+        (ended_at (H.outside host.old) (B.seen board.new).ledger.answered (B.seen board.new).ledger.standing
         (H.outside host.new) result)) }
     ensures none { IfErr words (λ why. Stops (end_line (end_without why)) (end_status (end_without why)) at_first
-        (ended_at (H.outside host.old) (B.ledger board.new).answered (B.ledger board.new).standing
+        (ended_at (H.outside host.old) (B.seen board.new).ledger.answered (B.seen board.new).ledger.standing
         (H.outside host.new) result)) }
-    ensures stays { HoldsAnswered (B.ledger board.old) (B.memory board.old) (B.power board.old) (B.level board.old) (B.meter board.old)
-        → HoldsAnswered (B.ledger board.new) (B.memory board.new) (B.power board.new) (B.level board.new) (B.meter board.new) }
+    ensures stays { HoldsAnswered (B.seen board.old) → HoldsAnswered (B.seen board.new) }
 {
     match words {
         Ok(words) => answer(alloc, &words, host, board),
@@ -95,15 +94,14 @@ pub fn program<H: Host, B: Board>(
 
 /// Answers `--help` and `--version`, and hands all other words to `top`.
 fn answer<H: Host, B: Board>(alloc: Global, words: &[String], host: &mut H, board: &mut B) -> u8
-    requires off { B.power board.old ≡ false }
-    requires none_out { (B.ledger board.old).out ≡ None }
-    requires none_waiting { (B.ledger board.old).waiting ≡ [] }
-    requires none_answered { (B.ledger board.old).answered ≡ [] }
+    requires off { (B.seen board.old).power ≡ false }
+    requires none_out { (B.seen board.old).ledger.out ≡ None }
+    requires none_waiting { (B.seen board.old).ledger.waiting ≡ [] }
+    requires none_answered { (B.seen board.old).ledger.answered ≡ [] }
     ensures carried { ProgramEnds USAGE.now VERSION.now (map string_bytes words.now)
-        (ended_at (H.outside host.old) (B.ledger board.new).answered (B.ledger board.new).standing
+        (ended_at (H.outside host.old) (B.seen board.new).ledger.answered (B.seen board.new).ledger.standing
         (H.outside host.new) result) }
-    ensures stays { HoldsAnswered (B.ledger board.old) (B.memory board.old) (B.power board.old) (B.level board.old) (B.meter board.old)
-        → HoldsAnswered (B.ledger board.new) (B.memory board.new) (B.power board.new) (B.level board.new) (B.meter board.new) }
+    ensures stays { HoldsAnswered (B.seen board.old) → HoldsAnswered (B.seen board.new) }
 {
     if is_one_word(words, "--help") {
         tell(host, USAGE)

@@ -31,13 +31,12 @@ pub fn run<H: Host, B: Board, L: Ledger>(
     board: &mut B,
     hashes: &mut HashCount<L>,
 ) -> Result<(), End>
-    requires off { B.power board.old ≡ false }
-    requires none_out { (B.ledger board.old).out ≡ None }
-    requires none_answered { (B.ledger board.old).answered ≡ [] }
-    ensures carried { CarriesOutRest (run (run_files names.now)) at_first (B.ledger board.new).answered (B.ledger board.new).standing
+    requires off { (B.seen board.old).power ≡ false }
+    requires none_out { (B.seen board.old).ledger.out ≡ None }
+    requires none_answered { (B.seen board.old).ledger.answered ≡ [] }
+    ensures carried { CarriesOutRest (run (run_files names.now)) at_first (B.seen board.new).ledger.answered (B.seen board.new).ledger.standing
         (H.outside host.old) result (H.outside host.new) }
-    ensures stays { HoldsAnswered (B.ledger board.old) (B.memory board.old) (B.power board.old) (B.level board.old) (B.meter board.old)
-        → HoldsAnswered (B.ledger board.new) (B.memory board.new) (B.power board.new) (B.level board.new) (B.meter board.new) }
+    ensures stays { HoldsAnswered (B.seen board.old) → HoldsAnswered (B.seen board.new) }
 {
     let image = read_image(alloc, host, names.image, hashes)?;
     run_image(alloc, names, image.bytes, host, board, hashes)
@@ -52,15 +51,14 @@ fn run_image<H: Host, B: Board, L: Ledger>(
     board: &mut B,
     hashes: &mut HashCount<L>,
 ) -> Result<(), End>
-    requires off { B.power board.old ≡ false }
-    requires none_out { (B.ledger board.old).out ≡ None }
-    requires none_answered { (B.ledger board.old).answered ≡ [] }
+    requires off { (B.seen board.old).power ≡ false }
+    requires none_out { (B.seen board.old).ledger.out ≡ None }
+    requires none_answered { (B.seen board.old).ledger.answered ≡ [] }
     requires image { (state : Option State) × IsWellFormed image.items state }
     ensures carried { (state : Option State) → IsWellFormed image.items state
-        → CarriesOutRest (read_script (run_files names.now) state) at_first (B.ledger board.new).answered (B.ledger board.new).standing
+        → CarriesOutRest (read_script (run_files names.now) state) at_first (B.seen board.new).ledger.answered (B.seen board.new).ledger.standing
         (H.outside host.old) result (H.outside host.new) }
-    ensures stays { HoldsAnswered (B.ledger board.old) (B.memory board.old) (B.power board.old) (B.level board.old) (B.meter board.old)
-        → HoldsAnswered (B.ledger board.new) (B.memory board.new) (B.power board.new) (B.level board.new) (B.meter board.new) }
+    ensures stays { HoldsAnswered (B.seen board.old) → HoldsAnswered (B.seen board.new) }
 {
     let events = read_events(alloc, host, names.script)?;
     run_events(alloc, names, image, events, host, board, hashes)
@@ -76,17 +74,16 @@ fn run_events<H: Host, B: Board, L: Ledger>(
     board: &mut B,
     hashes: &mut HashCount<L>,
 ) -> Result<(), End>
-    requires off { B.power board.old ≡ false }
-    requires none_out { (B.ledger board.old).out ≡ None }
-    requires none_answered { (B.ledger board.old).answered ≡ [] }
+    requires off { (B.seen board.old).power ≡ false }
+    requires none_out { (B.seen board.old).ledger.out ≡ None }
+    requires none_answered { (B.seen board.old).ledger.answered ≡ [] }
     requires image { (state : Option State) × IsWellFormed image.items state }
     requires count { length events ≤ 65536 }
     requires events { All IsScriptEvent events }
     ensures carried { (state : Option State) → IsWellFormed image.items state
-        → CarriesOutRest (read_noise (run_files names.now) state events) at_first (B.ledger board.new).answered (B.ledger board.new).standing
+        → CarriesOutRest (read_noise (run_files names.now) state events) at_first (B.seen board.new).ledger.answered (B.seen board.new).ledger.standing
         (H.outside host.old) result (H.outside host.new) }
-    ensures stays { HoldsAnswered (B.ledger board.old) (B.memory board.old) (B.power board.old) (B.level board.old) (B.meter board.old)
-        → HoldsAnswered (B.ledger board.new) (B.memory board.new) (B.power board.new) (B.level board.new) (B.meter board.new) }
+    ensures stays { HoldsAnswered (B.seen board.old) → HoldsAnswered (B.seen board.new) }
 {
     let drawn = read_draws(alloc, host, names.noise, events)?;
     run_drawn(alloc, names, image, drawn, host, board, hashes)
@@ -102,17 +99,16 @@ fn run_drawn<H: Host, B: Board, L: Ledger>(
     board: &mut B,
     hashes: &mut HashCount<L>,
 ) -> Result<(), End>
-    requires off { B.power board.old ≡ false }
-    requires none_out { (B.ledger board.old).out ≡ None }
-    requires none_answered { (B.ledger board.old).answered ≡ [] }
+    requires off { (B.seen board.old).power ≡ false }
+    requires none_out { (B.seen board.old).ledger.out ≡ None }
+    requires none_answered { (B.seen board.old).ledger.answered ≡ [] }
     requires image { (state : Option State) × IsWellFormed image.items state }
     requires count { length events ≤ 65536 }
     requires events { All IsScriptEvent events }
     ensures carried { (state : Option State) → IsWellFormed image.items state
-        → CarriesOutRest (serve_events (run_files names.now) state events) at_first (B.ledger board.new).answered (B.ledger board.new).standing
+        → CarriesOutRest (serve_events (run_files names.now) state events) at_first (B.seen board.new).ledger.answered (B.seen board.new).ledger.standing
         (H.outside host.old) result (H.outside host.new) }
-    ensures stays { HoldsAnswered (B.ledger board.old) (B.memory board.old) (B.power board.old) (B.level board.old) (B.meter board.old)
-        → HoldsAnswered (B.ledger board.new) (B.memory board.new) (B.power board.new) (B.level board.new) (B.meter board.new) }
+    ensures stays { HoldsAnswered (B.seen board.old) → HoldsAnswered (B.seen board.new) }
 {
     match board.load(alloc, &image, events) {
         Ok(()) => {}
@@ -130,12 +126,12 @@ fn write_image<H: Host, B: Board>(
     host: &mut H,
     board: &B,
 ) -> Result<(), End>
-    requires loaded { IsLoaded (B.memory board.now) }
-    requires answered { (B.ledger board.now).standing.memory ≡ B.memory board.now }
+    requires loaded { IsLoaded (B.seen board.now).memory }
+    requires answered { (B.seen board.now).ledger.standing.memory ≡ (B.seen board.now).memory }
     requires room { length image.items ≡ 1077248 }
     ensures { CarriesOutRest
-        (write_image (run_files names.now) (B.ledger board.now).answered (B.ledger board.now).standing)
-        (record { answered = (B.ledger board.now).answered; wrote = false }) (B.ledger board.now).answered (B.ledger board.now).standing
+        (write_image (run_files names.now) (B.seen board.now).ledger.answered (B.seen board.now).ledger.standing)
+        (record { answered = (B.seen board.now).ledger.answered; wrote = false }) (B.seen board.now).ledger.answered (B.seen board.now).ledger.standing
         (H.outside host.old) result (H.outside host.new) }
 {
     let Ok(replies) = write_replies(alloc, board.answered()) else {

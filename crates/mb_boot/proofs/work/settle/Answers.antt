@@ -4,20 +4,20 @@ use Rattle.mb_boot.proofs.work.settle.Goals as goal
 
 pub returns-in_err-w-clause-meaning : goal.returns-in_err-w-clause-meaning
 returns-in_err-w-clause-meaning g c =
-    let first = g.B.Board.memory c.args.b.now in
-    let applied = g.B.Board.memory c.apply_fates.new.b in
-    let written = g.B.Board.memory c.write_signed.new.b in
-    let last = g.B.Board.memory c.finish_root.new.b in
-    finish_keeps first applied written last c.finish_root.ensures.sized
-    (keeps_then first applied written c.apply_fates.ensures.meaning (contents_keep applied written c.write_signed.ensures.sized c.write_signed.ensures.contents))
+    let first = (g.B.Board.seen c.args.b.now).memory in
+    let applied = (g.B.Board.seen c.apply_fates.new.b).memory in
+    let written = (g.B.Board.seen c.write_signed.new.b).memory in
+    let last = (g.B.Board.seen c.finish_root.new.b).memory in
+    finish_keeps first applied written last c.finish_root.ensures.ran.sized
+    (keeps_then first applied written c.apply_fates.ensures.meaning (contents_keep applied written c.write_signed.ensures.ran.sized c.write_signed.ensures.contents))
     c.in_ok-u.ensures.done c.write_signed.ensures.contents c.in_ok-u-2.ensures.signed c.finish_root.ensures.either
 
 pub returns-clause-meaning : goal.returns-clause-meaning
 returns-clause-meaning g c =
-    let first = g.B.Board.memory c.args.b.now in
-    let applied = g.B.Board.memory c.apply_fates.new.b in
-    let written = g.B.Board.memory c.write_signed.new.b in
-    let last = g.B.Board.memory c.finish_root.new.b in
-    finish_keeps first applied written last c.finish_root.ensures.sized
-    (keeps_then first applied written c.apply_fates.ensures.meaning (contents_keep applied written c.write_signed.ensures.sized c.write_signed.ensures.contents))
+    let first = (g.B.Board.seen c.args.b.now).memory in
+    let applied = (g.B.Board.seen c.apply_fates.new.b).memory in
+    let written = (g.B.Board.seen c.write_signed.new.b).memory in
+    let last = (g.B.Board.seen c.finish_root.new.b).memory in
+    finish_keeps first applied written last c.finish_root.ensures.ran.sized
+    (keeps_then first applied written c.apply_fates.ensures.meaning (contents_keep applied written c.write_signed.ensures.ran.sized c.write_signed.ensures.contents))
     c.in_ok-u.ensures.done c.write_signed.ensures.contents c.in_ok-u-2.ensures.signed c.finish_root.ensures.either

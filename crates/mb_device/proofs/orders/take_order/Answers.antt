@@ -7,22 +7,22 @@ use Rattle.mb_device.proofs.orders.take_order.Goals as goal
 
 pub returns-in-Ok-clause-steps : goal.returns-in-Ok-clause-steps
 returns-in-Ok-clause-steps g c = λ world sound.
-    let on = running_on (device.One c.args.up c.args.running) 1 (g.B.Board.memory c.args.b.now) (g.B.Register.power c.args.b.now) (g.B.Register.level c.args.b.now) (g.B.Board.meter c.args.b.now) world sound sound.fits.phase in
+    let on = running_on (device.One c.args.up c.args.running) 1 (g.B.Board.seen c.args.b.now).memory (g.B.Board.seen c.args.b.now).power (g.B.Board.seen c.args.b.now).level (g.B.Board.seen c.args.b.now).meter world sound sound.fits.phase in
     let ready = running_ready (device.One c.args.up c.args.running) 1 _ world sound.fits.state sound sound.fits.phase sound.fits.live in
-    order_told (device.One c.args.up c.args.running) c.args.running c.args.text.now c.args.draw.now (g.B.Board.memory c.args.b.now) (g.B.Register.power c.args.b.now) (g.B.Register.level c.args.b.now) (g.B.Board.meter c.args.b.now) world sound sound.fits
-    (device.One c.in-Ok.up (record { known = c.obey.new.known; room = c.obey.new.room })) (record { known = c.obey.new.known; room = c.obey.new.room }) c.in-Ok.reply (g.B.Board.memory c.obey.new.b) (g.B.Register.power c.obey.new.b) (g.B.Register.level c.obey.new.b) (g.B.Board.meter c.obey.new.b)
-    (c.in-Ok.ensures.told sound.fits.state ready sound.fits.knows) (c.in-Ok.ensures.power ∙ sym on.0) c.in-Ok.ensures.level c.in-Ok.ensures.meter.armed on.0 on.1 (λ w fits. fits) c.obey.ensures.room
+    order_told (device.One c.args.up c.args.running) c.args.running c.args.text.now c.args.draw.now (g.B.Board.seen c.args.b.now).memory (g.B.Board.seen c.args.b.now).power (g.B.Board.seen c.args.b.now).level (g.B.Board.seen c.args.b.now).meter world sound sound.fits
+    (device.One c.in-Ok.up (record { known = c.obey.new.known; room = c.obey.new.room })) (record { known = c.obey.new.known; room = c.obey.new.room }) c.in-Ok.reply (g.B.Board.seen c.obey.new.b).memory (g.B.Board.seen c.obey.new.b).power (g.B.Board.seen c.obey.new.b).level (g.B.Board.seen c.obey.new.b).meter
+    (c.in-Ok.ensures.told sound.fits.state ready sound.fits.knows) (c.in-Ok.ensures.ran.power ∙ sym on.0) c.in-Ok.ensures.ran.level c.in-Ok.ensures.ran.meter.armed on.0 on.1 (λ w fits. fits)
 
 pub returns-in-Ok-clause-meter : goal.returns-in-Ok-clause-meter
 returns-in-Ok-clause-meter g c =
     let world = c.requires.sound.world in
     let sound = c.requires.sound.sound in
     let ready = running_ready (device.One c.args.up c.args.running) 1 _ world sound.fits.state sound sound.fits.phase sound.fits.live in
-    metered_by 471 (c.in-Ok.up, c.in-Ok.reply) c.in-Ok.reply (g.B.Board.meter c.args.b.now) (g.B.Board.meter c.obey.new.b)
-    (order_goes_on sound.fits.state c.args.text.now c.args.draw.now c.obey.new.known c.in-Ok.reply (g.B.Board.memory c.args.b.now) (g.B.Board.memory c.obey.new.b) (c.in-Ok.ensures.told sound.fits.state ready sound.fits.knows)) c.in-Ok.ensures.meter
+    metered_by 471 (c.in-Ok.up, c.in-Ok.reply) c.in-Ok.reply (g.B.Board.seen c.args.b.now).meter (g.B.Board.seen c.obey.new.b).meter
+    (order_goes_on sound.fits.state c.args.text.now c.args.draw.now c.obey.new.known c.in-Ok.reply (g.B.Board.seen c.args.b.now).memory (g.B.Board.seen c.obey.new.b).memory (c.in-Ok.ensures.told sound.fits.state ready sound.fits.knows)) c.in-Ok.ensures.ran.meter
 
 pub returns-in-Err-clause-steps : goal.returns-in-Err-clause-steps
 returns-in-Err-clause-steps g c = λ world sound.
     let ready = running_ready (device.One c.args.up c.args.running) 1 _ world sound.fits.state sound sound.fits.phase sound.fits.live in
-    order_cut (device.One c.args.up c.args.running) c.args.running c.args.text.now c.args.draw.now (g.B.Board.memory c.args.b.now) (g.B.Register.power c.args.b.now) (g.B.Register.level c.args.b.now) (g.B.Board.meter c.args.b.now) world sound sound.fits
-    c.in-Err.off (g.B.Board.memory c.obey.new.b) (g.B.Register.power c.obey.new.b) (g.B.Register.level c.obey.new.b) (g.B.Board.meter c.obey.new.b) (c.in-Err.ensures.told sound.fits.state ready sound.fits.knows) c.in-Err.ensures.power c.in-Err.ensures.meter.armed c.in-Err.ensures.meter.cut
+    order_cut (device.One c.args.up c.args.running) c.args.running c.args.text.now c.args.draw.now (g.B.Board.seen c.args.b.now).memory (g.B.Board.seen c.args.b.now).power (g.B.Board.seen c.args.b.now).level (g.B.Board.seen c.args.b.now).meter world sound sound.fits
+    c.in-Err.off (g.B.Board.seen c.obey.new.b).memory (g.B.Board.seen c.obey.new.b).power (g.B.Board.seen c.obey.new.b).level (g.B.Board.seen c.obey.new.b).meter (c.in-Err.ensures.told sound.fits.state ready sound.fits.knows) c.in-Err.ensures.ran.power c.in-Err.ensures.ran.meter.armed c.in-Err.ensures.ran.meter.cut

@@ -1,23 +1,26 @@
 use Rattle.mb_device.proofs.Boots.{is_booted, boots, boot_stopped, boot_found_dead, boot_lacks}
 use Rattle.mb_device.proofs.power.come_up.Goals as goal
 
-pub remember-known-requires-clause-loaded : goal.remember-known-requires-clause-loaded
-remember-known-requires-clause-loaded g c =
+pub remember-known-requires-clause-up : goal.remember-known-requires-clause-up
+remember-known-requires-clause-up g c =
     let has = c.requires.sound in
-    (is_booted c.args.off (g.B.Board.memory c.args.b.now) (g.B.Register.power c.args.b.now) (g.B.Register.level c.args.b.now) (g.B.Board.meter c.args.b.now) has.world has.sound (g.B.Board.memory c.boot.new.b) c.in-Ok.ensures.clean c.boot.ensures.meaning c.in-Ok.ensures.zeroised).ready.means.sized
+    record {
+      on = c.in-Ok.ensures.power;
+      at_level = c.in-Ok.ensures.level;
+      loaded = (is_booted c.args.off (g.B.Board.seen c.args.b.now).memory (g.B.Board.seen c.args.b.now).power (g.B.Board.seen c.args.b.now).level (g.B.Board.seen c.args.b.now).meter has.world has.sound (g.B.Board.seen c.boot.new.b).memory c.in-Ok.ensures.clean c.boot.ensures.meaning c.in-Ok.ensures.zeroised).ready.means.sized;
+    }
 
 pub remember-known-requires-clause-ready : goal.remember-known-requires-clause-ready
 remember-known-requires-clause-ready g c =
     let has = c.requires.sound in
-    let booted = is_booted c.args.off (g.B.Board.memory c.args.b.now) (g.B.Register.power c.args.b.now) (g.B.Register.level c.args.b.now) (g.B.Board.meter c.args.b.now) has.world has.sound (g.B.Board.memory c.boot.new.b) c.in-Ok.ensures.clean c.boot.ensures.meaning c.in-Ok.ensures.zeroised in
+    let booted = is_booted c.args.off (g.B.Board.seen c.args.b.now).memory (g.B.Board.seen c.args.b.now).power (g.B.Board.seen c.args.b.now).level (g.B.Board.seen c.args.b.now).meter has.world has.sound (g.B.Board.seen c.boot.new.b).memory c.in-Ok.ensures.clean c.boot.ensures.meaning c.in-Ok.ensures.zeroised in
     record { state = booted.state; ready = booted.ready }
 
 pub returns-in-Ok-clause-steps : goal.returns-in-Ok-clause-steps
 returns-in-Ok-clause-steps g c = λ world sound.
-    let memory = g.B.Board.memory in
-    let booted = is_booted c.args.off (memory c.args.b.now) (g.B.Register.power c.args.b.now) (g.B.Register.level c.args.b.now) (g.B.Board.meter c.args.b.now) world sound (memory c.boot.new.b) c.in-Ok.ensures.clean c.boot.ensures.meaning c.in-Ok.ensures.zeroised in
-    boots c.args.off (memory c.args.b.now) (g.B.Register.power c.args.b.now) (g.B.Register.level c.args.b.now) (g.B.Board.meter c.args.b.now) world sound c.in-Ok.up (record { known = c.remember-known.result; room = c.remember-known.new.room })
-    (memory c.boot.new.b) (g.B.Register.power c.boot.new.b) (g.B.Register.level c.boot.new.b) (g.B.Board.meter c.boot.new.b) booted c.remember-known.ensures.knows c.remember-known.ensures.room
+    let booted = is_booted c.args.off (g.B.Board.seen c.args.b.now).memory (g.B.Board.seen c.args.b.now).power (g.B.Board.seen c.args.b.now).level (g.B.Board.seen c.args.b.now).meter world sound (g.B.Board.seen c.boot.new.b).memory c.in-Ok.ensures.clean c.boot.ensures.meaning c.in-Ok.ensures.zeroised in
+    boots c.args.off (g.B.Board.seen c.args.b.now).memory (g.B.Board.seen c.args.b.now).power (g.B.Board.seen c.args.b.now).level (g.B.Board.seen c.args.b.now).meter world sound c.in-Ok.up (record { known = c.remember-known.result; room = c.remember-known.new.room })
+    (g.B.Board.seen c.boot.new.b).memory (g.B.Board.seen c.boot.new.b).power (g.B.Board.seen c.boot.new.b).level (g.B.Board.seen c.boot.new.b).meter booted c.remember-known.ensures.knows
     c.in-Ok.ensures.power c.in-Ok.ensures.level c.in-Ok.ensures.meter.armed
 
 pub returns-in-Err-Stopped-clause-steps : goal.returns-in-Err-Stopped-clause-steps
@@ -25,9 +28,8 @@ returns-in-Err-Stopped-clause-steps g c = λ world sound.
     let meter_here = rw c.in-Err-Stopped.field-0-is at c.in-Err-Stopped.ensures.meter in
     let power_here = rw c.in-Err-Stopped.field-0-is at c.in-Err-Stopped.ensures.power in
     let zeroised_here = rw c.in-Err-Stopped.field-0-is at c.in-Err-Stopped.ensures.zeroised in
-    let memory = g.B.Board.memory in
-    boot_stopped c.args.off (memory c.args.b.now) (g.B.Register.power c.args.b.now) (g.B.Register.level c.args.b.now) (g.B.Board.meter c.args.b.now) world sound c.in-Err-Stopped.off
-    (memory c.boot.new.b) (g.B.Register.power c.boot.new.b) (g.B.Register.level c.boot.new.b) (g.B.Board.meter c.boot.new.b) c.boot.ensures.meaning zeroised_here
+    boot_stopped c.args.off (g.B.Board.seen c.args.b.now).memory (g.B.Board.seen c.args.b.now).power (g.B.Board.seen c.args.b.now).level (g.B.Board.seen c.args.b.now).meter world sound c.in-Err-Stopped.off
+    (g.B.Board.seen c.boot.new.b).memory (g.B.Board.seen c.boot.new.b).power (g.B.Board.seen c.boot.new.b).level (g.B.Board.seen c.boot.new.b).meter c.boot.ensures.meaning zeroised_here
     power_here meter_here.armed meter_here.cut
 
 pub returns-in-Err-Zeroised-clause-steps : goal.returns-in-Err-Zeroised-clause-steps
@@ -36,16 +38,14 @@ returns-in-Err-Zeroised-clause-steps g c = λ world sound.
     let power_here = rw c.in-Err-Zeroised.field-0-is at c.in-Err-Zeroised.ensures.power in
     let unwritten_here = rw c.in-Err-Zeroised.field-0-is at c.in-Err-Zeroised.ensures.unwritten in
     let zeroised_here = rw c.in-Err-Zeroised.field-0-is at c.in-Err-Zeroised.ensures.zeroised in
-    let memory = g.B.Board.memory in
-    boot_found_dead c.args.off (memory c.args.b.now) (g.B.Register.power c.args.b.now) (g.B.Register.level c.args.b.now) (g.B.Board.meter c.args.b.now) world sound c.in-Err-Zeroised.dead c.reply.result
-    (memory c.boot.new.b) (g.B.Register.power c.boot.new.b) (g.B.Register.level c.boot.new.b) (g.B.Board.meter c.boot.new.b) c.reply.ensures unwritten_here.0
+    boot_found_dead c.args.off (g.B.Board.seen c.args.b.now).memory (g.B.Board.seen c.args.b.now).power (g.B.Board.seen c.args.b.now).level (g.B.Board.seen c.args.b.now).meter world sound c.in-Err-Zeroised.dead c.reply.result
+    (g.B.Board.seen c.boot.new.b).memory (g.B.Board.seen c.boot.new.b).power (g.B.Board.seen c.boot.new.b).level (g.B.Board.seen c.boot.new.b).meter c.reply.ensures unwritten_here.0
     zeroised_here power_here level_here unwritten_here.1
 
 pub returns-in-Err-NoMemory-clause-steps : goal.returns-in-Err-NoMemory-clause-steps
 returns-in-Err-NoMemory-clause-steps g c = λ world sound.
     let power_here = rw c.in-Err-NoMemory.field-0-is at c.in-Err-NoMemory.ensures.power in
     let unwritten_here = rw c.in-Err-NoMemory.field-0-is at c.in-Err-NoMemory.ensures.unwritten in
-    let memory = g.B.Board.memory in
-    boot_lacks c.args.off (memory c.args.b.now) (g.B.Register.power c.args.b.now) (g.B.Register.level c.args.b.now) (g.B.Board.meter c.args.b.now) world sound c.in-Err-NoMemory.off
-    (memory c.boot.new.b) (g.B.Register.power c.boot.new.b) (g.B.Register.level c.boot.new.b) (g.B.Board.meter c.boot.new.b)
+    boot_lacks c.args.off (g.B.Board.seen c.args.b.now).memory (g.B.Board.seen c.args.b.now).power (g.B.Board.seen c.args.b.now).level (g.B.Board.seen c.args.b.now).meter world sound c.in-Err-NoMemory.off
+    (g.B.Board.seen c.boot.new.b).memory (g.B.Board.seen c.boot.new.b).power (g.B.Board.seen c.boot.new.b).level (g.B.Board.seen c.boot.new.b).meter
     unwritten_here.0 power_here unwritten_here.1

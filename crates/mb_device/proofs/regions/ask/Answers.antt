@@ -8,15 +8,15 @@ use Rattle.mb_device.proofs.regions.ask.Goals as goal
 
 pub returns-in-Put-clause-told : goal.returns-in-Put-clause-told
 returns-in-Put-clause-told g c = λ state ready knows.
-    subst (λ (e : Event). ComesTo state (layer_outcome g.L.Place.place e state) (g.B.Board.memory c.args.b.now) (g.B.Board.memory c.put_secret.new.b) c.put_secret.result) (sym c.in-Put.is)
+    subst (λ (e : Event). ComesTo state (layer_outcome g.L.Place.place e state) (g.B.Board.seen c.args.b.now).memory (g.B.Board.seen c.put_secret.new.b).memory c.put_secret.result) (sym c.in-Put.is)
     (c.put_secret.ensures.told state ready (known_runs c.args.running.now.known state g.L.Place.place true knows ready.valid c.requires.runs) (known_number c.args.running.now.known state knows))
 
 pub returns-in-Drop-clause-told : goal.returns-in-Drop-clause-told
 returns-in-Drop-clause-told g c = λ state ready knows.
-    subst (λ (e : Event). ComesTo state (layer_outcome g.L.Place.place e state) (g.B.Board.memory c.args.b.now) (g.B.Board.memory c.drop_secret.new.b) c.drop_secret.result) (sym c.in-Drop.is)
+    subst (λ (e : Event). ComesTo state (layer_outcome g.L.Place.place e state) (g.B.Board.seen c.args.b.now).memory (g.B.Board.seen c.drop_secret.new.b).memory c.drop_secret.result) (sym c.in-Drop.is)
     (c.drop_secret.ensures.told state ready (known_runs c.args.running.now.known state g.L.Place.place true knows ready.valid c.requires.runs))
 
 pub returns-in-Sign-clause-told : goal.returns-in-Sign-clause-told
 returns-in-Sign-clause-told g c = λ state ready knows.
-    subst (λ (e : Event). ComesTo state (layer_outcome g.L.Place.place e state) (g.B.Board.memory c.args.b.now) (g.B.Board.memory c.sign_message.new.b) c.sign_message.result) (sym c.in-Sign.is)
+    subst (λ (e : Event). ComesTo state (layer_outcome g.L.Place.place e state) (g.B.Board.seen c.args.b.now).memory (g.B.Board.seen c.sign_message.new.b).memory c.sign_message.result) (sym c.in-Sign.is)
     (c.sign_message.ensures.told state ready (known_runs c.args.running.now.known state g.L.Place.place true knows ready.valid c.requires.runs) knows.serial (known_number c.args.running.now.known state knows))

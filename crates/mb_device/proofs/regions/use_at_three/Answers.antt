@@ -16,7 +16,7 @@ pub returns-in-Ok-clause-steps : goal.returns-in-Ok-clause-steps
 returns-in-Ok-clause-steps g c = λ world sound. c.in-Ok.ensures.steps world (device.Three c.args.up c.args.running) (device.Three c.in-Ok.up c.use_region.new.running) sound sound.fits (λ w fits. fits)
 
 pub returns-in-Ok-clause-meter : goal.returns-in-Ok-clause-meter
-returns-in-Ok-clause-meter g c = metered_by 3 (c.in-Ok.up, c.in-Ok.reply) c.in-Ok.reply (g.B.Board.meter c.args.b.now) (g.B.Board.meter c.use_region.new.b) c.in-Ok.ensures.told c.in-Ok.ensures.stopped
+returns-in-Ok-clause-meter g c = metered_by 3 (c.in-Ok.up, c.in-Ok.reply) c.in-Ok.reply (g.B.Board.seen c.args.b.now).meter (g.B.Board.seen c.use_region.new.b).meter c.in-Ok.ensures.told c.in-Ok.ensures.ran.meter
 
 pub returns-in-Err-clause-steps : goal.returns-in-Err-clause-steps
 returns-in-Err-clause-steps g c = λ world sound. c.in-Err.ensures.steps world (device.Three c.args.up c.args.running) (device.Three c.args.up c.use_region.new.running) sound sound.fits (λ w fits. fits)

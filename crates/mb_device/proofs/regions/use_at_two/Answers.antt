@@ -12,7 +12,7 @@ pub returns-in-Ok-clause-steps : goal.returns-in-Ok-clause-steps
 returns-in-Ok-clause-steps g c = λ world sound. c.in-Ok.ensures.steps world (device.Two c.args.up c.args.running) (device.Two c.in-Ok.up c.use_region.new.running) sound sound.fits (λ w fits. fits)
 
 pub returns-in-Ok-clause-meter : goal.returns-in-Ok-clause-meter
-returns-in-Ok-clause-meter g c = metered_by 3 (c.in-Ok.up, c.in-Ok.reply) c.in-Ok.reply (g.B.Board.meter c.args.b.now) (g.B.Board.meter c.use_region.new.b) c.in-Ok.ensures.told c.in-Ok.ensures.stopped
+returns-in-Ok-clause-meter g c = metered_by 3 (c.in-Ok.up, c.in-Ok.reply) c.in-Ok.reply (g.B.Board.seen c.args.b.now).meter (g.B.Board.seen c.use_region.new.b).meter c.in-Ok.ensures.told c.in-Ok.ensures.ran.meter
 
 pub returns-in-Err-clause-steps : goal.returns-in-Err-clause-steps
 returns-in-Err-clause-steps g c = λ world sound. c.in-Err.ensures.steps world (device.Two c.args.up c.args.running) (device.Two c.args.up c.use_region.new.running) sound sound.fits (λ w fits. fits)
@@ -21,7 +21,7 @@ pub returns-in-Ok-use_region-clause-steps : goal.returns-in-Ok-use_region-clause
 returns-in-Ok-use_region-clause-steps g c = λ world sound. c.in-Ok-use_region.ensures.steps world (device.Two c.args.up c.args.running) (device.Two c.in-Ok-use_region.up c.use_region-else-region-eq2.new.running) sound sound.fits (λ w fits. fits)
 
 pub returns-in-Ok-use_region-clause-meter : goal.returns-in-Ok-use_region-clause-meter
-returns-in-Ok-use_region-clause-meter g c = metered_by 3 (c.in-Ok-use_region.up, c.in-Ok-use_region.reply) c.in-Ok-use_region.reply (g.B.Board.meter c.args.b.now) (g.B.Board.meter c.use_region-else-region-eq2.new.b) c.in-Ok-use_region.ensures.told c.in-Ok-use_region.ensures.stopped
+returns-in-Ok-use_region-clause-meter g c = metered_by 3 (c.in-Ok-use_region.up, c.in-Ok-use_region.reply) c.in-Ok-use_region.reply (g.B.Board.seen c.args.b.now).meter (g.B.Board.seen c.use_region-else-region-eq2.new.b).meter c.in-Ok-use_region.ensures.told c.in-Ok-use_region.ensures.ran.meter
 
 pub returns-in-Err-use_region-clause-steps : goal.returns-in-Err-use_region-clause-steps
 returns-in-Err-use_region-clause-steps g c = λ world sound. c.in-Err-use_region.ensures.steps world (device.Two c.args.up c.args.running) (device.Two c.args.up c.use_region-else-region-eq2.new.running) sound sound.fits (λ w fits. fits)

@@ -6,5 +6,5 @@ use Rattle.mb_device_orders.proofs.judging.count_keys.Goals as goal
 pub overflow_cast-result : goal.overflow_cast-result
 overflow_cast-result g c = omega (arith, ap length c.as_slice.ensures, few_keys _ c.in_ok-region.region c.requires.held c.in_ok-region.ensures.region)
 
-pub returns-clause-count : goal.returns-clause-count
-returns-clause-count g c = λ region has. ap length c.as_slice.ensures ∙ ap (λ (r : Region). length r.keys) (c.in_ok-region.ensures.region region has)
+pub returns : goal.returns
+returns g c = record { count = λ region has. ap length c.as_slice.ensures ∙ ap (λ (r : Region). length r.keys) (c.in_ok-region.ensures.region region has) }

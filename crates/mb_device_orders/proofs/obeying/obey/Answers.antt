@@ -4,11 +4,11 @@ use Rattle.mb_device_orders.proofs.obeying.obey.Goals as goal
 
 pub returns-in-Err-clause-told : goal.returns-in-Err-clause-told
 returns-in-Err-clause-told g c = λ state ready knows.
-    answered_same (g.B.Board.memory c.args.b.now) state c.args.text.now c.args.draw.now c.args.known.now c.in-Err.reply ready knows (c.in-Err.ensures.judged state ready knows)
+    answered_same (g.B.Board.seen c.args.b.now).memory state c.args.text.now c.args.draw.now c.args.known.now c.in-Err.reply ready knows (c.in-Err.ensures.judged state ready knows)
 
 pub commit-requires-clause-commit : goal.commit-requires-clause-commit
 commit-requires-clause-commit g c =
-    has_commit c.args.known.now (g.B.Board.memory c.args.b.now) c.args.text.now c.args.draw.now c.in-Ok.judged c.in-Ok-plan_commit.planned.root c.plan_commit.new.room.public.items c.requires.remembered c.in-Ok.ensures.judged
+    has_commit c.args.known.now (g.B.Board.seen c.args.b.now).memory c.args.text.now c.args.draw.now c.in-Ok.judged c.in-Ok-plan_commit.planned.root c.plan_commit.new.room.public.items c.requires.remembered c.in-Ok.ensures.judged
     c.in-Ok-plan_commit.ensures.commit
 
 pub returns-in_err-up-clause-told : goal.returns-in_err-up-clause-told
@@ -16,13 +16,13 @@ returns-in_err-up-clause-told g c = λ state ready knows.
     let p = err_from_is_err_and c.from_residual.result c.from_residual.ensures.1 in
     let passed = c.in-Ok.ensures.judged state ready knows in
     let commit = c.in-Ok-plan_commit.ensures.commit state c.args.text.now c.args.draw.now ready passed in
-    rw p.1 (order_cut (g.B.Board.memory c.commit.new.b) state c.args.text.now c.args.draw.now c.in-Ok.judged c.in-Ok-plan_commit.planned.known passed
+    rw p.1 (order_cut (g.B.Board.seen c.commit.new.b).memory state c.args.text.now c.args.draw.now c.in-Ok.judged c.in-Ok-plan_commit.planned.known passed
     (c.in-Ok-plan_commit.ensures.knows state c.args.text.now c.args.draw.now ready knows passed) (c.commit.ensures.counts state c.in-Ok.judged.order c.args.draw.now commit))
 
 pub returns-clause-told : goal.returns-clause-told
 returns-clause-told g c = λ state ready knows.
     let passed = c.in-Ok.ensures.judged state ready knows in
     let commit = c.in-Ok-plan_commit.ensures.commit state c.args.text.now c.args.draw.now ready passed in
-    answered_done (g.B.Board.memory c.args.b.now) (g.B.Board.memory c.commit.new.b) state c.args.text.now c.args.draw.now c.in-Ok.judged c.in-Ok-plan_commit.planned.known passed
+    answered_done (g.B.Board.seen c.args.b.now).memory (g.B.Board.seen c.commit.new.b).memory state c.args.text.now c.args.draw.now c.in-Ok.judged c.in-Ok-plan_commit.planned.known passed
     (c.in_ok-up.ensures.done state c.in-Ok.judged.order c.args.draw.now commit)
     (c.in-Ok-plan_commit.ensures.knows state c.args.text.now c.args.draw.now ready knows passed)

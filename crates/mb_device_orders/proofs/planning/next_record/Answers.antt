@@ -10,14 +10,16 @@ write_public_record-requires c =
     next_allowed c.args.room.now.public.items c.deref.result.now c.in_ok-stored.stored c.in_ok-next.next c.args.order.layer c.args.order.act c.args.entries.now
     c.deref.ensures.value c.in_ok-stored.ensures c.in_ok-next.ensures c.requires.takes
 
-pub returns-clause-spelled : goal.returns-clause-spelled
-returns-clause-spelled c = λ public s.
-    record_next c.args.room.now.public.items c.deref.result.now public c.in_ok-stored.stored c.in_ok-next.next c.args.order.layer c.args.order.act c.args.entries.now c.clear.new.self c.write_public_record.new.out c.write_public_record.result
-    c.deref.ensures.value c.in_ok-stored.ensures c.in_ok-next.ensures c.requires.takes c.clear.ensures.items c.clear.ensures.len (omega (arith, c.clear.ensures.capacity, c.requires.room.public)) c.write_public_record.ensures s
+pub returns : goal.returns
+returns c = record {
+  spelled = λ public s.
+      record_next c.args.room.now.public.items c.deref.result.now public c.in_ok-stored.stored c.in_ok-next.next c.args.order.layer c.args.order.act c.args.entries.now c.clear.new.self c.write_public_record.new.out c.write_public_record.result
+      c.deref.ensures.value c.in_ok-stored.ensures c.in_ok-next.ensures c.requires.takes c.clear.ensures.items c.clear.ensures.len (omega (arith, c.clear.ensures.capacity, c.args.room.now.public_room)) c.write_public_record.ensures s;
+}
 
-pub returns-clause-room : goal.returns-clause-room
-returns-clause-room c =
+pub invariant_of-room-clause-public_room : goal.invariant_of-room-clause-public_room
+invariant_of-room-clause-public_room c =
     let allowed = next_allowed c.args.room.now.public.items c.deref.result.now c.in_ok-stored.stored c.in_ok-next.next c.args.order.layer c.args.order.act c.args.entries.now
     c.deref.ensures.value c.in_ok-stored.ensures c.in_ok-next.ensures c.requires.takes in
-    let kept = room_kept c.in_ok-next.next c.clear.new.self c.write_public_record.new.out c.write_public_record.result allowed c.clear.ensures.len (omega (arith, c.clear.ensures.capacity, c.requires.room.public)) c.write_public_record.ensures in
-    record { public = omega (arith, kept, c.clear.ensures.capacity, c.requires.room.public); area = c.requires.room.area; other = c.requires.room.other }
+    let kept = room_kept c.in_ok-next.next c.clear.new.self c.write_public_record.new.out c.write_public_record.result allowed c.clear.ensures.len (omega (arith, c.clear.ensures.capacity, c.args.room.now.public_room)) c.write_public_record.ensures in
+    omega (arith, kept, c.clear.ensures.capacity, c.args.room.now.public_room)

@@ -4,7 +4,7 @@ use Rattle.mb_device_regions.proofs.Signed.{held_ordered, no_key_told, spent_tol
 use Rattle.mb_device_regions.proofs.signing.sign_message.Goals as goal
 
 pub bind-requires-clause-held : goal.bind-requires-clause-held
-bind-requires-clause-held g c = held_ordered g.L.Place.place _ g.met.L.Named.named c.requires.ready
+bind-requires-clause-held g c = held_ordered g.L.Place.place _ g.met.L.Named.named c.requires.can_answer.ready
 
 pub returns-in-Ok-bind-clause-told : goal.returns-in-Ok-bind-clause-told
 returns-in-Ok-bind-clause-told g c = λ state ready runs serial_is number_is. (
@@ -12,9 +12,9 @@ returns-in-Ok-bind-clause-told g c = λ state ready runs serial_is number_is. (
     signed_told g.L.Place.place c.args.key c.in-Ok-bind.right c.index-index.result c.in-Ok-bind.seed c.args.serial.now c.args.number c.in-Ok.prepared.message c.args.message.now c.state-statement.result state _ _ g.met.L.Named.named
     (c.in-Ok-bind.ensures.bound (region_of state g.L.Place.place) held)
     (record {
-      bytes = c.requires.bytes;
-      loaded = c.requires.loaded;
-      sized = c.in-Ok-bind.ensures.sized;
+      bytes = c.requires.can_answer.bytes;
+      loaded = c.requires.can_answer.up.loaded;
+      sized = c.in-Ok-bind.ensures.ran.sized;
       stores = c.in-Ok-bind.ensures.done;
       blank = c.in-Ok-bind.ensures.blank;
       rest = c.in-Ok-bind.ensures.rest;
@@ -37,4 +37,4 @@ pub returns-clause-told : goal.returns-clause-told
 returns-clause-told g c = λ state ready runs serial_is number_is. (
     let held = region_held g.L.Place.place _ state g.met.L.Named.named ready in
     let has = rw c.in-Err-Stopped.field-0-is at (c.in-Err-Stopped.ensures.bound (region_of state g.L.Place.place) held) in
-    signed_cut g.L.Place.place c.args.key c.args.message.now state _ _ has.0 g.met.L.Named.named has.1 c.requires.bytes c.in-Err-Stopped.ensures.sized c.in-Err-Stopped.ensures.either ready)
+    signed_cut g.L.Place.place c.args.key c.args.message.now state _ _ has.0 g.met.L.Named.named has.1 c.requires.can_answer.bytes c.in-Err-Stopped.ensures.ran.sized c.in-Err-Stopped.ensures.either ready)

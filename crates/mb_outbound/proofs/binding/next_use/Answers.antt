@@ -17,15 +17,11 @@ returns-clause-used g c = λ region has. (
 pub returns-clause-short : goal.returns-clause-short
 returns-clause-short g c = use_short c.requires.held.region c.args.key c.use_in_record.new.out.items c.use_in_record.result (returns-clause-used g c c.requires.held.region c.requires.held.holds)
 
-pub returns-clause-room : goal.returns-clause-room
-returns-clause-room g c =
+pub invariant_of-room-clause-other_room : goal.invariant_of-room-clause-other_room
+invariant_of-room-clause-other_room g c =
     let region : Region = c.requires.held.region in
     let same = c.deref.ensures.value ∙ c.read_area.ensures.read in
     let stands = still_stands c.deref.result.now c.in-Some.bytes.now region same c.in-Some.ensures c.requires.held.holds in
     let other : _ = use_room c.in-Some.bytes.now c.use_in_record.new.out.items region c.args.key _ _ c.use_in_record.result c.requires.held.ordered
     stands (c.use_in_record.ensures.used region stands) (c.use_in_record.ensures.capacity region stands) c.use_in_record.ensures.refused_capacity in
-    record {
-      public = c.requires.room.public;
-      area = omega (arith, c.read_area.ensures.capacity, c.requires.room.area);
-      other = omega (arith, other, c.requires.room.other);
-    }
+    omega (arith, other, c.args.room.now.other_room)

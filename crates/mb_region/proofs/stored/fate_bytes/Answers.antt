@@ -12,12 +12,3 @@ returns-clause-spelled g c = λ region has.
 
 pub returns-clause-short : goal.returns-clause-short
 returns-clause-short g c = record_short c.fate_record.new.out.items (fated c.args.fate.now c.requires.held.region) (returns-clause-spelled g c c.requires.held.region c.requires.held.holds)
-
-pub returns-clause-room : goal.returns-clause-room
-returns-clause-room g c =
-    let stands = still_stands c.deref.result.now c.in-Some.bytes.now c.requires.held.region (c.deref.ensures.value ∙ c.read_area.ensures.read) c.in-Some.ensures c.requires.held.holds in
-    record {
-      public = c.requires.room.public;
-      area = omega (arith, c.read_area.ensures.capacity, c.requires.room.area);
-      other = omega (arith, c.fate_record.ensures.capacity c.requires.held.region stands (can_be_stored (fated c.args.fate.now c.requires.held.region) c.requires.held.stored), c.requires.room.other);
-    }

@@ -1,5 +1,5 @@
-use Rattle.std.proofs.Common.{length, ap, ◌∙◌}
-use Rattle.mb_slot.proofs.Slotted.{reached_as, put_other, torn_other, on_ok, current_kept}
+use Rattle.std.proofs.Common.{length, arith, rules}
+use Rattle.mb_slot.proofs.Slotted.{sized_still, reached_as, put_other, torn_other, on_ok, current_kept}
 use Rattle.mb_slot.proofs.slot.write_other.Goals as goal
 
 pub bbram_write-requires-clause-reached : goal.bbram_write-requires-clause-reached
@@ -16,8 +16,11 @@ returns-clause-done g c = on_ok c.bbram_write.result
     (put_other c.args.slot c.other_at.result _ _ c.args.area.now c.requires.can_use.least c.requires.can_use.most c.requires.can_use.loaded.bbram c.requires.area c.other_at.ensures.same (returns-clause-rest g c))
     c.bbram_write.ensures.stored
 
-pub returns-clause-sized : goal.returns-clause-sized
-returns-clause-sized g c = record {
-  flash = ap length c.bbram_write.ensures.flash ∙ c.requires.can_use.loaded.flash;
-  bbram = (returns-clause-rest g c).sized ∙ c.requires.can_use.loaded.bbram;
+pub returns-clause-ran : goal.returns-clause-ran
+returns-clause-ran g c = record {
+  power = c.bbram_write.ensures.power;
+  level = c.bbram_write.ensures.level;
+  sized = sized_still c.other_at.result (length c.args.area.now) _ _ c.requires.can_use.loaded (omega (arith, c.other_at.ensures.within, c.requires.area)) c.bbram_write.ensures.torn c.bbram_write.ensures.flash;
+  ledger = c.bbram_write.ensures.ledger;
+  meter = search rules;
 }

@@ -7,7 +7,7 @@ use Rattle.mb_top.proofs.commands.top.Goals as goal
 pub returns-in-Err-clause-ends : goal.returns-in-Err-clause-ends
 returns-in-Err-clause-ends g c =
     let board = c.command.new.board in
-    subst (λ s. Ends (map string_bytes c.args.words.now) (ended_at (g.H.Host.outside c.args.host.now) (g.B.Board.ledger board).answered (g.B.Board.ledger board).standing (g.H.Host.outside c.stop.new.host) s))
+    subst (λ s. Ends (map string_bytes c.args.words.now) (ended_at (g.H.Host.outside c.args.host.now) (g.B.Board.seen board).ledger.answered (g.B.Board.seen board).ledger.standing (g.H.Host.outside c.stop.new.host) s))
     (sym c.stop.ensures.status) (c.in-Err.ensures.carried (g.H.Host.outside c.stop.new.host) c.stop.ensures.says)
 
 pub returns-in-Err-clause-complete : goal.returns-in-Err-clause-complete

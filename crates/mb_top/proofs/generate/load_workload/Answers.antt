@@ -24,7 +24,7 @@ serve-device-requires-clause-sound g c =
     let names = c.args.names.now in
     let state = Some (new_state names.number names.rounds c.args.files c.requires.generated) in
     let held = new_image names.number names.rounds c.args.files c.requires.generated in
-    let shown = loaded_shows (g.B.Board.memory board) (g.B.Register.power board) (g.B.Register.level board) (g.B.Board.meter board) c.args.files.image state c.in-Ok.ensures.sized
+    let shown = loaded_shows (g.B.Board.seen board).memory (g.B.Board.seen board).power (g.B.Board.seen board).level (g.B.Board.seen board).meter c.args.files.image state c.in-Ok.ensures.sized
     (c.in-Ok.ensures.image ∙ c.as_slice.ensures) c.load.ensures.power (ap (λ m. m.armed) c.in-Ok.ensures.meter) held in
     record { world = opening state; sound = c.start.ensures.started (opening state) shown held.valid }
 
@@ -34,7 +34,7 @@ summarise-requires-clause-shown g c =
     let names = c.args.names.now in
     let state = Some (new_state names.number names.rounds c.args.files c.requires.generated) in
     let held = new_image names.number names.rounds c.args.files c.requires.generated in
-    let shown = loaded_shows (g.B.Board.memory board) (g.B.Register.power board) (g.B.Register.level board) (g.B.Board.meter board) c.args.files.image state c.in-Ok.ensures.sized
+    let shown = loaded_shows (g.B.Board.seen board).memory (g.B.Board.seen board).power (g.B.Board.seen board).level (g.B.Board.seen board).meter c.args.files.image state c.in-Ok.ensures.sized
     (c.in-Ok.ensures.image ∙ c.as_slice.ensures) c.load.ensures.power (ap (λ m. m.armed) c.in-Ok.ensures.meter) held in
     let served = c.serve-device.ensures.served (opening state) (c.start.ensures.started (opening state) shown held.valid) in
     (served.last, subst (λ h. Shows h served.last) (sym c.serve-device.ensures.standing) served.shown)
@@ -46,22 +46,22 @@ returns-clause-carried g c =
     let names = c.args.names.now in
     let state = Some (new_state names.number names.rounds c.args.files c.requires.generated) in
     let held = new_image names.number names.rounds c.args.files c.requires.generated in
-    let shown = loaded_shows (g.B.Board.memory board) (g.B.Register.power board) (g.B.Register.level board) (g.B.Board.meter board) c.args.files.image state c.in-Ok.ensures.sized
+    let shown = loaded_shows (g.B.Board.seen board).memory (g.B.Board.seen board).power (g.B.Board.seen board).level (g.B.Board.seen board).meter c.args.files.image state c.in-Ok.ensures.sized
     (c.in-Ok.ensures.image ∙ c.as_slice.ensures) c.load.ensures.power (ap (λ m. m.armed) c.in-Ok.ensures.meter) held in
     let sound = c.start.ensures.started (opening state) shown held.valid in
-    let served = served_whole c.args.files.image state c.args.events (g.B.Board.memory board) (g.B.Board.ledger board) (g.B.Board.ledger c.serve-device.new.b) _ held c.requires.each c.in-Ok.ensures.ledger
+    let served = served_whole c.args.files.image state c.args.events (g.B.Board.seen board).memory (g.B.Board.seen board).ledger (g.B.Board.seen c.serve-device.new.b).ledger _ held c.requires.each c.in-Ok.ensures.ledger
     c.serve-device.ensures.standing (c.serve-device.ensures.served (opening state) sound) in
     workload_served (generate_files names) c.args.files c.args.events _ _ (outside c.args.host.now) (outside c.write_files.new.host) (outside c.summarise.new.host) c.summarise.result
     c.requires.generated c.requires.events c.in_ok-write_files.ensures.ok served c.summarise.ensures
 
 pub returns-in-Err-clause-stays : goal.returns-in-Err-clause-stays
 returns-in-Err-clause-stays g c = λ holds.
-    unloaded_holds (g.B.Board.memory c.args.board.now) (g.B.Board.memory c.load.new.self) (g.B.Board.ledger c.args.board.now) (g.B.Board.ledger c.load.new.self)
-    (g.B.Register.power c.args.board.now) (g.B.Register.power c.load.new.self) (g.B.Register.level c.args.board.now) (g.B.Register.level c.load.new.self) (g.B.Board.meter c.args.board.now) (g.B.Board.meter c.load.new.self)
+    unloaded_holds (g.B.Board.seen c.args.board.now).memory (g.B.Board.seen c.load.new.self).memory (g.B.Board.seen c.args.board.now).ledger (g.B.Board.seen c.load.new.self).ledger
+    (g.B.Board.seen c.args.board.now).power (g.B.Board.seen c.load.new.self).power (g.B.Board.seen c.args.board.now).level (g.B.Board.seen c.load.new.self).level (g.B.Board.seen c.args.board.now).meter (g.B.Board.seen c.load.new.self).meter
     c.in-Err.ensures.err_memory c.in-Err.ensures.err_ledger c.in-Err.ensures.err_meter c.requires.off c.load.ensures.power holds
 
 pub returns-in_err-write_files-clause-stays : goal.returns-in_err-write_files-clause-stays
 returns-in_err-write_files-clause-stays g c = λ holds.
     let board = c.load.new.self in
-    loaded_holds (g.B.Board.memory board) c.args.events (g.B.Board.ledger board) (g.B.Register.power board) (g.B.Register.level board) (g.B.Board.meter board)
+    loaded_holds (g.B.Board.seen board).memory c.args.events (g.B.Board.seen board).ledger (g.B.Board.seen board).power (g.B.Board.seen board).level (g.B.Board.seen board).meter
     c.in-Ok.ensures.ledger c.load.ensures.power (ap (λ m. m.armed) c.in-Ok.ensures.meter)

@@ -14,15 +14,15 @@ pub returns-then-wants_memory : goal.returns-then-wants_memory
 returns-then-wants_memory g c = λ past same.
     let board = c.args.board.now in
     let some = subst (λ l. Any (λ a. a.reply ≡ reply.NoMemory) l) c.answered-answered.ensures (c.if-wants_memory.ensures.0 refl) in
-    summary_lacks (g.B.Board.ledger board).answered (g.B.Board.ledger board).standing past
+    summary_lacks (g.B.Board.seen board).ledger.answered (g.B.Board.seen board).ledger.standing past
     (g.H.Host.outside c.args.host.now) some same
 
 pub returns : goal.returns
 returns g c = λ past same.
     let board = c.args.board.now in
-    let memory = g.B.Board.memory board in
-    let final = (g.B.Board.ledger board).standing in
-    let answered = (g.B.Board.ledger board).answered in
+    let memory = (g.B.Board.seen board).memory in
+    let final = (g.B.Board.seen board).ledger.standing in
+    let answered = (g.B.Board.seen board).ledger.answered in
     let sized : c.args.image.len ≡ length c.copy_image.new.out =
     omega (arith, c.requires.room, c.args.image.ok, ap length c.copy_image.ensures, length-append memory.flash memory.bbram, c.requires.loaded.flash, c.requires.loaded.bbram) in
     let filled = filled_whole c.args.image.len c.copy_image.new.out c.args.image.items sized ∙ c.copy_image.ensures in

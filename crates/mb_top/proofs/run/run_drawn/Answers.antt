@@ -15,7 +15,7 @@ serve-device-requires-clause-sound g c =
     let board = c.load.new.self in
     let state = c.requires.image.0 in
     let held = c.requires.image.1 in
-    let shown = loaded_shows (g.B.Board.memory board) (g.B.Register.power board) (g.B.Register.level board) (g.B.Board.meter board) c.args.image.items state c.in-Ok.ensures.sized
+    let shown = loaded_shows (g.B.Board.seen board).memory (g.B.Board.seen board).power (g.B.Board.seen board).level (g.B.Board.seen board).meter c.args.image.items state c.in-Ok.ensures.sized
     (c.in-Ok.ensures.image ∙ c.deref.ensures.value) c.load.ensures.power (ap (λ m. m.armed) c.in-Ok.ensures.meter) held in
     record { world = opening state; sound = c.start.ensures.started (opening state) shown held.valid }
 
@@ -23,15 +23,15 @@ pub returns-clause-carried : goal.returns-clause-carried
 returns-clause-carried g c = λ state held.
     let outside = g.H.Host.outside in
     let board = c.load.new.self in
-    let shown = loaded_shows (g.B.Board.memory board) (g.B.Register.power board) (g.B.Register.level board) (g.B.Board.meter board) c.args.image.items state c.in-Ok.ensures.sized
+    let shown = loaded_shows (g.B.Board.seen board).memory (g.B.Board.seen board).power (g.B.Board.seen board).level (g.B.Board.seen board).meter c.args.image.items state c.in-Ok.ensures.sized
     (c.in-Ok.ensures.image ∙ c.deref.ensures.value) c.load.ensures.power (ap (λ m. m.armed) c.in-Ok.ensures.meter) held in
     let sound = c.start.ensures.started (opening state) shown held.valid in
-    let served = served_whole c.args.image.items state c.args.events (g.B.Board.memory board) (g.B.Board.ledger board) (g.B.Board.ledger c.serve-device.new.b) _ held c.requires.events c.in-Ok.ensures.ledger
+    let served = served_whole c.args.image.items state c.args.events (g.B.Board.seen board).memory (g.B.Board.seen board).ledger (g.B.Board.seen c.serve-device.new.b).ledger _ held c.requires.events c.in-Ok.ensures.ledger
     c.serve-device.ensures.standing (c.serve-device.ensures.served (opening state) sound) in
     events_served (run_files c.args.names.now) state c.args.events _ _ (outside c.args.host.now) (outside c.write_image.new.host) c.write_image.result served c.write_image.ensures
 
 pub returns-in-Err-clause-stays : goal.returns-in-Err-clause-stays
 returns-in-Err-clause-stays g c = λ holds.
-    unloaded_holds (g.B.Board.memory c.args.board.now) (g.B.Board.memory c.load.new.self) (g.B.Board.ledger c.args.board.now) (g.B.Board.ledger c.load.new.self)
-    (g.B.Register.power c.args.board.now) (g.B.Register.power c.load.new.self) (g.B.Register.level c.args.board.now) (g.B.Register.level c.load.new.self) (g.B.Board.meter c.args.board.now) (g.B.Board.meter c.load.new.self)
+    unloaded_holds (g.B.Board.seen c.args.board.now).memory (g.B.Board.seen c.load.new.self).memory (g.B.Board.seen c.args.board.now).ledger (g.B.Board.seen c.load.new.self).ledger
+    (g.B.Board.seen c.args.board.now).power (g.B.Board.seen c.load.new.self).power (g.B.Board.seen c.args.board.now).level (g.B.Board.seen c.load.new.self).level (g.B.Board.seen c.args.board.now).meter (g.B.Board.seen c.load.new.self).meter
     c.in-Err.ensures.err_memory c.in-Err.ensures.err_ledger c.in-Err.ensures.err_meter c.requires.off c.load.ensures.power holds

@@ -8,6 +8,7 @@ use Rattle.mb_device.specs.Sound.{IsSound}
 use Rattle.mb_device.proofs.Worlds.{awake_off, awake_dead, awake_at, go_refused, go_past}
 use Rattle.mb_device.proofs.Steps.{refuses_as}
 use Rattle.mb_device.proofs.Told.{goes_on, second_runs, third_runs, no_second, no_third}
+use Rattle.mb_device.proofs.Uses.{running_on}
 use Rattle.mb_device.proofs.device.Device.go.Goals as goal
 
 pub returns-in-Off-clause-steps : goal.returns-in-Off-clause-steps
@@ -20,12 +21,12 @@ returns-in-Dead-clause-steps g c = λ world sound.
 
 pub returns-then-may_run-clause-steps : goal.returns-then-may_run-clause-steps
 returns-then-may_run-clause-steps g c = λ world sound.
-    let own : IsSound (device.One c.in-One.up c.in-One.running) (held_by (g.B.Board.memory c.args.b.now) (g.B.Register.power c.args.b.now) (g.B.Register.level c.args.b.now) (g.B.Board.meter c.args.b.now)) world =
-    subst (λ (d : Device). IsSound d (held_by (g.B.Board.memory c.args.b.now) (g.B.Register.power c.args.b.now) (g.B.Register.level c.args.b.now) (g.B.Board.meter c.args.b.now)) world) c.in-One.is sound in
-    goes_on (device.One c.in-One.up c.in-One.running) (device.Two c.advance.result c.in-One.running) 1 c.in-One.running (g.B.Board.memory c.args.b.now) (g.B.Board.memory c.advance.new.r)
-    (g.B.Register.power c.args.b.now) (g.B.Register.power c.advance.new.r) (g.B.Register.level c.args.b.now) (g.B.Register.level c.advance.new.r) (g.B.Board.meter c.args.b.now) (g.B.Board.meter c.advance.new.r)
+    let own : IsSound (device.One c.in-One.up c.in-One.running) (held_by (g.B.Board.seen c.args.b.now).memory (g.B.Board.seen c.args.b.now).power (g.B.Board.seen c.args.b.now).level (g.B.Board.seen c.args.b.now).meter) world =
+    subst (λ (d : Device). IsSound d (held_by (g.B.Board.seen c.args.b.now).memory (g.B.Board.seen c.args.b.now).power (g.B.Board.seen c.args.b.now).level (g.B.Board.seen c.args.b.now).meter) world) c.in-One.is sound in
+    goes_on (device.One c.in-One.up c.in-One.running) (device.Two c.advance.result c.in-One.running) 1 c.in-One.running (g.B.Board.seen c.args.b.now).memory (g.B.Board.seen c.advance.new.r).memory
+    (g.B.Board.seen c.args.b.now).power (g.B.Board.seen c.advance.new.r).power (g.B.Board.seen c.args.b.now).level (g.B.Board.seen c.advance.new.r).level (g.B.Board.seen c.args.b.now).meter (g.B.Board.seen c.advance.new.r).meter
     world own own.fits (second_runs world c.in-One.running own.fits own.valid (sym c.may_run.ensures ∙ c.if-may_run.true))
-    (g.met.B.Board.keeps_memory c.advance.new.r c.args.b.now c.advance.ensures.rest) (g.met.B.Board.keeps_meter c.advance.new.r c.args.b.now c.advance.ensures.rest) c.advance.ensures.power c.advance.ensures.level (λ w running. running)
+    (g.met.B.Board.keeps_memory c.advance.new.r c.args.b.now c.advance.ensures.rest) (g.met.B.Board.keeps_meter c.advance.new.r c.args.b.now c.advance.ensures.rest) (g.met.B.Board.sees_power c.advance.new.r ∙ c.advance.ensures.power) (g.met.B.Board.sees_level c.advance.new.r ∙ c.advance.ensures.level) (λ w running. running)
 
 pub returns-else-may_run-clause-steps : goal.returns-else-may_run-clause-steps
 returns-else-may_run-clause-steps g c = λ world sound.
@@ -34,12 +35,12 @@ returns-else-may_run-clause-steps g c = λ world sound.
 
 pub returns-then-may_run-2-clause-steps : goal.returns-then-may_run-2-clause-steps
 returns-then-may_run-2-clause-steps g c = λ world sound.
-    let own : IsSound (device.Two c.in-Two.up c.in-Two.running) (held_by (g.B.Board.memory c.args.b.now) (g.B.Register.power c.args.b.now) (g.B.Register.level c.args.b.now) (g.B.Board.meter c.args.b.now)) world =
-    subst (λ (d : Device). IsSound d (held_by (g.B.Board.memory c.args.b.now) (g.B.Register.power c.args.b.now) (g.B.Register.level c.args.b.now) (g.B.Board.meter c.args.b.now)) world) c.in-Two.is sound in
-    goes_on (device.Two c.in-Two.up c.in-Two.running) (device.Three c.advance-then-may_run-2.result c.in-Two.running) 2 c.in-Two.running (g.B.Board.memory c.args.b.now) (g.B.Board.memory c.advance-then-may_run-2.new.r)
-    (g.B.Register.power c.args.b.now) (g.B.Register.power c.advance-then-may_run-2.new.r) (g.B.Register.level c.args.b.now) (g.B.Register.level c.advance-then-may_run-2.new.r) (g.B.Board.meter c.args.b.now) (g.B.Board.meter c.advance-then-may_run-2.new.r)
+    let own : IsSound (device.Two c.in-Two.up c.in-Two.running) (held_by (g.B.Board.seen c.args.b.now).memory (g.B.Board.seen c.args.b.now).power (g.B.Board.seen c.args.b.now).level (g.B.Board.seen c.args.b.now).meter) world =
+    subst (λ (d : Device). IsSound d (held_by (g.B.Board.seen c.args.b.now).memory (g.B.Board.seen c.args.b.now).power (g.B.Board.seen c.args.b.now).level (g.B.Board.seen c.args.b.now).meter) world) c.in-Two.is sound in
+    goes_on (device.Two c.in-Two.up c.in-Two.running) (device.Three c.advance-then-may_run-2.result c.in-Two.running) 2 c.in-Two.running (g.B.Board.seen c.args.b.now).memory (g.B.Board.seen c.advance-then-may_run-2.new.r).memory
+    (g.B.Board.seen c.args.b.now).power (g.B.Board.seen c.advance-then-may_run-2.new.r).power (g.B.Board.seen c.args.b.now).level (g.B.Board.seen c.advance-then-may_run-2.new.r).level (g.B.Board.seen c.args.b.now).meter (g.B.Board.seen c.advance-then-may_run-2.new.r).meter
     world own own.fits (third_runs world c.in-Two.running own.fits own.valid (sym c.may_run-in-Two.ensures ∙ c.if-may_run-2.true))
-    (g.met.B.Board.keeps_memory c.advance-then-may_run-2.new.r c.args.b.now c.advance-then-may_run-2.ensures.rest) (g.met.B.Board.keeps_meter c.advance-then-may_run-2.new.r c.args.b.now c.advance-then-may_run-2.ensures.rest) c.advance-then-may_run-2.ensures.power c.advance-then-may_run-2.ensures.level (λ w running. running)
+    (g.met.B.Board.keeps_memory c.advance-then-may_run-2.new.r c.args.b.now c.advance-then-may_run-2.ensures.rest) (g.met.B.Board.keeps_meter c.advance-then-may_run-2.new.r c.args.b.now c.advance-then-may_run-2.ensures.rest) (g.met.B.Board.sees_power c.advance-then-may_run-2.new.r ∙ c.advance-then-may_run-2.ensures.power) (g.met.B.Board.sees_level c.advance-then-may_run-2.new.r ∙ c.advance-then-may_run-2.ensures.level) (λ w running. running)
 
 pub returns-else-may_run-2-clause-steps : goal.returns-else-may_run-2-clause-steps
 returns-else-may_run-2-clause-steps g c = λ world sound.
@@ -50,3 +51,31 @@ pub returns-in-Three-clause-steps : goal.returns-in-Three-clause-steps
 returns-in-Three-clause-steps g c = λ world sound.
     refuses_as c.args.self (device.Three c.in-Three.up c.in-Three.running) _ world event.Go c.reply-in-Three.result wrong_phase c.in-Three.is c.reply-in-Three.ensures sound
     (λ fits. go_past world fits.state (awake_at world 3 fits.state fits.phase fits.live))
+
+pub advance-requires-clause-power : goal.advance-requires-clause-power
+advance-requires-clause-power g c =
+    let world = c.requires.sound.world in
+    let own : IsSound (device.One c.in-One.up c.in-One.running) (held_by (g.B.Board.seen c.args.b.now).memory (g.B.Board.seen c.args.b.now).power (g.B.Board.seen c.args.b.now).level (g.B.Board.seen c.args.b.now).meter) world =
+    subst (λ (d : Device). IsSound d (held_by (g.B.Board.seen c.args.b.now).memory (g.B.Board.seen c.args.b.now).power (g.B.Board.seen c.args.b.now).level (g.B.Board.seen c.args.b.now).meter) world) c.in-One.is c.requires.sound.sound in
+    sym (g.met.B.Board.sees_power c.args.b.now) ∙ (running_on (device.One c.in-One.up c.in-One.running) 1 (g.B.Board.seen c.args.b.now).memory (g.B.Board.seen c.args.b.now).power (g.B.Board.seen c.args.b.now).level (g.B.Board.seen c.args.b.now).meter world own own.fits.phase).0
+
+pub advance-requires-clause-level : goal.advance-requires-clause-level
+advance-requires-clause-level g c =
+    let world = c.requires.sound.world in
+    let own : IsSound (device.One c.in-One.up c.in-One.running) (held_by (g.B.Board.seen c.args.b.now).memory (g.B.Board.seen c.args.b.now).power (g.B.Board.seen c.args.b.now).level (g.B.Board.seen c.args.b.now).meter) world =
+    subst (λ (d : Device). IsSound d (held_by (g.B.Board.seen c.args.b.now).memory (g.B.Board.seen c.args.b.now).power (g.B.Board.seen c.args.b.now).level (g.B.Board.seen c.args.b.now).meter) world) c.in-One.is c.requires.sound.sound in
+    sym (g.met.B.Board.sees_level c.args.b.now) ∙ (running_on (device.One c.in-One.up c.in-One.running) 1 (g.B.Board.seen c.args.b.now).memory (g.B.Board.seen c.args.b.now).power (g.B.Board.seen c.args.b.now).level (g.B.Board.seen c.args.b.now).meter world own own.fits.phase).1
+
+pub advance-requires-then-may_run-2-clause-power : goal.advance-requires-then-may_run-2-clause-power
+advance-requires-then-may_run-2-clause-power g c =
+    let world = c.requires.sound.world in
+    let own : IsSound (device.Two c.in-Two.up c.in-Two.running) (held_by (g.B.Board.seen c.args.b.now).memory (g.B.Board.seen c.args.b.now).power (g.B.Board.seen c.args.b.now).level (g.B.Board.seen c.args.b.now).meter) world =
+    subst (λ (d : Device). IsSound d (held_by (g.B.Board.seen c.args.b.now).memory (g.B.Board.seen c.args.b.now).power (g.B.Board.seen c.args.b.now).level (g.B.Board.seen c.args.b.now).meter) world) c.in-Two.is c.requires.sound.sound in
+    sym (g.met.B.Board.sees_power c.args.b.now) ∙ (running_on (device.Two c.in-Two.up c.in-Two.running) 2 (g.B.Board.seen c.args.b.now).memory (g.B.Board.seen c.args.b.now).power (g.B.Board.seen c.args.b.now).level (g.B.Board.seen c.args.b.now).meter world own own.fits.phase).0
+
+pub advance-requires-then-may_run-2-clause-level : goal.advance-requires-then-may_run-2-clause-level
+advance-requires-then-may_run-2-clause-level g c =
+    let world = c.requires.sound.world in
+    let own : IsSound (device.Two c.in-Two.up c.in-Two.running) (held_by (g.B.Board.seen c.args.b.now).memory (g.B.Board.seen c.args.b.now).power (g.B.Board.seen c.args.b.now).level (g.B.Board.seen c.args.b.now).meter) world =
+    subst (λ (d : Device). IsSound d (held_by (g.B.Board.seen c.args.b.now).memory (g.B.Board.seen c.args.b.now).power (g.B.Board.seen c.args.b.now).level (g.B.Board.seen c.args.b.now).meter) world) c.in-Two.is c.requires.sound.sound in
+    sym (g.met.B.Board.sees_level c.args.b.now) ∙ (running_on (device.Two c.in-Two.up c.in-Two.running) 2 (g.B.Board.seen c.args.b.now).memory (g.B.Board.seen c.args.b.now).power (g.B.Board.seen c.args.b.now).level (g.B.Board.seen c.args.b.now).meter world own own.fits.phase).1

@@ -5,8 +5,8 @@ use Rattle.mb_device.proofs.device.Device.serve.Given as goal
 
 abbrev pub invariant-events : goal.invariant-events
 invariant-events g l =
-    Serves (g.B.Board.ledger l.initial.b) l.initial.device (held_by (g.B.Board.memory l.initial.b) (g.B.Register.power l.initial.b) (g.B.Register.level l.initial.b) (g.B.Board.meter l.initial.b))
-    l.device (g.B.Board.ledger l.b) (held_by (g.B.Board.memory l.b) (g.B.Register.power l.b) (g.B.Register.level l.b) (g.B.Board.meter l.b))
+    Serves (g.B.Board.seen l.initial.b).ledger l.initial.device (held_by (g.B.Board.seen l.initial.b).memory (g.B.Board.seen l.initial.b).power (g.B.Board.seen l.initial.b).level (g.B.Board.seen l.initial.b).meter)
+    l.device (g.B.Board.seen l.b).ledger (held_by (g.B.Board.seen l.b).memory (g.B.Board.seen l.b).power (g.B.Board.seen l.b).level (g.B.Board.seen l.b).meter)
 
 abbrev pub decreases-events : goal.decreases-events
-decreases-events g l = length (g.B.Board.ledger l.b).waiting
+decreases-events g l = length (g.B.Board.seen l.b).ledger.waiting

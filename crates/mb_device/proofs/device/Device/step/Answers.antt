@@ -12,31 +12,31 @@ use Rattle.mb_device.proofs.device.Device.step.Goals as goal
 
 pub returns-in-Off-clause-steps : goal.returns-in-Off-clause-steps
 returns-in-Off-clause-steps g c = λ before world sound same.
-    let at : (held_by (g.B.Board.memory c.args.b.now) (g.B.Register.power c.args.b.now) (g.B.Register.level c.args.b.now) (g.B.Board.meter c.args.b.now)) ≡ taken event.Off before = subst (λ (e : Event). (held_by (g.B.Board.memory c.args.b.now) (g.B.Register.power c.args.b.now) (g.B.Register.level c.args.b.now) (g.B.Board.meter c.args.b.now)) ≡ taken e before) c.in-Off.is same in
-    subst (λ (e : Event). Steps world e reply.Off c.power_off.result (held_by (g.B.Board.memory c.power_off.new.b) (g.B.Register.power c.power_off.new.b) (g.B.Register.level c.power_off.new.b) (g.B.Board.meter c.power_off.new.b))) (sym c.in-Off.is)
-    (goes_off c.args.self c.power_off.result before (held_by (g.B.Board.memory c.power_off.new.b) (g.B.Register.power c.power_off.new.b) (g.B.Register.level c.power_off.new.b) (g.B.Board.meter c.power_off.new.b)) world sound c.power_off.ensures.device
-    (off_same (g.B.Board.memory c.args.b.now) (g.B.Board.memory c.power_off.new.b) (g.B.Register.power c.args.b.now) (g.B.Register.power c.power_off.new.b) (g.B.Register.level c.args.b.now) (g.B.Register.level c.power_off.new.b) (g.B.Board.meter c.args.b.now) (g.B.Board.meter c.power_off.new.b)
+    let at : (held_by (g.B.Board.seen c.args.b.now).memory (g.B.Board.seen c.args.b.now).power (g.B.Board.seen c.args.b.now).level (g.B.Board.seen c.args.b.now).meter) ≡ taken event.Off before = subst (λ (e : Event). (held_by (g.B.Board.seen c.args.b.now).memory (g.B.Board.seen c.args.b.now).power (g.B.Board.seen c.args.b.now).level (g.B.Board.seen c.args.b.now).meter) ≡ taken e before) c.in-Off.is same in
+    subst (λ (e : Event). Steps world e reply.Off c.power_off.result (held_by (g.B.Board.seen c.power_off.new.b).memory (g.B.Board.seen c.power_off.new.b).power (g.B.Board.seen c.power_off.new.b).level (g.B.Board.seen c.power_off.new.b).meter)) (sym c.in-Off.is)
+    (goes_off c.args.self c.power_off.result before (held_by (g.B.Board.seen c.power_off.new.b).memory (g.B.Board.seen c.power_off.new.b).power (g.B.Board.seen c.power_off.new.b).level (g.B.Board.seen c.power_off.new.b).meter) world sound c.power_off.ensures.device
+    (off_same (g.B.Board.seen c.args.b.now).memory (g.B.Board.seen c.power_off.new.b).memory (g.B.Board.seen c.args.b.now).power (g.B.Board.seen c.power_off.new.b).power (g.B.Board.seen c.args.b.now).level (g.B.Board.seen c.power_off.new.b).level (g.B.Board.seen c.args.b.now).meter (g.B.Board.seen c.power_off.new.b).meter
     (taken event.Off before) at refl c.power_off.ensures.memory c.power_off.ensures.power c.power_off.ensures.meter))
 
 pub returns-in-Tamper-clause-steps : goal.returns-in-Tamper-clause-steps
 returns-in-Tamper-clause-steps g c = λ before world sound same.
-    let at : (held_by (g.B.Board.memory c.args.b.now) (g.B.Register.power c.args.b.now) (g.B.Register.level c.args.b.now) (g.B.Board.meter c.args.b.now)) ≡ taken event.Tamper before = subst (λ (e : Event). (held_by (g.B.Board.memory c.args.b.now) (g.B.Register.power c.args.b.now) (g.B.Register.level c.args.b.now) (g.B.Board.meter c.args.b.now)) ≡ taken e before) c.in-Tamper.is same in
-    subst (λ (e : Event). Steps world e reply.Tampered c.power_off-in-Tamper.result (held_by (g.B.Board.memory c.power_off-in-Tamper.new.b) (g.B.Register.power c.power_off-in-Tamper.new.b) (g.B.Register.level c.power_off-in-Tamper.new.b) (g.B.Board.meter c.power_off-in-Tamper.new.b))) (sym c.in-Tamper.is)
-    (is_tampered c.args.self c.power_off-in-Tamper.result before (held_by (g.B.Board.memory c.power_off-in-Tamper.new.b) (g.B.Register.power c.power_off-in-Tamper.new.b) (g.B.Register.level c.power_off-in-Tamper.new.b) (g.B.Board.meter c.power_off-in-Tamper.new.b)) world sound c.power_off-in-Tamper.ensures.device
-    (off_same (g.B.Board.memory c.args.b.now) (g.B.Board.memory c.power_off-in-Tamper.new.b) (g.B.Register.power c.args.b.now) (g.B.Register.power c.power_off-in-Tamper.new.b) (g.B.Register.level c.args.b.now) (g.B.Register.level c.power_off-in-Tamper.new.b) (g.B.Board.meter c.args.b.now) (g.B.Board.meter c.power_off-in-Tamper.new.b)
+    let at : (held_by (g.B.Board.seen c.args.b.now).memory (g.B.Board.seen c.args.b.now).power (g.B.Board.seen c.args.b.now).level (g.B.Board.seen c.args.b.now).meter) ≡ taken event.Tamper before = subst (λ (e : Event). (held_by (g.B.Board.seen c.args.b.now).memory (g.B.Board.seen c.args.b.now).power (g.B.Board.seen c.args.b.now).level (g.B.Board.seen c.args.b.now).meter) ≡ taken e before) c.in-Tamper.is same in
+    subst (λ (e : Event). Steps world e reply.Tampered c.power_off-in-Tamper.result (held_by (g.B.Board.seen c.power_off-in-Tamper.new.b).memory (g.B.Board.seen c.power_off-in-Tamper.new.b).power (g.B.Board.seen c.power_off-in-Tamper.new.b).level (g.B.Board.seen c.power_off-in-Tamper.new.b).meter)) (sym c.in-Tamper.is)
+    (is_tampered c.args.self c.power_off-in-Tamper.result before (held_by (g.B.Board.seen c.power_off-in-Tamper.new.b).memory (g.B.Board.seen c.power_off-in-Tamper.new.b).power (g.B.Board.seen c.power_off-in-Tamper.new.b).level (g.B.Board.seen c.power_off-in-Tamper.new.b).meter) world sound c.power_off-in-Tamper.ensures.device
+    (off_same (g.B.Board.seen c.args.b.now).memory (g.B.Board.seen c.power_off-in-Tamper.new.b).memory (g.B.Board.seen c.args.b.now).power (g.B.Board.seen c.power_off-in-Tamper.new.b).power (g.B.Board.seen c.args.b.now).level (g.B.Board.seen c.power_off-in-Tamper.new.b).level (g.B.Board.seen c.args.b.now).meter (g.B.Board.seen c.power_off-in-Tamper.new.b).meter
     (taken event.Tamper before) at refl c.power_off-in-Tamper.ensures.memory c.power_off-in-Tamper.ensures.power c.power_off-in-Tamper.ensures.meter))
 
 pub returns-in-Cut-clause-steps : goal.returns-in-Cut-clause-steps
 returns-in-Cut-clause-steps g c = λ before world sound same.
-    let at : (held_by (g.B.Board.memory c.args.b.now) (g.B.Register.power c.args.b.now) (g.B.Register.level c.args.b.now) (g.B.Board.meter c.args.b.now)) ≡ taken (event.Cut c.in-Cut.count c.in-Cut.tear) before = subst (λ (e : Event). (held_by (g.B.Board.memory c.args.b.now) (g.B.Register.power c.args.b.now) (g.B.Register.level c.args.b.now) (g.B.Board.meter c.args.b.now)) ≡ taken e before) c.in-Cut.is same in
-    subst (λ (e : Event). Steps world e reply.Armed c.args.self (held_by (g.B.Board.memory c.args.b.now) (g.B.Register.power c.args.b.now) (g.B.Register.level c.args.b.now) (g.B.Board.meter c.args.b.now))) (sym c.in-Cut.is) (is_armed c.args.self before (held_by (g.B.Board.memory c.args.b.now) (g.B.Register.power c.args.b.now) (g.B.Register.level c.args.b.now) (g.B.Board.meter c.args.b.now)) world c.in-Cut.count c.in-Cut.tear sound at)
+    let at : (held_by (g.B.Board.seen c.args.b.now).memory (g.B.Board.seen c.args.b.now).power (g.B.Board.seen c.args.b.now).level (g.B.Board.seen c.args.b.now).meter) ≡ taken (event.Cut c.in-Cut.count c.in-Cut.tear) before = subst (λ (e : Event). (held_by (g.B.Board.seen c.args.b.now).memory (g.B.Board.seen c.args.b.now).power (g.B.Board.seen c.args.b.now).level (g.B.Board.seen c.args.b.now).meter) ≡ taken e before) c.in-Cut.is same in
+    subst (λ (e : Event). Steps world e reply.Armed c.args.self (held_by (g.B.Board.seen c.args.b.now).memory (g.B.Board.seen c.args.b.now).power (g.B.Board.seen c.args.b.now).level (g.B.Board.seen c.args.b.now).meter)) (sym c.in-Cut.is) (is_armed c.args.self before (held_by (g.B.Board.seen c.args.b.now).memory (g.B.Board.seen c.args.b.now).power (g.B.Board.seen c.args.b.now).level (g.B.Board.seen c.args.b.now).meter) world c.in-Cut.count c.in-Cut.tear sound at)
 
 pub returns-in-Status-clause-steps : goal.returns-in-Status-clause-steps
 returns-in-Status-clause-steps g c = λ before world sound same.
-    let at : (held_by (g.B.Board.memory c.args.b.now) (g.B.Register.power c.args.b.now) (g.B.Register.level c.args.b.now) (g.B.Board.meter c.args.b.now)) ≡ before = subst (λ (e : Event). (held_by (g.B.Board.memory c.args.b.now) (g.B.Register.power c.args.b.now) (g.B.Register.level c.args.b.now) (g.B.Board.meter c.args.b.now)) ≡ taken e before) c.in-Status.is same in
-    let own : IsSound c.args.self (held_by (g.B.Board.memory c.args.b.now) (g.B.Register.power c.args.b.now) (g.B.Register.level c.args.b.now) (g.B.Board.meter c.args.b.now)) world = subst (λ (h : Held). IsSound c.args.self h world) (sym at) sound in
-    subst (λ (e : Event). Steps world e c.status-reply.result c.args.self (held_by (g.B.Board.memory c.args.b.now) (g.B.Register.power c.args.b.now) (g.B.Register.level c.args.b.now) (g.B.Board.meter c.args.b.now))) (sym c.in-Status.is)
-    (stays c.args.self c.args.self (held_by (g.B.Board.memory c.args.b.now) (g.B.Register.power c.args.b.now) (g.B.Register.level c.args.b.now) (g.B.Board.meter c.args.b.now)) world event.Status c.status-reply.result (c.status-reply.ensures.told world sound.fits sound.valid) own own.fits)
+    let at : (held_by (g.B.Board.seen c.args.b.now).memory (g.B.Board.seen c.args.b.now).power (g.B.Board.seen c.args.b.now).level (g.B.Board.seen c.args.b.now).meter) ≡ before = subst (λ (e : Event). (held_by (g.B.Board.seen c.args.b.now).memory (g.B.Board.seen c.args.b.now).power (g.B.Board.seen c.args.b.now).level (g.B.Board.seen c.args.b.now).meter) ≡ taken e before) c.in-Status.is same in
+    let own : IsSound c.args.self (held_by (g.B.Board.seen c.args.b.now).memory (g.B.Board.seen c.args.b.now).power (g.B.Board.seen c.args.b.now).level (g.B.Board.seen c.args.b.now).meter) world = subst (λ (h : Held). IsSound c.args.self h world) (sym at) sound in
+    subst (λ (e : Event). Steps world e c.status-reply.result c.args.self (held_by (g.B.Board.seen c.args.b.now).memory (g.B.Board.seen c.args.b.now).power (g.B.Board.seen c.args.b.now).level (g.B.Board.seen c.args.b.now).meter)) (sym c.in-Status.is)
+    (stays c.args.self c.args.self (held_by (g.B.Board.seen c.args.b.now).memory (g.B.Board.seen c.args.b.now).power (g.B.Board.seen c.args.b.now).level (g.B.Board.seen c.args.b.now).meter) world event.Status c.status-reply.result (c.status-reply.ensures.told world sound.fits sound.valid) own own.fits)
 
 pub returns-in-Status-clause-meter : goal.returns-in-Status-clause-meter
 returns-in-Status-clause-meter g c = unmetered 471 c.status-reply.result _ _ c.status-reply.ensures.goes_on refl

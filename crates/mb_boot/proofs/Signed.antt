@@ -18,7 +18,7 @@ use Rattle.mb_model.specs.Flash.{public_format, public_of_parts}
 use Rattle.mb_model.specs.StoredLog.{AreCounted, CanSign, unsigned_by, signed_for, outgoing_of, completed}
 use Rattle.mb_layout.specs.Edits.{IsCompleted, KeepsRoom}
 use Rattle.mb_layout.specs.UnsignedEntries.{FindsUnsigned, FindsTwoUnsigned}
-use Rattle.mb_completion.specs.Completions.{HasLog, LastIsSigned, LastTwoAreSigned, PendingIsSigned}
+use Rattle.mb_boot.specs.Completions.{HasLog, LastIsSigned, LastTwoAreSigned, PendingIsSigned}
 
 -- ---- the signatures
 

@@ -1,8 +1,8 @@
 use Rattle.std.proofs.Common.{◌≡◌, ◌≤◌, subst, arith}
 use Rattle.mb_model.specs.StoredLog.{unsigned_by}
-use Rattle.mb_completion.specs.Completions.{LastIsSigned, LastTwoAreSigned}
-use Rattle.mb_completion.proofs.Signed.{nothing_pending, nothing_left, signed_by_device, signed_by_outgoing, signed_by_both}
-use Rattle.mb_completion.proofs.pending.sign_pending.Goals as goal
+use Rattle.mb_boot.specs.Completions.{LastIsSigned, LastTwoAreSigned}
+use Rattle.mb_boot.proofs.Signed.{nothing_pending, nothing_left, signed_by_device, signed_by_outgoing, signed_by_both}
+use Rattle.mb_boot.proofs.pending.sign_pending.Goals as goal
 
 pub returns-in_default-clause-signed : goal.returns-in_default-clause-signed
 returns-in_default-clause-signed g c = nothing_pending c.args.root.now c.args.bytes.now c.in_default.is

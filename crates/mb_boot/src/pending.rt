@@ -3,7 +3,7 @@
 ghost use Rattle.std.specs.Prelude.{◌≡◌, ◌+◌, ◌-◌, ◌≤◌, ◌∷◌, IfSome, vec_len, vec_capacity};
 ghost use Rattle.mb_model.specs.Signing.{signature_of};
 ghost use Rattle.mb_model.specs.StoredLog.{unsigned_by, outgoing_of};
-ghost use Rattle.mb_completion.specs.Completions.{LastIsSigned, LastTwoAreSigned, PendingIsSigned};
+ghost use Rattle.mb_boot.specs.Completions.{LastIsSigned, LastTwoAreSigned, PendingIsSigned};
 
 use mb_layout::{complete_record, two_unsigned_entries, unsigned_entry};
 use mb_lms::HashCount;
@@ -80,7 +80,7 @@ fn sign_last_two<L: Ledger>(
 /// Completes the public record in place: each entry that the root leaves unsigned is signed once, by the key and at the
 /// index that the root names, in at most 70,946 hashes. Nothing is said where the bytes are no public record with as many
 /// unsigned entries as the root says. There is room for the signatures.
-pub fn sign_pending<L: Ledger>(root: &Root, bytes: &mut Vec<u8>, hashes: &mut HashCount<L>)
+pub(crate) fn sign_pending<L: Ledger>(root: &Root, bytes: &mut Vec<u8>, hashes: &mut HashCount<L>)
     requires uses { root.now.uses ≤ 32 }
     requires outgoing { IfSome (outgoing_of root.now.pending) (λ outgoing. outgoing.uses ≤ 32) }
     requires few { unsigned_by root.now.pending ≤ 2 }

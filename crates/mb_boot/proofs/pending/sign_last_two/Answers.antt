@@ -1,7 +1,7 @@
 use Rattle.std.proofs.Common.{subst}
 use Rattle.mb_layout.specs.UnsignedEntries.{FindsTwoUnsigned}
-use Rattle.mb_completion.proofs.Signed.{last_two_signed}
-use Rattle.mb_completion.proofs.pending.sign_last_two.Goals as goal
+use Rattle.mb_boot.proofs.Signed.{last_two_signed}
+use Rattle.mb_boot.proofs.pending.sign_last_two.Goals as goal
 
 pub returns-clause-signed : goal.returns-clause-signed
 returns-clause-signed g c = last_two_signed c.args.outgoing.now c.args.index c.args.device.now c.args.bytes.now _ c.two_unsigned_entries.result.0.now c.two_unsigned_entries.result.1.now
