@@ -4,7 +4,7 @@ ghost use Rattle.std.specs.Prelude.{◌≡◌, ◌≤◌, ◌-◌, ℕ, List, le
 ghost use Rattle.mb_model.specs.declared.stored.Root.{Root};
 ghost use Rattle.mb_model.specs.Flash.{flash_area, BeginsArea};
 ghost use Rattle.mb_model.specs.Meaning.{RootIn};
-ghost use Rattle.mb_board.specs.Calls.{IsUp, IsUsable, Ran};
+ghost use Rattle.mb_board.specs.Calls.{IsPowered, IsUp, Ran};
 ghost use Rattle.mb_model_memory.specs.Holding.{KeepsContents};
 ghost use Rattle.mb_area.specs.Roots.{HasSomeRoot};
 ghost use Rattle.mb_area.specs.Records.{BeginsSome};
@@ -51,7 +51,7 @@ pub fn write_public<S: Reaches<One>, B: Board>(s: S, b: &mut B, room: &mut Room)
 /// The number of bytes of the record with which an area of the flash begins.
 #[tactic(auto, using(crate::proofs::Published::length_stands))]
 fn stored_length<B: Board>(b: &B, area: u8) -> usize
-    requires usable { IsUsable (B.seen b.now) }
+    requires powered { IsPowered (B.seen b.now) }
     requires area { area ≤ 1 }
     requires begins { BeginsSome (flash_area (B.seen b.now).memory.flash area) }
     ensures length { (bytes : List ℕ) → BeginsArea (flash_area (B.seen b.now).memory.flash area) bytes
@@ -65,7 +65,7 @@ fn stored_length<B: Board>(b: &B, area: u8) -> usize
 
 /// Replaces `public` of the room by the record with which an area of the flash begins.
 pub fn read_public<B: Board>(b: &B, area: u8, room: &mut Room)
-    requires usable { IsUsable (B.seen b.now) }
+    requires powered { IsPowered (B.seen b.now) }
     requires area { area ≤ 1 }
     requires begins { BeginsSome (flash_area (B.seen b.now).memory.flash area) }
     ensures read { (bytes : List ℕ) → BeginsArea (flash_area (B.seen b.now).memory.flash area) bytes

@@ -67,12 +67,12 @@ pub record Seen : Type 0 where
 abbrev pub held_in : Seen → Held
 held_in seen = held_by seen.memory seen.power seen.level seen.meter
 
--- A board that shows this can be used: power is on, and both memories have the lengths of a loaded board's.
-pub record IsUsable (seen : Seen) : Type 0 where
+-- A board that shows this has its power on, and both memories have the lengths of a loaded board's.
+pub record IsPowered (seen : Seen) : Type 0 where
   pub on : seen.power ≡ true
   pub loaded : IsLoaded seen.memory
 
--- A board that shows this can be used, and its ratchet stands at this level.
+-- A board that shows this can be used at the level: it has its power on, and its ratchet stands there.
 pub record IsUp (level : ℕ) (seen : Seen) : Type 0 where
   pub on : seen.power ≡ true
   pub at_level : seen.level ≡ level

@@ -5,7 +5,7 @@ ghost use Rattle.std.specs.Option.{is_none};
 ghost use Rattle.mb_model.specs.declared.state.State.{State};
 ghost use Rattle.mb_model.specs.Memory.{life_byte, other};
 ghost use Rattle.mb_model.specs.Meaning.{StandsFor};
-ghost use Rattle.mb_board.specs.Calls.{IsMetered, IsUp, IsUsable, Ran};
+ghost use Rattle.mb_board.specs.Calls.{IsMetered, IsPowered, IsUp, Ran};
 ghost use Rattle.mb_model_memory.specs.Holding.{KeepsContents, KeepsMeaning};
 ghost use Rattle.mb_boot.specs.Settling.{IsLive};
 ghost use Rattle.mb_boot.specs.Booting.{IsFoundAs, Rests, IsWiped, Cleans, IsQuiet, StandsForValid, KeepsState, IfUnwritten, stop_of, power_at, HasLevel, is_zeroised};
@@ -34,7 +34,7 @@ pub enum BootEnd {
 
 /// Whether the life byte says that the device is dead.
 fn is_dead<B: Board>(b: &B) -> bool
-    requires usable { IsUsable (B.seen b.now) }
+    requires powered { IsPowered (B.seen b.now) }
     ensures { result ≡ (life_byte (B.seen b.now).memory.bbram == 0) }
 {
     let mut life = [0; 1];

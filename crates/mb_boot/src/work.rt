@@ -2,7 +2,7 @@
 
 ghost use Rattle.std.specs.Prelude.{◌≡◌, ◌≤◌, ◌+◌, length, OnOk};
 ghost use Rattle.mb_model.specs.Meaning.{fate_of_two, fate_of_three};
-ghost use Rattle.mb_board.specs.Calls.{IsUp, IsUsable, Ran};
+ghost use Rattle.mb_board.specs.Calls.{IsPowered, IsUp, Ran};
 ghost use Rattle.mb_model_memory.specs.Holding.{KeepsContents, KeepsMeaning};
 ghost use Rattle.mb_boot.specs.Settling.{IsLive, IsOnlyRoot, AppliesBoth, SpellsSigned, SignsRecord, Settles};
 
@@ -61,7 +61,7 @@ fn apply_fates<B: Board>(
 /// Replaces `public` of the room by the record in force with every entry signed.
 #[tactic(auto, using(crate::proofs::Settled::some_record))]
 fn sign_record<B: Board, L: Ledger>(b: &B, root: &Root, room: &mut Room, hashes: &mut HashCount<L>)
-    requires usable { IsUsable (B.seen b.now) }
+    requires powered { IsPowered (B.seen b.now) }
     requires live { IsLive (B.seen b.now).memory }
     requires root { IsOnlyRoot (B.seen b.now).memory.bbram root.now }
     ensures signed { SpellsSigned (B.seen b.now).memory room.new.public.items }

@@ -9,7 +9,7 @@ ghost use Rattle.mb_model.specs.declared.stored.Public.{Public};
 ghost use Rattle.mb_model.specs.Clean.{root_of};
 ghost use Rattle.mb_model.specs.Flash.{public_format, without_signature};
 ghost use Rattle.mb_model.specs.OrderStep.{code_after, codes_after, obeyed};
-ghost use Rattle.mb_board.specs.Calls.{IsUsable};
+ghost use Rattle.mb_board.specs.Calls.{IsPowered};
 ghost use Rattle.mb_log.specs.Figures.{figures_of};
 ghost use Rattle.mb_orders.specs.Judging.{plan_of};
 ghost use Rattle.mb_model_memory.specs.Commits.{root_for};
@@ -177,7 +177,7 @@ pub fn plan_commit<B: Board>(
     judged: Judged,
     room: &mut Room,
 ) -> Result<Planned, NoMemory>
-    requires usable { IsUsable (B.seen b.now) }
+    requires powered { IsPowered (B.seen b.now) }
     requires bytes { IsBytes (B.seen b.now).memory.bbram }
     requires passed { HasPassed (B.seen b.now).memory judged }
     ensures commit { (state : State) (text : List ℕ) (draw : List ℕ) → IsReady (B.seen b.now).memory state

@@ -4,7 +4,7 @@ ghost use Rattle.std.specs.Prelude.{◌≡◌, ◌+◌, ◌-◌, ◌*◌, ◌≤
 ghost use Rattle.std.specs.Int.{w32, to_be_bytes};
 ghost use Rattle.mb_model.specs.Pieces.{part};
 ghost use Rattle.mb_model.specs.Flash.{flash_area, BeginsArea};
-ghost use Rattle.mb_board.specs.Calls.{IsUsable, Ran};
+ghost use Rattle.mb_board.specs.Calls.{IsPowered, Ran};
 ghost use Rattle.mb_slot.specs.Slots.{IsSameOutside};
 ghost use Rattle.mb_flash.specs.Sectors.{sectors_for};
 
@@ -34,7 +34,7 @@ fn fill_first(count: u32, head: &[u8], piece: &mut [u8])
 /// needs, and none for a sector that holds its bytes already.
 #[tactic(auto, using(crate::proofs::Areas::begins, crate::proofs::Areas::other_kept, crate::proofs::Areas::stands_there))]
 pub fn write_area<B: Board>(b: &mut B, area: u16, bytes: &[u8]) -> Result<(), Stopped>
-    requires usable { IsUsable (B.seen b.old) }
+    requires powered { IsPowered (B.seen b.old) }
     requires area { area ≤ 1 }
     requires short { length bytes.now ≤ 470000 }
     ensures written { OnOk result (BeginsArea (flash_area (B.seen b.new).memory.flash area) bytes.now) }
@@ -50,7 +50,7 @@ pub fn write_area<B: Board>(b: &mut B, area: u16, bytes: &[u8]) -> Result<(), St
 
 /// Writes the length of the record and the record at the start of the area.
 fn write_lengthened<B: Board>(b: &mut B, area: u16, bytes: &[u8]) -> Result<(), Stopped>
-    requires usable { IsUsable (B.seen b.old) }
+    requires powered { IsPowered (B.seen b.old) }
     requires area { area ≤ 1 }
     requires short { length bytes.now ≤ 470000 }
     ensures stored { OnOk result (part (524288 * area) (4 + length bytes.now) (B.seen b.new).memory.flash

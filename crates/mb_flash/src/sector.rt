@@ -3,7 +3,7 @@
 ghost use Rattle.std.specs.Prelude.{◌≡◌, ℕ, ◌+◌, ◌*◌, ◌<◌, ◌≤◌, ◌++◌, ◌⊎◌, ◌↔◌, length, IsTrue, OnOk, Ok};
 ghost use Rattle.mb_model.specs.Pieces.{part};
 ghost use Rattle.mb_model.specs.Board.{erased};
-ghost use Rattle.mb_board.specs.Calls.{IsUsable, Ran};
+ghost use Rattle.mb_board.specs.Calls.{IsPowered, Ran};
 ghost use Rattle.mb_slot.specs.Slots.{IsSameOutside};
 ghost use Rattle.mb_flash.specs.Sectors.{sectors_for};
 
@@ -12,7 +12,7 @@ use mb_model::SECTOR_LENGTH;
 
 /// Whether the sector begins with these bytes, of which there are at most 4,096.
 fn begins_with<B: Board>(b: &B, sector: u16, bytes: &[u8]) -> bool
-    requires usable { IsUsable (B.seen b.now) }
+    requires powered { IsPowered (B.seen b.now) }
     requires sector { sector < 256 }
     requires bytes { length bytes.now ≤ 4096 }
     ensures { IsTrue result ↔ (part (4096 * sector) (length bytes.now) (B.seen b.now).memory.flash ≡ bytes.now) }
@@ -25,7 +25,7 @@ fn begins_with<B: Board>(b: &B, sector: u16, bytes: &[u8]) -> bool
 
 /// Erases the sector.
 fn erase<B: Board>(b: &mut B, sector: u16) -> Result<(), Stopped>
-    requires usable { IsUsable (B.seen b.old) }
+    requires powered { IsPowered (B.seen b.old) }
     requires sector { sector < 256 }
     ensures blank { OnOk result ((n : ℕ) → n ≤ 4096 → part (4096 * sector) n (B.seen b.new).memory.flash ≡ erased n) }
     ensures same { IsSameOutside (4096 * sector) 4096 (B.seen b.old).memory.flash (B.seen b.new).memory.flash }
@@ -37,7 +37,7 @@ fn erase<B: Board>(b: &mut B, sector: u16) -> Result<(), Stopped>
 
 /// Stores bytes, of which there are 1 to 4,096, at the start of the sector, which is erased there.
 fn program<B: Board>(b: &mut B, sector: u16, bytes: &[u8]) -> Result<(), Stopped>
-    requires usable { IsUsable (B.seen b.old) }
+    requires powered { IsPowered (B.seen b.old) }
     requires sector { sector < 256 }
     requires some { 0 < length bytes.now }
     requires bytes { length bytes.now ≤ 4096 }
@@ -53,7 +53,7 @@ fn program<B: Board>(b: &mut B, sector: u16, bytes: &[u8]) -> Result<(), Stopped
 /// Makes the sector begin with these bytes, of which there are 1 to 4,096; what follows them in the sector is any. Nothing
 /// is written where they stand there already.
 pub fn write_sector<B: Board>(b: &mut B, sector: u16, bytes: &[u8]) -> Result<(), Stopped>
-    requires usable { IsUsable (B.seen b.old) }
+    requires powered { IsPowered (B.seen b.old) }
     requires sector { sector < 256 }
     requires some { 0 < length bytes.now }
     requires bytes { length bytes.now ≤ 4096 }
@@ -87,7 +87,7 @@ fn split_piece(bytes: &[u8]) -> (&[u8], &[u8])
 /// Makes the sectors from this one on begin with these bytes, cut into pieces of 4,096. What follows the last of them in its
 /// sector is any. There are at most two write calls a sector.
 pub fn write_sectors<B: Board>(b: &mut B, first: u16, bytes: &[u8]) -> Result<(), Stopped>
-    requires usable { IsUsable (B.seen b.old) }
+    requires powered { IsPowered (B.seen b.old) }
     requires within { first + sectors_for (length bytes.now) ≤ 256 }
     ensures written { OnOk result (part (4096 * first) (length bytes.now) (B.seen b.new).memory.flash ≡ bytes.now) }
     ensures idle { part (4096 * first) (length bytes.now) (B.seen b.old).memory.flash ≡ bytes.now
