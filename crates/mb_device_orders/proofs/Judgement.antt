@@ -26,8 +26,7 @@ use Rattle.mb_model.specs.Work.{view_of}
 use Rattle.mb_model.proofs.OrderFormatLaws.{order_exact}
 use Rattle.mb_model_lemmas.proofs.LogLemmas.{used-bound, number_of-le-length, made-le-length}
 use Rattle.mb_model_lemmas.proofs.ValidStates.{valid_is_ruled}
-use Rattle.mb_log.specs.declared.figures.Figures.{Figures}
-use Rattle.mb_log.specs.Figures.{figures_of}
+use Rattle.mb_model.specs.declared.state.Figures.{Figures}
 use Rattle.mb_orders.specs.declared.end.JudgeEnd.{JudgeEnd}
 use Rattle.mb_orders.specs.Judging.{refusal_of, FailsFor}
 use Rattle.mb_model_memory.specs.Holding.{IsReady}
@@ -87,7 +86,7 @@ pub view_is : (memory : Memory) (state : State) (known : Known) (root : Root) (t
       keys_two = two;
       keys_three = three;
     } ≡ view_of state
-unfolding view_of figures_of
+unfolding view_of
 view_is memory state known root two three ready knows only is_two is_three =
     let serial : known.serial ≡ state.serial = knows.serial in
     let layers : known.figures.layers ≡ state.layers = ap (λ (f : Figures). f.layers) knows.figures ∙ sym ready.valid.layers in
@@ -102,12 +101,10 @@ storable : (known : Known) (memory : Memory) (is : IsRemembered known memory) �
 storable known memory is = stands_storable memory.flash memory.bbram is.state is.ready.means is.ready.valid
 
 pub few_uses : (known : Known) (memory : Memory) → IsRemembered known memory → known.figures.uses ≤ 31
-unfolding figures_of
 few_uses known memory is =
     omega (arith, ap (λ (f : Figures). f.uses) is.knows.figures, used-bound (entries_of is.state.log) (valid_is_ruled is.state is.ready.valid))
 
 pub few_changes : (known : Known) (memory : Memory) → IsRemembered known memory → known.figures.number ≤ 128
-unfolding figures_of
 few_changes known memory is =
     omega (
       arith,
@@ -118,7 +115,6 @@ few_changes known memory is =
     )
 
 pub few_made : (known : Known) (memory : Memory) → IsRemembered known memory → known.figures.keys_made ≤ 128
-unfolding figures_of
 few_made known memory is =
     omega (
       arith,

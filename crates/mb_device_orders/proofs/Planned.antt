@@ -27,14 +27,13 @@ use Rattle.mb_model.specs.declared.stored.Root.{Root}
 use Rattle.mb_model.specs.Board.{Memory}
 use Rattle.mb_model.specs.Clean.{root_of}
 use Rattle.mb_model.specs.Flash.{public_format, public_of_parts, with_signature, without_signature}
-use Rattle.mb_model.specs.Log.{entries_of}
+use Rattle.mb_model.specs.Log.{figures_of, entries_of}
 use Rattle.mb_model.specs.Meaning.{RootIn}
 use Rattle.mb_model.specs.OrderStep.{signed_by, needs_succession, succeeded, changed, keyed, ready_for, codes_after, carried_out, obeyed}
 use Rattle.mb_model.specs.StoredLog.{signed_for, outgoing_of, completed}
 use Rattle.mb_model.specs.Valid.{IsValidState}
 use Rattle.mb_model.specs.Work.{new_entries, pending_for, bodies_for}
 use Rattle.mb_model.proofs.RecordFormatLaws.{public_exact}
-use Rattle.mb_log.specs.Figures.{figures_of}
 use Rattle.mb_orders.specs.declared.plan.Plan.{Plan}
 use Rattle.mb_orders.specs.Judging.{plan_of}
 use Rattle.mb_model_memory.specs.Commits.{root_for}

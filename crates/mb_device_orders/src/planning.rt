@@ -10,7 +10,7 @@ ghost use Rattle.mb_model.specs.Board.{IsLoaded};
 ghost use Rattle.mb_model.specs.Clean.{root_of};
 ghost use Rattle.mb_model.specs.Flash.{public_format, without_signature};
 ghost use Rattle.mb_model.specs.OrderStep.{code_after, codes_after, obeyed};
-ghost use Rattle.mb_log.specs.Figures.{figures_of};
+ghost use Rattle.mb_model.specs.Log.{figures_of};
 ghost use Rattle.mb_orders.specs.Judging.{plan_of};
 ghost use Rattle.mb_layout.specs.Rooms.{HasRoom};
 ghost use Rattle.mb_model_memory.specs.Commits.{root_for};
@@ -23,6 +23,7 @@ use crate::remembering::Known;
 use mb_area::read_public;
 use mb_board::Board;
 use mb_layout::{LayoutEnd, Public, Room, public_of_bytes, write_public_record};
+use mb_log::add_entry;
 use mb_model::{
     Act, Bytes, Codes, Entry, NoMemory, Order, Pending, PublicEntries, PublicEntry, Root,
 };
@@ -163,7 +164,7 @@ fn knows_more(known: &Known, entries: &[Entry]) -> Known
 {
     let mut figures = known.figures;
     for entry in entries {
-        figures.add(entry);
+        add_entry(&mut figures, entry);
     }
     Known {
         serial: known.serial,

@@ -20,7 +20,7 @@ use Rattle.mb_model.specs.declared.state.Codes.{Codes}
 use Rattle.mb_model.specs.declared.state.State.{State}
 use Rattle.mb_model.specs.Layers.{layer_of, is_layer_number}
 use Rattle.mb_model.specs.Rules.{kind_of, change_of, renews, Condition, CanPlace, placed, is_load, may_cosign, kept_regions, admits, after}
-use Rattle.mb_model.specs.Log.{entries_of, layers_of, used, Ruled}
+use Rattle.mb_model.specs.Log.{figures_of, entries_of, layers_of, used, has_version_two, Ruled}
 use Rattle.mb_model.specs.Signing.{public_of}
 use Rattle.mb_model.specs.OrderStep.{region_of, IsCountersigned, next_key, succeeded, device_after, uses_after, code_after, codes_after, cosigned_by, named_next, change_entry, changed, key_entry, keyed}
 use Rattle.mb_model.specs.Valid.{IsNamed, AreNamed, IsValidState}
@@ -157,7 +157,7 @@ pub record MayChange (state : State) (kind : ChangeKind) (order : Order) : Type 
   pub index : used (entries_of state.log) ≡ 31 → IsTrue (renews (Some kind) order.layer)
 
 change_ruled : (state : State) (kind : ChangeKind) (order : Order) (draw : List ℕ) → IsValidState state → MayChange state kind order
-    → Ruled (entries_of state.log) (change_entry state kind order draw)
+    → Ruled (figures_of (entries_of state.log)) (change_entry state kind order draw)
 change_ruled state kind order draw valid may =
     let past : List Entry = entries_of state.log in
     let k : ℕ = order.layer in
@@ -169,17 +169,21 @@ change_ruled state kind order draw valid may =
     let can : CanPlace kind (layer_of state.layers k) new = placed_can (layer_of state.layers k) order.act kind may.kind_is in (
       named_is_some past (public_of state.device) valid.device,
       record {
-        has_version = version_two_may_follow past now;
         counted = refl;
-        allowed = subst (λ (l : Layers). Condition l (Some kind) k) same may.allowed;
-        placed = subst (λ (l : Layers). CanPlace kind (layer_of l k) (layer_of now k)) same (subst (CanPlace kind (layer_of state.layers k)) (sym own) can);
-        changed = ap (after state.layers kind k by) (sym own) ∙ ap (λ (l : Layers). after l kind k by (layer_of now k)) same;
-        cosigned_two = λ h. subst (λ (l : Layers). IsTrue (may_cosign l kind k 2)) same (cosigned_may state order kind 2 may.kind_is may.above may.signed h);
-        cosigned_three = λ h. subst (λ (l : Layers). IsTrue (may_cosign l kind k 3)) same (cosigned_may state order kind 3 may.kind_is may.above may.signed h);
-        regions = ap (λ (l : Layers). kept_regions l kind k by) same;
         renewed = is_named_next (renews (Some kind) k) state draw;
         last_index = λ h. is_named_next (renews (Some kind) k) state draw ∙ may.index h;
       },
+      record {
+        allowed = subst (λ (l : Layers). Condition l (Some kind) k) same may.allowed;
+        placed = subst (λ (l : Layers). CanPlace kind (layer_of l k) (layer_of now k)) same (subst (CanPlace kind (layer_of state.layers k)) (sym own) can);
+        changed = ap (after state.layers kind k by) (sym own) ∙ ap (λ (l : Layers). after l kind k by (layer_of now k)) same;
+        countersigned = record {
+          two = λ h. subst (λ (l : Layers). IsTrue (may_cosign l kind k 2)) same (cosigned_may state order kind 2 may.kind_is may.above may.signed h);
+          three = λ h. subst (λ (l : Layers). IsTrue (may_cosign l kind k 3)) same (cosigned_may state order kind 3 may.kind_is may.above may.signed h);
+        };
+        regions = ap (λ (l : Layers). kept_regions l kind k by) same;
+      },
+      version_two_may_follow (has_version_two past) now,
     )
 
 -- the state after a change is valid
@@ -204,7 +208,7 @@ unfolding keyed
 keyed_valid state L kind draw valid allowed index room =
     let past : List Entry = entries_of state.log in
     let entry : Entry = key_entry state L kind draw in
-    let ruled : Ruled past entry = (
+    let ruled : Ruled (figures_of past) entry = (
       named_is_some past (public_of state.device) valid.device,
       record {
         counted = refl;

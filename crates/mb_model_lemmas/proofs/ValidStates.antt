@@ -20,7 +20,7 @@ use Rattle.mb_model.specs.declared.region.RegionKey.{RegionKey}
 use Rattle.mb_model.specs.declared.state.State.{State}
 use Rattle.mb_model.specs.Layers.{layer_of, is_upper, is_runnable, Runnable}
 use Rattle.mb_model.specs.Rules.{kind_of, change_of, renews, Condition, placed, kept_regions, after}
-use Rattle.mb_model.specs.Log.{entries_of, layers_of, number_of, made, Ruled, RuledLog}
+use Rattle.mb_model.specs.Log.{figures_of, entries_of, layers_of, number_of, made, Ruled, RuledLog}
 use Rattle.mb_model.specs.Regions.{region_after, with_key, KeptRightly}
 use Rattle.mb_model.specs.OrderStep.{region_of, with_region, signed_by, log_with, next_key, cosigned_by, succeeded, changed, keyed}
 use Rattle.mb_model.specs.Refusals.{wrong_layer, refused}
@@ -39,7 +39,7 @@ use Rattle.mb_model_lemmas.proofs.ValidRegions.{valid_over_change, valid_over_ne
 pub follows_is_ruled : (log : List SignedEntry) → EachFollows log → RuledLog (entries_of log)
 follows_is_ruled log each = λ before entry rest split.
     let found = map_split (λ (signed : SignedEntry). signed.entry) log before rest entry split in
-    subst (λ (es : List Entry). Ruled es entry) found.before_is (subst (λ (e : Entry). Ruled (entries_of found.front) e) found.y_is (each found.front found.x found.back found.split).ruled)
+    subst (λ (es : List Entry). Ruled (figures_of es) entry) found.before_is (subst (λ (e : Entry). Ruled (figures_of (entries_of found.front)) e) found.y_is (each found.front found.x found.back found.split).ruled)
 
 pub valid_is_ruled : (state : State) → IsValidState state → RuledLog (entries_of state.log)
 valid_is_ruled state valid = follows_is_ruled state.log valid.log

@@ -162,7 +162,7 @@ public_allowed codes signed unsigned is are others some few =
     let all : AllByRecursion public_entry_format.Allowed entries = all_with signed (map without_signature unsigned) are (all_without unsigned others) in
     (tt, (is, ((omega (arith, some, size), omega (arith, few, size)), all_items public_entry_format (length entries) entries refl all)))
 
-not_empty : (log : List SignedEntry) → entries_of log ≢ [] → 1 ≤ length log
+not_empty : (log : List SignedEntry) → length (entries_of log) ≢ 0 → 1 ≤ length log
 not_empty [] some = absurd (some refl)
 not_empty (signed ∷ rest) some = omega arith
 
