@@ -7,7 +7,7 @@ ghost use Rattle.mb_model.specs.declared.state.State.{State};
 ghost use Rattle.mb_model.specs.Board.{IsLoaded};
 ghost use Rattle.mb_model.specs.Memory.{current};
 ghost use Rattle.mb_model.specs.Meaning.{HoldsRegion};
-ghost use Rattle.mb_model.specs.Work.{view_of};
+ghost use Rattle.mb_model.specs.OrderStep.{view_of};
 ghost use Rattle.mb_orders.specs.Judging.{refusal_of};
 ghost use Rattle.mb_layout.specs.Rooms.{HasRoom};
 ghost use Rattle.mb_region.specs.Regions.{HoldsSomeRegion};

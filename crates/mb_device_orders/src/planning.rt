@@ -9,9 +9,9 @@ ghost use Rattle.mb_model.specs.declared.stored.Public.{Public};
 ghost use Rattle.mb_model.specs.Board.{IsLoaded};
 ghost use Rattle.mb_model.specs.Clean.{root_of};
 ghost use Rattle.mb_model.specs.Flash.{public_format, without_signature};
-ghost use Rattle.mb_model.specs.OrderStep.{code_after, codes_after, obeyed};
+ghost use Rattle.mb_model.specs.OrderStep.{view_of, code_after, codes_after, obeyed};
 ghost use Rattle.mb_model.specs.Log.{figures_of};
-ghost use Rattle.mb_orders.specs.Judging.{plan_of};
+ghost use Rattle.mb_orders.specs.Judging.{plan_by};
 ghost use Rattle.mb_layout.specs.Rooms.{HasRoom};
 ghost use Rattle.mb_model_memory.specs.Commits.{root_for};
 ghost use Rattle.mb_model_memory.specs.Holding.{IsReady};
@@ -139,7 +139,7 @@ fn next_root(root: &Root, plan: &Plan) -> Root
     requires area { root.now.area ≤ 1 }
     requires few { length plan.now.bodies.entries ≤ 2 }
     ensures { (state : State) (order : Order) (draw : List ℕ) → root.now ≡ root_of state root.now.area
-        → plan.now ≡ plan_of state order draw → result ≡ root_for state order draw (1 - root.now.area) }
+        → plan.now ≡ plan_by (view_of state) order draw → result ≡ root_for state order draw (1 - root.now.area) }
 {
     let pending = Pending {
         unsigned: plan.bodies.entries.as_slice().len() as u8,
