@@ -15,7 +15,6 @@ use Rattle.mb_model.specs.Machine.{ratchet, World, Told, awake_in, status_of, st
 use Rattle.mb_model.specs.Refusals.{Refusal, wrong_layer, refused}
 use Rattle.mb_model.specs.Valid.{Valid, IsValidState}
 use Rattle.mb_board.specs.Calls.{held_by}
-use Rattle.mb_log.specs.Figures.{figures_of}
 use Rattle.mb_model_memory.specs.Holding.{IsReady}
 use Rattle.mb_device_orders.specs.Remembering.{Knows}
 use Rattle.mb_device_orders.specs.declared.remembering.Known.{Known}
@@ -30,11 +29,9 @@ use Rattle.mb_device.proofs.Uses.{known_layers, known_runs}
 -- ---- status
 
 pub known_number : (known : Known) (state : State) → Knows known state → known.figures.number ≡ number_of (entries_of state.log)
-unfolding figures_of
 known_number known state knows = ap (λ f. f.number) knows.figures
 
 known_length : (known : Known) (state : State) → Knows known state → known.figures.length ≡ length state.log
-unfolding figures_of
 known_length known state knows = ap (λ f. f.length) knows.figures ∙ length-map {A = SignedEntry} {B = Entry} state.log (λ signed. signed.entry)
 
 status_is : (known : Known) (state : State) → Knows known state → IsValidState state → status_known known ≡ status_of state

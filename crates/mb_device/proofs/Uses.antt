@@ -24,7 +24,6 @@ use Rattle.mb_model.specs.Refusals.{Refusal, wrong_layer, region_full, key_spent
 use Rattle.mb_model.specs.Valid.{Valid, IsValidState}
 use Rattle.mb_board.specs.Calls.{held_by, power_of, level_of, IsMetered}
 use Rattle.mb_model_lemmas.proofs.ValidSteps.{machine_valid}
-use Rattle.mb_log.specs.Figures.{figures_of}
 use Rattle.mb_model_memory.specs.Holding.{IsReady}
 use Rattle.mb_model_memory.specs.Answering.{IsAnswered, lacks, tells, IsCutShort, ComesTo}
 use Rattle.mb_device_orders.specs.Remembering.{Knows}
@@ -43,7 +42,6 @@ use Rattle.mb_device.proofs.Steps.{live_world, the_world, live_sound, running_re
 -- ---- what is remembered of the layers
 
 pub known_layers : (known : Known) (state : State) → Knows known state → IsValidState state → known.figures.layers ≡ state.layers
-unfolding figures_of
 known_layers known state knows valid = ap (λ f. f.layers) knows.figures ∙ sym valid.layers
 
 pub known_runs : (known : Known) (state : State) (L : ℕ) (b : Bool) → Knows known state → IsValidState state → is_runnable known.figures.layers L ≡ b → is_runnable state.layers L ≡ b

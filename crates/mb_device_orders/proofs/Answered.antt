@@ -9,8 +9,7 @@ use Rattle.mb_model.specs.declared.stored.Root.{Root}
 use Rattle.mb_model.specs.Board.{Memory}
 use Rattle.mb_model.specs.Log.{entries_of, number_of}
 use Rattle.mb_model.specs.OrderStep.{OrderStep, is_obeyed, obeyed}
-use Rattle.mb_log.specs.declared.figures.Figures.{Figures}
-use Rattle.mb_log.specs.Figures.{figures_of}
+use Rattle.mb_model.specs.declared.state.Figures.{Figures}
 use Rattle.mb_model_memory.specs.Holding.{Means, IsReady}
 use Rattle.mb_boot.specs.Settling.{IsOnlyRoot}
 use Rattle.mb_device_orders.specs.declared.judging.Judged.{Judged}
@@ -51,7 +50,6 @@ answered_same memory state text draw known answer ready knows (inr step) = tells
 
 -- the answer to an order that is obeyed
 done_is : (known : Known) (next : State) → Knows known next → reply.Done known.figures.number known.figures.length ≡ reply.Done (number_of (entries_of next.log)) (length next.log)
-unfolding figures_of
 done_is known next knows =
     ap (λ (n : ℕ). reply.Done n known.figures.length) (ap (λ (f : Figures). f.number) knows.figures)
     ∙ ap (λ (n : ℕ). reply.Done (number_of (entries_of next.log)) n) (ap (λ (f : Figures). f.length) knows.figures ∙ length-map next.log (λ (signed : SignedEntry). signed.entry))

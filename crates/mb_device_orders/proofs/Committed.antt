@@ -9,7 +9,7 @@ use Rattle.mb_model.specs.Flash.{flash_area, BeginsArea, HoldsPublic}
 use Rattle.mb_model.specs.Meaning.{RootIn}
 use Rattle.mb_model.specs.OrderStep.{obeyed}
 use Rattle.mb_model.specs.RootFormat.{root_format}
-use Rattle.mb_model.specs.Work.{new_entries}
+use Rattle.mb_model_memory.specs.Commits.{new_entries}
 use Rattle.mb_model_lemmas.proofs.ValidSteps.{obeyed_valid}
 use Rattle.mb_model_memory.specs.Commits.{committed, at_rest}
 use Rattle.mb_model_memory.specs.Holding.{Holds, Means, KeepsContents, KeepsMeaning, IsReady}

@@ -7,13 +7,12 @@ use Rattle.mb_model.specs.declared.entry.Entry.{Entry}
 use Rattle.mb_model.specs.declared.entry.SignedEntry.{SignedEntry}
 use Rattle.mb_model.specs.declared.state.Codes.{Codes}
 use Rattle.mb_model.specs.Flash.{public_format, public_of_parts, with_signature}
-use Rattle.mb_model.specs.Log.{entries_of}
+use Rattle.mb_model.specs.Log.{figures_of, entries_of}
 use Rattle.mb_model_lemmas.proofs.ValidStates.{entries_of-push}
 use Rattle.mb_layout.specs.declared.stored_entries.StoredEntries.{StoredEntries}
 use Rattle.mb_layout.specs.StoredEntries.{AreNext}
 use Rattle.mb_layout.proofs.Completing.{parts_allowed}
-use Rattle.mb_log.specs.declared.figures.Figures.{Figures}
-use Rattle.mb_log.specs.Figures.{figures_of}
+use Rattle.mb_model.specs.declared.state.Figures.{Figures}
 
 -- ---- the entries of a stored record
 

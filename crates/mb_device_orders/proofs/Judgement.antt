@@ -13,6 +13,7 @@ use Rattle.mb_model.specs.declared.region.Region.{Region}
 use Rattle.mb_model.specs.declared.reply.Reply.{Reply}
 use Rattle.mb_model.specs.declared.reply.Reply.TheVariants as reply
 use Rattle.mb_model.specs.declared.state.State.{State}
+use Rattle.mb_model.specs.declared.state.View.{View}
 use Rattle.mb_model.specs.declared.stored.Root.{Root}
 use Rattle.mb_model.specs.Board.{Memory}
 use Rattle.mb_model.specs.Clean.{root_of}
@@ -21,13 +22,11 @@ use Rattle.mb_model.specs.Meaning.{HoldsRegion}
 use Rattle.mb_model.specs.Memory.{current}
 use Rattle.mb_model.specs.OrderFormat.{order_format}
 use Rattle.mb_model.specs.Refusals.{Refusal}
-use Rattle.mb_model.specs.OrderStep.{OrderStep, spells_none, fails_check}
-use Rattle.mb_model.specs.Work.{view_of}
+use Rattle.mb_model.specs.OrderStep.{OrderStep, view_of, spells_none, fails_check}
 use Rattle.mb_model.proofs.OrderFormatLaws.{order_exact}
 use Rattle.mb_model_lemmas.proofs.LogLemmas.{used-bound, number_of-le-length, made-le-length}
 use Rattle.mb_model_lemmas.proofs.ValidStates.{valid_is_ruled}
-use Rattle.mb_log.specs.declared.figures.Figures.{Figures}
-use Rattle.mb_log.specs.Figures.{figures_of}
+use Rattle.mb_model.specs.declared.state.Figures.{Figures}
 use Rattle.mb_orders.specs.declared.end.JudgeEnd.{JudgeEnd}
 use Rattle.mb_orders.specs.Judging.{refusal_of, FailsFor}
 use Rattle.mb_model_memory.specs.Holding.{IsReady}
@@ -46,15 +45,16 @@ no_order text end at is are fails order s =
     let there : FailsWhole order_format text at = subst (λ (e : OrderEnd). FailsWholeAt order_format text (text_at e)) is fails in
     (IsClearWhole-from_exact order_exact).never_both text order at are s there
 
-refused_for : (state : State) (text draw : List ℕ) (order : Order) (refusal : Option Refusal) (answer : Reply) → Spells order_format text order → FailsFor state order refusal → answer ≡ reply_for refusal
+refused_for : (state : State) (text draw : List ℕ) (order : Order) (refusal : Option Refusal) (answer : Reply) → Spells order_format text order → FailsFor (view_of state) order refusal → answer ≡ reply_for refusal
     → (answer ≡ reply.NoMemory) ⊎ OrderStep state text draw answer state
 refused_for state text draw order None answer s fails told = inl told
 refused_for state text draw order (Some refusal) answer s fails told =
     inr (fails_check (record { order = order; spelled = s; refusal = refusal; fails = fails; answered = told; stays = refl }))
 
-pub refused_step : (state : State) (text draw : List ℕ) (order : Order) (end : JudgeEnd) (answer : Reply) → Spells order_format text order → FailsFor state order (refusal_of end) → answer ≡ reply_for (refusal_of end)
+pub refused_step : (state : State) (view : View) (text draw : List ℕ) (order : Order) (end : JudgeEnd) (answer : Reply) → view ≡ view_of state → Spells order_format text order → FailsFor view order (refusal_of end) → answer ≡ reply_for (refusal_of end)
     → (answer ≡ reply.NoMemory) ⊎ OrderStep state text draw answer state
-refused_step state text draw order end answer s fails told = refused_for state text draw order (refusal_of end) answer s fails told
+refused_step state view text draw order end answer is s fails told =
+    refused_for state text draw order (refusal_of end) answer s (subst (λ (v : View). FailsFor v order (refusal_of end)) is fails) told
 
 pub none_step : (state : State) (text draw : List ℕ) (answer : Reply) → ReadsText text (Err answer) → (answer ≡ reply.NoMemory) ⊎ OrderStep state text draw answer state
 none_step state text draw answer (inl lacks) = inl lacks
@@ -87,7 +87,6 @@ pub view_is : (memory : Memory) (state : State) (known : Known) (root : Root) (t
       keys_two = two;
       keys_three = three;
     } ≡ view_of state
-unfolding view_of figures_of
 view_is memory state known root two three ready knows only is_two is_three =
     let serial : known.serial ≡ state.serial = knows.serial in
     let layers : known.figures.layers ≡ state.layers = ap (λ (f : Figures). f.layers) knows.figures ∙ sym ready.valid.layers in
@@ -102,12 +101,10 @@ storable : (known : Known) (memory : Memory) (is : IsRemembered known memory) �
 storable known memory is = stands_storable memory.flash memory.bbram is.state is.ready.means is.ready.valid
 
 pub few_uses : (known : Known) (memory : Memory) → IsRemembered known memory → known.figures.uses ≤ 31
-unfolding figures_of
 few_uses known memory is =
     omega (arith, ap (λ (f : Figures). f.uses) is.knows.figures, used-bound (entries_of is.state.log) (valid_is_ruled is.state is.ready.valid))
 
 pub few_changes : (known : Known) (memory : Memory) → IsRemembered known memory → known.figures.number ≤ 128
-unfolding figures_of
 few_changes known memory is =
     omega (
       arith,
@@ -118,7 +115,6 @@ few_changes known memory is =
     )
 
 pub few_made : (known : Known) (memory : Memory) → IsRemembered known memory → known.figures.keys_made ≤ 128
-unfolding figures_of
 few_made known memory is =
     omega (
       arith,

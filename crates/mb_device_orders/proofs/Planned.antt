@@ -27,17 +27,17 @@ use Rattle.mb_model.specs.declared.stored.Root.{Root}
 use Rattle.mb_model.specs.Board.{Memory}
 use Rattle.mb_model.specs.Clean.{root_of}
 use Rattle.mb_model.specs.Flash.{public_format, public_of_parts, with_signature, without_signature}
-use Rattle.mb_model.specs.Log.{entries_of}
+use Rattle.mb_model.specs.Log.{figures_of, entries_of}
 use Rattle.mb_model.specs.Meaning.{RootIn}
-use Rattle.mb_model.specs.OrderStep.{signed_by, needs_succession, succeeded, changed, keyed, ready_for, codes_after, carried_out, obeyed}
+use Rattle.mb_model.specs.OrderStep.{view_of, signed_by, needs_succession, succeeded, changed, keyed, ready_for, codes_after, carried_out, obeyed}
 use Rattle.mb_model.specs.StoredLog.{signed_for, outgoing_of, completed}
 use Rattle.mb_model.specs.Valid.{IsValidState}
-use Rattle.mb_model.specs.Work.{new_entries, pending_for, bodies_for}
+use Rattle.mb_model.specs.Work.{pending_for}
 use Rattle.mb_model.proofs.RecordFormatLaws.{public_exact}
-use Rattle.mb_log.specs.Figures.{figures_of}
 use Rattle.mb_orders.specs.declared.plan.Plan.{Plan}
-use Rattle.mb_orders.specs.Judging.{plan_of}
-use Rattle.mb_model_memory.specs.Commits.{root_for}
+use Rattle.mb_orders.specs.Judging.{plan_by}
+use Rattle.mb_model_memory.specs.Commits.{root_for, new_entries}
+use Rattle.mb_model_lemmas.proofs.AdditionLemmas.{device_is, uses_are}
 use Rattle.mb_model_memory.specs.Holding.{IsReady}
 use Rattle.mb_model_memory.specs.Storable.{IsStorableState}
 use Rattle.mb_model_memory.proofs.CommitLemmas.{kept_ready, obeyed_serial, committed_log, commit_counted}
@@ -138,8 +138,8 @@ with_order_is state order draw =
     ap (λ (codes : Codes). public_with codes ((map with_signature state.log ++ []) ++ more)) (sym (obeyed_codes state order draw))
     ∙ ap (λ (xs : List PublicEntry). public_with (obeyed state order draw).codes (xs ++ more)) (append-nil (map with_signature state.log))
 
-entries_are : (state : State) (order : Order) (draw : List ℕ) (plan : Plan) → plan ≡ plan_of state order draw → plan.bodies.entries ≡ new_entries state order draw
-unfolding plan_of bodies_for
+entries_are : (state : State) (order : Order) (draw : List ℕ) (plan : Plan) → plan ≡ plan_by (view_of state) order draw → plan.bodies.entries ≡ new_entries state order draw
+unfolding plan_by
 entries_are state order draw plan is = ap (λ (p : Plan). p.bodies.entries) is
 
 pub planned_entries : (state : State) (text draw : List ℕ) (judged : Judged) → IsPassed state text draw judged → judged.plan.bodies.entries ≡ new_entries state judged.order draw
@@ -177,14 +177,18 @@ root_with root plan unsigned = record {
   pending = Some (record { unsigned = unsigned; outgoing = plan.bodies.outgoing; two = plan.two; three = plan.three });
 }
 
-pub root_planned : (state : State) (order : Order) (draw : List ℕ) (root : Root) (plan : Plan) (unsigned : ℕ) → root ≡ root_of state root.area → plan ≡ plan_of state order draw → unsigned ≡ length plan.bodies.entries
+pub root_planned : (state : State) (order : Order) (draw : List ℕ) (root : Root) (plan : Plan) (unsigned : ℕ) → root ≡ root_of state root.area → plan ≡ plan_by (view_of state) order draw → unsigned ≡ length plan.bodies.entries
     → root_with root plan unsigned ≡ root_for state order draw (1 - root.area)
-unfolding root_for pending_for plan_of bodies_for
+unfolding root_for pending_for plan_by
 root_planned state order draw root plan unsigned is_root is_plan size =
-    let counted : unsigned ≡ (if needs_succession state order then 2 else 1) = size ∙ ap length (entries_are state order draw plan is_plan) ∙ (commit_counted state order draw 0).counted in
+    let counted : unsigned ≡ (if needs_succession (view_of state) order then 2 else 1) = size ∙ ap length (entries_are state order draw plan is_plan) ∙ (commit_counted state order draw 0).counted in
+    let planned : Plan = plan_by (view_of state) order draw in
+    let unsigned_by : ℕ = if needs_succession (view_of state) order then 2 else 1 in
     ap (λ (p : Plan). root_with root p unsigned) is_plan
-    ∙ ap (λ (n : ℕ). root_with root (plan_of state order draw) n) counted
-    ∙ ap (λ (serial : List ℕ). let r : Root = record (root_with root (plan_of state order draw) (if needs_succession state order then 2 else 1)) { serial = serial } in r) (ap (λ (r : Root). r.serial) is_root)
+    ∙ ap (λ (n : ℕ). root_with root planned n) counted
+    ∙ ap (λ (serial : List ℕ). let r : Root = record (root_with root planned unsigned_by) { serial = serial } in r) (ap (λ (r : Root). r.serial) is_root)
+    ∙ ap (λ (device : KeySeed). let r : Root = record (root_with root planned unsigned_by) { serial = state.serial; device = device } in r) (device_is state order draw)
+    ∙ ap (λ (uses : ℕ). let r : Root = record (root_with root planned unsigned_by) { serial = state.serial; device = (obeyed state order draw).device; uses = uses } in r) (uses_are state order draw)
 
 few_by : (b : Bool) (n : ℕ) → n ≡ (if b then 2 else 1) → n ≤ 2
 few_by true n e = omega (arith, e)
@@ -192,7 +196,7 @@ few_by false n e = omega (arith, e)
 
 new_few : (state : State) (order : Order) (draw : List ℕ) → length (new_entries state order draw) ≤ 2
 unfolding root_for pending_for
-new_few state order draw = few_by (needs_succession state order) _ (commit_counted state order draw 0).counted
+new_few state order draw = few_by (needs_succession (view_of state) order) _ (commit_counted state order draw 0).counted
 
 pub planned_few : (memory : Memory) (judged : Judged) → HasPassed memory judged → length judged.plan.bodies.entries ≤ 2
 planned_few memory judged has =
@@ -239,7 +243,7 @@ knows_next memory state text draw judged known next ready knows passed serial ad
 
 pub commit_is : (memory : Memory) (state : State) (text draw : List ℕ) (judged : Judged) (root : Root) (bytes : List ℕ) (ready : IsReady memory state) → IsBytes memory.bbram → IsPassed state text draw judged
     → ((any : Root) → RootIn memory.bbram any → any ≡ judged.root)
-    → ((state : State) (order : Order) (draw : List ℕ) → judged.root ≡ root_of state judged.root.area → judged.plan ≡ plan_of state order draw → root ≡ root_for state order draw (1 - judged.root.area))
+    → ((state : State) (order : Order) (draw : List ℕ) → judged.root ≡ root_of state judged.root.area → judged.plan ≡ plan_by (view_of state) order draw → root ≡ root_for state order draw (1 - judged.root.area))
     → (entries : List Entry) → entries ≡ judged.plan.bodies.entries
     → Spells public_format bytes (with_order judged.order.layer judged.order.act entries (public_of_parts state.codes state.log []))
     → IsCommit memory root bytes state judged.order draw

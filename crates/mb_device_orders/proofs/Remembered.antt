@@ -6,12 +6,11 @@ use Rattle.mb_model.specs.declared.state.Codes.{Codes}
 use Rattle.mb_model.specs.declared.state.State.{State}
 use Rattle.mb_model.specs.declared.stored.Root.{Root}
 use Rattle.mb_model.specs.Board.{Memory}
-use Rattle.mb_model.specs.Log.{entries_of}
+use Rattle.mb_model.specs.Log.{figures_of, entries_of}
 use Rattle.mb_model.specs.Flash.{public_format, public_of_parts, flash_area, BeginsArea, BeginsWithRecord}
 use Rattle.mb_model.specs.Meaning.{RootIn}
 use Rattle.mb_model.specs.Clean.{root_of}
-use Rattle.mb_log.specs.declared.figures.Figures.{Figures}
-use Rattle.mb_log.specs.Figures.{figures_of}
+use Rattle.mb_model.specs.declared.state.Figures.{Figures}
 use Rattle.mb_model_memory.specs.Commits.{at_rest}
 use Rattle.mb_model_memory.specs.Holding.{Holds, IsReady, HasReady}
 use Rattle.mb_model_memory.proofs.RestLemmas.{clean_and_stands, rests_by_root}

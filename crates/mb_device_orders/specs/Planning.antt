@@ -13,10 +13,9 @@ use Rattle.mb_model.specs.Board.{Memory}
 use Rattle.mb_model.specs.Flash.{public_format, public_of_parts, without_signature}
 use Rattle.mb_model.specs.OrderFormat.{order_format}
 use Rattle.mb_model.specs.Refusals.{Refusal, bad_text, refused}
-use Rattle.mb_model.specs.OrderStep.{OrderStep, Passes, codes_after, obeyed}
-use Rattle.mb_model.specs.Work.{new_entries}
-use Rattle.mb_orders.specs.Judging.{plan_of}
-use Rattle.mb_model_memory.specs.Commits.{root_for, at_rest}
+use Rattle.mb_model.specs.OrderStep.{OrderStep, view_of, Passes, codes_after, obeyed}
+use Rattle.mb_orders.specs.Judging.{plan_by}
+use Rattle.mb_model_memory.specs.Commits.{root_for, new_entries, at_rest}
 use Rattle.mb_model_memory.specs.Holding.{Holds, IsReady}
 use Rattle.mb_boot.specs.Settling.{IsOnlyRoot}
 use Rattle.mb_device_orders.specs.declared.judging.Judged.{Judged}
@@ -37,8 +36,8 @@ ReadsText text (Err answer) =
 -- the bytes spell an order that passes in this state, and this is what it comes to
 pub record IsPassed (state : State) (text draw : List ℕ) (judged : Judged) : Type 0 where
   pub spelled : Spells order_format text judged.order
-  pub passes : Passes state judged.order
-  pub plan : judged.plan ≡ plan_of state judged.order draw
+  pub passes : Passes (view_of state) judged.order
+  pub plan : judged.plan ≡ plan_by (view_of state) judged.order draw
 
 -- what judging bytes in this state comes to: an order that passes, or an answer by which nothing changes
 abbrev pub JudgesText : State → List ℕ → List ℕ → Result Judged Reply → Type 0
@@ -80,7 +79,7 @@ pub record IsCommit
     (memory : Memory) (root : Root) (bytes : List ℕ) (state : State) (order : Order) (draw : List ℕ) : Type 0 where
   pub ready : IsReady memory state
   pub allowed : order_format.Allowed order
-  pub passes : Passes state order
+  pub passes : Passes (view_of state) order
   pub area : ℕ
   pub holds : Holds memory (at_rest state area)
   pub root_is : root ≡ root_for state order draw (1 - area)

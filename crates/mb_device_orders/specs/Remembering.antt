@@ -2,8 +2,7 @@
 use Rattle.std.specs.Prelude.{◌≡◌}
 use Rattle.mb_model.specs.declared.state.State.{State}
 use Rattle.mb_model.specs.Board.{Memory}
-use Rattle.mb_model.specs.Log.{entries_of}
-use Rattle.mb_log.specs.Figures.{figures_of}
+use Rattle.mb_model.specs.Log.{figures_of, entries_of}
 use Rattle.mb_model_memory.specs.Holding.{IsReady}
 use Rattle.mb_device_orders.specs.declared.remembering.Known.{Known}
 

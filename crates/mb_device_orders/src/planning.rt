@@ -8,10 +8,10 @@ ghost use Rattle.mb_model.specs.declared.state.State.{State};
 ghost use Rattle.mb_model.specs.declared.stored.Public.{Public};
 ghost use Rattle.mb_model.specs.Clean.{root_of};
 ghost use Rattle.mb_model.specs.Flash.{public_format, without_signature};
-ghost use Rattle.mb_model.specs.OrderStep.{code_after, codes_after, obeyed};
+ghost use Rattle.mb_model.specs.OrderStep.{view_of, code_after, codes_after, obeyed};
+ghost use Rattle.mb_model.specs.Log.{figures_of};
 ghost use Rattle.mb_board.specs.Calls.{IsPowered};
-ghost use Rattle.mb_log.specs.Figures.{figures_of};
-ghost use Rattle.mb_orders.specs.Judging.{plan_of};
+ghost use Rattle.mb_orders.specs.Judging.{plan_by};
 ghost use Rattle.mb_model_memory.specs.Commits.{root_for};
 ghost use Rattle.mb_model_memory.specs.Holding.{IsReady};
 ghost use Rattle.mb_device_orders.specs.Remembering.{Knows};
@@ -22,6 +22,7 @@ use crate::remembering::Known;
 use mb_area::read_public;
 use mb_board::Board;
 use mb_layout::{LayoutEnd, Public, Room, public_of_bytes, write_public_record};
+use mb_log::add_entry;
 use mb_model::{
     Act, Bytes, Codes, Entry, NoMemory, Order, Pending, PublicEntries, PublicEntry, Root,
 };
@@ -135,7 +136,7 @@ fn next_root(root: &Root, plan: &Plan) -> Root
     requires area { root.now.area ≤ 1 }
     requires few { length plan.now.bodies.entries ≤ 2 }
     ensures { (state : State) (order : Order) (draw : List ℕ) → root.now ≡ root_of state root.now.area
-        → plan.now ≡ plan_of state order draw → result ≡ root_for state order draw (1 - root.now.area) }
+        → plan.now ≡ plan_by (view_of state) order draw → result ≡ root_for state order draw (1 - root.now.area) }
 {
     let pending = Pending {
         unsigned: plan.bodies.entries.as_slice().len() as u8,
@@ -160,7 +161,7 @@ fn knows_more(known: &Known, entries: &[Entry]) -> Known
 {
     let mut figures = known.figures;
     for entry in entries {
-        figures.add(entry);
+        add_entry(&mut figures, entry);
     }
     Known {
         serial: known.serial,

@@ -6,8 +6,7 @@ ghost use Rattle.mb_model.specs.declared.entry.SignedEntry.{SignedEntry};
 ghost use Rattle.mb_model.specs.declared.state.Codes.{Codes};
 ghost use Rattle.mb_model.specs.declared.state.State.{State};
 ghost use Rattle.mb_model.specs.Flash.{public_format, public_of_parts};
-ghost use Rattle.mb_model.specs.Log.{entries_of};
-ghost use Rattle.mb_log.specs.Figures.{figures_of};
+ghost use Rattle.mb_model.specs.Log.{figures_of, entries_of};
 ghost use Rattle.mb_board.specs.Calls.{IsUp};
 ghost use Rattle.mb_model_memory.specs.Holding.{IsReady, HasReady};
 ghost use Rattle.mb_device_orders.specs.Remembering.{Knows};
@@ -15,7 +14,8 @@ ghost use Rattle.mb_device_orders.specs.Remembering.{Knows};
 use mb_area::{read_public, read_root};
 use mb_board::Board;
 use mb_layout::{Room, StoredEntries};
-use mb_log::Figures;
+use mb_log::{add_entry, no_figures};
+use mb_model::Figures;
 use mb_ratchet::{R1, Up};
 
 /// What a device remembers of its state while power is on.
@@ -34,10 +34,10 @@ fn figures_in(bytes: &[u8]) -> Figures
         → result ≡ figures_of (entries_of log) }
 {
     let mut stored = StoredEntries::of(bytes);
-    let mut figures = Figures::none();
+    let mut figures = no_figures();
     for _i in 0..stored.left() {
         if let Some(entry) = stored.next() {
-            figures.add(&entry);
+            add_entry(&mut figures, &entry);
         }
     }
     figures

@@ -28,7 +28,7 @@ kept_is : (log before later : List Entry) (version position number : ℕ) (kind 
     → IsTrue (is_upper L) → RuledLog log → log ≡ before ++ Change version position number kind k cosigned layers kept next ∷ later
     → is_in L kept ≡ (nat_lt L k || admits (layers_of before) kind k cosigned L)
 kept_is log before later version position number kind k cosigned layers kept next L upper ruled split =
-    ap (is_in L) (ruled before (Change version position number kind k cosigned layers kept next) later split).1.regions
+    ap (is_in L) (ruled before (Change version position number kind k cosigned layers kept next) later split).2.regions
     ∙ kept_at (layers_of before) kind k cosigned L upper
 
 either : (beneath agrees kept : Bool) → kept ≡ (beneath || agrees) → beneath ≡ false → kept ≡ true → agrees ≡ true

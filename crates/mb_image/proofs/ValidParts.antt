@@ -10,7 +10,7 @@ use Rattle.mb_model.specs.declared.region.Region.{Region}
 use Rattle.mb_model.specs.declared.region.Secret.{Secret}
 use Rattle.mb_model.specs.declared.state.State.{State}
 use Rattle.mb_model.specs.Layers.{layer_of, is_upper}
-use Rattle.mb_model.specs.Log.{entries_of, number_of, layers_of, device_of, serial_of, used, RuledLog}
+use Rattle.mb_model.specs.Log.{figures_of, entries_of, number_of, layers_of, device_of, serial_of, used, RuledLog}
 use Rattle.mb_model.specs.Lives.{alive_keys}
 use Rattle.mb_model.specs.Regions.{empty_region, AdmittedSince}
 use Rattle.mb_model.specs.Signing.{public_of}
@@ -21,8 +21,7 @@ use Rattle.mb_image.specs.Losses.{loss}
 use Rattle.mb_image.proofs.Admission.{admitted_after, lost_before, alive_keys_are_admitted}
 use Rattle.mb_image.proofs.RegionSteps.{Differ}
 use Rattle.mb_model.specs.declared.key.PublicKey.{PublicKey}
-use Rattle.mb_log.specs.declared.figures.Figures.{Figures}
-use Rattle.mb_log.specs.Figures.{figures_of}
+use Rattle.mb_model.specs.declared.state.Figures.{Figures}
 use Rattle.mb_log.proofs.KeyLives.{figures_layers}
 
 -- ---- secrets

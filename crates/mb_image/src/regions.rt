@@ -10,8 +10,8 @@ ghost use Rattle.mb_image.specs.Losses.{loss};
 
 use crate::alive::{MadeKey, alive_keys};
 use mb_lms::HashCount;
-use mb_log::{Figures, ends};
-use mb_model::{Entry, KeyKind, Layers, NoMemory, Region, RegionKey, Secret, SignedEntry};
+use mb_log::ends;
+use mb_model::{Entry, Figures, KeyKind, Layers, NoMemory, Region, RegionKey, Secret, SignedEntry};
 use mb_signer::public;
 use std::alloc::Global;
 use std::sync::ledger::Ledger;

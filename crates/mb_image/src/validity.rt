@@ -2,17 +2,16 @@
 
 ghost use Rattle.std.specs.Prelude.{◌≡◌, ◌↔◌, ◌+◌, ◌≤◌, ◌-◌, ◌^◌, ◌<◌, length, All, IfOk, IsTrue, Some};
 ghost use Rattle.mb_model.specs.EntryFormat.{entry_format};
-ghost use Rattle.mb_model.specs.Log.{entries_of, layers_of, device_of, serial_of, used};
+ghost use Rattle.mb_model.specs.Log.{figures_of, entries_of, layers_of, device_of, serial_of, used};
 ghost use Rattle.mb_model.specs.Signing.{public_of};
 ghost use Rattle.mb_model.specs.Valid.{IsValidState};
-ghost use Rattle.mb_log.specs.Figures.{figures_of};
 
 use crate::codes::are_named;
 use crate::log::figures_of;
 use crate::regions::is_valid_region;
 use mb_lms::HashCount;
-use mb_log::{Figures, serial_of};
-use mb_model::{NoMemory, PublicKey, SignedEntry, State};
+use mb_log::serial_of;
+use mb_model::{Figures, NoMemory, PublicKey, SignedEntry, State};
 use std::alloc::Global;
 use std::sync::ledger::Ledger;
 
@@ -46,7 +45,6 @@ pub(crate) fn is_valid<L: Ledger>(
 
 /// Whether the serial is that of the birth, the device key the one that is named last, and its uses those that the log
 /// tells, whose figures are given.
-#[tactic(auto, unfolding(mb_log::specs::Figures::figures_of))]
 fn is_device(log: &[SignedEntry], figures: &Figures, state: &State, device: &PublicKey) -> bool
     requires { figures.now ≡ figures_of (entries_of log.now) }
     ensures { IsTrue result ↔ ((serial_of (entries_of log.now) ≡ Some state.now.serial) × (device_of (entries_of log.now) ≡ Some device.now) × (state.now.uses ≡ used (entries_of log.now))) }

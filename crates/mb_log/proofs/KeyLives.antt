@@ -8,15 +8,14 @@ use Rattle.mb_model.specs.declared.order.KeyKind.{KeyKind}
 use Rattle.mb_model.specs.declared.entry.Entry.{Entry}
 use Rattle.mb_model.specs.declared.entry.Entry.TheVariants.{Birth, Change, NewKey, Succession}
 use Rattle.mb_model.specs.declared.state.Configuration.{Configuration}
-use Rattle.mb_model.specs.Log.{number_of, layers_of, last_of, RuledLog}
+use Rattle.mb_model.specs.Log.{figures_of, number_of, layers_of, last_of, RuledLog}
 use Rattle.mb_model.specs.Lives.{ends, configuration, opened_by, lives_of}
 use Rattle.mb_model.specs.Acceptance.{KeyEntry, key_in, key_of, is_alive}
 use Rattle.mb_model_lemmas.proofs.ReaderLemmas.{no_lives_unmade, first_sight, first_lives, first_alive, stays_made, stays_alive, lives_on}
 use Rattle.mb_model_lemmas.proofs.Splits.{some_same, none_is_some}
 use Rattle.mb_log.specs.declared.life.BornKey.{BornKey}
 use Rattle.mb_log.specs.declared.life.Life.{Life}
-use Rattle.mb_log.specs.declared.figures.Figures.{Figures}
-use Rattle.mb_log.specs.Figures.{figures_of}
+use Rattle.mb_model.specs.declared.state.Figures.{Figures}
 use Rattle.mb_log.specs.KeyLife.{as_entry, IsLifeOf}
 
 no_key : (n : ℕ) → key_of [] n ≡ None
@@ -68,11 +67,9 @@ other_born before entry position number key_number n layer kind key life entry_i
 
 -- what the figures tell
 pub figures_number : (figures : Figures) (before : List Entry) → figures ≡ figures_of before → figures.number ≡ number_of before
-unfolding figures_of
 figures_number figures before is = ap (λ (f : Figures). f.number) is
 
 pub figures_layers : (figures : Figures) (before : List Entry) → figures ≡ figures_of before → figures.layers ≡ layers_of before
-unfolding figures_of
 figures_layers figures before is = ap (λ (f : Figures). f.layers) is
 
 -- the life of a key that its entry makes

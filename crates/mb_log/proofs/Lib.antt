@@ -1,5 +1,4 @@
 pub mod Added
-pub mod Allowed
 pub mod Fronts
 pub mod KeyLives
 pub mod Pushes

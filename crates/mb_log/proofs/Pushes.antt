@@ -8,10 +8,9 @@ use Rattle.mb_model.specs.declared.key.PublicKey.{PublicKey}
 use Rattle.mb_model.specs.declared.layer.Layers.{Layers}
 use Rattle.mb_model.specs.declared.entry.Entry.{Entry}
 use Rattle.mb_model.specs.Layers.{unowned_layers}
-use Rattle.mb_model.specs.Log.{is_change, is_version_two, layers_in, device_in, keys_in, last_of, number_of, layers_of, device_of, used, made, has_version_two}
+use Rattle.mb_model.specs.Log.{figures_of, is_change, is_version_two, layers_in, device_in, keys_in, last_of, number_of, layers_of, device_of, used, made, has_version_two}
 use Rattle.mb_model_lemmas.proofs.LogLemmas.{number_of-push, layers_of-push, device_of-push, used-push, made-push, has_version_two-push, number_of-le-length, made-le-length}
-use Rattle.mb_log.specs.declared.figures.Figures.{Figures}
-use Rattle.mb_log.specs.Figures.{figures_of}
+use Rattle.mb_model.specs.declared.state.Figures.{Figures}
 
 -- the figures with those of one more entry
 abbrev pub with_entry : Figures → Entry → Figures
@@ -27,7 +26,7 @@ with_entry figures entry = record {
 
 -- the figures of no entries
 pub figures_nil : figures_of [] ≡ record { length = 0; number = 0; layers = unowned_layers; device = None; uses = 0; keys_made = 0; version_two = false }
-unfolding figures_of number_of layers_of device_of last_of used made has_version_two
+unfolding number_of layers_of device_of last_of used made has_version_two
 figures_nil = refl
 
 -- no more entries stand after the last key than there are
@@ -50,7 +49,6 @@ same_figures : (a b e f a' b' e' f' : ℕ) (c c' : Layers) (d d' : Option Public
 same_figures a b e f a' b' e' f' c c' d d' g g' ea eb ec ed ee ef eg = cc
 
 pub figures_more : (before : List Entry) (entry : Entry) → length before < 2 ^ 32 - 1 → figures_of (before ++ entry ∷ []) ≡ with_entry (figures_of before) entry
-unfolding figures_of
 figures_more before entry few =
     let log : List Entry = before ++ entry ∷ [] in
     let longer : length log ≡ length before + 1 = length-append before (entry ∷ []) in

@@ -1,4 +1,3 @@
 pub mod Additions
-pub mod Figures
 pub mod Following
 pub mod KeyLife

@@ -1,11 +1,10 @@
 //! What an order adds to a device: the entries that it appends, and the keys that it makes.
 
 ghost use Rattle.std.specs.Prelude.{◌≡◌, ◌+◌, ◌<◌, ◌≤◌, [], ◌∷◌, ◌++◌, IfOk, OnErr, vec_len, vec_capacity, if◌then◌else◌};
-ghost use Rattle.mb_model.specs.declared.order.Order.{Order};
-ghost use Rattle.mb_model.specs.declared.state.State.{State};
 ghost use Rattle.mb_model.specs.Signing.{public_of};
-ghost use Rattle.mb_model.specs.Work.{view_of, fact_of, bodies_for};
-ghost use Rattle.mb_log.specs.Additions.{needed_with, names_next, HasRoom, next_by, ready_by, first_by, next_public, entry_by, device_by, uses_by, key_by, outgoing_by};
+ghost use Rattle.mb_model.specs.OrderStep.{names_next, next_key, named_next, entry_of, device_after, uses_after};
+ghost use Rattle.mb_model.specs.Work.{ready_by, first_by, key_by, outgoing_by, bodies_by};
+ghost use Rattle.mb_log.specs.Additions.{needed_with, HasRoom};
 
 use crate::keys::born;
 use mb_authority::renews;
@@ -49,7 +48,7 @@ pub fn bodies<L: Ledger>(
     requires room { HasRoom view.now fact.now }
     requires number { view.now.number ≤ 128 }
     requires keys_made { view.now.keys_made ≤ 128 }
-    ensures bodies { (state : State) (order : Order) → view.now ≡ view_of state → fact.now ≡ fact_of state order order.act → IfOk result (λ bodies. bodies ≡ bodies_for state order draw.now) }
+    ensures bodies { IfOk result (λ bodies. bodies ≡ bodies_by view.now fact.now draw.now) }
     ensures cost { hashes.new ≤ hashes.old + 68798 }
     ensures unhashed { OnErr result (hashes.new ≡ hashes.old) }
 {
@@ -134,8 +133,8 @@ struct MadeKey {
 
 /// The key that the device makes next.
 fn make_key<L: Ledger>(view: &View, draw: &[u8; 32], hashes: &mut HashCount<L>) -> MadeKey
-    ensures seed { result.seed ≡ next_by view.now draw.now }
-    ensures public { result.public ≡ public_of (next_by view.now draw.now) }
+    ensures seed { result.seed ≡ next_key view.now draw.now }
+    ensures public { result.public ≡ public_of (next_key view.now draw.now) }
     ensures counted { hashes.new ≡ hashes.old + 34399 }
 {
     let seed = born(draw, &view.serial, view.keys_made);
@@ -163,8 +162,8 @@ fn device_after<L: Ledger>(
     hashes: &mut HashCount<L>,
 ) -> DeviceKey
     requires { view.now.uses ≤ 31 }
-    ensures named { result.named ≡ next_public names_next view.now draw.now }
-    ensures seed { result.seed ≡ (if names_next then next_by view.now draw.now else view.now.device) }
+    ensures named { result.named ≡ named_next names_next view.now draw.now }
+    ensures seed { result.seed ≡ (if names_next then next_key view.now draw.now else view.now.device) }
     ensures uses { result.uses ≡ (if names_next then 0 else view.now.uses + 1) }
     ensures cost { hashes.new ≤ hashes.old + 34399 }
 {
@@ -204,9 +203,9 @@ fn own_addition<L: Ledger>(
 ) -> Addition
     requires uses { view.now.uses ≤ 31 }
     requires number { view.now.number ≤ 128 }
-    ensures entry { result.entry ≡ entry_by view.now fact.now draw.now }
-    ensures device { result.device ≡ device_by view.now fact.now draw.now }
-    ensures uses { result.uses ≡ uses_by view.now fact.now }
+    ensures entry { result.entry ≡ entry_of view.now fact.now draw.now }
+    ensures device { result.device ≡ device_after (names_next fact.now) view.now draw.now }
+    ensures uses { result.uses ≡ uses_after (names_next fact.now) view.now }
     ensures key { result.key ≡ key_by view.now fact.now draw.now }
     ensures cost { hashes.new ≤ hashes.old + 34399 }
 {
@@ -250,7 +249,7 @@ fn key_addition<L: Ledger>(
     hashes: &mut HashCount<L>,
 ) -> Addition
     requires { view.now.uses ≤ 31 }
-    ensures entry { result.entry ≡ entry_by view.now (Fact.NewKey layer kind) draw.now }
+    ensures entry { result.entry ≡ entry_of view.now (Fact.NewKey layer kind) draw.now }
     ensures device { result.device ≡ view.now.device }
     ensures uses { result.uses ≡ view.now.uses + 1 }
     ensures key { result.key ≡ key_by view.now (Fact.NewKey layer kind) draw.now }

@@ -1,83 +1,60 @@
-//! What a list of entries says together.
+//! The figures of a log: what its entries say together.
 
 ghost use Rattle.std.specs.Prelude.{◌≡◌, ◌+◌, ◌-◌, ◌^◌, ◌<◌, ◌≤◌, List, [], ◌∷◌, ◌++◌, length};
 ghost use Rattle.mb_model.specs.declared.entry.Entry.{Entry};
 ghost use Rattle.mb_model.specs.Layers.{unowned, unowned_layers};
-ghost use Rattle.mb_model.specs.Log.{entries_of, is_change, is_version_two, layers_in, layers_of, device_in, keys_in};
-ghost use Rattle.mb_log.specs.Figures.{figures_of};
+ghost use Rattle.mb_model.specs.Log.{figures_of, entries_of, is_change, is_version_two, layers_in, layers_of, device_in, keys_in};
 
-use mb_model::{Entry, Layer, Layers, PublicKey, SignedEntry, Trust, Trusts};
+use mb_model::{Entry, Figures, Layer, Layers, PublicKey, SignedEntry, Trust, Trusts};
 
-/// What the entries of a list say together: all by which the next entry is judged.
-#[derive(Clone, Copy)]
-pub struct Figures {
-    /// How many entries there are.
-    pub length: u32,
-    /// The configuration number: how many of them are changes.
-    pub number: u32,
-    /// The layers of the last birth or change.
-    pub layers: Layers,
-    /// The device key that is named last.
-    pub device: Option<PublicKey>,
-    /// How many entries stand after the one that names it.
-    pub uses: u32,
-    /// How many keys the entries name.
-    pub keys_made: u32,
-    /// Whether an entry has version 2.
-    pub version_two: bool,
+/// The figures of an empty log.
+#[tactic(auto, using(crate::proofs::Pushes::figures_nil))]
+pub fn no_figures() -> Figures
+    ensures { result ≡ figures_of [] }
+{
+    Figures {
+        length: 0,
+        number: 0,
+        layers: unowned_layers(),
+        device: None,
+        uses: 0,
+        keys_made: 0,
+        version_two: false,
+    }
 }
 
-impl Figures {
-    /// Those of no entries.
-    #[tactic(auto, using(crate::proofs::Pushes::figures_nil))]
-    pub fn none() -> Figures
-        ensures { result ≡ figures_of [] }
-    {
-        Figures {
-            length: 0,
-            number: 0,
-            layers: unowned_layers(),
-            device: None,
-            uses: 0,
-            keys_made: 0,
-            version_two: false,
-        }
+/// The figures of a log.
+pub fn figures_of(log: &[SignedEntry]) -> Figures
+    requires { length log.now ≤ 128 }
+    ensures { result ≡ figures_of (entries_of log.now) }
+{
+    let mut figures = no_figures();
+    for signed in log {
+        add_entry(&mut figures, &signed.entry);
     }
+    figures
+}
 
-    /// Those of the entries of a log.
-    pub fn of(log: &[SignedEntry]) -> Figures
-        requires { length log.now ≤ 128 }
-        ensures { result ≡ figures_of (entries_of log.now) }
-    {
-        let mut figures = Figures::none();
-        for signed in log {
-            figures.add(&signed.entry);
-        }
-        figures
-    }
-
-    /// Those of the same entries and one more. A count stands still at the end of its type, which is past what any
-    /// list in memory reaches.
-    #[tactic(auto, using(crate::proofs::Pushes::figures_more))]
-    pub fn add(&mut self, entry: &Entry)
-        ensures { (before : List Entry) → length before < 2 ^ 32 - 1 → self.old ≡ figures_of before → self.new ≡ figures_of (before ++ entry.now ∷ []) }
-    {
-        let device = device_in(entry);
-        let uses = if device.is_some() {
-            0
-        } else {
-            self.uses.saturating_add(1)
-        };
-        *self = Figures {
-            length: self.length.saturating_add(1),
-            number: self.number.saturating_add(u32::from(is_change(entry))),
-            layers: layers_in(entry).unwrap_or(self.layers),
-            device: device.or(self.device),
-            uses,
-            keys_made: self.keys_made.saturating_add(keys_in(entry)),
-            version_two: self.version_two || is_version_two(entry),
-        };
-    }
+/// Adds one entry to the figures. Counts saturate, at values that no list in memory can reach.
+#[tactic(auto, using(crate::proofs::Pushes::figures_more))]
+pub fn add_entry(figures: &mut Figures, entry: &Entry)
+    ensures { (before : List Entry) → length before < 2 ^ 32 - 1 → figures.old ≡ figures_of before → figures.new ≡ figures_of (before ++ entry.now ∷ []) }
+{
+    let device = device_in(entry);
+    let uses = if device.is_some() {
+        0
+    } else {
+        figures.uses.saturating_add(1)
+    };
+    *figures = Figures {
+        length: figures.length.saturating_add(1),
+        number: figures.number.saturating_add(u32::from(is_change(entry))),
+        layers: layers_in(entry).unwrap_or(figures.layers),
+        device: device.or(figures.device),
+        uses,
+        keys_made: figures.keys_made.saturating_add(keys_in(entry)),
+        version_two: figures.version_two || is_version_two(entry),
+    };
 }
 
 /// A layer without an owner.

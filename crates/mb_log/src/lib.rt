@@ -14,8 +14,8 @@ mod rules;
 mod serial;
 
 pub use additions::{bodies, needed};
-pub use figures::{Figures, layers_of};
+pub use figures::{add_entry, figures_of, layers_of, no_figures};
 pub use keys::born;
 pub use life::{BornKey, Life, ends, lives};
-pub use rules::follows;
+pub use rules::{follows, follows_figures};
 pub use serial::serial_of;

@@ -3,14 +3,15 @@
 ghost use Rattle.std.specs.Prelude.{◌≡◌, ℕ, ◌≤◌, not, ◌&&◌, List, [], ◌∷◌, ◌++◌, length, IfOk, OnOk, OnErr, if◌then◌else◌};
 ghost use Rattle.std.specs.Option.{option_to_list};
 ghost use Rattle.mb_model.specs.declared.entry.Entry.{Entry};
-ghost use Rattle.mb_model.specs.Log.{entries_of, RuledLog};
+ghost use Rattle.mb_model.specs.Log.{figures_of, entries_of, RuledLog};
 ghost use Rattle.mb_model.specs.Lives.{ends, layers_upto, configuration, opened_by, lives_of};
-ghost use Rattle.mb_log.specs.Figures.{figures_of};
 ghost use Rattle.mb_log.specs.KeyLife.{IsLifeOf};
 
-use crate::figures::{Figures, unowned};
+use crate::figures::{add_entry, no_figures, unowned};
 use mb_authority::is_in;
-use mb_model::{Configuration, Entry, KeyKind, Layers, Lives, NoMemory, PublicKey, SignedEntry};
+use mb_model::{
+    Configuration, Entry, Figures, KeyKind, Layers, Lives, NoMemory, PublicKey, SignedEntry,
+};
 use std::alloc::Global;
 
 /// What the entry says of a key that it makes.
@@ -118,11 +119,11 @@ pub fn lives(alloc: Global, log: &[SignedEntry], key: u32) -> Result<Lives, NoMe
     requires { length log.now ≤ 128 }
     ensures { RuledLog (entries_of log.now) → IfOk result (λ list. list ≡ lives_of (entries_of log.now) key) }
 {
-    let mut figures = Figures::none();
+    let mut figures = no_figures();
     let mut life = Life::begin(alloc, key);
     for signed in log {
         life.add(&figures, &signed.entry)?;
-        figures.add(&signed.entry);
+        add_entry(&mut figures, &signed.entry);
     }
     Ok(life.lives)
 }

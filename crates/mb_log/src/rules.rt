@@ -4,111 +4,116 @@ ghost use Rattle.std.specs.Prelude.{◌≡◌, ◌↔◌, ◌≤◌, List, lengt
 ghost use Rattle.mb_model.specs.declared.entry.Entry.{Entry};
 ghost use Rattle.mb_model.specs.Layers.{layer_of};
 ghost use Rattle.mb_model.specs.Rules.{CanPlace, after};
-ghost use Rattle.mb_model.specs.Log.{entries_of, StandsAt, AreFirst, HaveEqualTrusts, MayHaveVersion};
-ghost use Rattle.mb_log.specs.Figures.{figures_of};
-ghost use Rattle.mb_log.specs.Following.{Follows, IsAllowed, CountsRightly, MakesRightly, ChangesRightly, MayAllCosign};
+ghost use Rattle.mb_model.specs.Log.{figures_of, entries_of, StandsAt, AreFirst, HaveEqualTrusts, MayHaveVersion, Ordered, CountsRightly, MakesRightly, ChangesRightly, MayAllCosign, Ruled};
+ghost use Rattle.mb_log.specs.Following.{Follows};
 
 use crate::additions::LAST_INDEX;
-use crate::figures::{Figures, unowned};
+use crate::figures::{figures_of, unowned};
 use mb_authority::{after, condition, kept_regions, layer_of, may_cosign, renews};
-use mb_model::{ChangeKind, Entry, Follow, Layer, Layers, Pair, PublicKey, SignedEntry};
+use mb_model::{ChangeKind, Entry, Figures, Follow, Layer, Layers, Pair, PublicKey, SignedEntry};
 
 /// Whether the entry, whose signature has this index, may follow those before it: `Order` exactly where entries stand
 /// before it and it has a wrong position or index, else `Rules` exactly where it breaks the rules of the log.
 pub fn follows(before: &[SignedEntry], entry: &Entry, index: u32) -> Follow
     requires { length before.now ≤ 128 }
-    ensures { Follows (entries_of before.now) entry.now index result }
+    ensures { Follows (figures_of (entries_of before.now)) entry.now index result }
 {
-    Figures::of(before).follows(entry, index)
+    follows_figures(&figures_of(before), entry, index)
 }
 
-impl Figures {
-    /// Whether the entry, whose signature has this index, may follow those with these figures: as `follows` of this
-    /// crate.
-    pub fn follows(&self, entry: &Entry, index: u32) -> Follow
-        ensures { (before : List Entry) → self.now ≡ figures_of before → Follows before entry.now index result }
-    {
-        if self.length > 0 && !self.is_next(entry, index) {
-            return Follow::Order;
+/// Whether the entry, whose signature has this index, may follow a log with these figures. Answers as `follows` does of
+/// the log itself.
+pub fn follows_figures(figures: &Figures, entry: &Entry, index: u32) -> Follow
+    ensures { Follows figures.now entry.now index result }
+{
+    if figures.length > 0 && !is_next(figures, entry, index) {
+        return Follow::Order;
+    }
+    if !allow(figures, entry) {
+        return Follow::Rules;
+    }
+    Follow::Yes
+}
+
+/// Whether the entry stands in its place, and its signature has the next index.
+fn is_next(figures: &Figures, entry: &Entry, index: u32) -> bool
+    ensures { IsTrue result ↔ Ordered figures.now entry.now index }
+{
+    stands_at(figures.length, entry) && index == figures.uses
+}
+
+/// Whether by the rules the entry may stand after a log with these figures.
+fn allow(figures: &Figures, entry: &Entry) -> bool
+    ensures { IsTrue result ↔ Ruled figures.now entry.now }
+{
+    match entry {
+        Entry::Birth {
+            version,
+            layers,
+            ..
+        } => figures.length == 0
+            && are_first(layers)
+            && may_have_version(figures, *version, layers),
+        Entry::Change {
+            version,
+            number,
+            kind,
+            layer,
+            cosigned,
+            layers,
+            kept,
+            next,
+            ..
+        } => {
+            figures.length > 0
+                && counts(figures, *number, *kind, *layer, next)
+                && changes(&figures.layers, *kind, *layer, *cosigned, layers, *kept)
+                && may_have_version(figures, *version, layers)
         }
-        if !self.allow(entry) {
-            return Follow::Rules;
-        }
-        Follow::Yes
+        Entry::NewKey {
+            number,
+            key_number,
+            layer,
+            ..
+        } => figures.length > 0 && makes(figures, *number, *key_number, *layer),
+        Entry::Succession { .. } => figures.length > 0 && figures.uses == LAST_INDEX,
     }
+}
 
-    /// Whether the entry stands in its place, and its signature has the next index.
-    fn is_next(&self, entry: &Entry, index: u32) -> bool
-        ensures { IsTrue result ↔ (StandsAt self.now.length entry.now × (index ≡ self.now.uses)) }
-    {
-        stands_at(self.length, entry) && index == self.uses
-    }
+/// Whether a change tells its number, and names the next device key exactly where it has to.
+fn counts(
+    figures: &Figures,
+    number: u32,
+    kind: ChangeKind,
+    layer: u8,
+    next: &Option<PublicKey>,
+) -> bool
+    ensures { IsTrue result ↔ CountsRightly figures.now number kind layer next.now }
+{
+    number.checked_sub(1) == Some(figures.number)
+        && next.is_some() == renews(Some(kind), layer)
+        && (figures.uses != LAST_INDEX || next.is_some())
+}
 
-    /// Whether by the rules the entry may stand here.
-    fn allow(&self, entry: &Entry) -> bool
-        ensures { IsTrue result ↔ IsAllowed self.now entry.now }
-    {
-        match entry {
-            Entry::Birth {
-                version,
-                layers,
-                ..
-            } => self.length == 0 && are_first(layers) && self.may_have_version(*version, layers),
-            Entry::Change {
-                version,
-                number,
-                kind,
-                layer,
-                cosigned,
-                layers,
-                kept,
-                next,
-                ..
-            } => {
-                self.length > 0
-                    && self.counts(*number, *kind, *layer, next)
-                    && changes(&self.layers, *kind, *layer, *cosigned, layers, *kept)
-                    && self.may_have_version(*version, layers)
-            }
-            Entry::NewKey {
-                number,
-                key_number,
-                layer,
-                ..
-            } => self.length > 0 && self.makes(*number, *key_number, *layer),
-            Entry::Succession { .. } => self.length > 0 && self.uses == LAST_INDEX,
-        }
+/// Whether a birth or change with these layers may have this version after a log with these figures.
+fn may_have_version(figures: &Figures, version: u8, layers: &Layers) -> bool
+    ensures { IsTrue result ↔ MayHaveVersion figures.now.version_two version layers.now }
+{
+    match version {
+        1 => !figures.version_two && have_equal_trusts(layers),
+        2 => true,
+        _ => false,
     }
+}
 
-    /// Whether a change tells its number, and names the next device key exactly where it has to.
-    fn counts(&self, number: u32, kind: ChangeKind, layer: u8, next: &Option<PublicKey>) -> bool
-        ensures { IsTrue result ↔ CountsRightly self.now.number self.now.uses number kind layer next.now }
-    {
-        number.checked_sub(1) == Some(self.number)
-            && next.is_some() == renews(Some(kind), layer)
-            && (self.uses != LAST_INDEX || next.is_some())
-    }
-
-    /// Whether a birth or change with these layers may have this version here.
-    fn may_have_version(&self, version: u8, layers: &Layers) -> bool
-        ensures { IsTrue result ↔ MayHaveVersion self.now.version_two version layers.now }
-    {
-        match version {
-            1 => !self.version_two && have_equal_trusts(layers),
-            2 => true,
-            _ => false,
-        }
-    }
-
-    /// Whether a new key of the layer tells its numbers, and may be made.
-    fn makes(&self, number: u32, key_number: u32, layer: u8) -> bool
-        ensures { IsTrue result ↔ MakesRightly self.now number key_number layer }
-    {
-        number == self.number
-            && key_number == self.keys_made
-            && self.uses != LAST_INDEX
-            && condition(&self.layers, None, layer)
-    }
+/// Whether a new key of the layer tells its numbers, and may be made.
+fn makes(figures: &Figures, number: u32, key_number: u32, layer: u8) -> bool
+    ensures { IsTrue result ↔ MakesRightly figures.now number key_number layer }
+{
+    number == figures.number
+        && key_number == figures.keys_made
+        && figures.uses != LAST_INDEX
+        && condition(&figures.layers, None, layer)
 }
 
 /// Whether the entry says that this many stand before it; a birth does not say.

@@ -10,9 +10,10 @@ use Rattle.mb_model.specs.declared.entry.Entry.{Entry}
 use Rattle.mb_model.specs.declared.entry.Entry.TheVariants.{Birth, Change, NewKey, Succession}
 use Rattle.mb_model.specs.declared.entry.SignedEntry.{SignedEntry}
 use Rattle.mb_model.specs.declared.entry.Statement.{Statement}
+use Rattle.mb_model.specs.declared.state.Figures.{Figures}
 use Rattle.mb_model.specs.declared.state.Report.{Report}
 use Rattle.mb_model.specs.Merkle.{leaf_number, Verifies}
-use Rattle.mb_model.specs.Log.{entries_of, device_in, last_of, number_of, device_of, serial_of, Ordered, Ruled}
+use Rattle.mb_model.specs.Log.{entries_of, device_in, last_of, number_of, serial_of, figures_of, Ordered, Ruled}
 use Rattle.mb_model.specs.Lives.{alive_keys, lives_of}
 use Rattle.mb_model.specs.ChainFormat.{chain_format}
 use Rattle.mb_model.specs.SignedTexts.{entry_text, statement_text, IsSignedBy}
@@ -50,28 +51,27 @@ refusal_code key_ended = 27
 -- ---- the entries, each by those before it
 
 -- the key in charge of the next entry: at the birth the maker's key, and then the device key named last
-abbrev pub in_charge : PublicKey → List Entry → Option PublicKey
-in_charge maker [] = Some maker
-in_charge maker (birth ∷ rest) = device_of (birth ∷ rest)
+abbrev pub in_charge : PublicKey → Figures → Option PublicKey
+in_charge maker before = if before.length == 0 then Some maker else before.device
 
-abbrev pub IsCertified : PublicKey → List Entry → SignedEntry → Type 0
+abbrev pub IsCertified : PublicKey → Figures → SignedEntry → Type 0
 IsCertified maker before signed = IsSignedBy (in_charge maker before) (entry_text signed.entry) signed.signature
 
 -- an entry after others stands in its place; that of the first, and its index, is free
-abbrev pub IsInPlace : List Entry → SignedEntry → Type 0
-IsInPlace before signed = before ≢ [] → Ordered before signed.entry (leaf_number signed.signature)
+abbrev pub IsInPlace : Figures → SignedEntry → Type 0
+IsInPlace before signed = before.length ≢ 0 → Ordered before signed.entry (leaf_number signed.signature)
 
--- the entry follows from those before it
-pub record IsGood (maker : PublicKey) (before : List Entry) (signed : SignedEntry) : Type 0 where
+-- the entry follows from a log with these figures
+pub record IsGood (maker : PublicKey) (before : Figures) (signed : SignedEntry) : Type 0 where
   pub certified : IsCertified maker before signed
   pub in_place : IsInPlace before signed
   pub ruled : Ruled before signed.entry
 
--- each entry of a list does
+-- each entry of a list follows from those before it
 abbrev pub AreGood : PublicKey → List SignedEntry → Type 0
 AreGood maker log =
     (before : List SignedEntry) (signed : SignedEntry) (rest : List SignedEntry) → log ≡ before ++ signed ∷ rest
-    → IsGood maker (entries_of before) signed
+    → IsGood maker (figures_of (entries_of before)) signed
 
 -- entry i of a list, where all before it are good
 pub record IsNext
@@ -178,15 +178,15 @@ abbrev pub IsRefused : PublicKey → List ℕ → ℕ → ChainRefusal → Type 
 IsRefused maker bytes n (bad_form offset) = FailsWhole chain_format bytes offset
 IsRefused maker bytes n (bad_signature i) =
     (chain : Chain) × Spells chain_format bytes chain × (before : List SignedEntry) × (signed : SignedEntry)
-    × IsNext maker chain.entries i before signed × (IsCertified maker (entries_of before) signed → ⊥)
+    × IsNext maker chain.entries i before signed × (IsCertified maker (figures_of (entries_of before)) signed → ⊥)
 IsRefused maker bytes n (bad_order i) =
     (chain : Chain) × Spells chain_format bytes chain × (before : List SignedEntry) × (signed : SignedEntry)
-    × IsNext maker chain.entries i before signed × IsCertified maker (entries_of before) signed
-    × (IsInPlace (entries_of before) signed → ⊥)
+    × IsNext maker chain.entries i before signed × IsCertified maker (figures_of (entries_of before)) signed
+    × (IsInPlace (figures_of (entries_of before)) signed → ⊥)
 IsRefused maker bytes n (breaks_rules i) =
     (chain : Chain) × Spells chain_format bytes chain × (before : List SignedEntry) × (signed : SignedEntry)
-    × IsNext maker chain.entries i before signed × IsCertified maker (entries_of before) signed
-    × IsInPlace (entries_of before) signed × (Ruled (entries_of before) signed.entry → ⊥)
+    × IsNext maker chain.entries i before signed × IsCertified maker (figures_of (entries_of before)) signed
+    × IsInPlace (figures_of (entries_of before)) signed × (Ruled (figures_of (entries_of before)) signed.entry → ⊥)
 IsRefused maker bytes n key_unknown =
     (chain : Chain) × Spells chain_format bytes chain × AreGood maker chain.entries
     × (key_of (entries_of chain.entries) n ≡ None)

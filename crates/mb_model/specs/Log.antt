@@ -12,6 +12,7 @@ use Rattle.mb_model.specs.declared.order.ChangeKind.{ChangeKind}
 use Rattle.mb_model.specs.declared.entry.Entry.{Entry}
 use Rattle.mb_model.specs.declared.entry.Entry.TheVariants.{Birth, Change, NewKey, Succession}
 use Rattle.mb_model.specs.declared.entry.SignedEntry.{SignedEntry}
+use Rattle.mb_model.specs.declared.state.Figures.{Figures}
 use Rattle.mb_model.specs.Layers.{unowned, unowned_layers, layer_of}
 use Rattle.mb_model.specs.Rules.{Condition, CanPlace, after, may_cosign, kept_regions, renews}
 
@@ -72,18 +73,6 @@ used log = length (take_while (λ entry. is_none (device_in entry)) (reverse log
 unfoldable pub made : List Entry → ℕ
 made log = sum_by keys_in log
 
--- the entry says that this many stand before it; a birth does not say
-abbrev pub StandsAt : ℕ → Entry → Type 0
-StandsAt n (Birth version serial key layers) = Unit {0}
-StandsAt n (Change version position number kind layer cosigned layers kept next) = position ≡ n
-StandsAt n (NewKey position number key_number layer kind key) = position ≡ n
-StandsAt n (Succession position key) = position ≡ n
-
--- the entry stands after the others, and its signature has the next index of the device key named last
-pub record Ordered (before : List Entry) (entry : Entry) (index : ℕ) : Type 0 where
-  pub position : StandsAt (length before) entry
-  pub next : index ≡ used before
-
 -- whether an entry is a birth or change of version 2, which spells two trusts for each of its layers
 abbrev pub is_version_two : Entry → Bool
 is_version_two (Birth version serial key layers) = version == 2
@@ -94,6 +83,30 @@ is_version_two (Succession position key) = false
 -- whether some of the entries has version 2
 unfoldable pub has_version_two : List Entry → Bool
 has_version_two log = list_any is_version_two log
+
+-- the figures of a log: what its entries say together, and all by which the next entry is judged
+abbrev pub figures_of : List Entry → Figures
+figures_of log = record {
+  length = length log;
+  number = number_of log;
+  layers = layers_of log;
+  device = device_of log;
+  uses = used log;
+  keys_made = made log;
+  version_two = has_version_two log;
+}
+
+-- the entry says that this many stand before it; a birth does not say
+abbrev pub StandsAt : ℕ → Entry → Type 0
+StandsAt n (Birth version serial key layers) = Unit {0}
+StandsAt n (Change version position number kind layer cosigned layers kept next) = position ≡ n
+StandsAt n (NewKey position number key_number layer kind key) = position ≡ n
+StandsAt n (Succession position key) = position ≡ n
+
+-- the entry stands after a log with these figures, and its signature has the next index of the device key named last
+pub record Ordered (before : Figures) (entry : Entry) (index : ℕ) : Type 0 where
+  pub position : StandsAt before.length entry
+  pub next : index ≡ before.uses
 
 -- each of the layers trusts changes of layer 1 and of layer 2 alike
 pub record HaveEqualTrusts (layers : Layers) : Type 0 where
@@ -115,53 +128,65 @@ pub record AreFirst (layers : Layers) : Type 0 where
   pub two : layers.two ≡ unowned
   pub three : layers.three ≡ unowned
 
--- A change of layer k says what the entries before it make true. Which owner, code name and trusts it puts there, its
--- own layer k says.
-pub record RuledChange
-    (before : List Entry)
-    (version number : ℕ)
+-- A change of layer k counts on from the log before it, and names the next device key where it has to.
+pub record CountsRightly
+    (before : Figures)
+    (number : ℕ)
     (kind : ChangeKind)
     (k : ℕ)
-    (cosigned : Pair)
-    (layers : Layers)
-    (kept : Pair)
     (next : Option PublicKey) : Type 0 where
-  pub has_version : MayHaveVersion (has_version_two before) version layers
-  pub counted : number ≡ number_of before + 1
-  pub allowed : Condition (layers_of before) (Some kind) k
-  pub placed : CanPlace kind (layer_of (layers_of before) k) (layer_of layers k)
-  pub changed : layers ≡ after (layers_of before) kind k cosigned (layer_of layers k)
-  pub cosigned_two : IsTrue cosigned.two → IsTrue (may_cosign (layers_of before) kind k 2)
-  pub cosigned_three : IsTrue cosigned.three → IsTrue (may_cosign (layers_of before) kind k 3)
-  pub regions : kept ≡ kept_regions (layers_of before) kind k cosigned
+  pub counted : number ≡ before.number + 1
   -- exactly the ordinary load of layer 1 makes the next device key
   pub renewed : is_some next ≡ renews (Some kind) k
   -- the last index of a device key signs no other change
-  pub last_index : used before ≡ 31 → IsSome next
+  pub last_index : before.uses ≡ 31 → IsSome next
 
--- a new key of layer k says what the entries before it make true
-pub record RuledNewKey (before : List Entry) (number key_number k : ℕ) : Type 0 where
-  pub counted : number ≡ number_of before
-  pub key_counted : key_number ≡ made before
-  pub allowed : Condition (layers_of before) None k
+-- each owner that countersigned a change of layer k may do so
+pub record MayAllCosign (layers : Layers) (kind : ChangeKind) (k : ℕ) (cosigned : Pair) : Type 0 where
+  pub two : IsTrue cosigned.two → IsTrue (may_cosign layers kind k 2)
+  pub three : IsTrue cosigned.three → IsTrue (may_cosign layers kind k 3)
+
+-- A change of layer k turns the old layers into the new ones and keeps regions, both by the rules. Which owner, code
+-- name and trusts it puts there, its own layer k says.
+pub record ChangesRightly
+    (old : Layers)
+    (kind : ChangeKind)
+    (k : ℕ)
+    (cosigned : Pair)
+    (new : Layers)
+    (kept : Pair) : Type 0 where
+  pub allowed : Condition old (Some kind) k
+  pub placed : CanPlace kind (layer_of old k) (layer_of new k)
+  pub changed : new ≡ after old kind k cosigned (layer_of new k)
+  pub countersigned : MayAllCosign old kind k cosigned
+  pub regions : kept ≡ kept_regions old kind k cosigned
+
+-- a new key of layer k has its numbers from the log before it, and may be made
+pub record MakesRightly (before : Figures) (number key_number k : ℕ) : Type 0 where
+  pub counted : number ≡ before.number
+  pub key_counted : key_number ≡ before.keys_made
+  pub allowed : Condition before.layers None k
   -- the last index of a device key signs no new key
-  pub last_index : used before ≢ 31
+  pub last_index : before.uses ≢ 31
 
--- By the rules the entry may stand after the others: a birth at first and nowhere else, and a succession where the
--- last index of a device key is left.
-abbrev pub Ruled : List Entry → Entry → Type 0
+-- By the rules the entry may stand after a log with these figures: a birth at first and nowhere else, and a succession
+-- where the last index of a device key is left.
+abbrev pub Ruled : Figures → Entry → Type 0
 Ruled before (Birth version serial key layers) =
-    (before ≡ []) × AreFirst layers × MayHaveVersion (has_version_two before) version layers
+    (before.length ≡ 0) × AreFirst layers × MayHaveVersion before.version_two version layers
 Ruled before (Change version position number kind layer cosigned layers kept next) =
-    (before ≢ []) × RuledChange before version number kind layer cosigned layers kept next
+    (before.length ≢ 0) × CountsRightly before number kind layer next
+    × ChangesRightly before.layers kind layer cosigned layers kept
+    × MayHaveVersion before.version_two version layers
 Ruled before (NewKey position number key_number layer kind key) =
-    (before ≢ []) × RuledNewKey before number key_number layer
-Ruled before (Succession position key) = (before ≢ []) × (used before ≡ 31)
+    (before.length ≢ 0) × MakesRightly before number key_number layer
+Ruled before (Succession position key) = (before.length ≢ 0) × (before.uses ≡ 31)
 
 -- each entry of a log may stand after those before it
 abbrev pub RuledLog : List Entry → Type 0
 RuledLog log =
-    (before : List Entry) (entry : Entry) (rest : List Entry) → log ≡ before ++ entry ∷ rest → Ruled before entry
+    (before : List Entry) (entry : Entry) (rest : List Entry) → log ≡ before ++ entry ∷ rest
+    → Ruled (figures_of before) entry
 
 -- the serial that a birth names
 abbrev pub serial_in : Entry → Option (List ℕ)

@@ -1,5 +1,5 @@
 -- When a state is one that a device can have. Does a device hold what its log tells, and nothing else?
-use Rattle.std.specs.Prelude.{◌≡◌, ◌≢◌, ℕ, ◌≤◌, false, List, [], ◌∷◌, ◌++◌, length, map}
+use Rattle.std.specs.Prelude.{◌≡◌, ◌≢◌, ℕ, ◌≤◌, false, List, ◌∷◌, ◌++◌, length, map}
 use Rattle.std.specs.Prelude.{All, AllPairs, Option, None, Some}
 use Rattle.sha2.specs.Sha256.{sha256}
 use Rattle.mb_model.specs.declared.layer.CodeName.{CodeName}
@@ -9,26 +9,28 @@ use Rattle.mb_model.specs.declared.entry.SignedEntry.{SignedEntry}
 use Rattle.mb_model.specs.declared.region.Region.{Region}
 use Rattle.mb_model.specs.declared.region.RegionKey.{RegionKey}
 use Rattle.mb_model.specs.declared.state.Codes.{Codes}
+use Rattle.mb_model.specs.declared.state.Figures.{Figures}
 use Rattle.mb_model.specs.declared.state.State.{State}
 use Rattle.mb_model.specs.Merkle.{leaf_number}
 use Rattle.mb_model.specs.Layers.{layer_of}
-use Rattle.mb_model.specs.Log.{entries_of, number_of, layers_of, device_of, serial_of, used, Ordered, Ruled}
+use Rattle.mb_model.specs.Log.{entries_of, number_of, layers_of, device_of, serial_of, used}
+use Rattle.mb_model.specs.Log.{figures_of, Ordered, Ruled}
 use Rattle.mb_model.specs.Lives.{MadeKey, alive_keys}
 use Rattle.mb_model.specs.Regions.{empty_region, RegionKeptRightly}
 use Rattle.mb_model.specs.Signing.{public_of}
 use Rattle.mb_model.specs.SignedTexts.{entry_text, IsSignedBy}
 
--- An entry follows from those before it. Whether the birth is the factory's, the device cannot tell.
-pub record Follows (before : List Entry) (signed : SignedEntry) : Type 0 where
+-- An entry follows from a log with these figures. Whether the birth is the factory's, the device cannot tell.
+pub record Follows (before : Figures) (signed : SignedEntry) : Type 0 where
   pub ruled : Ruled before signed.entry
-  pub in_order : before ≢ [] → Ordered before signed.entry (leaf_number signed.signature)
-  pub verifies : before ≢ [] → IsSignedBy (device_of before) (entry_text signed.entry) signed.signature
+  pub in_order : before.length ≢ 0 → Ordered before signed.entry (leaf_number signed.signature)
+  pub verifies : before.length ≢ 0 → IsSignedBy before.device (entry_text signed.entry) signed.signature
 
 -- each entry of a log follows from those before it
 abbrev pub EachFollows : List SignedEntry → Type 0
 EachFollows log =
     (before : List SignedEntry) (signed : SignedEntry) (rest : List SignedEntry) → log ≡ before ++ signed ∷ rest
-    → Follows (entries_of before) signed
+    → Follows (figures_of (entries_of before)) signed
 
 -- code is there exactly where it has a name, and the name's hash is that of the code
 abbrev pub IsNamed : Option CodeName → Option (List ℕ) → Type 0

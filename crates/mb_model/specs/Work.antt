@@ -1,13 +1,9 @@
 -- What an order appends to the log, and which work it leaves to be done. Is all that an order comes to fixed once it is
 -- judged?
-use Rattle.std.specs.Prelude.{ℕ, ◌+◌, Bool, ◌||◌, List, [], ◌∷◌, length, Option, None, Some, if◌then◌else◌}
-use Rattle.mb_model.specs.declared.order.Act.{Act}
-use Rattle.mb_model.specs.declared.order.Act.TheVariants as act
-use Rattle.mb_model.specs.declared.order.ChangeKind.{ChangeKind}
-use Rattle.mb_model.specs.declared.order.ChangeKind.TheVariants.{Establish, Surrender, Load, Emergency}
+use Rattle.std.specs.Prelude.{ℕ, ◌+◌, Bool, ◌||◌, List, [], ◌∷◌, ◌++◌, Option, None, Some, if◌then◌else◌}
+use Rattle.mb_model.specs.declared.layer.Layers.{Layers}
 use Rattle.mb_model.specs.declared.order.Order.{Order}
 use Rattle.mb_model.specs.declared.entry.Entry.{Entry}
-use Rattle.mb_model.specs.declared.entry.Entry.TheVariants.{Succession}
 use Rattle.mb_model.specs.declared.region.RegionKey.{RegionKey}
 use Rattle.mb_model.specs.declared.state.State.{State}
 use Rattle.mb_model.specs.declared.state.View.{View}
@@ -15,108 +11,79 @@ use Rattle.mb_model.specs.declared.state.Fact.{Fact}
 use Rattle.mb_model.specs.declared.state.Fact.TheVariants as fact
 use Rattle.mb_model.specs.declared.state.Bodies.{Bodies}
 use Rattle.mb_model.specs.declared.stored.Fate.{Fate}
+use Rattle.mb_model.specs.declared.stored.Fate.TheVariants.{Keep}
 use Rattle.mb_model.specs.declared.stored.Outgoing.{Outgoing}
 use Rattle.mb_model.specs.declared.stored.Pending.{Pending}
-use Rattle.mb_model.specs.Rules.{renews, kept_regions}
-use Rattle.mb_model.specs.Log.{entries_of, number_of, used, made}
-use Rattle.mb_model.specs.Signing.{public_of}
-use Rattle.mb_model.specs.OrderStep.{change_by, needs_succession, entries_needed, next_key, cosigned_by, key_made}
-use Rattle.mb_model.specs.OrderStep.{changed_layers, ready_for, own_entry, obeyed}
+use Rattle.mb_model.specs.OrderStep.{view_of, succeeds, entries_needed, fact_of, names_next, next_key, entry_of}
+use Rattle.mb_model.specs.OrderStep.{succession_entry, device_after, uses_after, key_made}
 use Rattle.mb_model.specs.Fates.{change_fate, key_fate}
 
--- ---- what an order is judged by
+-- ---- the entries and the keys
 
--- the figures of a state by which its orders are judged
-unfoldable pub view_of : State → View
-view_of state = record {
-  serial = state.serial;
-  layers = state.layers;
-  length = length state.log;
-  number = number_of (entries_of state.log);
-  keys_made = made (entries_of state.log);
-  device = state.device;
-  uses = used (entries_of state.log);
-  keys_two = length state.two.keys;
-  keys_three = length state.three.keys;
+-- the figures after a succession
+abbrev pub after_succession : View → List ℕ → View
+after_succession view draw = record view {
+  length = view.length + 1;
+  keys_made = view.keys_made + 1;
+  device = next_key view draw;
+  uses = 0;
 }
 
--- what a change makes true
-abbrev pub change_fact : State → ChangeKind → Order → Fact
-change_fact state kind order = fact.Change
-    kind
-    order.layer
-    (cosigned_by order)
-    (changed_layers state kind order)
-    (kept_regions state.layers kind order.layer (cosigned_by order))
+-- the figures with which the device key has an index for the fact's own entry
+abbrev pub ready_by : View → Bool → List ℕ → View
+ready_by view next draw = if succeeds view next then after_succession view draw else view
 
--- what an order makes true, for which its entry stands
-abbrev pub fact_of : State → Order → Act → Fact
-fact_of state order (act.Establish owner trust) = change_fact state Establish order
-fact_of state order act.Surrender = change_fact state Surrender order
-fact_of state order (act.Load payload) = change_fact state Load order
-fact_of state order (act.Emergency payload) = change_fact state Emergency order
-fact_of state order (act.NewKey key_kind) = fact.NewKey order.layer key_kind
+-- the entries before the fact's own
+abbrev pub first_by : View → Bool → List ℕ → List Entry
+first_by view next draw = if succeeds view next then succession_entry view draw ∷ [] else []
 
--- ---- what an order leaves to be done
+-- the key that a fact makes in a region
+abbrev pub key_by : View → Fact → List ℕ → Option RegionKey
+key_by view (fact.Change kind layer cosigned layers kept) draw = None
+key_by view (fact.NewKey layer kind) draw = Some (key_made view kind draw)
 
--- what becomes of region m, in a state in which the device key has an index for the order
-abbrev pub own_fate : State → Order → Act → List ℕ → ℕ → Fate
-own_fate ready order (act.Establish owner trust) draw m =
-    change_fate ready.layers Establish order.layer (cosigned_by order) m
-own_fate ready order act.Surrender draw m = change_fate ready.layers Surrender order.layer (cosigned_by order) m
-own_fate ready order (act.Load payload) draw m = change_fate ready.layers Load order.layer (cosigned_by order) m
-own_fate ready order (act.Emergency payload) draw m =
-    change_fate ready.layers Emergency order.layer (cosigned_by order) m
-own_fate ready order (act.NewKey key_kind) draw m = key_fate order.layer (key_made ready key_kind draw) m
+-- the device key that gives way, by a succession or by the fact's own entry, with the index that it still signs with
+abbrev pub outgoing_by : View → Bool → Option Outgoing
+outgoing_by view next =
+    if succeeds view next || next then Some (record { seed = view.device; uses = view.uses + 1 }) else None
 
--- what becomes of region m
+-- all that a fact adds to a device: its entries, the device key as it leaves it, and the key of a region
+unfoldable pub bodies_by : View → Fact → List ℕ → Bodies
+bodies_by view fact draw =
+    let ready = ready_by view (names_next fact) draw in
+    record {
+      entries = first_by view (names_next fact) draw ++ entry_of ready fact draw ∷ [];
+      device = device_after (names_next fact) ready draw;
+      uses = uses_after (names_next fact) ready;
+      outgoing = outgoing_by view (names_next fact);
+      key = key_by ready fact draw;
+    }
+
+-- all that an order adds
+abbrev pub bodies_for : State → Order → List ℕ → Bodies
+bodies_for state order draw = bodies_by (view_of state) (fact_of state.layers order order.act) draw
+
+-- ---- the regions
+
+abbrev pub added : ℕ → Option RegionKey → ℕ → Fate
+added L (Some key) m = key_fate L key m
+added L None m = Keep
+
+-- what becomes of region m, with the key that the fact makes
+abbrev pub region_fate : Layers → Fact → Option RegionKey → ℕ → Fate
+region_fate layers (fact.Change kind layer cosigned new kept) key m = change_fate layers kind layer cosigned m
+region_fate layers (fact.NewKey layer kind) key m = added layer key m
+
+-- what becomes of region m by an order
 abbrev pub fate_for : State → Order → List ℕ → ℕ → Fate
-fate_for state order draw m = own_fate (ready_for state order draw) order order.act draw m
-
--- the device key gives way to the next, by a succession or by the order itself
-abbrev pub gives_way : State → Order → Bool
-gives_way state order = needs_succession state order || renews (change_by order) order.layer
-
--- a device key that gives way, with the index that it still signs with
-abbrev pub outgoing_key : State → Outgoing
-outgoing_key state = record { seed = state.device; uses = used (entries_of state.log) + 1 }
-
-abbrev pub outgoing_with : Bool → State → Option Outgoing
-outgoing_with next state = if next then Some (outgoing_key state) else None
-
--- the entry by which the device key gives way to the next
-abbrev pub succession_entry : State → List ℕ → Entry
-succession_entry state draw = Succession (length state.log) (public_of (next_key state draw))
-
--- the entries that are appended: that of a succession, where one is needed, and the order's own
-unfoldable pub new_entries : State → Order → List ℕ → List Entry
-new_entries state order draw =
-    let own = own_entry (ready_for state order draw) order order.act draw in
-    if needs_succession state order then succession_entry state draw ∷ own ∷ [] else own ∷ []
+fate_for state order draw m =
+    region_fate state.layers (fact_of state.layers order order.act) (bodies_for state order draw).key m
 
 -- the work that is pending from the commit on
 unfoldable pub pending_for : State → Order → List ℕ → Pending
 pending_for state order draw = record {
-  unsigned = entries_needed state order;
-  outgoing = outgoing_with (gives_way state order) state;
+  unsigned = entries_needed (view_of state) order;
+  outgoing = (bodies_for state order draw).outgoing;
   two = fate_for state order draw 2;
   three = fate_for state order draw 3;
-}
-
--- the key that an order makes in a region, in a state in which the device key has an index for the order
-abbrev pub own_key : State → Act → List ℕ → Option RegionKey
-own_key ready (act.Establish owner trust) draw = None
-own_key ready act.Surrender draw = None
-own_key ready (act.Load payload) draw = None
-own_key ready (act.Emergency payload) draw = None
-own_key ready (act.NewKey key_kind) draw = Some (key_made ready key_kind draw)
-
--- all that an order adds to a device: its entries, the device key as it leaves it, and the key of a region
-unfoldable pub bodies_for : State → Order → List ℕ → Bodies
-bodies_for state order draw = record {
-  entries = new_entries state order draw;
-  device = (obeyed state order draw).device;
-  uses = (obeyed state order draw).uses;
-  outgoing = outgoing_with (gives_way state order) state;
-  key = own_key (ready_for state order draw) order.act draw;
 }

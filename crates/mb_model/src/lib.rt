@@ -45,6 +45,6 @@ pub use order::{
 pub use region::{Region, RegionKey, RegionKeys, Secret, Secrets};
 pub use reply::{Reply, Standing};
 pub use role::{Place, Role};
-pub use state::{Bodies, Codes, Configuration, Fact, Follow, Lives, Report, State, View};
+pub use state::{Bodies, Codes, Configuration, Fact, Figures, Follow, Lives, Report, State, View};
 pub use stored::{Fate, Header, Outgoing, Pending, Public, Root, Slot};
 pub use tools::{BadRecord, Keyfile, Workload};

@@ -3,7 +3,7 @@
 use crate::bytes::Bytes;
 use crate::entry::{Entries, Log};
 use crate::items::Items;
-use crate::key::KeySeed;
+use crate::key::{KeySeed, PublicKey};
 use crate::layer::{Layers, Pair};
 use crate::order::{ChangeKind, KeyKind};
 use crate::region::{Region, RegionKey};
@@ -33,6 +33,25 @@ pub struct State {
     pub two: Region,
     /// The region of layer 3.
     pub three: Region,
+}
+
+/// What the entries of a log say together: all by which the next entry is judged.
+#[derive(Clone, Copy)]
+pub struct Figures {
+    /// How many entries there are.
+    pub length: u32,
+    /// The configuration number: how many of them are changes.
+    pub number: u32,
+    /// The layers of the last birth or change.
+    pub layers: Layers,
+    /// The device key that is named last.
+    pub device: Option<PublicKey>,
+    /// How many entries stand after the one that names it.
+    pub uses: u32,
+    /// How many keys the entries name.
+    pub keys_made: u32,
+    /// Whether an entry has version 2.
+    pub version_two: bool,
 }
 
 /// What of a state an order is judged by.

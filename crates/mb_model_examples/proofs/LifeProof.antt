@@ -1,23 +1,22 @@
 -- The life of the examples obeys the rules of the log, entry by entry.
-use Rattle.std.proofs.Common.{◌≡◌, ◌≢◌, ◌<◌, ℕ, inl, inr, List, [], ◌∷◌, length, take, None, Some, replicate, refl, ap, arith, lit<}
+use Rattle.std.proofs.Common.{◌≡◌, ◌≢◌, ◌<◌, ℕ, inl, inr, [], take, None, Some, Bool, replicate, refl, arith, lit<}
 use Rattle.std.proofs.lemmas.Bool.{false≢true}
 use Rattle.mb_model.specs.declared.order.KeyKind.TheVariants as kinds
 use Rattle.mb_model.specs.declared.order.ChangeKind.TheVariants.{Establish, Load, Emergency}
-use Rattle.mb_model.specs.declared.entry.Entry.{Entry}
 use Rattle.mb_model.specs.declared.entry.Entry.TheVariants.{Birth, Change, NewKey}
 use Rattle.mb_model.specs.declared.layer.Layers.{Layers}
 use Rattle.mb_model.specs.Rules.{after}
-use Rattle.mb_model.specs.Log.{number_of, last_of, layers_of, used, made, has_version_two, MayHaveVersion, Ruled, RuledLog}
+use Rattle.mb_model.specs.Log.{figures_of, number_of, last_of, layers_of, used, made, has_version_two, MayHaveVersion, Ruled, RuledLog}
 use Rattle.mb_model_examples.specs.RuleExamples.{officer, nobody, by_two, by_both, at_birth, with_two, with_three, two_runs, three_runs, one_renewed, three_renewed, life}
 use Rattle.mb_model_lemmas.proofs.LogLemmas.{RuledLog-nil, RuledLog-push}
 
-filled : (entry : Entry) (rest : List Entry) → entry ∷ rest ≢ []
-filled entry rest = λ same. omega (arith, ap length same)
+filled : (n : ℕ) → 0 < n → n ≢ 0
+filled n some = λ none. omega (arith, some, none)
 
 not_last : (n : ℕ) → n < 31 → n ≡ 31 → ⊥
 not_last n less e = omega (arith, less, e)
 
-birth : Ruled [] (Birth 1 (replicate 16 9) (officer 10) at_birth)
+birth : Ruled (figures_of []) (Birth 1 (replicate 16 9) (officer 10) at_birth)
 unfolding has_version_two
 birth = (
   refl,
@@ -25,119 +24,101 @@ birth = (
   record { known = inl refl; equal_trusts = λ first. record { one = refl; two = refl; three = refl }; rises = λ some. absurd (false≢true some) },
 )
 
-version_two : (before : List Entry) (layers : Layers) → MayHaveVersion (has_version_two before) 2 layers
-version_two before layers = record { known = inr refl; equal_trusts = λ first. absurd (omega (arith, first)); rises = λ some. refl }
+version_two : (after_version_two : Bool) (layers : Layers) → MayHaveVersion after_version_two 2 layers
+version_two after_version_two layers = record { known = inr refl; equal_trusts = λ first. absurd (omega (arith, first)); rises = λ some. refl }
 
-establish_two : Ruled (take 1 life) (Change 2 1 1 Establish 2 nobody with_two nobody None)
+establish_two : Ruled (figures_of (take 1 life)) (Change 2 1 1 Establish 2 nobody with_two nobody None)
 unfolding after number_of last_of layers_of used
 establish_two = (
-  filled _ _,
+  filled _ (lit< tt),
+  record { counted = refl; renewed = refl; last_index = λ h. absurd (not_last 0 (lit< tt) h) },
   record {
-    has_version = version_two _ _;
-    counted = refl;
     allowed = refl;
     placed = (refl, refl, refl);
     changed = refl;
-    cosigned_two = λ h. absurd (false≢true h);
-    cosigned_three = λ h. absurd (false≢true h);
+    countersigned = record { two = λ h. absurd (false≢true h); three = λ h. absurd (false≢true h) };
     regions = refl;
-    renewed = refl;
-    last_index = λ h. absurd (not_last 0 (lit< tt) h);
   },
+  version_two _ _,
 )
 
-establish_three : Ruled (take 2 life) (Change 2 2 2 Establish 3 nobody with_three by_two None)
+establish_three : Ruled (figures_of (take 2 life)) (Change 2 2 2 Establish 3 nobody with_three by_two None)
 unfolding after number_of last_of layers_of used
 establish_three = (
-  filled _ _,
+  filled _ (lit< tt),
+  record { counted = refl; renewed = refl; last_index = λ h. absurd (not_last 1 (lit< tt) h) },
   record {
-    has_version = version_two _ _;
-    counted = refl;
     allowed = refl;
     placed = (refl, refl, refl);
     changed = refl;
-    cosigned_two = λ h. absurd (false≢true h);
-    cosigned_three = λ h. absurd (false≢true h);
+    countersigned = record { two = λ h. absurd (false≢true h); three = λ h. absurd (false≢true h) };
     regions = refl;
-    renewed = refl;
-    last_index = λ h. absurd (not_last 1 (lit< tt) h);
   },
+  version_two _ _,
 )
 
-emergency_two : Ruled (take 3 life) (Change 2 3 3 Emergency 2 nobody two_runs nobody None)
+emergency_two : Ruled (figures_of (take 3 life)) (Change 2 3 3 Emergency 2 nobody two_runs nobody None)
 unfolding after number_of last_of layers_of used
 emergency_two = (
-  filled _ _,
+  filled _ (lit< tt),
+  record { counted = refl; renewed = refl; last_index = λ h. absurd (not_last 2 (lit< tt) h) },
   record {
-    has_version = version_two _ _;
-    counted = refl;
     allowed = refl;
     placed = (refl, refl, refl);
     changed = refl;
-    cosigned_two = λ h. absurd (false≢true h);
-    cosigned_three = λ h. absurd (false≢true h);
+    countersigned = record { two = λ h. absurd (false≢true h); three = λ h. absurd (false≢true h) };
     regions = refl;
-    renewed = refl;
-    last_index = λ h. absurd (not_last 2 (lit< tt) h);
   },
+  version_two _ _,
 )
 
-emergency_three : Ruled (take 4 life) (Change 2 4 4 Emergency 3 nobody three_runs by_two None)
+emergency_three : Ruled (figures_of (take 4 life)) (Change 2 4 4 Emergency 3 nobody three_runs by_two None)
 unfolding after number_of last_of layers_of used
 emergency_three = (
-  filled _ _,
+  filled _ (lit< tt),
+  record { counted = refl; renewed = refl; last_index = λ h. absurd (not_last 3 (lit< tt) h) },
   record {
-    has_version = version_two _ _;
-    counted = refl;
     allowed = refl;
     placed = (refl, refl, refl);
     changed = refl;
-    cosigned_two = λ h. absurd (false≢true h);
-    cosigned_three = λ h. absurd (false≢true h);
+    countersigned = record { two = λ h. absurd (false≢true h); three = λ h. absurd (false≢true h) };
     regions = refl;
-    renewed = refl;
-    last_index = λ h. absurd (not_last 3 (lit< tt) h);
   },
+  version_two _ _,
 )
 
-new_key : Ruled (take 5 life) (NewKey 5 4 1 3 kinds.Epoch (officer 11))
+new_key : Ruled (figures_of (take 5 life)) (NewKey 5 4 1 3 kinds.Epoch (officer 11))
 unfolding number_of last_of layers_of used made
-new_key = (filled _ _, record { counted = refl; key_counted = refl; allowed = refl; last_index = λ h. not_last 4 (lit< tt) h })
+new_key = (filled _ (lit< tt), record { counted = refl; key_counted = refl; allowed = refl; last_index = λ h. not_last 4 (lit< tt) h })
 
-load_one : Ruled (take 6 life) (Change 2 6 5 Load 1 by_both one_renewed by_both (Some (officer 12)))
+load_one : Ruled (figures_of (take 6 life)) (Change 2 6 5 Load 1 by_both one_renewed by_both (Some (officer 12)))
 unfolding after number_of last_of layers_of used
 load_one = (
-  filled _ _,
+  filled _ (lit< tt),
+  record { counted = refl; renewed = refl; last_index = λ h. refl },
   record {
-    has_version = version_two _ _;
-    counted = refl;
     allowed = refl;
     placed = (refl, refl, refl);
     changed = refl;
-    cosigned_two = λ h. refl;
-    cosigned_three = λ h. refl;
+    countersigned = record { two = λ h. refl; three = λ h. refl };
     regions = refl;
-    renewed = refl;
-    last_index = λ h. refl;
   },
+  version_two _ _,
 )
 
-load_three : Ruled (take 7 life) (Change 2 7 6 Load 3 nobody three_renewed by_both None)
+load_three : Ruled (figures_of (take 7 life)) (Change 2 7 6 Load 3 nobody three_renewed by_both None)
 unfolding after number_of last_of layers_of used
 load_three = (
-  filled _ _,
+  filled _ (lit< tt),
+  record { counted = refl; renewed = refl; last_index = λ h. absurd (not_last 0 (lit< tt) h) },
   record {
-    has_version = version_two _ _;
-    counted = refl;
     allowed = refl;
     placed = (refl, refl, refl);
     changed = refl;
-    cosigned_two = λ h. absurd (false≢true h);
-    cosigned_three = λ h. absurd (false≢true h);
+    countersigned = record { two = λ h. absurd (false≢true h); three = λ h. absurd (false≢true h) };
     regions = refl;
-    renewed = refl;
-    last_index = λ h. absurd (not_last 0 (lit< tt) h);
   },
+  version_two _ _,
 )
 
 pub ruled : RuledLog life

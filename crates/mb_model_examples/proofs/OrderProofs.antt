@@ -22,7 +22,7 @@ use Rattle.mb_model.specs.Rules.{after}
 use Rattle.mb_model.specs.Merkle.{Verifies}
 use Rattle.mb_model.specs.OrderFormat.{target_format, body_format, sized_signature_format, countersignatures_format, order_format}
 use Rattle.mb_model.specs.Refusals.{Refusal, refusal_number, wrong_target, wrong_state, wrong_signature}
-use Rattle.mb_model.specs.OrderStep.{TargetHoldsIn, MayBeGiven, IsCountersigned, LogHasRoom, RegionHasRoom, Fails, signed_by, succeeded, changed, keyed, obeyed, spells_none, fails_check, is_obeyed}
+use Rattle.mb_model.specs.OrderStep.{TargetHoldsIn, MayBeGiven, IsCountersigned, LogHasRoom, RegionHasRoom, Fails, signed_by, succeeded, changed, keyed, obeyed, spells_none, fails_check, is_obeyed, view_of}
 use Rattle.mb_model.proofs.OrderFormatLaws.{order_exact}
 use Rattle.mb_model_examples.specs.RuleExamples.{officer, seven}
 use Rattle.mb_model_examples.specs.Device.{alive}
@@ -38,7 +38,7 @@ spells_no_order state text offset small e draw = spells_none (record {
   stays = refl;
 })
 
-refuses : (state : State) (text : List ℕ) (order : Order) (refusal : Refusal) → Spells order_format text order → Fails state order refusal → RefusesOrder state text (refusal_number refusal)
+refuses : (state : State) (text : List ℕ) (order : Order) (refusal : Refusal) → Spells order_format text order → Fails (view_of state) order refusal → RefusesOrder state text (refusal_number refusal)
 refuses state text order refusal spelled failing draw =
     fails_check (record { order = order; spelled = spelled; refusal = refusal; fails = failing; answered = refl; stays = refl })
 
@@ -48,7 +48,7 @@ nobodys n text h =
     let sized : ◌≡◌ {A = ℕ} 0 2348 = h.form.sized in
     omega arith
 
-second_target_fails : (signature : List ℕ) (order : Order) → Fails (alive signature) (elsewhere order) (wrong_target 1)
+second_target_fails : (signature : List ℕ) (order : Order) → Fails (view_of (alive signature)) (elsewhere order) (wrong_target 1)
 second_target_fails signature order = (
   target.Serial (replicate 16 8),
   record {
@@ -56,7 +56,7 @@ second_target_fails signature order = (
     rest = [];
     split = refl;
     index = refl;
-    hold = All-cons (TargetHoldsIn (alive signature)) (target.Length 6) [] refl (All-nil (TargetHoldsIn (alive signature)));
+    hold = All-cons (TargetHoldsIn (view_of (alive signature))) (target.Length 6) [] refl (All-nil (TargetHoldsIn (view_of (alive signature))));
     fails = λ e.
         let first : 8 ≡ 9 = ap (λ (serial : List ℕ). get_or serial 0 0) e in
         omega arith;
@@ -81,19 +81,19 @@ refusals signature = record {
   state_before_signature =
       refuses (alive signature) _ establish_two wrong_state
       (spells order_exact (order_format.spelling establish_two) establish_two refl refl)
-      (All-nil (TargetHoldsIn (alive signature)), false≢true);
+      (All-nil (TargetHoldsIn (view_of (alive signature))), false≢true);
   not_signed = λ h. nobodys 1 _ h;
   signature_wrong =
       refuses (alive signature) _ surrender_two wrong_signature
       (spells order_exact (order_format.spelling surrender_two) surrender_two refl refl)
-      (All-nil (TargetHoldsIn (alive signature)), refl, λ h. nobodys 2 _ h);
+      (All-nil (TargetHoldsIn (view_of (alive signature))), refl, λ h. nobodys 2 _ h);
 }
 
 pub later : (signature by_owner : List ℕ) → LaterRefusals signature by_owner
 unfolding number_of used
 later signature by_owner = record {
   countersignature = λ signed. (
-    All-nil (TargetHoldsIn (alive signature)),
+    All-nil (TargetHoldsIn (view_of (alive signature))),
     refl,
     signed,
     (
@@ -105,13 +105,13 @@ later signature by_owner = record {
         rest = empty_by 3 ∷ [];
         split = refl;
         index = refl;
-        hold = All-nil (IsCountersigned (alive signature) (load_of 1 by_owner));
+        hold = All-nil (IsCountersigned (view_of (alive signature)) (load_of 1 by_owner));
         fails = λ h. nobodys 2 _ h;
       },
     ),
   );
   second_countersignature = λ by layer signed given. (
-    All-nil (TargetHoldsIn (alive signature)),
+    All-nil (TargetHoldsIn (view_of (alive signature))),
     refl,
     signed,
     (
@@ -123,16 +123,16 @@ later signature by_owner = record {
         rest = [];
         split = refl;
         index = refl;
-        hold = All-cons (IsCountersigned (alive signature) (load_of 1 by_owner)) by [] given (All-nil (IsCountersigned (alive signature) (load_of 1 by_owner)));
+        hold = All-cons (IsCountersigned (view_of (alive signature)) (load_of 1 by_owner)) by [] given (All-nil (IsCountersigned (view_of (alive signature)) (load_of 1 by_owner)));
         fails = λ h. nobodys 3 _ h;
       },
     ),
   );
   keys = λ signed. (
-    All-nil (TargetHoldsIn (with_eight_keys signature)),
+    All-nil (TargetHoldsIn (view_of (with_eight_keys signature))),
     refl,
     signed,
-    All-nil (IsCountersigned (with_eight_keys signature) (key_for_three by_owner)),
+    All-nil (IsCountersigned (view_of (with_eight_keys signature)) (key_for_three by_owner)),
     lit≤ tt,
     λ h. omega (arith, h),
   );
@@ -142,16 +142,16 @@ later signature by_owner = record {
 
 -- without targets and countersignatures, an order passes where these four hold, and this is what it comes to
 obeys_plain : (state : State) (layer : ℕ) (does : Act) (by_owner : List ℕ) (number size : ℕ)
-    → MayBeGiven state (plain layer does by_owner) → LogHasRoom state (plain layer does by_owner) → RegionHasRoom state layer does
+    → MayBeGiven (view_of state) (plain layer does by_owner) → LogHasRoom (view_of state) (plain layer does by_owner) → RegionHasRoom (view_of state) layer does
     → ((draw : List ℕ) → number_of (entries_of (obeyed state (plain layer does by_owner) draw).log) ≡ number)
     → ((draw : List ℕ) → length (obeyed state (plain layer does by_owner) draw).log ≡ size)
     → Obeys state (plain layer does by_owner) number size
 obeys_plain state layer does by_owner number size may log keys numbered sized = record {
   passes = λ signed. record {
-    targets = All-nil (TargetHoldsIn state);
+    targets = All-nil (TargetHoldsIn (view_of state));
     condition = may;
     signature = signed;
-    countersignatures = All-nil (IsCountersigned state (plain layer does by_owner));
+    countersignatures = All-nil (IsCountersigned (view_of state) (plain layer does by_owner));
     log = log;
     keys = keys;
   };
@@ -198,10 +198,10 @@ successions signature by_owner = record {
   done_one = obeys_plain (grown key_nearly_used signature) 1 (act.Load (seven Always (codes "abc"))) by_owner 32 33 refl (lit≤ tt) tt (λ draw. refl) (λ draw. refl);
   size = refl;
   no_room = λ signed. (
-    All-nil (TargetHoldsIn (grown nearly_full signature)),
+    All-nil (TargetHoldsIn (view_of (grown nearly_full signature))),
     refl,
     signed,
-    All-nil (IsCountersigned (grown nearly_full signature) (load_of 2 by_owner)),
+    All-nil (IsCountersigned (view_of (grown nearly_full signature)) (load_of 2 by_owner)),
     λ h. omega (arith, h),
   );
   room = obeys_plain (grown nearly_full signature) 1 (act.Load (seven Always (codes "abc"))) by_owner 127 128 refl (lit≤ tt) tt (λ draw. refl) (λ draw. refl);

@@ -27,7 +27,7 @@ use Rattle.mb_model.specs.Log.{device_in, last_of, layers_of}
 use Rattle.mb_model.specs.Lives.{MadeKey, splits, alive_keys, ends, Alive}
 use Rattle.mb_model.specs.Regions.{AdmittedSince}
 use Rattle.mb_model.specs.Rules.{IsFirstFailing}
-use Rattle.mb_model.specs.OrderStep.{TargetHoldsIn, IsCountersigned, spells_none, fails_check, is_obeyed}
+use Rattle.mb_model.specs.OrderStep.{view_of, TargetHoldsIn, IsCountersigned, spells_none, fails_check, is_obeyed}
 use Rattle.mb_model.specs.Machine.{Phase, World, Told, off, dead, ratchet, boot_event, awake_in, status_of, status_event, Step, answered, lacks_memory, loses_power}
 use Rattle.mb_model.specs.Acknowledged.{AreWiping}
 use Rattle.mb_model.specs.Board.{Held}
@@ -82,10 +82,10 @@ none_fails_first P items i item none first =
 
 pub refusals : (state : State) (order : Order) → RefusalCounterExamples state order
 refusals state order = record {
-  no_target = λ i none fails. none_fails_first (TargetHoldsIn state) order.targets i fails.0 none fails.1;
+  no_target = λ i none fails. none_fails_first (TargetHoldsIn (view_of state)) order.targets i fails.0 none fails.1;
   no_countersignature = λ none fails.
-      none_fails_first (IsCountersigned state order) order.countersignatures fails.3.0 fails.3.1 none fails.3.3;
-  passing = λ refusal passes fails. passes_fail_nothing state order refusal passes fails;
+      none_fails_first (IsCountersigned (view_of state) order) order.countersignatures fails.3.0 fails.3.1 none fails.3.3;
+  passing = λ refusal passes fails. passes_fail_nothing (view_of state) order refusal passes fails;
 }
 
 off_is_no_boot : (world next : World) → Step world event.Off reply.Booted next → ⊥

@@ -23,7 +23,7 @@ use Rattle.mb_model.specs.Layers.{equal_trusts, unowned}
 use Rattle.mb_model.specs.Refusals.{wrong_target, wrong_countersignature, log_full, keys_full}
 use Rattle.mb_model.specs.Regions.{empty_region}
 use Rattle.mb_model.specs.OrderFormat.{order_format}
-use Rattle.mb_model.specs.OrderStep.{IsSigned, IsCountersigned, Fails, Passes, OrderStep}
+use Rattle.mb_model.specs.OrderStep.{view_of, IsSigned, IsCountersigned, Fails, Passes, OrderStep}
 use Rattle.mb_model.specs.OrderStep.{needs_succession, entries_needed, next_key, obeyed}
 use Rattle.mb_model_examples.specs.RuleExamples.{officer, bare, running, nobody, by_two}
 use Rattle.mb_model_examples.specs.RuleExamples.{by_both, layers_with, at_birth, seven}
@@ -71,11 +71,11 @@ pub record RefusedOrders (signature : List ℕ) : Type 0 where
   pub longer : RefusesOrder (alive signature) (order_format.spelling surrender_two ++ 0 ∷ []) 10
   -- the second target does not hold, nor does what would be tried after it
   pub target : RefusesOrder (alive signature) (order_format.spelling (elsewhere surrender_two)) 11
-  pub second_target : Fails (alive signature) (elsewhere surrender_two) (wrong_target 1)
+  pub second_target : Fails (view_of (alive signature)) (elsewhere surrender_two) (wrong_target 1)
   pub target_before_state : RefusesOrder (alive signature) (order_format.spelling (elsewhere establish_two)) 11
   -- layer 2 has an owner, and the signature is wrong too
   pub state_before_signature : RefusesOrder (alive signature) (order_format.spelling establish_two) 12
-  pub not_signed : IsSigned (alive signature) establish_two → ⊥
+  pub not_signed : IsSigned (view_of (alive signature)) establish_two → ⊥
   pub signature_wrong : RefusesOrder (alive signature) (order_format.spelling surrender_two) 13
 
 -- region 3 has as many keys as there may be
@@ -85,23 +85,26 @@ with_eight_keys signature = with_regions empty_region eight_keys signature
 -- where the owner in charge signed the order
 pub record LaterRefusals (signature by_owner : List ℕ) : Type 0 where
   -- neither layer countersigned: the lower is named
-  pub countersignature : IsSigned (alive signature) (load_of 1 by_owner)
-      → Fails (alive signature) (record (load_of 1 by_owner) { countersignatures = empty_by 2 ∷ empty_by 3 ∷ [] })
+  pub countersignature : IsSigned (view_of (alive signature)) (load_of 1 by_owner)
+      → Fails
+      (view_of (alive signature))
+      (record (load_of 1 by_owner) { countersignatures = empty_by 2 ∷ empty_by 3 ∷ [] })
       (wrong_countersignature 2)
   -- layer 2 countersigned, and layer 3 did not
   pub second_countersignature : (by : Countersignature) → by.layer ≡ 2
-      → IsSigned (alive signature) (load_of 1 by_owner) → IsCountersigned (alive signature) (load_of 1 by_owner) by
-      → Fails (alive signature) (record (load_of 1 by_owner) { countersignatures = by ∷ empty_by 3 ∷ [] })
+      → IsSigned (view_of (alive signature)) (load_of 1 by_owner)
+      → IsCountersigned (view_of (alive signature)) (load_of 1 by_owner) by
+      → Fails (view_of (alive signature)) (record (load_of 1 by_owner) { countersignatures = by ∷ empty_by 3 ∷ [] })
       (wrong_countersignature 3)
-  pub keys : IsSigned (with_eight_keys signature) (key_for_three by_owner)
-      → Fails (with_eight_keys signature) (key_for_three by_owner) keys_full
+  pub keys : IsSigned (view_of (with_eight_keys signature)) (key_for_three by_owner)
+      → Fails (view_of (with_eight_keys signature)) (key_for_three by_owner) keys_full
 
 -- ---- orders that pass
 
 -- where the owner in charge signed the order, it passes, and the answer tells this number and this length
 pub record Obeys (state : State) (order : Order) (number size : ℕ) : Type 0 where
-  pub passes : IsSigned state order → Passes state order
-  pub done : (text draw : List ℕ) → Spells order_format text order → Passes state order
+  pub passes : IsSigned (view_of state) order → Passes (view_of state) order
+  pub done : (text draw : List ℕ) → Spells order_format text order → Passes (view_of state) order
       → OrderStep state text draw (reply.Done number size) (obeyed state order draw)
 
 pub record ObeyedOrders (signature by_owner : List ℕ) : Type 0 where
@@ -141,7 +144,7 @@ pub record LeavingExamples (signature by_owner draw : List ℕ) : Type 0 where
       empty_region empty_region nobody 6
   -- a new key goes last, with the number of keys that were made
   pub key : (obeyed (alive signature) (key_for_three by_owner) draw).three ≡ with_keys (key_one 0
-      ∷ record { number = 2; kind = kinds.Epoch; seed = next_key (alive signature) draw; uses = 0 }
+      ∷ record { number = 2; kind = kinds.Epoch; seed = next_key (view_of (alive signature)) draw; uses = 0 }
       ∷ [])
 
 -- ---- logs that are long
@@ -196,15 +199,15 @@ grown log signature = record {
 
 pub record SuccessionExamples (signature by_owner : List ℕ) : Type 0 where
   -- the last index signs a succession, and no other entry but that of a load of layer 1, which makes the next key
-  pub load_two : needs_succession (grown key_nearly_used signature) (load_of 2 by_owner) ≡ true
-  pub load_one : needs_succession (grown key_nearly_used signature) (load_of 1 by_owner) ≡ false
-  pub earlier : needs_succession (grown key_less_used signature) (load_of 2 by_owner) ≡ false
-  pub needed_two : entries_needed (grown key_nearly_used signature) (load_of 2 by_owner) ≡ 2
-  pub needed_one : entries_needed (grown key_nearly_used signature) (load_of 1 by_owner) ≡ 1
+  pub load_two : needs_succession (view_of (grown key_nearly_used signature)) (load_of 2 by_owner) ≡ true
+  pub load_one : needs_succession (view_of (grown key_nearly_used signature)) (load_of 1 by_owner) ≡ false
+  pub earlier : needs_succession (view_of (grown key_less_used signature)) (load_of 2 by_owner) ≡ false
+  pub needed_two : entries_needed (view_of (grown key_nearly_used signature)) (load_of 2 by_owner) ≡ 2
+  pub needed_one : entries_needed (view_of (grown key_nearly_used signature)) (load_of 1 by_owner) ≡ 1
   pub done_two : Obeys (grown key_nearly_used signature) (load_of 2 by_owner) 32 34
   pub done_one : Obeys (grown key_nearly_used signature) (load_of 1 by_owner) 32 33
   -- 127 entries leave room for one more
   pub size : length nearly_full ≡ 127
-  pub no_room : IsSigned (grown nearly_full signature) (load_of 2 by_owner)
-      → Fails (grown nearly_full signature) (load_of 2 by_owner) log_full
+  pub no_room : IsSigned (view_of (grown nearly_full signature)) (load_of 2 by_owner)
+      → Fails (view_of (grown nearly_full signature)) (load_of 2 by_owner) log_full
   pub room : Obeys (grown nearly_full signature) (load_of 1 by_owner) 127 128

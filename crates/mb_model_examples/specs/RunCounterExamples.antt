@@ -20,7 +20,7 @@ use Rattle.mb_model.specs.Refusals.{Refusal, wrong_target, wrong_countersignatur
 use Rattle.mb_model.specs.Log.{device_in}
 use Rattle.mb_model.specs.Lives.{Alive}
 use Rattle.mb_model.specs.Regions.{empty_region, KeyAdmitted, RegionKeptRightly}
-use Rattle.mb_model.specs.OrderStep.{Passes, Fails, OrderStep}
+use Rattle.mb_model.specs.OrderStep.{view_of, Passes, Fails, OrderStep}
 use Rattle.mb_model.specs.Machine.{World, off, ratchet, LosesPower, Step, Run}
 use Rattle.mb_model.specs.Memory.{life_byte}
 use Rattle.mb_model.specs.Board.{Held}
@@ -50,11 +50,11 @@ pub record OrderCounterExamples (state next : State) (text draw : List ℕ) : Ty
 -- checks that an order does not fail
 pub record RefusalCounterExamples (state : State) (order : Order) : Type 0 where
   -- a target, and it has none
-  pub no_target : (i : ℕ) → order.targets ≡ [] → Fails state order (wrong_target i) → ⊥
+  pub no_target : (i : ℕ) → order.targets ≡ [] → Fails (view_of state) order (wrong_target i) → ⊥
   -- a countersignature of layer 3, and it has none
-  pub no_countersignature : order.countersignatures ≡ [] → Fails state order (wrong_countersignature 3) → ⊥
+  pub no_countersignature : order.countersignatures ≡ [] → Fails (view_of state) order (wrong_countersignature 3) → ⊥
   -- any check, and it passes all
-  pub passing : (refusal : Refusal) → Passes state order → Fails state order refusal → ⊥
+  pub passing : (refusal : Refusal) → Passes (view_of state) order → Fails (view_of state) order refusal → ⊥
 
 -- answers that no event has, and worlds to which no event leads
 pub record StepCounterExamples (world next : World) : Type 0 where

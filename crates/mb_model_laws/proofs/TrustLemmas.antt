@@ -1,17 +1,14 @@
 -- The two trusts of a layer, and the versions of a log.
-use Rattle.std.proofs.Common.{◌≡◌, ◌≢◌, ℕ, Bool, true, false, ◌&&◌, ◌||◌, List, [], ◌∷◌, ◌++◌, Option, None, Some, IsTrue, refl, sym, ap, ◌∙◌, append_assoc}
+use Rattle.std.proofs.Common.{◌≡◌, ℕ, Bool, true, false, ◌&&◌, ◌||◌, List, ◌∷◌, ◌++◌, Some, IsTrue, refl, sym, ap, ◌∙◌, append_assoc}
 use Rattle.std.specs.List.{list_any}
 use Rattle.std.proofs.lemmas.List.Folds.{list_any-append}
-use Rattle.mb_model.specs.declared.layer.Layers.{Layers}
-use Rattle.mb_model.specs.declared.layer.Pair.{Pair}
 use Rattle.mb_model.specs.declared.key.Trust.{Trust}
-use Rattle.mb_model.specs.declared.order.ChangeKind.{ChangeKind}
 use Rattle.mb_model.specs.declared.entry.Entry.{Entry}
 use Rattle.mb_model.specs.declared.entry.Entry.TheVariants.{Birth, Change, NewKey, Succession}
 use Rattle.mb_model.specs.declared.layer.Trusts.{Trusts}
 use Rattle.mb_model.specs.LayerFormat.{layer_format}
 use Rattle.mb_model.specs.Rules.{is_load, trusts}
-use Rattle.mb_model.specs.Log.{is_version_two, has_version_two, Ruled, RuledLog}
+use Rattle.mb_model.specs.Log.{figures_of, is_version_two, has_version_two, Ruled}
 use Rattle.mb_model_laws.specs.TrustLaws.{EqualTrustsAreOneTrust, version_in, VersionsOnlyRise, VersionOneHasEqualTrusts}
 
 pub equal_trusts_are_one : EqualTrustsAreOneTrust
@@ -31,9 +28,9 @@ has_passed before between entry is =
 some_version : (version v : ℕ) → Some version ≡ Some v → version ≡ v
 some_version version v e = cc
 
-rises : (before : List Entry) (later : Entry) (version : ℕ) → Ruled before later → IsTrue (has_version_two before) → version_in later ≡ Some version → version ≡ 2
+rises : (before : List Entry) (later : Entry) (version : ℕ) → Ruled (figures_of before) later → IsTrue (has_version_two before) → version_in later ≡ Some version → version ≡ 2
 rises before (Birth v serial key layers) version ruled passed is = sym (some_version v version is) ∙ ruled.2.rises passed
-rises before (Change v position number kind layer cosigned layers kept next) version ruled passed is = sym (some_version v version is) ∙ ruled.1.has_version.rises passed
+rises before (Change v position number kind layer cosigned layers kept next) version ruled passed is = sym (some_version v version is) ∙ ruled.3.rises passed
 rises before (NewKey position number key_number layer kind key) version ruled passed is = absurd cc
 rises before (Succession position key) version ruled passed is = absurd cc
 

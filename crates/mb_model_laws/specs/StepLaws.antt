@@ -26,4 +26,4 @@ abbrev pub OrdersAppendTheirEntry : Type 0
 OrdersAppendTheirEntry =
     (state : State) (order : Order) (draw : List ℕ)
     → (obeyed state order draw).log
-    ≡ log_with (ready_for state order draw) (own_entry (ready_for state order draw) order order.act draw)
+    ≡ log_with (ready_for state order draw) (own_entry (ready_for state order draw) order draw)

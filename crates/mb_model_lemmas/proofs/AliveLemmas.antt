@@ -15,7 +15,7 @@ use Rattle.mb_model.specs.declared.order.KeyKind.{KeyKind}
 use Rattle.mb_model.specs.declared.entry.Entry.{Entry}
 use Rattle.mb_model.specs.declared.entry.Entry.TheVariants.{Birth, Change, NewKey, Succession}
 use Rattle.mb_model.specs.declared.state.Configuration.{Configuration}
-use Rattle.mb_model.specs.Log.{keys_in, layers_of, made, Ruled, RuledLog}
+use Rattle.mb_model.specs.Log.{figures_of, keys_in, layers_of, made, Ruled, RuledLog}
 use Rattle.mb_model.specs.Lives.{ends, Alive, configuration, Split, with_front, splits, opened_by, outlived, lives_from, lives_of, MadeKey, lasting, alive_keys}
 use Rattle.mb_model_lemmas.specs.AliveLaws.{goes_on, made_by, makes, IsUnmade}
 use Rattle.mb_model_lemmas.proofs.LogLemmas.{made-push, by_entries, RuledLog-front}
@@ -192,7 +192,7 @@ record AreNumbered (n : ℕ) (keys : List MadeKey) : Type 0 where
   below : All (IsBelow n) keys
   up : AllPairs Increase keys
 
-numbered_more : (before : List Entry) (entry : Entry) → Ruled before entry → (L : ℕ) (keys : List MadeKey) → AreNumbered (made before) keys
+numbered_more : (before : List Entry) (entry : Entry) → Ruled (figures_of before) entry → (L : ℕ) (keys : List MadeKey) → AreNumbered (made before) keys
     → AreNumbered (made before + keys_in entry) (keys ++ made_by L entry)
 numbered_more before (Birth version serial key layers) ruled L keys are = record {
   below = All-append (IsBelow (made before + 1)) keys [] (All-weaker (IsBelow (made before)) (IsBelow (made before + 1)) (λ k less. omega (arith, less)) keys are.below) (All-nil (IsBelow (made before + 1)));
@@ -220,7 +220,7 @@ alive_are_numbered : (L : ℕ) (log : List Entry) → RuledLog log → AreNumber
 alive_are_numbered L log ruled =
     by_entries (λ es. AreNumbered (made es) (alive_keys es L)) step nothing log ruled
   where
-    step : (before : List Entry) (entry : Entry) → RuledLog before → AreNumbered (made before) (alive_keys before L) → Ruled before entry → AreNumbered (made (before ++ entry ∷ [])) (alive_keys (before ++ entry ∷ []) L)
+    step : (before : List Entry) (entry : Entry) → RuledLog before → AreNumbered (made before) (alive_keys before L) → Ruled (figures_of before) entry → AreNumbered (made (before ++ entry ∷ [])) (alive_keys (before ++ entry ∷ []) L)
     step before entry so_far are next =
         let keys : List MadeKey = filter (goes_on L entry) (alive_keys before L) in
         let fewer : AreNumbered (made before) keys = record {
@@ -248,13 +248,13 @@ alive_below log L ruled = (alive_are_numbered L log ruled).below
 pub high_is_unmade : (log : List Entry) (n : ℕ) → RuledLog log → made log ≤ n → IsUnmade log n
 high_is_unmade log n ruled high = by_entries (λ es. made es ≤ n → IsUnmade es n) step (λ some. All-nil (λ e. makes n e ≡ false)) log ruled high
   where
-    other : (before : List Entry) (entry : Entry) → Ruled before entry → made before + keys_in entry ≤ n → makes n entry ≡ false
+    other : (before : List Entry) (entry : Entry) → Ruled (figures_of before) entry → made before + keys_in entry ≤ n → makes n entry ≡ false
     other before (Birth version serial key layers) next high = refl
     other before (Change version position number kind layer cosigned layers kept device) next high = refl
     other before (NewKey position number key_number layer kind key) next high = let counted = next.1.key_counted in grind (arith, high, counted)
     other before (Succession position key) next high = refl
 
-    step : (before : List Entry) (entry : Entry) → RuledLog before → (made before ≤ n → IsUnmade before n) → Ruled before entry → made (before ++ entry ∷ []) ≤ n → IsUnmade (before ++ entry ∷ []) n
+    step : (before : List Entry) (entry : Entry) → RuledLog before → (made before ≤ n → IsUnmade before n) → Ruled (figures_of before) entry → made (before ++ entry ∷ []) ≤ n → IsUnmade (before ++ entry ∷ []) n
     step before entry so_far unmade next high =
         let sum = made-push before entry in
         All-push (λ e. makes n e ≡ false) before entry (unmade (omega (arith, sum, high))) (other before entry next (omega (arith, sum, high)))
@@ -267,7 +267,7 @@ later_is_unmade front (entry ∷ rest) n less ruled =
     let more : n < made (front ++ entry ∷ []) = omega (arith, less, made-push front entry) in
     All-cons (λ e. makes n e ≡ false) entry rest (other entry (ruled front entry rest refl)) (later_is_unmade (front ++ entry ∷ []) rest n more (subst RuledLog (sym seam) ruled))
   where
-    other : (e : Entry) → Ruled front e → makes n e ≡ false
+    other : (e : Entry) → Ruled (figures_of front) e → makes n e ≡ false
     other (Birth version serial key layers) next = refl
     other (Change version position number kind layer cosigned layers kept device) next = refl
     other (NewKey position number key_number layer kind key) next = let counted = next.1.key_counted in grind (arith, less, counted)

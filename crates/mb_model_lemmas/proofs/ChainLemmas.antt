@@ -12,9 +12,10 @@ use Rattle.mb_model.specs.declared.entry.Entry.{Entry}
 use Rattle.mb_model.specs.declared.entry.Entry.TheVariants.{Birth, Change, NewKey, Succession}
 use Rattle.mb_model.specs.declared.entry.SignedEntry.{SignedEntry}
 use Rattle.mb_model.specs.declared.entry.Statement.{Statement}
+use Rattle.mb_model.specs.declared.state.Figures.{Figures}
 use Rattle.mb_model.specs.declared.state.Report.{Report}
 use Rattle.mb_model.specs.Merkle.{Verifies}
-use Rattle.mb_model.specs.Log.{entries_of, device_in, last_of, number_of, device_of, StandsAt, Ruled, RuledLog}
+use Rattle.mb_model.specs.Log.{figures_of, entries_of, device_in, last_of, number_of, device_of, StandsAt, Ruled, RuledLog}
 use Rattle.mb_model.specs.Lives.{lives_of}
 use Rattle.mb_model.specs.ChainFormat.{chain_format}
 use Rattle.mb_model.specs.SignedTexts.{entry_text, IsSignedBy}
@@ -26,22 +27,22 @@ use Rattle.mb_model_lemmas.proofs.Splits.{same_halves, two_splits, map_split, Is
 
 -- ---- an entry that is not good
 
-abbrev RulesFault : ℕ → List Entry → SignedEntry → ChainRefusal → Type 0
+abbrev RulesFault : ℕ → Figures → SignedEntry → ChainRefusal → Type 0
 RulesFault i before signed = Lacks (breaks_rules i) (Ruled before signed.entry) (λ refusal. ⊥)
 
-abbrev PlaceFault : ℕ → List Entry → SignedEntry → ChainRefusal → Type 0
+abbrev PlaceFault : ℕ → Figures → SignedEntry → ChainRefusal → Type 0
 PlaceFault i before signed = Lacks (bad_order i) (IsInPlace before signed) (RulesFault i before signed)
 
-abbrev EntryFault : PublicKey → ℕ → List Entry → SignedEntry → ChainRefusal → Type 0
+abbrev EntryFault : PublicKey → ℕ → Figures → SignedEntry → ChainRefusal → Type 0
 EntryFault root i before signed = Lacks (bad_signature i) (IsCertified root before signed) (PlaceFault i before signed)
 
-one_entry_fault : (root : PublicKey) (i : ℕ) (before : List Entry) (signed : SignedEntry) → IsOne (EntryFault root i before signed)
+one_entry_fault : (root : PublicKey) (i : ℕ) (before : Figures) (signed : SignedEntry) → IsOne (EntryFault root i before signed)
 one_entry_fault root i before signed =
     one_lacks (bad_signature i) (IsCertified root before signed) (PlaceFault i before signed)
     (one_lacks (bad_order i) (IsInPlace before signed) (RulesFault i before signed)
     (one_lacks (breaks_rules i) (Ruled before signed.entry) (λ refusal. ⊥) (λ r s x y. absurd x)))
 
-good_has_none : (root : PublicKey) (i : ℕ) (before : List Entry) (signed : SignedEntry) (refusal : ChainRefusal) → IsGood root before signed → EntryFault root i before signed refusal → ⊥
+good_has_none : (root : PublicKey) (i : ℕ) (before : Figures) (signed : SignedEntry) (refusal : ChainRefusal) → IsGood root before signed → EntryFault root i before signed refusal → ⊥
 good_has_none root i before signed refusal good =
     lacks_none (bad_signature i) (IsCertified root before signed) (PlaceFault i before signed) refusal good.certified
     (lacks_none (bad_order i) (IsInPlace before signed) (RulesFault i before signed) refusal good.in_place
@@ -50,30 +51,30 @@ good_has_none root i before signed refusal good =
 -- the first entry of a list that is not good
 abbrev BadEntry : PublicKey → List SignedEntry → ChainRefusal → Type 0
 BadEntry root log refusal =
-    (i : ℕ) × (before : List SignedEntry) × (signed : SignedEntry) × IsNext root log i before signed × EntryFault root i (entries_of before) signed refusal
+    (i : ℕ) × (before : List SignedEntry) × (signed : SignedEntry) × IsNext root log i before signed × EntryFault root i (figures_of (entries_of before)) signed refusal
 
 -- is not one of those before another
 not_before : (root : PublicKey) (log : List SignedEntry) (a b : ChainRefusal) (x : BadEntry root log a) (y : BadEntry root log b) (more : List SignedEntry) → y.1 ≡ x.1 ++ x.2 ∷ more → ⊥
-not_before root log a b x y more split = good_has_none root x.0 (entries_of x.1) x.2 a (y.3.good x.1 x.2 more split) x.4
+not_before root log a b x y more split = good_has_none root x.0 (figures_of (entries_of x.1)) x.2 a (y.3.good x.1 x.2 more split) x.4
 
 same_fault : (root : PublicKey) (i j : ℕ) (before after : List SignedEntry) (s t : SignedEntry) (refusal : ChainRefusal) → i ≡ j → before ≡ after → s ≡ t
-    → EntryFault root i (entries_of before) s refusal → EntryFault root j (entries_of after) t refusal
+    → EntryFault root i (figures_of (entries_of before)) s refusal → EntryFault root j (figures_of (entries_of after)) t refusal
 same_fault root i j before after s t refusal places befores signeds fault =
-    subst (λ (k : ℕ). EntryFault root k (entries_of after) t refusal) places
-    (subst (λ (b : List SignedEntry). EntryFault root i (entries_of b) t refusal) befores
-    (subst (λ (x : SignedEntry). EntryFault root i (entries_of before) x refusal) signeds fault))
+    subst (λ (k : ℕ). EntryFault root k (figures_of (entries_of after)) t refusal) places
+    (subst (λ (b : List SignedEntry). EntryFault root i (figures_of (entries_of b)) t refusal) befores
+    (subst (λ (x : SignedEntry). EntryFault root i (figures_of (entries_of before)) x refusal) signeds fault))
 
 one_bad_entry : (root : PublicKey) (log : List SignedEntry) → IsOne (BadEntry root log)
 one_bad_entry root log a b x y =
     elim (two_splits x.1 y.1 x.2 y.2 x.3.rest y.3.rest (sym x.3.split ∙ y.3.split)) [
-      | inl same ↦ one_entry_fault root y.0 (entries_of y.1) y.2 a b
+      | inl same ↦ one_entry_fault root y.0 (figures_of (entries_of y.1)) y.2 a b
           (same_fault root x.0 y.0 x.1 y.1 x.2 y.2 a (x.3.index ∙ ap length same.0 ∙ sym y.3.index) same.0 same.1 x.4) y.4
       | inr (inl first) ↦ absurd (not_before root log a b x y first.0 first.1)
       | inr (inr second) ↦ absurd (not_before root log b a y x second.0 second.1)
     ]
 
 not_all_good : (root : PublicKey) (log : List SignedEntry) (refusal : ChainRefusal) → BadEntry root log refusal → AreGood root log → ⊥
-not_all_good root log refusal x good = good_has_none root x.0 (entries_of x.1) x.2 refusal (good x.1 x.2 x.3.rest x.3.split) x.4
+not_all_good root log refusal x good = good_has_none root x.0 (figures_of (entries_of x.1)) x.2 refusal (good x.1 x.2 x.3.rest x.3.split) x.4
 
 -- ---- the key and the statement
 
@@ -209,10 +210,10 @@ one_report root bytes n a b are x y =
 
 -- ---- no gap between the two
 
-pub AreGood-push : (root : PublicKey) (log : List SignedEntry) (signed : SignedEntry) → AreGood root log → IsGood root (entries_of log) signed → AreGood root (log ++ signed ∷ [])
+pub AreGood-push : (root : PublicKey) (log : List SignedEntry) (signed : SignedEntry) → AreGood root log → IsGood root (figures_of (entries_of log)) signed → AreGood root (log ++ signed ∷ [])
 AreGood-push root log signed good next =
     λ before s rest split. elim (split_push log before rest signed s split) [
-      | inl end ↦ subst (λ (b : List SignedEntry). IsGood root (entries_of b) s) end.1 (subst (λ (x : SignedEntry). IsGood root (entries_of log) x) end.2 next)
+      | inl end ↦ subst (λ (b : List SignedEntry). IsGood root (figures_of (entries_of b)) s) end.1 (subst (λ (x : SignedEntry). IsGood root (figures_of (entries_of log)) x) end.2 next)
       | inr found ↦ good before s found.0 found.2
     ]
 
@@ -221,7 +222,7 @@ AreGood-nil root = λ before signed rest split. absurd (omega (arith, ap length 
 
 -- where no entry is the first that is not good, all are
 bad_entry_or_good : (root : PublicKey) (log before rest : List SignedEntry) → log ≡ before ++ rest → AreGood root before
-    → ((past : List SignedEntry) (signed : SignedEntry) → IsNext root log (length past) past signed → (IsGood root (entries_of past) signed → ⊥) → ⊥)
+    → ((past : List SignedEntry) (signed : SignedEntry) → IsNext root log (length past) past signed → (IsGood root (figures_of (entries_of past)) signed → ⊥) → ⊥)
     → (AreGood root log → ⊥) → ⊥
 bad_entry_or_good root log before [] split good none fails = fails (subst (AreGood root) (sym (split ∙ append-nil before)) good)
 bad_entry_or_good root log before (signed ∷ rest) split good none fails =
@@ -238,13 +239,13 @@ alive_or_ended true none fails = fails refl
 
 module _ (root : PublicKey) (bytes : List ℕ) (n : ℕ) (none : NoRefusal root bytes n) where
   -- an entry of a chain that is not refused, which is not good: in turn, no check fails
-  module _ (chain : Chain) (spelled : Spells chain_format bytes chain) (before : List SignedEntry) (signed : SignedEntry) (next : IsNext root chain.entries (length before) before signed) (bad : IsGood root (entries_of before) signed → ⊥) where
-    no_bad_rules : IsCertified root (entries_of before) signed → IsInPlace (entries_of before) signed → ⊥
+  module _ (chain : Chain) (spelled : Spells chain_format bytes chain) (before : List SignedEntry) (signed : SignedEntry) (next : IsNext root chain.entries (length before) before signed) (bad : IsGood root (figures_of (entries_of before)) signed → ⊥) where
+    no_bad_rules : IsCertified root (figures_of (entries_of before)) signed → IsInPlace (figures_of (entries_of before)) signed → ⊥
     no_bad_rules certified in_place =
-        let good = λ (ruled : Ruled (entries_of before) signed.entry). bad (record { certified = certified; in_place = in_place; ruled = ruled }) in
+        let good = λ (ruled : Ruled (figures_of (entries_of before)) signed.entry). bad (record { certified = certified; in_place = in_place; ruled = ruled }) in
         none (breaks_rules (length before)) (chain, spelled, before, signed, next, certified, in_place, good)
 
-    no_bad_order : IsCertified root (entries_of before) signed → ⊥
+    no_bad_order : IsCertified root (figures_of (entries_of before)) signed → ⊥
     no_bad_order certified = none (bad_order (length before)) (chain, spelled, before, signed, next, certified, no_bad_rules certified)
 
     no_bad_signature : ⊥
@@ -312,11 +313,10 @@ good_is_ruled root log good =
     λ before entry rest split.
     let found = map_split entry_in log before rest entry split in
     let ruled = (good found.front found.x found.back found.split).ruled in
-    subst (λ (b : List Entry). Ruled b entry) found.before_is (subst (λ (e : Entry). Ruled (entries_of found.front) e) found.y_is ruled)
+    subst (λ (b : List Entry). Ruled (figures_of b) entry) found.before_is (subst (λ (e : Entry). Ruled (figures_of (entries_of found.front)) e) found.y_is ruled)
 
-in_charge_after : (root : PublicKey) (before : List Entry) → before ≢ [] → in_charge root before ≡ device_of before
-in_charge_after root [] some = absurd (some refl)
-in_charge_after root (first ∷ rest) some = refl
+pub in_charge_after : (root : PublicKey) (before : Figures) → before.length ≢ 0 → in_charge root before ≡ before.device
+in_charge_after root before some = grind (arith, some)
 
 pub good_follows : (root : PublicKey) (log : List SignedEntry) → AreGood root log → EachFollows log
 good_follows root log good =
@@ -325,7 +325,7 @@ good_follows root log good =
     record {
       ruled = it.ruled;
       in_order = it.in_place;
-      verifies = λ some. subst (λ (key : Option PublicKey). IsSignedBy key (entry_text signed.entry) signed.signature) (in_charge_after root (entries_of before) some) it.certified;
+      verifies = λ some. subst (λ (key : Option PublicKey). IsSignedBy key (entry_text signed.entry) signed.signature) (in_charge_after root (figures_of (entries_of before)) some) it.certified;
     }
 
 pub accepted_is_ruled : (root : PublicKey) (bytes : List ℕ) (n : ℕ) (report : Report) (accepts : Accepts root bytes n report) → RuledLog (entries_of accepts.chain.entries)
@@ -378,26 +378,26 @@ signed_under (Some k) text signature signed = (k, refl, signed)
 
 -- the entries of a device's log obey the rules and stand in their places
 abbrev IsPlaced : List Entry → Type 0
-IsPlaced E = (before : List Entry) (entry : Entry) (rest : List Entry) → E ≡ before ++ entry ∷ rest → Ruled before entry × (before ≢ [] → StandsAt (length before) entry)
+IsPlaced E = (before : List Entry) (entry : Entry) (rest : List Entry) → E ≡ before ++ entry ∷ rest → Ruled (figures_of before) entry × (length before ≢ 0 → StandsAt (length before) entry)
 
 follows_placed : (log : List SignedEntry) → EachFollows log → IsPlaced (entries_of log)
 follows_placed log each =
     λ before entry rest split.
     let found = map_split entry_in log before rest entry split in
     let it = each found.front found.x found.back found.split in
-    let here : Ruled (entries_of found.front) found.x.entry × (entries_of found.front ≢ [] → StandsAt (length (entries_of found.front)) found.x.entry) = (it.ruled, λ some. (it.in_order some).position) in
-    let there = subst (λ (e : Entry). Ruled (entries_of found.front) e × (entries_of found.front ≢ [] → StandsAt (length (entries_of found.front)) e)) found.y_is here in
-    subst (λ (b : List Entry). Ruled b entry × (b ≢ [] → StandsAt (length b) entry)) found.before_is there
+    let here : Ruled (figures_of (entries_of found.front)) found.x.entry × (length (entries_of found.front) ≢ 0 → StandsAt (length (entries_of found.front)) found.x.entry) = (it.ruled, λ some. (it.in_order some).position) in
+    let there = subst (λ (e : Entry). Ruled (figures_of (entries_of found.front)) e × (length (entries_of found.front) ≢ 0 → StandsAt (length (entries_of found.front)) e)) found.y_is here in
+    subst (λ (b : List Entry). Ruled (figures_of b) entry × (length b ≢ 0 → StandsAt (length b) entry)) found.before_is there
 
 -- an entry that is no birth tells how many stand before it
-same_place : (entry : Entry) (b c : List Entry) → b ≢ [] → Ruled b entry → StandsAt (length b) entry → Ruled c entry → (c ≢ [] → StandsAt (length c) entry) → length b ≡ length c
+same_place : (entry : Entry) (b c : List Entry) → length b ≢ 0 → Ruled (figures_of b) entry → StandsAt (length b) entry → Ruled (figures_of c) entry → (length c ≢ 0 → StandsAt (length c) entry) → length b ≡ length c
 same_place (Birth version serial key layers) b c some of_b at_b of_c at_c = absurd (some of_b.0)
 same_place (Change version position number kind layer cosigned layers kept next) b c some of_b at_b of_c at_c = sym at_b ∙ at_c of_c.0
 same_place (NewKey position number key_number layer kind key) b c some of_b at_b of_c at_c = sym at_b ∙ at_c of_c.0
 same_place (Succession position key) b c some of_b at_b of_c at_c = sym at_b ∙ at_c of_c.0
 
 -- an entry of a log that may stand after its first entries, and says so, does
-next_in_log : (past E later : List Entry) (entry : Entry) → E ≡ past ++ later → past ≢ [] → Ruled past entry → StandsAt (length past) entry
+next_in_log : (past E later : List Entry) (entry : Entry) → E ≡ past ++ later → length past ≢ 0 → Ruled (figures_of past) entry → StandsAt (length past) entry
     → IsPlaced E → Contains E entry → (more : List Entry) × (E ≡ past ++ entry ∷ more)
 next_in_log past E later entry front some ruled at placed holds =
     let place = contains_split E holds.0 entry holds.1 holds.2 in
@@ -422,9 +422,11 @@ next_is_in_front root entries E good honest placed [] signed rest split front =
 next_is_in_front root entries E good honest placed (b ∷ bs) signed rest split front =
     let past : List Entry = entries_of (b ∷ bs) in
     let it = good (b ∷ bs) signed rest split in
-    let some : past ≢ [] = λ e. absurd (omega (arith, ap length e)) in
+    let some : length past ≢ 0 = λ none. absurd (omega (arith, none)) in
     let some_signed : b ∷ bs ≢ [] = λ e. absurd (omega (arith, ap length e)) in
-    let under = signed_under (device_of past) (entry_text signed.entry) signed.signature it.certified in
+    let under = signed_under (device_of past) (entry_text signed.entry) signed.signature
+    (subst (λ (key : Option PublicKey). IsSignedBy key (entry_text signed.entry) signed.signature) (in_charge_after root (figures_of past) some) it.certified)
+    in
     let named : Any (λ entry. device_in entry ≡ Some under.0) (past ++ front.0) = any_left (λ entry. device_in entry ≡ Some under.0) past front.0 (device_somewhere past under.0 under.1) in
     let holds = honest.later (b ∷ bs) signed rest split some_signed under.0 (subst (Any (λ entry. device_in entry ≡ Some under.0)) (sym front.1) named) under.2 in
     let more = next_in_log past E front.0 signed.entry front.1 some it.ruled (it.in_place some).position placed holds in

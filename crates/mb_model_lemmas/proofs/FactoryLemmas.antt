@@ -9,7 +9,7 @@ use Rattle.mb_model.specs.declared.key.PublicKey.{PublicKey}
 use Rattle.mb_model.specs.declared.state.Codes.{Codes}
 use Rattle.mb_model.specs.declared.state.State.{State}
 use Rattle.mb_model.specs.Pieces.{part}
-use Rattle.mb_model.specs.Log.{entries_of, last_of, layers_of, device_of, serial_of, used}
+use Rattle.mb_model.specs.Log.{figures_of, entries_of, last_of, layers_of, device_of, serial_of, used, has_version_two}
 use Rattle.mb_model.specs.Lives.{splits, alive_keys}
 use Rattle.mb_model.specs.Regions.{empty_region}
 use Rattle.mb_model.specs.OrderStep.{signed_by}
@@ -73,10 +73,10 @@ written_holds flash state area first made = record {
 
 -- ---- the state
 
-only_entry : (own signed : SignedEntry) (before rest : List SignedEntry) → own ∷ [] ≡ before ++ signed ∷ rest → Follows [] own → Follows (entries_of before) signed
+only_entry : (own signed : SignedEntry) (before rest : List SignedEntry) → own ∷ [] ≡ before ++ signed ∷ rest → Follows (figures_of []) own → Follows (figures_of (entries_of before)) signed
 only_entry own signed [] rest split follows =
     let same : own ≡ signed = cc in
-    subst (Follows []) same follows
+    subst (Follows (figures_of [])) same follows
 only_entry own signed (first ∷ before) rest split follows = absurd (omega (arith, ap length split, length-append before (signed ∷ rest)))
 
 module _ (maker : KeySeed) (index : ℕ) (owner : PublicKey) (code noise : List ℕ) where
@@ -84,7 +84,7 @@ module _ (maker : KeySeed) (index : ℕ) (owner : PublicKey) (code noise : List 
   unfolding state_at_birth signed_by
   birth_follows = λ before signed rest split.
       only_entry (signed_by maker index (birth_entry owner code noise)) signed before rest split (record {
-        ruled = (refl, record { owned = refl; reliable = refl; two = refl; three = refl }, version_two_may_follow [] (layers_at_birth owner code));
+        ruled = (refl, record { owned = refl; reliable = refl; two = refl; three = refl }, version_two_may_follow (has_version_two []) (layers_at_birth owner code));
         in_order = λ some. absurd (some refl);
         verifies = λ some. absurd (some refl);
       })

@@ -18,7 +18,7 @@ use Rattle.mb_model.specs.Log.{entries_of, made, RuledLog}
 use Rattle.mb_model.specs.Lives.{Alive, MadeKey}
 use Rattle.mb_model.specs.Regions.{with_key}
 use Rattle.mb_model.specs.Signing.{public_of}
-use Rattle.mb_model.specs.OrderStep.{next_key, key_made, cosigned_by, changed, keyed}
+use Rattle.mb_model.specs.OrderStep.{next_key, key_made, cosigned_by, changed, keyed, view_of}
 use Rattle.mb_model.specs.Meaning.{fated}
 use Rattle.mb_model.specs.Valid.{as_made, IsValidRegion}
 use Rattle.mb_model.specs.Fates.{change_fate, key_fate}
@@ -44,12 +44,12 @@ added log layers L region key ruled valid is =
 
 -- an order that makes a key
 pub keyed_is_fated : (state : State) (L : ℕ) (kind : KeyKind) (draw : List ℕ) (key : RegionKey) → IsTrue (is_upper L) → RuledLog (entries_of state.log) → HasValidRegions state
-    → key ≡ key_made state kind draw
+    → key ≡ key_made (view_of state) kind draw
     → AreFated state (keyed state L kind draw) (key_fate L key 2) (key_fate L key 3)
 unfolding keyed
 keyed_is_fated state L kind draw key upper ruled valid is =
     let past : List Entry = entries_of state.log in
-    let own : RegionKey = record { number = made past; kind = kind; seed = next_key state draw; uses = 0 } in
+    let own : RegionKey = record { number = made past; kind = kind; seed = next_key (view_of state) draw; uses = 0 } in
     let number_is : key.number ≡ made past = ap (λ (k : RegionKey). k.number) is in
     at_upper (λ m. AreFated state (keyed state m kind draw) (key_fate m key 2) (key_fate m key 3)) L upper
     (record {

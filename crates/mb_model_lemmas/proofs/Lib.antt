@@ -1,5 +1,6 @@
 pub mod LogLemmas
 pub mod RuleLemmas
+pub mod AdditionLemmas
 pub mod AliveLemmas
 pub mod PresentLemmas
 pub mod ReaderLemmas

@@ -16,7 +16,7 @@ use Rattle.mb_model.specs.declared.entry.Entry.{Entry}
 use Rattle.mb_model.specs.declared.entry.Entry.TheVariants.{Birth, Change, NewKey, Succession}
 use Rattle.mb_model.specs.declared.entry.SignedEntry.{SignedEntry}
 use Rattle.mb_model.specs.Layers.{unowned_layers}
-use Rattle.mb_model.specs.Log.{entries_of, is_change, layers_in, device_in, keys_in, last_of, number_of, layers_of, device_of, used, made, is_version_two, has_version_two, Ruled, RuledLog}
+use Rattle.mb_model.specs.Log.{figures_of, entries_of, is_change, layers_in, device_in, keys_in, last_of, number_of, layers_of, device_of, used, made, is_version_two, has_version_two, Ruled, RuledLog}
 use Rattle.mb_model_lemmas.proofs.LineLemmas.{cons_same}
 
 pub number_of-push : (log : List Entry) (entry : Entry) → number_of (log ++ entry ∷ []) ≡ number_of log + (if is_change entry then 1 else 0)
@@ -157,10 +157,10 @@ RuledLog-front log rest ruled =
     λ before entry mid split. ruled before entry (mid ++ rest) (ap (λ es. es ++ rest) split ∙ append_assoc before (entry ∷ mid) rest)
 
 -- a log that obeys the rules, and one more entry that they allow
-pub RuledLog-push : (log : List Entry) (entry : Entry) → RuledLog log → Ruled log entry → RuledLog (log ++ entry ∷ [])
+pub RuledLog-push : (log : List Entry) (entry : Entry) → RuledLog log → Ruled (figures_of log) entry → RuledLog (log ++ entry ∷ [])
 RuledLog-push log entry ruled next =
     λ before e rest split. elim (split_push log before rest entry e split) [
-      | inl end ↦ subst (λ (b : List Entry). Ruled b e) end.1 (subst (λ (x : Entry). Ruled log x) end.2 next)
+      | inl end ↦ subst (λ (b : List Entry). Ruled (figures_of b) e) end.1 (subst (λ (x : Entry). Ruled (figures_of log) x) end.2 next)
       | inr found ↦ ruled before e found.0 found.2
     ]
 
@@ -168,7 +168,7 @@ pub RuledLog-nil : RuledLog []
 RuledLog-nil = λ before entry rest split. absurd (omega (arith, ap length split, length-append before (entry ∷ rest)))
 
 -- What holds of no entries, and of one more where it holds of those before, holds of each log that obeys the rules.
-module _ (P : List Entry → Type 0) (step : (before : List Entry) (entry : Entry) → RuledLog before → P before → Ruled before entry → P (before ++ entry ∷ [])) where
+module _ (P : List Entry → Type 0) (step : (before : List Entry) (entry : Entry) → RuledLog before → P before → Ruled (figures_of before) entry → P (before ++ entry ∷ [])) where
   from_here : (before rest : List Entry) → P before → RuledLog (before ++ rest) → P (before ++ rest)
   from_here before [] holds ruled = subst P (sym (append-nil before)) holds
   from_here before (entry ∷ rest) holds ruled =
@@ -179,7 +179,7 @@ module _ (P : List Entry → Type 0) (step : (before : List Entry) (entry : Entr
   pub by_entries : P [] → (log : List Entry) → RuledLog log → P log
   by_entries nil log ruled = from_here [] log nil ruled
 
-used_one_more : (before : List Entry) (entry : Entry) → RuledLog before → used before ≤ 31 → Ruled before entry → used (before ++ entry ∷ []) ≤ 31
+used_one_more : (before : List Entry) (entry : Entry) → RuledLog before → used before ≤ 31 → Ruled (figures_of before) entry → used (before ++ entry ∷ []) ≤ 31
 used_one_more before (Birth version serial key layers) log few ruled = omega (arith, used-push before (Birth version serial key layers))
 used_one_more before (Change version position number kind layer cosigned layers kept None) log few ruled =
     let not_last : used before ≢ 31 = λ e. (grind (arith, ruled.1.last_index e)) in

@@ -9,124 +9,125 @@ use Rattle.mb_model.specs.declared.order.Countersignature.{Countersignature}
 use Rattle.mb_model.specs.declared.reply.Reply.{Reply}
 use Rattle.mb_model.specs.declared.reply.Reply.TheVariants as reply
 use Rattle.mb_model.specs.declared.state.State.{State}
+use Rattle.mb_model.specs.declared.state.View.{View}
 use Rattle.mb_model.specs.Rules.{IsFirstFailing}
 use Rattle.mb_model.specs.Log.{entries_of, number_of}
 use Rattle.mb_model.specs.OrderFormat.{order_format}
 use Rattle.mb_model.specs.Refusals.{Refusal, powered_off, wrong_phase, zeroised, wrong_layer, region_full, no_such_key, key_spent, bad_text, wrong_target, wrong_state, wrong_signature, wrong_countersignature, log_full, keys_full, refused}
-use Rattle.mb_model.specs.OrderStep.{TargetHoldsIn, TargetsHold, MayBeGiven, IsSigned, IsCountersigned, LogHasRoom, RegionHasRoom, Passes, Fails, obeyed, OrderStep, spells_none, fails_check, is_obeyed}
+use Rattle.mb_model.specs.OrderStep.{TargetHoldsIn, TargetsHold, MayBeGiven, IsSigned, IsCountersigned, LogHasRoom, RegionHasRoom, Passes, Fails, obeyed, OrderStep, spells_none, fails_check, is_obeyed, view_of}
 use Rattle.mb_model.proofs.OrderFormatLaws.{order_exact}
 use Rattle.mb_model_lemmas.proofs.Splits.{not_all, first_fails_or_all, one_first, IsOne, one_more, Lacks, one_lacks, lacks_none}
 
 -- ---- the checks, one after another
 
-abbrev KeysFault : State → Order → Refusal → Type 0
-KeysFault state order = Lacks keys_full (RegionHasRoom state order.layer order.act) (λ refusal. ⊥)
+abbrev KeysFault : View → Order → Refusal → Type 0
+KeysFault view order = Lacks keys_full (RegionHasRoom view order.layer order.act) (λ refusal. ⊥)
 
-abbrev RoomFault : State → Order → Refusal → Type 0
-RoomFault state order = Lacks log_full (LogHasRoom state order) (KeysFault state order)
+abbrev RoomFault : View → Order → Refusal → Type 0
+RoomFault view order = Lacks log_full (LogHasRoom view order) (KeysFault view order)
 
-abbrev AreCountersigned : State → Order → Type 0
-AreCountersigned state order = All (IsCountersigned state order) order.countersignatures
+abbrev AreCountersigned : View → Order → Type 0
+AreCountersigned view order = All (IsCountersigned view order) order.countersignatures
 
-abbrev BadCountersignature : State → Order → Refusal → Type 0
-BadCountersignature state order refusal =
+abbrev BadCountersignature : View → Order → Refusal → Type 0
+BadCountersignature view order refusal =
     (place : ℕ) × (by : Countersignature) × (refusal ≡ wrong_countersignature by.layer)
-    × IsFirstFailing (IsCountersigned state order) order.countersignatures place by
+    × IsFirstFailing (IsCountersigned view order) order.countersignatures place by
 
-abbrev CountersignatureFault : State → Order → Refusal → Type 0
-CountersignatureFault state order refusal =
-    BadCountersignature state order refusal ⊎ (AreCountersigned state order × RoomFault state order refusal)
+abbrev CountersignatureFault : View → Order → Refusal → Type 0
+CountersignatureFault view order refusal =
+    BadCountersignature view order refusal ⊎ (AreCountersigned view order × RoomFault view order refusal)
 
-abbrev SignatureFault : State → Order → Refusal → Type 0
-SignatureFault state order = Lacks wrong_signature (IsSigned state order) (CountersignatureFault state order)
+abbrev SignatureFault : View → Order → Refusal → Type 0
+SignatureFault view order = Lacks wrong_signature (IsSigned view order) (CountersignatureFault view order)
 
-abbrev StateFault : State → Order → Refusal → Type 0
-StateFault state order = Lacks wrong_state (MayBeGiven state order) (SignatureFault state order)
+abbrev StateFault : View → Order → Refusal → Type 0
+StateFault view order = Lacks wrong_state (MayBeGiven view order) (SignatureFault view order)
 
-abbrev BadTarget : State → Order → Refusal → Type 0
-BadTarget state order refusal =
+abbrev BadTarget : View → Order → Refusal → Type 0
+BadTarget view order refusal =
     (place : ℕ) × (target : Target) × (refusal ≡ wrong_target place)
-    × IsFirstFailing (TargetHoldsIn state) order.targets place target
+    × IsFirstFailing (TargetHoldsIn view) order.targets place target
 
-abbrev OrderFault : State → Order → Refusal → Type 0
-OrderFault state order refusal = BadTarget state order refusal ⊎ (TargetsHold state order × StateFault state order refusal)
+abbrev OrderFault : View → Order → Refusal → Type 0
+OrderFault view order refusal = BadTarget view order refusal ⊎ (TargetsHold view order × StateFault view order refusal)
 
-one_room_fault : (state : State) (order : Order) → IsOne (RoomFault state order)
-one_room_fault state order =
-    one_lacks log_full (LogHasRoom state order) (KeysFault state order)
-    (one_lacks keys_full (RegionHasRoom state order.layer order.act) (λ refusal. ⊥) (λ r s x y. absurd x))
+one_room_fault : (view : View) (order : Order) → IsOne (RoomFault view order)
+one_room_fault view order =
+    one_lacks log_full (LogHasRoom view order) (KeysFault view order)
+    (one_lacks keys_full (RegionHasRoom view order.layer order.act) (λ refusal. ⊥) (λ r s x y. absurd x))
 
-one_bad_countersignature : (state : State) (order : Order) → IsOne (BadCountersignature state order)
-one_bad_countersignature state order r s x y =
-    let first = one_first (IsCountersigned state order) order.countersignatures x.0 y.0 x.1 y.1 x.3 y.3 in
+one_bad_countersignature : (view : View) (order : Order) → IsOne (BadCountersignature view order)
+one_bad_countersignature view order r s x y =
+    let first = one_first (IsCountersigned view order) order.countersignatures x.0 y.0 x.1 y.1 x.3 y.3 in
     x.2 ∙ ap (λ (by : Countersignature). wrong_countersignature by.layer) first.1 ∙ sym y.2
 
-one_countersignature_fault : (state : State) (order : Order) → IsOne (CountersignatureFault state order)
-one_countersignature_fault state order =
-    one_more (BadCountersignature state order) (AreCountersigned state order) (RoomFault state order)
-    (λ r x all. not_all (IsCountersigned state order) order.countersignatures x.0 x.1 x.3 all)
-    (one_bad_countersignature state order) (one_room_fault state order)
+one_countersignature_fault : (view : View) (order : Order) → IsOne (CountersignatureFault view order)
+one_countersignature_fault view order =
+    one_more (BadCountersignature view order) (AreCountersigned view order) (RoomFault view order)
+    (λ r x all. not_all (IsCountersigned view order) order.countersignatures x.0 x.1 x.3 all)
+    (one_bad_countersignature view order) (one_room_fault view order)
 
-one_state_fault : (state : State) (order : Order) → IsOne (StateFault state order)
-one_state_fault state order =
-    one_lacks wrong_state (MayBeGiven state order) (SignatureFault state order)
-    (one_lacks wrong_signature (IsSigned state order) (CountersignatureFault state order) (one_countersignature_fault state order))
+one_state_fault : (view : View) (order : Order) → IsOne (StateFault view order)
+one_state_fault view order =
+    one_lacks wrong_state (MayBeGiven view order) (SignatureFault view order)
+    (one_lacks wrong_signature (IsSigned view order) (CountersignatureFault view order) (one_countersignature_fault view order))
 
-one_bad_target : (state : State) (order : Order) → IsOne (BadTarget state order)
-one_bad_target state order r s x y =
-    let first = one_first (TargetHoldsIn state) order.targets x.0 y.0 x.1 y.1 x.3 y.3 in
+one_bad_target : (view : View) (order : Order) → IsOne (BadTarget view order)
+one_bad_target view order r s x y =
+    let first = one_first (TargetHoldsIn view) order.targets x.0 y.0 x.1 y.1 x.3 y.3 in
     x.2 ∙ ap wrong_target first.0 ∙ sym y.2
 
-one_order_fault : (state : State) (order : Order) → IsOne (OrderFault state order)
-one_order_fault state order =
-    one_more (BadTarget state order) (TargetsHold state order) (StateFault state order)
-    (λ r x all. not_all (TargetHoldsIn state) order.targets x.0 x.1 x.3 all)
-    (one_bad_target state order) (one_state_fault state order)
+one_order_fault : (view : View) (order : Order) → IsOne (OrderFault view order)
+one_order_fault view order =
+    one_more (BadTarget view order) (TargetsHold view order) (StateFault view order)
+    (λ r x all. not_all (TargetHoldsIn view) order.targets x.0 x.1 x.3 all)
+    (one_bad_target view order) (one_state_fault view order)
 
-shown : (state : State) (order : Order) (refusal : Refusal) → Fails state order refusal → OrderFault state order refusal
-shown state order (wrong_target place) x = inl (place, x.0, refl, x.1)
-shown state order wrong_state x = inr (x.0, inl (refl, x.1))
-shown state order wrong_signature x = inr (x.0, inr (x.1, inl (refl, x.2)))
-shown state order (wrong_countersignature m) x =
+shown : (view : View) (order : Order) (refusal : Refusal) → Fails view order refusal → OrderFault view order refusal
+shown view order (wrong_target place) x = inl (place, x.0, refl, x.1)
+shown view order wrong_state x = inr (x.0, inl (refl, x.1))
+shown view order wrong_signature x = inr (x.0, inr (x.1, inl (refl, x.2)))
+shown view order (wrong_countersignature m) x =
     inr (x.0, inr (x.1, inr (x.2, inl (x.3.0, x.3.1, ap wrong_countersignature (sym x.3.2), x.3.3))))
-shown state order log_full x = inr (x.0, inr (x.1, inr (x.2, inr (x.3, inl (refl, x.4)))))
-shown state order keys_full x = inr (x.0, inr (x.1, inr (x.2, inr (x.3, inr (x.4, inl (refl, x.5))))))
-shown state order bad_text x = absurd x
-shown state order powered_off x = absurd x
-shown state order wrong_phase x = absurd x
-shown state order zeroised x = absurd x
-shown state order wrong_layer x = absurd x
-shown state order region_full x = absurd x
-shown state order no_such_key x = absurd x
-shown state order key_spent x = absurd x
+shown view order log_full x = inr (x.0, inr (x.1, inr (x.2, inr (x.3, inl (refl, x.4)))))
+shown view order keys_full x = inr (x.0, inr (x.1, inr (x.2, inr (x.3, inr (x.4, inl (refl, x.5))))))
+shown view order bad_text x = absurd x
+shown view order powered_off x = absurd x
+shown view order wrong_phase x = absurd x
+shown view order zeroised x = absurd x
+shown view order wrong_layer x = absurd x
+shown view order region_full x = absurd x
+shown view order no_such_key x = absurd x
+shown view order key_spent x = absurd x
 
 -- an order fails one check at most
-pub one_failure : (state : State) (order : Order) (a b : Refusal) → Fails state order a → Fails state order b → a ≡ b
-one_failure state order a b x y = one_order_fault state order a b (shown state order a x) (shown state order b y)
+pub one_failure : (view : View) (order : Order) (a b : Refusal) → Fails view order a → Fails view order b → a ≡ b
+one_failure view order a b x y = one_order_fault view order a b (shown view order a x) (shown view order b y)
 
 -- ---- an order that passes
 
-no_countersignature_fault : (state : State) (order : Order) (refusal : Refusal) → Passes state order → CountersignatureFault state order refusal → ⊥
-no_countersignature_fault state order refusal passes (inl x) = not_all (IsCountersigned state order) order.countersignatures x.0 x.1 x.3 passes.countersignatures
-no_countersignature_fault state order refusal passes (inr x) =
-    lacks_none log_full (LogHasRoom state order) (KeysFault state order) refusal passes.log
-    (lacks_none keys_full (RegionHasRoom state order.layer order.act) (λ r. ⊥) refusal passes.keys (λ y. y)) x.1
+no_countersignature_fault : (view : View) (order : Order) (refusal : Refusal) → Passes view order → CountersignatureFault view order refusal → ⊥
+no_countersignature_fault view order refusal passes (inl x) = not_all (IsCountersigned view order) order.countersignatures x.0 x.1 x.3 passes.countersignatures
+no_countersignature_fault view order refusal passes (inr x) =
+    lacks_none log_full (LogHasRoom view order) (KeysFault view order) refusal passes.log
+    (lacks_none keys_full (RegionHasRoom view order.layer order.act) (λ r. ⊥) refusal passes.keys (λ y. y)) x.1
 
-no_fault : (state : State) (order : Order) (refusal : Refusal) → Passes state order → OrderFault state order refusal → ⊥
-no_fault state order refusal passes (inl x) = not_all (TargetHoldsIn state) order.targets x.0 x.1 x.3 passes.targets
-no_fault state order refusal passes (inr x) =
-    lacks_none wrong_state (MayBeGiven state order) (SignatureFault state order) refusal passes.condition
-    (lacks_none wrong_signature (IsSigned state order) (CountersignatureFault state order) refusal passes.signature
-    (no_countersignature_fault state order refusal passes)) x.1
+no_fault : (view : View) (order : Order) (refusal : Refusal) → Passes view order → OrderFault view order refusal → ⊥
+no_fault view order refusal passes (inl x) = not_all (TargetHoldsIn view) order.targets x.0 x.1 x.3 passes.targets
+no_fault view order refusal passes (inr x) =
+    lacks_none wrong_state (MayBeGiven view order) (SignatureFault view order) refusal passes.condition
+    (lacks_none wrong_signature (IsSigned view order) (CountersignatureFault view order) refusal passes.signature
+    (no_countersignature_fault view order refusal passes)) x.1
 
-pub passes_fail_nothing : (state : State) (order : Order) (refusal : Refusal) → Passes state order → Fails state order refusal → ⊥
-passes_fail_nothing state order refusal passes x = no_fault state order refusal passes (shown state order refusal x)
+pub passes_fail_nothing : (view : View) (order : Order) (refusal : Refusal) → Passes view order → Fails view order refusal → ⊥
+passes_fail_nothing view order refusal passes x = no_fault view order refusal passes (shown view order refusal x)
 
 -- an order that fails no check and does not pass: in turn, each check holds
-module _ (state : State) (order : Order) (fails : Passes state order → ⊥) (none : (refusal : Refusal) → Fails state order refusal → ⊥) where
-  no_full_region : TargetsHold state order → MayBeGiven state order → IsSigned state order → AreCountersigned state order → LogHasRoom state order → ⊥
+module _ (view : View) (order : Order) (fails : Passes view order → ⊥) (none : (refusal : Refusal) → Fails view order refusal → ⊥) where
+  no_full_region : TargetsHold view order → MayBeGiven view order → IsSigned view order → AreCountersigned view order → LogHasRoom view order → ⊥
   no_full_region targets given signed countersigned room =
-      let passes = λ (keys : RegionHasRoom state order.layer order.act). fails (record {
+      let passes = λ (keys : RegionHasRoom view order.layer order.act). fails (record {
         targets = targets;
         condition = given;
         signature = signed;
@@ -136,23 +137,23 @@ module _ (state : State) (order : Order) (fails : Passes state order → ⊥) (n
       }) in
       none keys_full (targets, given, signed, countersigned, room, passes)
 
-  no_full_log : TargetsHold state order → MayBeGiven state order → IsSigned state order → AreCountersigned state order → ⊥
+  no_full_log : TargetsHold view order → MayBeGiven view order → IsSigned view order → AreCountersigned view order → ⊥
   no_full_log targets given signed countersigned = none log_full (targets, given, signed, countersigned, no_full_region targets given signed countersigned)
 
-  no_bad_countersignature : TargetsHold state order → MayBeGiven state order → IsSigned state order → ⊥
+  no_bad_countersignature : TargetsHold view order → MayBeGiven view order → IsSigned view order → ⊥
   no_bad_countersignature targets given signed =
-      first_fails_or_all (IsCountersigned state order) order.countersignatures
+      first_fails_or_all (IsCountersigned view order) order.countersignatures
       (λ place by first. none (wrong_countersignature by.layer) (targets, given, signed, (place, by, refl, first)))
       (no_full_log targets given signed)
 
-  no_bad_signature : TargetsHold state order → MayBeGiven state order → ⊥
+  no_bad_signature : TargetsHold view order → MayBeGiven view order → ⊥
   no_bad_signature targets given = none wrong_signature (targets, given, no_bad_countersignature targets given)
 
-  no_wrong_state : TargetsHold state order → ⊥
+  no_wrong_state : TargetsHold view order → ⊥
   no_wrong_state targets = none wrong_state (targets, no_bad_signature targets)
 
   pub passes_or_fails : ⊥
-  passes_or_fails = first_fails_or_all (TargetHoldsIn state) order.targets (λ place target first. none (wrong_target place) (target, first)) no_wrong_state
+  passes_or_fails = first_fails_or_all (TargetHoldsIn view) order.targets (λ place target first. none (wrong_target place) (target, first)) no_wrong_state
 
 -- ---- the step
 
@@ -167,15 +168,15 @@ one_order_step state text draw a b m n are (spells_none p) (is_obeyed q) = absur
 one_order_step state text draw a b m n are (fails_check p) (spells_none q) = absurd (q.none p.order p.spelled)
 one_order_step state text draw a b m n are (fails_check p) (fails_check q) =
     let same : p.order ≡ q.order = order_clear.one_value text p.order q.order are p.spelled q.spelled in
-    let refusals : p.refusal ≡ q.refusal = one_failure state q.order p.refusal q.refusal (subst (λ (o : Order). Fails state o p.refusal) same p.fails) q.fails in
+    let refusals : p.refusal ≡ q.refusal = one_failure (view_of state) q.order p.refusal q.refusal (subst (λ (o : Order). Fails (view_of state) o p.refusal) same p.fails) q.fails in
     (p.answered ∙ ap refused refusals ∙ sym q.answered, p.stays ∙ sym q.stays)
 one_order_step state text draw a b m n are (fails_check p) (is_obeyed q) =
     let same : p.order ≡ q.order = order_clear.one_value text p.order q.order are p.spelled q.spelled in
-    absurd (passes_fail_nothing state q.order p.refusal q.passes (subst (λ (o : Order). Fails state o p.refusal) same p.fails))
+    absurd (passes_fail_nothing (view_of state) q.order p.refusal q.passes (subst (λ (o : Order). Fails (view_of state) o p.refusal) same p.fails))
 one_order_step state text draw a b m n are (is_obeyed p) (spells_none q) = absurd (q.none p.order p.spelled)
 one_order_step state text draw a b m n are (is_obeyed p) (fails_check q) =
     let same : q.order ≡ p.order = order_clear.one_value text q.order p.order are q.spelled p.spelled in
-    absurd (passes_fail_nothing state p.order q.refusal p.passes (subst (λ (o : Order). Fails state o q.refusal) same q.fails))
+    absurd (passes_fail_nothing (view_of state) p.order q.refusal p.passes (subst (λ (o : Order). Fails (view_of state) o q.refusal) same q.fails))
 one_order_step state text draw a b m n are (is_obeyed p) (is_obeyed q) =
     let same : p.order ≡ q.order = order_clear.one_value text p.order q.order are p.spelled q.spelled in
     let states : m ≡ n = p.follows ∙ ap (λ (o : Order). obeyed state o draw) same ∙ sym q.follows in
@@ -191,7 +192,7 @@ refused_order_leaves state text draw n next (is_obeyed p) = absurd (grind (arith
 pub some_order_step : (state : State) (text draw : List ℕ) → IsBytes text → ((answer : Reply) (next : State) → OrderStep state text draw answer next → ⊥) → ⊥
 some_order_step state text draw are none =
     elim (order_clear.always text are) [
-      | inl some ↦ passes_or_fails state some.value
+      | inl some ↦ passes_or_fails (view_of state) some.value
           (λ passes. none (reply.Done (number_of (entries_of (obeyed state some.value draw).log)) (length (obeyed state some.value draw).log)) (obeyed state some.value draw)
           (is_obeyed (record { order = some.value; spelled = some.spelled; passes = passes; follows = refl; answered = refl })))
           (λ refusal fails. none (refused refusal) state

@@ -4,9 +4,9 @@ use Rattle.mb_model.specs.declared.order.Act.{Act}
 use Rattle.mb_model.specs.declared.order.Act.TheVariants as act
 use Rattle.mb_model.specs.declared.order.Order.{Order}
 use Rattle.mb_model.specs.declared.state.State.{State}
-use Rattle.mb_model.specs.OrderStep.{log_with, changed, keyed, ready_for, own_entry, carried_out, obeyed}
+use Rattle.mb_model.specs.OrderStep.{log_with, changed, keyed, ready_for, carried_out, own_entry, obeyed, entry_of, fact_of, view_of}
 
-carried_appends : (ready : State) (order : Order) (a : Act) (draw : List ℕ) → (carried_out ready order a draw).log ≡ log_with ready (own_entry ready order a draw)
+carried_appends : (ready : State) (order : Order) (a : Act) (draw : List ℕ) → (carried_out ready order a draw).log ≡ log_with ready (entry_of (view_of ready) (fact_of ready.layers order a) draw)
 unfolding changed keyed
 carried_appends ready order (act.Establish owner trust) draw = refl
 carried_appends ready order act.Surrender draw = refl
@@ -15,6 +15,6 @@ carried_appends ready order (act.Emergency payload) draw = refl
 carried_appends ready order (act.NewKey kind) draw = refl
 
 pub appends_own : (state : State) (order : Order) (draw : List ℕ)
-    → (obeyed state order draw).log ≡ log_with (ready_for state order draw) (own_entry (ready_for state order draw) order order.act draw)
+    → (obeyed state order draw).log ≡ log_with (ready_for state order draw) (own_entry (ready_for state order draw) order draw)
 unfolding obeyed
 appends_own state order draw = carried_appends (ready_for state order draw) order order.act draw

@@ -3,6 +3,7 @@ use Rattle.std.proofs.Common.{◌≡◌, ◌<◌, ℕ, List, [], ◌∷◌, ◌+
 use Rattle.std.specs.Prelude.{◌&&◌, ◌==◌, not, All, IsTrue, nat_lt, nat_le, Option, if◌then◌else◌}
 use Rattle.std.specs.List.{list_all}
 use Rattle.std.proofs.lemmas.List.Sums.{list_all-from_AllPass}
+use Rattle.std.proofs.lemmas.List.{nil_from_length}
 use Rattle.std.proofs.lemmas.List.Elements.{All-nil, All-cons, All-head, All-tail, All-weaker, All-same}
 use Rattle.mb_model.specs.declared.key.PublicKey.{PublicKey}
 use Rattle.mb_model.specs.declared.layer.Layer.{Layer}
@@ -15,7 +16,7 @@ use Rattle.mb_model.specs.declared.entry.Entry.TheVariants.{Birth, Change, NewKe
 use Rattle.mb_model.specs.declared.state.Configuration.{Configuration}
 use Rattle.mb_model.specs.Layers.{unowned, layer_of, is_upper}
 use Rattle.mb_model.specs.Rules.{admits, layer_after, after}
-use Rattle.mb_model.specs.Log.{layers_of, Ruled, RuledLog}
+use Rattle.mb_model.specs.Log.{figures_of, layers_of, Ruled, RuledLog}
 use Rattle.mb_model.specs.Lives.{ends, Alive, layers_upto, configuration, opened_by, lives_of}
 use Rattle.mb_model_lemmas.proofs.LogLemmas.{layers_of-push, split_push, by_entries, RuledLog-push}
 use Rattle.mb_model_lemmas.proofs.RegionLemmas.{at_upper}
@@ -67,7 +68,7 @@ above : (k L : ℕ) → nat_le k L ≡ false → L < k
 above k L e = grind (arith, e)
 
 change_lives_now : (before : List Entry) (n L : ℕ) (version position number : ℕ) (kind : ChangeKind) (k : ℕ) (cosigned : Pair) (layers : Layers) (kept : Pair) (next : Option PublicKey) (opens : Bool)
-    → IsTrue (is_upper L) → nat_le k L ≡ opens → Ruled before (Change version position number kind k cosigned layers kept next)
+    → IsTrue (is_upper L) → nat_le k L ≡ opens → Ruled (figures_of before) (Change version position number kind k cosigned layers kept next)
     → lives_of (before ++ Change version position number kind k cosigned layers kept next ∷ []) n ≡ lives_of before n ++ (if opens then configuration L number layers ∷ [] else [])
     → LivesNow before n L → LivesNow (before ++ Change version position number kind k cosigned layers kept next ∷ []) n L
 change_lives_now before n L version position number kind k cosigned layers kept next true upper opens ruled lives now =
@@ -77,13 +78,13 @@ change_lives_now before n L version position number kind k cosigned layers kept 
     let entry : Entry = Change version position number kind k cosigned layers kept next in
     let stand : layers_of (before ++ entry ∷ []) ≡ layers = layers_of-push before entry in
     let same : layers_upto L (layers_of before) ≡ layers_upto L layers =
-    upto_stays (layers_of before) kind k cosigned (layer_of layers k) L upper (above k L opens) ∙ ap (layers_upto L) (sym ruled.1.changed)
+    upto_stays (layers_of before) kind k cosigned (layer_of layers k) L upper (above k L opens) ∙ ap (layers_upto L) (sym ruled.2.changed)
     in
     nothing_opened before (before ++ entry ∷ []) n L lives (same ∙ ap (layers_upto L) (sym stand)) now
 
-one_more : (before : List Entry) (entry : Entry) (n L : ℕ) → IsTrue (is_upper L) → (before ≡ [] → ⊥) → Ruled before entry
+one_more : (before : List Entry) (entry : Entry) (n L : ℕ) → IsTrue (is_upper L) → (before ≡ [] → ⊥) → Ruled (figures_of before) entry
     → lives_of (before ++ entry ∷ []) n ≡ lives_of before n ++ opened_by L entry → LivesNow before n L → LivesNow (before ++ entry ∷ []) n L
-one_more before (Birth version serial key layers) n L upper some ruled lives now = absurd (some ruled.0)
+one_more before (Birth version serial key layers) n L upper some ruled lives now = absurd (some (nil_from_length before ruled.0))
 one_more before (Change version position number kind k cosigned layers kept next) n L upper some ruled lives now =
     change_lives_now before n L version position number kind k cosigned layers kept next (nat_le k L) upper refl ruled lives now
 one_more before (NewKey position number key_number layer kind key) n L upper some ruled lives now =
@@ -100,7 +101,7 @@ pub alive_lives_now : (log : List Entry) (n L : ℕ) (kind : KeyKind) (key : Pub
 alive_lives_now log n L kind key ruled upper =
     by_entries (λ es. Alive es n L kind key → LivesNow es n L) step (λ alive. absurd (not_first alive.before _ alive.later (sym alive.split))) log ruled
   where
-    step : (before : List Entry) (entry : Entry) → RuledLog before → (Alive before n L kind key → LivesNow before n L) → Ruled before entry
+    step : (before : List Entry) (entry : Entry) → RuledLog before → (Alive before n L kind key → LivesNow before n L) → Ruled (figures_of before) entry
         → Alive (before ++ entry ∷ []) n L kind key → LivesNow (before ++ entry ∷ []) n L
     step before entry so_far lived next alive =
         let own : Entry = NewKey alive.position alive.number n L kind key in

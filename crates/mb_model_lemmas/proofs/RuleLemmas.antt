@@ -1,6 +1,7 @@
 -- What the rules leave of the layers: an unowned layer stays as it is, and layer 1 keeps its owner and stays reliable.
-use Rattle.std.proofs.Common.{◌≡◌, ◌≢◌, ℕ, List, [], ◌∷◌, ◌++◌, Option, None, Some, Bool, true, false, inr, refl, sym, ap, subst, ◌∙◌, arith}
+use Rattle.std.proofs.Common.{◌≡◌, ◌≢◌, ℕ, List, [], ◌∷◌, ◌++◌, length, Option, None, Some, Bool, true, false, inr, refl, sym, ap, subst, ◌∙◌, arith}
 use Rattle.std.specs.Prelude.{◌==◌, ◌&&◌, ◌≤◌, nat_lt, IsSome, IsTrue, if◌then◌else◌}
+use Rattle.std.proofs.lemmas.List.{nil_from_length}
 use Rattle.mb_model.specs.declared.key.PublicKey.{PublicKey}
 use Rattle.mb_model.specs.declared.layer.Trusts.{Trusts}
 use Rattle.mb_model.specs.declared.layer.CodeName.{CodeName}
@@ -14,7 +15,7 @@ use Rattle.mb_model.specs.declared.order.ChangeKind.TheVariants.{Establish, Surr
 use Rattle.mb_model.specs.Layers.{layer_of, IsLayer, IsLayers, Runnable}
 use Rattle.mb_model.specs.declared.entry.Entry.{Entry}
 use Rattle.mb_model.specs.declared.entry.Entry.TheVariants.{Birth, Change, NewKey, Succession}
-use Rattle.mb_model.specs.Log.{layers_of, AreFirst, has_version_two, MayHaveVersion, Ruled, RuledLog}
+use Rattle.mb_model.specs.Log.{figures_of, layers_of, AreFirst, MayHaveVersion, Ruled, RuledLog}
 use Rattle.mb_model_lemmas.proofs.LogLemmas.{layers_of-push, by_entries}
 use Rattle.mb_model.specs.Rules.{kind_of, change_of, Condition, CanPlace, placed, admits, layer_after, after}
 
@@ -76,8 +77,8 @@ placed_can old (act.Emergency payload) kind e =
 placed_can old (act.NewKey key_kind) kind e = grind arith
 
 -- an entry of version 2 may name any layers after any entries
-pub version_two_may_follow : (before : List Entry) (layers : Layers) → MayHaveVersion (has_version_two before) 2 layers
-version_two_may_follow before layers = record { known = inr refl; equal_trusts = λ one. absurd (omega (arith, one)); rises = λ some. refl }
+pub version_two_may_follow : (after_version_two : Bool) (layers : Layers) → MayHaveVersion after_version_two 2 layers
+version_two_may_follow after_version_two layers = record { known = inr refl; equal_trusts = λ one. absurd (omega (arith, one)); rises = λ some. refl }
 
 -- two layers with the same four fields are one
 abbrev pub layer_with : Option PublicKey → Option CodeName → Bool → Trusts → Layer
@@ -119,13 +120,13 @@ first_are_layers layers first =
     record { owned = first.owned; reliable = first.reliable; two = λ none. first.two; three = λ none. first.three }
 
 -- and so are those after each entry that may follow
-one_more : (before : List Entry) (entry : Entry) → RuledLog before → (before ≢ [] → IsLayers (layers_of before)) → Ruled before entry
-    → before ++ entry ∷ [] ≢ [] → IsLayers (layers_of (before ++ entry ∷ []))
+one_more : (before : List Entry) (entry : Entry) → RuledLog before → (length before ≢ 0 → IsLayers (layers_of before)) → Ruled (figures_of before) entry
+    → length (before ++ entry ∷ []) ≢ 0 → IsLayers (layers_of (before ++ entry ∷ []))
 one_more before (Birth version serial key layers) log are ruled some =
     subst IsLayers (sym (layers_of-push before (Birth version serial key layers))) (first_are_layers layers ruled.1)
 one_more before (Change version position number kind layer cosigned layers kept next) log are ruled some =
-    let same : layers ≡ after (layers_of before) kind layer cosigned (layer_of layers layer) = ruled.1.changed in
-    subst IsLayers (sym (layers_of-push before (Change version position number kind layer cosigned layers kept next) ∙ same)) (after_are_layers (layers_of before) kind layer cosigned (layer_of layers layer) (are ruled.0) ruled.1.allowed ruled.1.placed)
+    let same : layers ≡ after (layers_of before) kind layer cosigned (layer_of layers layer) = ruled.2.changed in
+    subst IsLayers (sym (layers_of-push before (Change version position number kind layer cosigned layers kept next) ∙ same)) (after_are_layers (layers_of before) kind layer cosigned (layer_of layers layer) (are ruled.0) ruled.2.allowed ruled.2.placed)
 one_more before (NewKey position number key_number layer kind key) log are ruled some =
     subst IsLayers (sym (layers_of-push before (NewKey position number key_number layer kind key))) (are ruled.0)
 one_more before (Succession position key) log are ruled some =
@@ -133,5 +134,5 @@ one_more before (Succession position key) log are ruled some =
 
 -- The layers of a log that obeys the rules are layers that a device can hold.
 pub ruled_are_layers : (log : List Entry) → RuledLog log → log ≢ [] → IsLayers (layers_of log)
-ruled_are_layers log ruled =
-    by_entries (λ es. es ≢ [] → IsLayers (layers_of es)) one_more (λ some. absurd (some refl)) log ruled
+ruled_are_layers log ruled some =
+    by_entries (λ es. length es ≢ 0 → IsLayers (layers_of es)) one_more (λ none. absurd (none refl)) log ruled (λ none. some (nil_from_length log none))

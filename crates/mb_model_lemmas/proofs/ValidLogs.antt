@@ -2,14 +2,14 @@
 use Rattle.std.proofs.Common.{◌≡◌, ◌≢◌, ◌≤◌, ℕ, ◌+◌, List, [], ◌∷◌, ◌++◌, inl, inr, length, Option, None, Some, sym, ap, subst, ◌∙◌, arith}
 use Rattle.std.specs.Prelude.{is_some, unwrap_or, if◌then◌else◌}
 use Rattle.std.specs.Option.{option_or}
-use Rattle.std.proofs.lemmas.List.{length-map}
+use Rattle.std.proofs.lemmas.List.{length-map, nil_from_length}
 use Rattle.mb_model.specs.declared.key.KeySeed.{KeySeed}
 use Rattle.mb_model.specs.declared.key.PublicKey.{PublicKey}
 use Rattle.mb_model.specs.declared.entry.Entry.{Entry}
 use Rattle.mb_model.specs.declared.entry.SignedEntry.{SignedEntry}
 use Rattle.mb_model.specs.declared.state.State.{State}
 use Rattle.mb_model.specs.Merkle.{Verifies}
-use Rattle.mb_model.specs.Log.{entries_of, layers_in, device_in, serial_in, last_of, layers_of, device_of, serial_of, used, StandsAt, Ruled}
+use Rattle.mb_model.specs.Log.{figures_of, entries_of, layers_in, device_in, serial_in, last_of, layers_of, device_of, serial_of, used, StandsAt, Ruled}
 use Rattle.mb_model.specs.Signing.{public_of, signature_of}
 use Rattle.mb_model.specs.SignedTexts.{entry_text, IsSignedBy}
 use Rattle.mb_model.specs.OrderStep.{signed_by, log_with}
@@ -19,10 +19,10 @@ use Rattle.mb_model_lemmas.proofs.ValidStates.{valid_is_ruled, entries_of-push}
 use Rattle.mb_model_lemmas.proofs.SignatureLemmas.{signature_verifies, signature_leaf_number}
 use Rattle.mb_model_lemmas.proofs.LogLemmas.{split_push, last_of-push, layers_of-push, device_of-push, used-push, used-bound}
 
-pub EachFollows-push : (log : List SignedEntry) (signed : SignedEntry) → EachFollows log → Follows (entries_of log) signed → EachFollows (log ++ signed ∷ [])
+pub EachFollows-push : (log : List SignedEntry) (signed : SignedEntry) → EachFollows log → Follows (figures_of (entries_of log)) signed → EachFollows (log ++ signed ∷ [])
 EachFollows-push log signed each next =
     λ before s rest split. elim (split_push log before rest signed s split) [
-      | inl end ↦ subst (λ (b : List SignedEntry). Follows (entries_of b) s) end.1 (subst (λ (x : SignedEntry). Follows (entries_of log) x) end.2 next)
+      | inl end ↦ subst (λ (b : List SignedEntry). Follows (figures_of (entries_of b)) s) end.1 (subst (λ (x : SignedEntry). Follows (figures_of (entries_of log)) x) end.2 next)
       | inr found ↦ each before s found.0 found.2
     ]
 
@@ -31,10 +31,10 @@ unfolding serial_of
 serial_of-push log entry = last_of-push serial_in log entry
 
 -- a log with a device key is not empty
-pub named_is_some : (log : List Entry) (key : PublicKey) → device_of log ≡ Some key → log ≢ []
+pub named_is_some : (log : List Entry) (key : PublicKey) → device_of log ≡ Some key → length log ≢ 0
 unfolding device_of last_of
 named_is_some log key e none =
-    let no : None ≡ Some key = ap device_of (sym none) ∙ e in
+    let no : None ≡ Some key = ap device_of (sym (nil_from_length log none)) ∙ e in
     absurd (grind (arith, no))
 
 under : (key : Option PublicKey) (device : KeySeed) (text signature : List ℕ) → key ≡ Some (public_of device) → Verifies (public_of device) text signature → IsSignedBy key text signature
@@ -42,7 +42,7 @@ under key device text signature is verifies = subst (λ (k : Option PublicKey). 
 
 -- an entry that the rules allow, signed by the device key at its next index, follows
 pub signed_follows : (log : List Entry) (device : KeySeed) (entry : Entry) → used log ≤ 31 → device_of log ≡ Some (public_of device)
-    → Ruled log entry → StandsAt (length log) entry → Follows log (signed_by device (used log) entry)
+    → Ruled (figures_of log) entry → StandsAt (length log) entry → Follows (figures_of log) (signed_by device (used log) entry)
 unfolding signed_by
 signed_follows log device entry few named ruled stands = record {
   ruled = ruled;
@@ -58,7 +58,7 @@ entries_of-signed state entry = entries_of-push state.log (signed_by state.devic
 -- A state is valid again, when its device has signed an entry that the rules allow, and layers, device key and regions are
 -- what the entry makes of them.
 pub valid_after : (state : State) (entry : Entry) (next : State)
-    → IsValidState state → Ruled (entries_of state.log) entry → StandsAt (length state.log) entry → serial_in entry ≡ None
+    → IsValidState state → Ruled (figures_of (entries_of state.log)) entry → StandsAt (length state.log) entry → serial_in entry ≡ None
     → next.log ≡ log_with state entry → next.serial ≡ state.serial
     → next.layers ≡ unwrap_or (layers_in entry) state.layers
     → Some (public_of next.device) ≡ option_or (device_in entry) (Some (public_of state.device))

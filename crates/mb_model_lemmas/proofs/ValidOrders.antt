@@ -20,9 +20,10 @@ use Rattle.mb_model.specs.declared.state.Codes.{Codes}
 use Rattle.mb_model.specs.declared.state.State.{State}
 use Rattle.mb_model.specs.Layers.{layer_of, is_layer_number}
 use Rattle.mb_model.specs.Rules.{kind_of, change_of, renews, Condition, CanPlace, placed, is_load, may_cosign, kept_regions, admits, after}
-use Rattle.mb_model.specs.Log.{entries_of, layers_of, used, Ruled}
+use Rattle.mb_model.specs.Log.{figures_of, entries_of, layers_of, used, has_version_two, Ruled}
 use Rattle.mb_model.specs.Signing.{public_of}
-use Rattle.mb_model.specs.OrderStep.{region_of, IsCountersigned, next_key, succeeded, device_after, uses_after, code_after, codes_after, cosigned_by, named_next, change_entry, changed, key_entry, keyed}
+use Rattle.mb_model.specs.OrderStep.{region_of, IsCountersigned, next_key, succeeded, device_after, uses_after, code_after, codes_after, cosigned_by, named_next, changed, keyed, entry_of, change_fact, view_of}
+use Rattle.mb_model.specs.declared.state.Fact.TheVariants as fact
 use Rattle.mb_model.specs.Valid.{IsNamed, AreNamed, IsValidState}
 use Rattle.mb_model_lemmas.specs.RegionLaws.{HasValidRegions}
 use Rattle.mb_model_lemmas.proofs.RuleLemmas.{placed_can, version_two_may_follow}
@@ -108,10 +109,10 @@ any_with {X} p P (x ∷ xs) all e =
 
 -- a layer that countersigned may do so
 pub cosigned_may : (state : State) (order : Order) (kind : ChangeKind) (m : ℕ) → change_of (kind_of order.act) ≡ Some kind
-    → All (IsAbove (Some kind) order.layer) order.countersignatures → All (IsCountersigned state order) order.countersignatures
+    → All (IsAbove (Some kind) order.layer) order.countersignatures → All (IsCountersigned (view_of state) order) order.countersignatures
     → list_any (λ by. by.layer == m) order.countersignatures ≡ true → IsTrue (may_cosign state.layers kind order.layer m)
 cosigned_may state order kind m is above signed any =
-    let P : Countersignature → Type 0 = λ by. IsAbove (Some kind) order.layer by × IsCountersigned state order by in
+    let P : Countersignature → Type 0 = λ by. IsAbove (Some kind) order.layer by × IsCountersigned (view_of state) order by in
     let found = any_with (λ (by : Countersignature). by.layer == m) P order.countersignatures (λ i d within. (above i d within, signed i d within)) any in
     let same : found.0.layer ≡ m = grind (arith, found.1) in
     let owner : IsSome (layer_of state.layers found.0.layer).owner = some_and (layer_of state.layers found.0.layer).owner _ found.2.1 in
@@ -128,23 +129,23 @@ regions_of state valid = record { two = valid.two; three = valid.three }
 pub succeeded_valid : (state : State) (draw : List ℕ) → IsValidState state → used (entries_of state.log) ≡ 31 → IsValidState (succeeded state draw)
 unfolding succeeded
 succeeded_valid state draw valid last =
-    let entry : Entry = Succession (length state.log) (public_of (next_key state draw)) in
+    let entry : Entry = Succession (length state.log) (public_of (next_key (view_of state) draw)) in
     valid_after state entry (succeeded state draw) valid (named_is_some (entries_of state.log) (public_of state.device) valid.device, last) refl refl
     refl refl refl refl refl valid.codes (succeeded_keeps state draw (regions_of state valid))
 
 -- ---- a change
 
 device_named : (next : Bool) (state : State) (draw : List ℕ)
-    → Some (public_of (device_after next state draw)) ≡ option_or (named_next next state draw) (Some (public_of state.device))
+    → Some (public_of (device_after next (view_of state) draw)) ≡ option_or (named_next next (view_of state) draw) (Some (public_of state.device))
 device_named true state draw = refl
 device_named false state draw = refl
 
 uses_counted : (next : Bool) (state : State) (draw : List ℕ)
-    → uses_after next state ≡ (if is_some (named_next next state draw) then 0 else used (entries_of state.log) + 1)
+    → uses_after next (view_of state) ≡ (if is_some (named_next next (view_of state) draw) then 0 else used (entries_of state.log) + 1)
 uses_counted true state draw = refl
 uses_counted false state draw = refl
 
-is_named_next : (next : Bool) (state : State) (draw : List ℕ) → is_some (named_next next state draw) ≡ next
+is_named_next : (next : Bool) (state : State) (draw : List ℕ) → is_some (named_next next (view_of state) draw) ≡ next
 is_named_next true state draw = refl
 is_named_next false state draw = refl
 
@@ -153,11 +154,11 @@ pub record MayChange (state : State) (kind : ChangeKind) (order : Order) : Type 
   pub kind_is : change_of (kind_of order.act) ≡ Some kind
   pub allowed : Condition state.layers (Some kind) order.layer
   pub above : All (IsAbove (Some kind) order.layer) order.countersignatures
-  pub signed : All (IsCountersigned state order) order.countersignatures
+  pub signed : All (IsCountersigned (view_of state) order) order.countersignatures
   pub index : used (entries_of state.log) ≡ 31 → IsTrue (renews (Some kind) order.layer)
 
 change_ruled : (state : State) (kind : ChangeKind) (order : Order) (draw : List ℕ) → IsValidState state → MayChange state kind order
-    → Ruled (entries_of state.log) (change_entry state kind order draw)
+    → Ruled (figures_of (entries_of state.log)) (entry_of (view_of state) (change_fact state.layers kind order) draw)
 change_ruled state kind order draw valid may =
     let past : List Entry = entries_of state.log in
     let k : ℕ = order.layer in
@@ -169,17 +170,21 @@ change_ruled state kind order draw valid may =
     let can : CanPlace kind (layer_of state.layers k) new = placed_can (layer_of state.layers k) order.act kind may.kind_is in (
       named_is_some past (public_of state.device) valid.device,
       record {
-        has_version = version_two_may_follow past now;
         counted = refl;
-        allowed = subst (λ (l : Layers). Condition l (Some kind) k) same may.allowed;
-        placed = subst (λ (l : Layers). CanPlace kind (layer_of l k) (layer_of now k)) same (subst (CanPlace kind (layer_of state.layers k)) (sym own) can);
-        changed = ap (after state.layers kind k by) (sym own) ∙ ap (λ (l : Layers). after l kind k by (layer_of now k)) same;
-        cosigned_two = λ h. subst (λ (l : Layers). IsTrue (may_cosign l kind k 2)) same (cosigned_may state order kind 2 may.kind_is may.above may.signed h);
-        cosigned_three = λ h. subst (λ (l : Layers). IsTrue (may_cosign l kind k 3)) same (cosigned_may state order kind 3 may.kind_is may.above may.signed h);
-        regions = ap (λ (l : Layers). kept_regions l kind k by) same;
         renewed = is_named_next (renews (Some kind) k) state draw;
         last_index = λ h. is_named_next (renews (Some kind) k) state draw ∙ may.index h;
       },
+      record {
+        allowed = subst (λ (l : Layers). Condition l (Some kind) k) same may.allowed;
+        placed = subst (λ (l : Layers). CanPlace kind (layer_of l k) (layer_of now k)) same (subst (CanPlace kind (layer_of state.layers k)) (sym own) can);
+        changed = ap (after state.layers kind k by) (sym own) ∙ ap (λ (l : Layers). after l kind k by (layer_of now k)) same;
+        countersigned = record {
+          two = λ h. subst (λ (l : Layers). IsTrue (may_cosign l kind k 2)) same (cosigned_may state order kind 2 may.kind_is may.above may.signed h);
+          three = λ h. subst (λ (l : Layers). IsTrue (may_cosign l kind k 3)) same (cosigned_may state order kind 3 may.kind_is may.above may.signed h);
+        };
+        regions = ap (λ (l : Layers). kept_regions l kind k by) same;
+      },
+      version_two_may_follow (has_version_two past) now,
     )
 
 -- the state after a change is valid
@@ -187,7 +192,7 @@ pub changed_valid : (state : State) (kind : ChangeKind) (order : Order) (draw : 
     → IsValidState (changed state kind order draw)
 unfolding changed
 changed_valid state kind order draw valid may =
-    valid_after state (change_entry state kind order draw) (changed state kind order draw) valid (change_ruled state kind order draw valid may) refl refl
+    valid_after state (entry_of (view_of state) (change_fact state.layers kind order) draw) (changed state kind order draw) valid (change_ruled state kind order draw valid may) refl refl
     refl refl refl
     (device_named (renews (Some kind) order.layer) state draw)
     (uses_counted (renews (Some kind) order.layer) state draw)
@@ -203,8 +208,8 @@ pub keyed_valid : (state : State) (L : ℕ) (kind : KeyKind) (draw : List ℕ) �
 unfolding keyed
 keyed_valid state L kind draw valid allowed index room =
     let past : List Entry = entries_of state.log in
-    let entry : Entry = key_entry state L kind draw in
-    let ruled : Ruled past entry = (
+    let entry : Entry = entry_of (view_of state) (fact.NewKey L kind) draw in
+    let ruled : Ruled (figures_of past) entry = (
       named_is_some past (public_of state.device) valid.device,
       record {
         counted = refl;

@@ -20,9 +20,9 @@ use Rattle.mb_model.specs.declared.region.RegionKey.{RegionKey}
 use Rattle.mb_model.specs.declared.state.State.{State}
 use Rattle.mb_model.specs.Layers.{layer_of, is_upper, is_runnable, Runnable}
 use Rattle.mb_model.specs.Rules.{kind_of, change_of, renews, Condition, placed, kept_regions, after}
-use Rattle.mb_model.specs.Log.{entries_of, layers_of, number_of, made, Ruled, RuledLog}
+use Rattle.mb_model.specs.Log.{figures_of, entries_of, layers_of, number_of, made, Ruled, RuledLog}
 use Rattle.mb_model.specs.Regions.{region_after, with_key, KeptRightly}
-use Rattle.mb_model.specs.OrderStep.{region_of, with_region, signed_by, log_with, next_key, cosigned_by, succeeded, changed, keyed}
+use Rattle.mb_model.specs.OrderStep.{region_of, with_region, signed_by, log_with, next_key, cosigned_by, succeeded, changed, keyed, view_of}
 use Rattle.mb_model.specs.Refusals.{wrong_layer, refused}
 use Rattle.mb_model.specs.Signing.{public_of}
 use Rattle.mb_model.specs.LayerEvents.{Outcome, has_name, has_number, put_event, get_event, drop_event, sign_with, sign_event}
@@ -39,7 +39,7 @@ use Rattle.mb_model_lemmas.proofs.ValidRegions.{valid_over_change, valid_over_ne
 pub follows_is_ruled : (log : List SignedEntry) → EachFollows log → RuledLog (entries_of log)
 follows_is_ruled log each = λ before entry rest split.
     let found = map_split (λ (signed : SignedEntry). signed.entry) log before rest entry split in
-    subst (λ (es : List Entry). Ruled es entry) found.before_is (subst (λ (e : Entry). Ruled (entries_of found.front) e) found.y_is (each found.front found.x found.back found.split).ruled)
+    subst (λ (es : List Entry). Ruled (figures_of es) entry) found.before_is (subst (λ (e : Entry). Ruled (figures_of (entries_of found.front)) e) found.y_is (each found.front found.x found.back found.split).ruled)
 
 pub valid_is_ruled : (state : State) → IsValidState state → RuledLog (entries_of state.log)
 valid_is_ruled state valid = follows_is_ruled state.log valid.log
@@ -132,7 +132,7 @@ pub succeeded_keeps : (state : State) (draw : List ℕ) → HasValidRegions stat
 unfolding succeeded signed_by
 succeeded_keeps state draw valid =
     let past : List Entry = entries_of state.log in
-    let key : PublicKey = public_of (next_key state draw) in
+    let key : PublicKey = public_of (next_key (view_of state) draw) in
     let same : entries_of (succeeded state draw).log ≡ past ++ Succession (length state.log) key ∷ [] = entries_of-push state.log _ in
     record {
       two = subst (λ es. IsValidRegion es state.layers 2 state.two) (sym same) (valid_over_succession past state.layers (length state.log) key 2 state.two valid.two);
@@ -148,7 +148,7 @@ changed_keeps state kind order draw of_kind are valid =
     let k : ℕ = order.layer in
     let by : Pair = cosigned_by order in
     let new : Layer = placed (layer_of state.layers k) order.act in
-    let named : Option PublicKey = if renews (Some kind) k then Some (public_of (next_key state draw)) else None in
+    let named : Option PublicKey = if renews (Some kind) k then Some (public_of (next_key (view_of state) draw)) else None in
     let can = placed_can (layer_of state.layers k) order.act kind of_kind in
     let entry : Entry = Change 2 (length state.log) (number_of past + 1) kind k by (after state.layers kind k by new) (kept_regions state.layers kind k by) named in
     let same : entries_of (changed state kind order draw).log ≡ past ++ entry ∷ [] = entries_of-push state.log _ in
@@ -163,7 +163,7 @@ pub keyed_keeps : (state : State) (L : ℕ) (kind : KeyKind) (draw : List ℕ) �
 unfolding keyed signed_by
 keyed_keeps state L kind draw ruled allowed room valid =
     let past : List Entry = entries_of state.log in
-    let seed : KeySeed = next_key state draw in
+    let seed : KeySeed = next_key (view_of state) draw in
     let size : ℕ = length state.log in
     let key : RegionKey = record { number = made past; kind = kind; seed = seed; uses = 0 } in
     let entry : ℕ → Entry = λ m. NewKey size (number_of past) (made past) m kind (public_of seed) in

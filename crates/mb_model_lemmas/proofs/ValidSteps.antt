@@ -24,7 +24,9 @@ use Rattle.mb_model.specs.Rules.{kind_of, change_of, renews, Condition}
 use Rattle.mb_model.specs.Log.{entries_of, used}
 use Rattle.mb_model.specs.Signing.{public_of}
 use Rattle.mb_model.specs.Refusals.{Refusal, wrong_phase, wrong_layer, refused}
-use Rattle.mb_model.specs.OrderStep.{IsCountersigned, needs_succession, next_key, RegionHasRoom, Passes, succeeded, carried_out, obeyed, OrderStep, spells_none, fails_check, is_obeyed}
+use Rattle.mb_model.specs.Regions.{empty_region}
+use Rattle.mb_model.specs.declared.region.Region.{Region}
+use Rattle.mb_model.specs.OrderStep.{IsCountersigned, needs_succession, next_key, RegionHasRoom, region_keys, region_of, Passes, succeeded, carried_out, obeyed, OrderStep, spells_none, fails_check, is_obeyed, view_of}
 use Rattle.mb_model.specs.LayerEvents.{Outcome, put_event, get_event, drop_event, sign_event}
 use Rattle.mb_model.specs.Machine.{Phase, off, dead, ratchet, World, Told, boot_event, awake, awake_in, status_event, go_event, region_event, CommandStep, Machine, Step, answered, lacks_memory, loses_power, Run}
 use Rattle.mb_model.specs.Valid.{IsValidState, Valid}
@@ -69,11 +71,20 @@ over_succession_condition : (state : State) (draw : List ℕ) (kind : Option Cha
 unfolding succeeded
 over_succession_condition state draw kind k is = is
 
-over_succession_signed : (state : State) (draw : List ℕ) (order : Order) → All (IsCountersigned state order) order.countersignatures → All (IsCountersigned (succeeded state draw) order) order.countersignatures
+over_succession_signed : (state : State) (draw : List ℕ) (order : Order) → All (IsCountersigned (view_of state) order) order.countersignatures → All (IsCountersigned (view_of (succeeded state draw)) order) order.countersignatures
 unfolding succeeded
 over_succession_signed state draw order is = is
 
-over_succession_room : (state : State) (draw : List ℕ) (L : ℕ) (a : Act) → RegionHasRoom state L a → RegionHasRoom (succeeded state draw) L a
+keys_if : (a b : Bool) (x y : Region) → (if a then length x.keys else if b then length y.keys else 0) ≡ length (if a then x else if b then y else empty_region).keys
+keys_if true b x y = refl
+keys_if false true x y = refl
+keys_if false false x y = refl
+
+-- the figures tell how many keys a region has
+pub region_keys_are : (state : State) (L : ℕ) → region_keys (view_of state) L ≡ length (region_of state L).keys
+region_keys_are state L = keys_if (L == 2) (L == 3) state.two state.three
+
+over_succession_room : (state : State) (draw : List ℕ) (L : ℕ) (a : Act) → RegionHasRoom (view_of state) L a → RegionHasRoom (view_of (succeeded state draw)) L a
 unfolding succeeded
 over_succession_room state draw L (act.Establish owner trust) is = is
 over_succession_room state draw L act.Surrender is = is
@@ -87,15 +98,15 @@ never n e f = omega (arith, e, f)
 used_anew : (state : State) (draw : List ℕ) → used (entries_of (succeeded state draw).log) ≡ 0
 unfolding succeeded
 used_anew state draw =
-    let entry : Entry = Succession (length state.log) (public_of (next_key state draw)) in
+    let entry : Entry = Succession (length state.log) (public_of (next_key (view_of state) draw)) in
     ap used (entries_of-signed state entry) ∙ used-push (entries_of state.log) entry
 
 -- an order leads to a valid state, where the device key has an index for it
 carried_by : (ready : State) (order : Order) (draw : List ℕ) (a : Act) → order.act ≡ a → IsValidState ready
     → Condition ready.layers (change_of (kind_of a)) order.layer → All (IsAbove (change_of (kind_of a)) order.layer) order.countersignatures
-    → All (IsCountersigned ready order) order.countersignatures
+    → All (IsCountersigned (view_of ready) order) order.countersignatures
     → (used (entries_of ready.log) ≡ 31 → IsTrue (renews (change_of (kind_of a)) order.layer))
-    → RegionHasRoom ready order.layer a
+    → RegionHasRoom (view_of ready) order.layer a
     → IsValidState (carried_out ready order a draw)
 carried_by ready order draw (act.Establish owner trust) is valid allowed above signed index room =
     changed_valid ready Establish order draw valid (record { kind_is = ap (λ (x : Act). change_of (kind_of x)) is; allowed = allowed; above = above; signed = signed; index = index })
@@ -106,7 +117,7 @@ carried_by ready order draw (act.Load payload) is valid allowed above signed ind
 carried_by ready order draw (act.Emergency payload) is valid allowed above signed index room =
     changed_valid ready Emergency order draw valid (record { kind_is = ap (λ (x : Act). change_of (kind_of x)) is; allowed = allowed; above = above; signed = signed; index = index })
 carried_by ready order draw (act.NewKey kind) is valid allowed above signed index room =
-    keyed_valid ready order.layer kind draw valid allowed (λ e. absurd (grind (arith, index e))) room
+    keyed_valid ready order.layer kind draw valid allowed (λ e. absurd (grind (arith, index e))) (subst (λ n. n < 8) (region_keys_are ready order.layer) room)
 
 -- where a succession is needed, the last index is left, and else the order takes it
 needed_last : (n : ℕ) (b : Bool) → ((n == 31) && not b) ≡ true → n ≡ 31
@@ -118,12 +129,12 @@ not_needed n true e last = refl
 not_needed n false e last = absurd (grind (arith, e, last))
 
 -- the order finds an index, and then is carried out
-pub obeyed_valid : (state : State) (order : Order) (draw : List ℕ) → IsValidState state → order_format.Allowed order → Passes state order
+pub obeyed_valid : (state : State) (order : Order) (draw : List ℕ) → IsValidState state → order_format.Allowed order → Passes (view_of state) order
     → IsValidState (obeyed state order draw)
 unfolding obeyed
 obeyed_valid state order draw valid allowed passes =
     let above = all_above order allowed in
-    (elim (needs_succession state order) as (λ b. needs_succession state order ≡ b → IsValidState (carried_out (if b then succeeded state draw else state) order order.act draw)) [
+    (elim (needs_succession (view_of state) order) as (λ b. needs_succession (view_of state) order ≡ b → IsValidState (carried_out (if b then succeeded state draw else state) order order.act draw)) [
       | true ↦ λ e.
           let last : used (entries_of state.log) ≡ 31 = needed_last (used (entries_of state.log)) (renews (change_of (kind_of order.act)) order.layer) e in
           carried_by (succeeded state draw) order draw order.act refl (succeeded_valid state draw valid last)

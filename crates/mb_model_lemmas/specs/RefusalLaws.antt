@@ -8,6 +8,7 @@ use Rattle.mb_model.specs.declared.order.Order.{Order}
 use Rattle.mb_model.specs.declared.reply.Reply.{Reply}
 use Rattle.mb_model.specs.declared.reply.Reply.TheVariants as reply
 use Rattle.mb_model.specs.declared.state.State.{State}
+use Rattle.mb_model.specs.declared.state.View.{View}
 use Rattle.mb_model.specs.Refusals.{Refusal}
 use Rattle.mb_model.specs.OrderStep.{Fails, Passes, OrderStep}
 use Rattle.mb_model.specs.Machine.{Phase, off, dead, ratchet, World, Machine, Step}
@@ -42,18 +43,17 @@ MachineIsWhole =
 
 -- an order fails one check at most
 abbrev pub OneFailure : Type 0
-OneFailure = (state : State) (order : Order) (a b : Refusal) → Fails state order a → Fails state order b → a ≡ b
+OneFailure = (view : View) (order : Order) (a b : Refusal) → Fails view order a → Fails view order b → a ≡ b
 
 -- and none where it passes
 abbrev pub PassesFailNothing : Type 0
 PassesFailNothing =
-    (state : State) (order : Order) (refusal : Refusal) → Passes state order → Fails state order refusal → ⊥
+    (view : View) (order : Order) (refusal : Refusal) → Passes view order → Fails view order refusal → ⊥
 
 -- no order neither passes nor fails a check
 abbrev pub PassesOrFails : Type 0
 PassesOrFails =
-    (state : State) (order : Order) → (Passes state order → ⊥) → ((refusal : Refusal) → Fails state order refusal → ⊥)
-    → ⊥
+    (view : View) (order : Order) → (Passes view order → ⊥) → ((refusal : Refusal) → Fails view order refusal → ⊥) → ⊥
 
 -- bytes that are given as an order have one answer, and lead to one state
 abbrev pub OneOrderStep : Type 0

@@ -25,7 +25,7 @@ use Rattle.mb_model.specs.Log.{entries_of, is_change, number_of, layers_of, made
 use Rattle.mb_model.specs.Lives.{Alive, alive_keys}
 use Rattle.mb_model.specs.Regions.{region_after, with_key}
 use Rattle.mb_model.specs.Signing.{public_of}
-use Rattle.mb_model.specs.OrderStep.{region_of, with_region, key_made, cosigned_by, succeeded, changed, keyed}
+use Rattle.mb_model.specs.OrderStep.{region_of, with_region, key_made, cosigned_by, succeeded, changed, keyed, view_of}
 use Rattle.mb_model.specs.LayerEvents.{Outcome, has_name, with_secret, has_number, with_use, put_event, get_event}
 use Rattle.mb_model.specs.LayerEvents.{drop_event, sign_event, on_region}
 use Rattle.mb_model.specs.Fates.{change_fate, key_fate}
@@ -250,7 +250,7 @@ abbrev pub KeyedStatesAreFated : Type 0
 KeyedStatesAreFated =
     (state : State) (L : ℕ) (kind : KeyKind) (draw : List ℕ) (key : RegionKey) → IsTrue (is_upper L)
     → RuledLog (entries_of state.log) → HasValidRegions state
-    → key ≡ key_made state kind draw
+    → key ≡ key_made (view_of state) kind draw
     → AreFated state (keyed state L kind draw) (key_fate L key 2) (key_fate L key 3)
 
 -- ---- keys and the log

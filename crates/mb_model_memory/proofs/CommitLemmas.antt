@@ -14,12 +14,17 @@ use Rattle.mb_model.specs.declared.entry.SignedEntry.{SignedEntry}
 use Rattle.mb_model.specs.declared.region.Region.{Region}
 use Rattle.mb_model.specs.declared.state.Codes.{Codes}
 use Rattle.mb_model.specs.declared.state.State.{State}
+use Rattle.mb_model.specs.declared.stored.Fate.{Fate}
 use Rattle.mb_model.specs.declared.stored.Root.{Root}
 use Rattle.mb_model.specs.Layers.{is_upper, is_runnable}
 use Rattle.mb_model.specs.Rules.{kind_of, change_of, renews, Condition}
 use Rattle.mb_model.specs.Log.{entries_of, layers_of, used}
 use Rattle.mb_model.specs.OrderFormat.{order_format}
-use Rattle.mb_model.specs.OrderStep.{change_by, needs_succession, Passes, signed_by, log_with, succeeded, device_after, uses_after, key_made, changed, keyed, ready_for, own_entry, carried_out, obeyed}
+use Rattle.mb_model.specs.OrderStep.{change_by, needs_succession, Passes, signed_by, log_with, succeeded, device_after, uses_after, key_made, changed, keyed, ready_for, carried_out, obeyed, succession_entry, entry_of, fact_of, view_of}
+use Rattle.mb_model.specs.Work.{fate_for, pending_for}
+use Rattle.mb_model_lemmas.proofs.AdditionLemmas.{device_is}
+use Rattle.mb_model_memory.specs.Commits.{new_entries}
+use Rattle.mb_model_memory.proofs.Additions.{outgoing_key, outgoing_with, gives_way, own_fate, outgoing_is, fate_is, new_entries_are}
 use Rattle.mb_model.specs.Memory.{AreSized}
 use Rattle.mb_model.specs.StoredLog.{AreCounted, HasIndex, signed_for, completed}
 use Rattle.mb_model.specs.Meaning.{Contents, HoldsContents, fated, fate_of_two, fate_of_three, meant, HasMeaning, is_dead, is_live, StandsFor}
@@ -31,7 +36,6 @@ use Rattle.mb_model_lemmas.proofs.OwnEntries.{appends_own}
 use Rattle.mb_model_lemmas.proofs.ValidStates.{valid_is_ruled}
 use Rattle.mb_model_lemmas.proofs.ValidOrders.{succeeded_valid}
 use Rattle.mb_model_lemmas.proofs.ValidSteps.{obeyed_valid}
-use Rattle.mb_model.specs.Work.{own_fate, fate_for, gives_way, outgoing_key, outgoing_with, succession_entry, new_entries, pending_for}
 use Rattle.mb_model_memory.specs.Commits.{root_for, committed, two_done, three_done, both_done, IsUnderWay, not_begun, only_two, only_three, has_both}
 
 -- ---- contents that mean a state
@@ -100,17 +104,17 @@ live_contents flash bbram state stands = live_by flash bbram (Some state) state 
 
 -- ---- the state in which the device key has an index for the order
 
-last_left : (state : State) (order : Order) → needs_succession state order ≡ true → used (entries_of state.log) ≡ 31
+last_left : (state : State) (order : Order) → needs_succession (view_of state) order ≡ true → used (entries_of state.log) ≡ 31
 last_left state order e =
     eqb-true (used (entries_of state.log)) 31 (and_parts (used (entries_of state.log) == 31) (not (renews (change_by order) order.layer)) e).0
 
-not_renewing : (state : State) (order : Order) → needs_succession state order ≡ true → renews (change_by order) order.layer ≡ false
+not_renewing : (state : State) (order : Order) → needs_succession (view_of state) order ≡ true → renews (change_by order) order.layer ≡ false
 not_renewing state order e =
     not-true (renews (change_by order) order.layer) (and_parts (used (entries_of state.log) == 31) (not (renews (change_by order) order.layer)) e).1
 
 pub ready_valid : (state : State) (order : Order) (draw : List ℕ) → IsValidState state → IsValidState (ready_for state order draw)
 ready_valid state order draw valid =
-    (elim (needs_succession state order) as (λ b. needs_succession state order ≡ b → IsValidState (if b then succeeded state draw else state)) [
+    (elim (needs_succession (view_of state) order) as (λ b. needs_succession (view_of state) order ≡ b → IsValidState (if b then succeeded state draw else state)) [
       | true ↦ λ e. succeeded_valid state draw valid (last_left state order e)
       | false ↦ λ e. valid
     ]) refl
@@ -118,7 +122,7 @@ ready_valid state order draw valid =
 -- what a succession leaves, the state that is ready has as it was
 pub kept_ready : {X : Type 0} (part : State → X) (state : State) (order : Order) (draw : List ℕ) → part (succeeded state draw) ≡ part state → part (ready_for state order draw) ≡ part state
 kept_ready part state order draw same =
-    elim (needs_succession state order) as (λ b. part (if b then succeeded state draw else state) ≡ part state) [ true ↦ same | false ↦ refl ]
+    elim (needs_succession (view_of state) order) as (λ b. part (if b then succeeded state draw else state) ≡ part state) [ true ↦ same | false ↦ refl ]
 
 succeeded_serial : (state : State) (draw : List ℕ) → (succeeded state draw).serial ≡ state.serial
 unfolding succeeded
@@ -150,7 +154,7 @@ carried_serial ready order (act.Load payload) draw = refl
 carried_serial ready order (act.Emergency payload) draw = refl
 carried_serial ready order (act.NewKey kind) draw = refl
 
-carried_device : (ready : State) (order : Order) (a : Act) (draw : List ℕ) → (carried_out ready order a draw).device ≡ device_after (renews (change_of (kind_of a)) order.layer) ready draw
+carried_device : (ready : State) (order : Order) (a : Act) (draw : List ℕ) → (carried_out ready order a draw).device ≡ device_after (renews (change_of (kind_of a)) order.layer) (view_of ready) draw
 unfolding changed keyed
 carried_device ready order (act.Establish owner trust) draw = refl
 carried_device ready order act.Surrender draw = refl
@@ -158,7 +162,7 @@ carried_device ready order (act.Load payload) draw = refl
 carried_device ready order (act.Emergency payload) draw = refl
 carried_device ready order (act.NewKey kind) draw = refl
 
-carried_uses : (ready : State) (order : Order) (a : Act) (draw : List ℕ) → (carried_out ready order a draw).uses ≡ uses_after (renews (change_of (kind_of a)) order.layer) ready
+carried_uses : (ready : State) (order : Order) (a : Act) (draw : List ℕ) → (carried_out ready order a draw).uses ≡ uses_after (renews (change_of (kind_of a)) order.layer) (view_of ready)
 unfolding changed keyed
 carried_uses ready order (act.Establish owner trust) draw = refl
 carried_uses ready order act.Surrender draw = refl
@@ -172,11 +176,11 @@ obeyed_serial state order draw =
     carried_serial (ready_for state order draw) order order.act draw
     ∙ kept_ready (λ (s : State). s.serial) state order draw (succeeded_serial state draw)
 
-pub obeyed_device : (state : State) (order : Order) (draw : List ℕ) → (obeyed state order draw).device ≡ device_after (renews (change_by order) order.layer) (ready_for state order draw) draw
+pub obeyed_device : (state : State) (order : Order) (draw : List ℕ) → (obeyed state order draw).device ≡ device_after (renews (change_by order) order.layer) (view_of (ready_for state order draw)) draw
 unfolding obeyed
 obeyed_device state order draw = carried_device (ready_for state order draw) order order.act draw
 
-pub obeyed_uses : (state : State) (order : Order) (draw : List ℕ) → (obeyed state order draw).uses ≡ uses_after (renews (change_by order) order.layer) (ready_for state order draw)
+pub obeyed_uses : (state : State) (order : Order) (draw : List ℕ) → (obeyed state order draw).uses ≡ uses_after (renews (change_by order) order.layer) (view_of (ready_for state order draw))
 unfolding obeyed
 obeyed_uses state order draw = carried_uses (ready_for state order draw) order order.act draw
 
@@ -187,24 +191,24 @@ back n = omega arith
 
 -- one entry: the device key, or the one that gives way, signs it with its next index
 one_signed : (state : State) (draw : List ℕ) (own : Entry) (next : Bool)
-    → state.log ++ signed_for (device_after next state draw) (uses_after next state) (outgoing_with next state) (own ∷ []) ≡ log_with state own
+    → state.log ++ signed_for (device_after next (view_of state) draw) (uses_after next (view_of state)) (outgoing_with next state) (own ∷ []) ≡ log_with state own
 one_signed state draw own true = ap (λ (k : ℕ). state.log ++ signed_by state.device k own ∷ []) (back (used (entries_of state.log)))
 one_signed state draw own false = ap (λ (k : ℕ). state.log ++ signed_by state.device k own ∷ []) (back (used (entries_of state.log)))
 
-plain_log : (state : State) (draw : List ℕ) (own : Entry) (next : Bool) (device : KeySeed) (uses : ℕ) → device ≡ device_after next state draw → uses ≡ uses_after next state
+plain_log : (state : State) (draw : List ℕ) (own : Entry) (next : Bool) (device : KeySeed) (uses : ℕ) → device ≡ device_after next (view_of state) draw → uses ≡ uses_after next (view_of state)
     → state.log ++ signed_for device uses (outgoing_with next state) (own ∷ []) ≡ log_with state own
 plain_log state draw own next device uses device_is uses_is =
     ap (λ (x : KeySeed). state.log ++ signed_for x uses (outgoing_with next state) (own ∷ [])) device_is
-    ∙ ap (λ (x : ℕ). state.log ++ signed_for (device_after next state draw) x (outgoing_with next state) (own ∷ [])) uses_is
+    ∙ ap (λ (x : ℕ). state.log ++ signed_for (device_after next (view_of state) draw) x (outgoing_with next state) (own ∷ [])) uses_is
     ∙ one_signed state draw own next
 
 -- two: the key that gives way signs that of the succession, and the next one the order's own
 two_signed : (state : State) (draw : List ℕ) (own : Entry) (device : KeySeed) (uses : ℕ) → device ≡ (succeeded state draw).device → used (entries_of (succeeded state draw).log) ≡ 0
-    → state.log ++ signed_for device uses (Some (outgoing_key state)) (succession_entry state draw ∷ own ∷ []) ≡ log_with (succeeded state draw) own
+    → state.log ++ signed_for device uses (Some (outgoing_key state)) (succession_entry (view_of state) draw ∷ own ∷ []) ≡ log_with (succeeded state draw) own
 unfolding succeeded
 two_signed state draw own device uses device_is none =
     let n : ℕ = used (entries_of state.log) in
-    let first : Entry = succession_entry state draw in
+    let first : Entry = succession_entry (view_of state) draw in
     let next : State = succeeded state draw in
     ap (λ (k : ℕ). state.log ++ signed_by state.device k first ∷ signed_by device 0 own ∷ []) (back n)
     ∙ ap (λ (x : KeySeed). state.log ++ signed_by state.device n first ∷ signed_by x 0 own ∷ []) device_is
@@ -216,20 +220,20 @@ abbrev ready_by : Bool → State → List ℕ → State
 ready_by needed state draw = if needed then succeeded state draw else state
 
 abbrev own_by : Bool → State → Order → List ℕ → Entry
-own_by needed state order draw = own_entry (ready_by needed state draw) order order.act draw
+own_by needed state order draw = entry_of (view_of (ready_by needed state draw)) (fact_of (ready_by needed state draw).layers order order.act) draw
 
 abbrev entries_by : Bool → State → Order → List ℕ → List Entry
 entries_by needed state order draw =
-    if needed then succession_entry state draw ∷ own_by needed state order draw ∷ [] else own_by needed state order draw ∷ []
+    if needed then succession_entry (view_of state) draw ∷ own_by needed state order draw ∷ [] else own_by needed state order draw ∷ []
 
-log_by : (state : State) (order : Order) (draw : List ℕ) (device : KeySeed) (uses : ℕ) → IsValidState state → (needed : Bool) → needs_succession state order ≡ needed
-    → device ≡ device_after (renews (change_by order) order.layer) (ready_by needed state draw) draw
-    → uses ≡ uses_after (renews (change_by order) order.layer) (ready_by needed state draw)
+log_by : (state : State) (order : Order) (draw : List ℕ) (device : KeySeed) (uses : ℕ) → IsValidState state → (needed : Bool) → needs_succession (view_of state) order ≡ needed
+    → device ≡ device_after (renews (change_by order) order.layer) (view_of (ready_by needed state draw)) draw
+    → uses ≡ uses_after (renews (change_by order) order.layer) (view_of (ready_by needed state draw))
     → state.log ++ signed_for device uses (outgoing_with (needed || renews (change_by order) order.layer) state) (entries_by needed state order draw)
     ≡ log_with (ready_by needed state draw) (own_by needed state order draw)
 log_by state order draw device uses valid true e device_is uses_is =
     let next : State = succeeded state draw in
-    let stays : device ≡ next.device = device_is ∙ ap (λ (b : Bool). device_after b next draw) (not_renewing state order e) in
+    let stays : device ≡ next.device = device_is ∙ ap (λ (b : Bool). device_after b (view_of next) draw) (not_renewing state order e) in
     let none : used (entries_of next.log) ≡ 0 = sym (succeeded_valid state draw valid (last_left state order e)).uses ∙ succeeded_uses state draw in
     two_signed state draw (own_by true state order draw) device uses stays none
 log_by state order draw device uses valid false e device_is uses_is =
@@ -238,10 +242,12 @@ log_by state order draw device uses valid false e device_is uses_is =
 -- the entries with the signatures that they will have are those of the log
 pub committed_log : (state : State) (order : Order) (draw : List ℕ) (area : ℕ) → IsValidState state
     → completed (root_for state order draw area) state.log (new_entries state order draw) ≡ (obeyed state order draw).log
-unfolding completed root_for pending_for new_entries
+unfolding completed root_for pending_for
 committed_log state order draw area valid =
     let done : State = obeyed state order draw in
-    log_by state order draw done.device done.uses valid (needs_succession state order) refl (obeyed_device state order draw) (obeyed_uses state order draw)
+    ap (λ o. state.log ++ signed_for done.device done.uses o (new_entries state order draw)) (outgoing_is state order draw)
+    ∙ ap (λ (es : List Entry). state.log ++ signed_for done.device done.uses (outgoing_with (gives_way state order) state) es) (new_entries_are state order draw)
+    ∙ log_by state order draw done.device done.uses valid (needs_succession (view_of state) order) refl (obeyed_device state order draw) (obeyed_uses state order draw)
     ∙ sym (appends_own state order draw)
 
 -- ---- the regions
@@ -253,17 +259,17 @@ fates_are ready order draw act.Surrender valid allowed = changed_is_fated ready 
 fates_are ready order draw (act.Load payload) valid allowed = changed_is_fated ready Load order draw
 fates_are ready order draw (act.Emergency payload) valid allowed = changed_is_fated ready Emergency order draw
 fates_are ready order draw (act.NewKey kind) valid allowed =
-    keyed_is_fated ready order.layer kind draw (key_made ready kind draw) (and_parts (is_upper order.layer) (is_runnable ready.layers order.layer) allowed).0 (valid_is_ruled ready valid)
+    keyed_is_fated ready order.layer kind draw (key_made (view_of ready) kind draw) (and_parts (is_upper order.layer) (is_runnable ready.layers order.layer) allowed).0 (valid_is_ruled ready valid)
     (record { two = valid.two; three = valid.three }) refl
 
-ready_fates : (state : State) (order : Order) (draw : List ℕ) → IsValidState state → Passes state order
+ready_fates : (state : State) (order : Order) (draw : List ℕ) → IsValidState state → Passes (view_of state) order
     → AreFated (ready_for state order draw) (obeyed state order draw) (fate_for state order draw 2) (fate_for state order draw 3)
 unfolding obeyed
 ready_fates state order draw valid passes =
     let same = kept_ready (λ (s : State). s.layers) state order draw (succeeded_layers state draw) in
-    fates_are (ready_for state order draw) order draw order.act (ready_valid state order draw valid) (subst (λ (l : Layers). Condition l (change_by order) order.layer) (sym same) passes.condition)
+    subst (λ (a : Fate). AreFated (ready_for state order draw) (obeyed state order draw) a (fate_for state order draw 3)) (sym (fate_is state order draw 2)) (subst (λ (b : Fate). AreFated (ready_for state order draw) (obeyed state order draw) (own_fate (ready_for state order draw) order order.act draw 2) b) (sym (fate_is state order draw 3)) (fates_are (ready_for state order draw) order draw order.act (ready_valid state order draw valid) (subst (λ (l : Layers). Condition l (change_by order) order.layer) (sym same) passes.condition)))
 
-pub obeyed_is_fated : (state : State) (order : Order) (draw : List ℕ) → IsValidState state → Passes state order
+pub obeyed_is_fated : (state : State) (order : Order) (draw : List ℕ) → IsValidState state → Passes (view_of state) order
     → AreFated state (obeyed state order draw) (fate_for state order draw 2) (fate_for state order draw 3)
 obeyed_is_fated state order draw valid passes =
     let fates = ready_fates state order draw valid passes in
@@ -274,7 +280,7 @@ obeyed_is_fated state order draw valid passes =
 
 -- ---- the commit
 
-committed_parts : (state : State) (order : Order) (draw : List ℕ) (area : ℕ) → IsValidState state → Passes state order
+committed_parts : (state : State) (order : Order) (draw : List ℕ) (area : ℕ) → IsValidState state → Passes (view_of state) order
     → HasParts (committed state order draw area) (obeyed state order draw)
 unfolding committed root_for pending_for
 committed_parts state order draw area valid passes =
@@ -289,7 +295,7 @@ committed_parts state order draw area valid passes =
       three = sym fates.three_is;
     }
 
-pub commit_means : (state : State) (order : Order) (draw : List ℕ) (area : ℕ) → IsValidState state → order_format.Allowed order → Passes state order
+pub commit_means : (state : State) (order : Order) (draw : List ℕ) (area : ℕ) → IsValidState state → order_format.Allowed order → Passes (view_of state) order
     → meant (committed state order draw area) ≡ obeyed state order draw
 commit_means state order draw area valid allowed passes =
     meant_is (committed state order draw area) (obeyed state order draw) (obeyed_valid state order draw valid allowed passes).layers (committed_parts state order draw area valid passes)
@@ -303,10 +309,10 @@ one_alone true renewing state e = absurd (grind (arith, e))
 one_alone false renewing state e = refl
 
 pub commit_counted : (state : State) (order : Order) (draw : List ℕ) (area : ℕ) → AreCounted (root_for state order draw area).pending (new_entries state order draw)
-unfolding root_for pending_for new_entries
+unfolding root_for pending_for
 commit_counted state order draw area = record {
-  counted = entries_counted (needs_succession state order) (succession_entry state draw) (own_entry (ready_for state order draw) order order.act draw);
-  can_sign = one_alone (needs_succession state order) (renews (change_by order) order.layer) state;
+  counted = ap length (new_entries_are state order draw) ∙ entries_counted (needs_succession (view_of state) order) (succession_entry (view_of state) draw) (entry_of (view_of (ready_for state order draw)) (fact_of (ready_for state order draw).layers order order.act) draw);
+  can_sign = λ e. one_alone (needs_succession (view_of state) order) (renews (change_by order) order.layer) state (sym (outgoing_is state order draw) ∙ e);
 }
 
 none_gives_way : (next : Bool) (state : State) → outgoing_with next state ≡ None → next ≡ false
@@ -317,15 +323,15 @@ pub commit_index : (state : State) (order : Order) (draw : List ℕ) (area : ℕ
 unfolding root_for pending_for
 commit_index state order draw area = λ none nothing.
     let renewing : renews (change_by order) order.layer ≡ false =
-    (or_parts (needs_succession state order) (renews (change_by order) order.layer) (none_gives_way (gives_way state order) state none)).1
+    (or_parts (needs_succession (view_of state) order) (renews (change_by order) order.layer) (none_gives_way (gives_way state order) state (sym (outgoing_is state order draw) ∙ none))).1
     in
     let uses : (obeyed state order draw).uses ≡ used (entries_of (ready_for state order draw).log) + 1 =
-    obeyed_uses state order draw ∙ ap (λ (b : Bool). uses_after b (ready_for state order draw)) renewing
+    obeyed_uses state order draw ∙ ap (λ (b : Bool). uses_after b (view_of (ready_for state order draw))) renewing
     in
     omega (arith, uses, nothing)
 
 pub commit_stands : (flash bbram : List ℕ) (state : State) (order : Order) (draw : List ℕ) (area : ℕ) → AreSized flash bbram
-    → IsValidState state → order_format.Allowed order → Passes state order
+    → IsValidState state → order_format.Allowed order → Passes (view_of state) order
     → HoldsContents flash bbram (committed state order draw area) → StandsFor flash bbram (Some (obeyed state order draw))
 unfolding committed
 commit_stands flash bbram state order draw area sized valid allowed passes holds =

@@ -1,3 +1,4 @@
+pub mod Additions
 pub mod CommitLemmas
 pub mod RestLemmas
 pub mod FrameLemmas

@@ -17,7 +17,7 @@ use Rattle.mb_model.specs.Meaning.{RootIn, Contents, HoldsContents, fated, fate_
 use Rattle.mb_model.specs.Clean.{root_of, IsCleanFor}
 use Rattle.mb_model_lemmas.proofs.FateLemmas.{kept_as_before}
 use Rattle.mb_model_lemmas.proofs.MeaningLemmas.{one_root_in, contents_of}
-use Rattle.mb_model.specs.Work.{new_entries}
+use Rattle.mb_model_memory.specs.Commits.{new_entries}
 use Rattle.mb_model_memory.specs.Commits.{root_for, committed, both_done, at_rest}
 use Rattle.mb_model_memory.specs.InForce.{AgreeBesides}
 use Rattle.mb_model_memory.proofs.CommitLemmas.{meant_is, stands_for_meant, live_contents}

@@ -20,7 +20,7 @@ use Rattle.mb_model.specs.declared.region.Region.{Region}
 use Rattle.mb_model.specs.declared.region.RegionKey.{RegionKey}
 use Rattle.mb_model.specs.declared.state.State.{State}
 use Rattle.mb_model.specs.Layers.{layer_of}
-use Rattle.mb_model.specs.Rules.{kind_of, change_of, least_layer, MayBeFor, is_load, renews, Condition, placed, admits, kept_regions}
+use Rattle.mb_model.specs.Rules.{kind_of, change_of, least_layer, MayBeFor, is_load, renews, Condition, placed, after, admits, kept_regions}
 use Rattle.mb_model.specs.Log.{entries_of, number_of, used, made}
 use Rattle.mb_model.specs.Regions.{empty_region, is_epoch, without_configuration_keys, region_after, with_key}
 use Rattle.mb_model.specs.KeyFormat.{public_key_format, key_seed_format}
@@ -28,10 +28,11 @@ use Rattle.mb_model.specs.LayerFormat.{layer_format, layers_format}
 use Rattle.mb_model.specs.EntryFormat.{entry_format, signed_entry_format}
 use Rattle.mb_model.specs.RootFormat.{region_key_format}
 use Rattle.mb_model.specs.OrderFormat.{differs_in, act_by, body_format, order_format}
-use Rattle.mb_model.specs.OrderStep.{region_of, with_region, change_by, needs_succession, RegionHasRoom, Passes, signed_by, log_with, succeeded, device_after, cosigned_by, named_next, changed_layers, change_entry, changed, key_made, key_entry, keyed, ready_for, carried_out, obeyed}
+use Rattle.mb_model_lemmas.proofs.ValidSteps.{region_keys_are}
+use Rattle.mb_model.specs.OrderStep.{region_of, with_region, change_by, needs_succession, RegionHasRoom, Passes, signed_by, log_with, succeeded, device_after, cosigned_by, named_next, changed, key_made, keyed, ready_for, carried_out, obeyed, succession_entry, entry_of, change_fact, view_of}
+use Rattle.mb_model.specs.declared.state.Fact.TheVariants as fact
 use Rattle.mb_model_lemmas.proofs.LogLemmas.{number_of-le-length, made-le-length, length-entries_of}
 use Rattle.mb_model_memory.specs.Storable.{IsStorableRegion, IsStorableState}
-use Rattle.mb_model.specs.Work.{succession_entry}
 use Rattle.mb_model_memory.proofs.CommitLemmas.{kept_ready, succeeded_layers}
 use Rattle.mb_model_memory.proofs.StorableFormats.{small_number, some_allowed, none_allowed, born_seed_allowed, born_public_allowed, region_key_allowed, layer_of-allowed, after_allowed, placed_allowed, codes_after_allowed, change_allowed, new_key_allowed, succession_allowed, signed_allowed}
 
@@ -114,7 +115,7 @@ log_with_few state entry room = omega (arith, room, log_with_length state entry)
 pub succeeded_storable : (state : State) (draw : List ℕ) → IsStorableState state → length state.log + 1 ≤ 128 → IsStorableState (succeeded state draw)
 unfolding succeeded
 succeeded_storable state draw is room =
-    let entry : Entry = succession_entry state draw in
+    let entry : Entry = succession_entry (view_of state) draw in
     let own : entry_format.Allowed entry = succession_allowed (length state.log) _ (small_length state is) (born_public_allowed draw state.serial (made (entries_of state.log))) in
     record {
       serial = is.serial;
@@ -129,15 +130,15 @@ succeeded_storable state draw is room =
 
 succeeded_length : (state : State) (draw : List ℕ) → length (succeeded state draw).log ≡ length state.log + 1
 unfolding succeeded
-succeeded_length state draw = log_with_length state (succession_entry state draw)
+succeeded_length state draw = log_with_length state (succession_entry (view_of state) draw)
 
 -- ---- a change
 
-device_after_allowed : (next : Bool) (state : State) (draw : List ℕ) → IsStorableState state → key_seed_format.Allowed (device_after next state draw)
+device_after_allowed : (next : Bool) (state : State) (draw : List ℕ) → IsStorableState state → key_seed_format.Allowed (device_after next (view_of state) draw)
 device_after_allowed true state draw is = born_seed_allowed draw state.serial (made (entries_of state.log))
 device_after_allowed false state draw is = is.device
 
-named_next_allowed : (next : Bool) (state : State) (draw : List ℕ) → (optional public_key_format).Allowed (named_next next state draw)
+named_next_allowed : (next : Bool) (state : State) (draw : List ℕ) → (optional public_key_format).Allowed (named_next next (view_of state) draw)
 named_next_allowed true state draw = some_allowed public_key_format _ (born_public_allowed draw state.serial (made (entries_of state.log)))
 named_next_allowed false state draw = none_allowed public_key_format
 
@@ -154,11 +155,11 @@ unfolding changed
 changed_storable state kind order draw is can =
     let k : ℕ = order.layer in
     let by : Pair = cosigned_by order in
-    let now : Layers = changed_layers state kind order in
+    let now : Layers = after state.layers kind k by (placed (layer_of state.layers k) order.act) in
     let layers : (layers_format 2).Allowed now = after_allowed state.layers kind k by (placed (layer_of state.layers k) order.act) is.layers can.placed in
-    let entry : Entry = change_entry state kind order draw in
+    let entry : Entry = entry_of (view_of state) (change_fact state.layers kind order) draw in
     let own : entry_format.Allowed entry =
-    change_allowed (length state.log) (number_of (entries_of state.log) + 1) kind k by now (kept_regions state.layers kind k by) (named_next (renews (Some kind) k) state draw)
+    change_allowed (length state.log) (number_of (entries_of state.log) + 1) kind k by now (kept_regions state.layers kind k by) (named_next (renews (Some kind) k) (view_of state) draw)
     (small_length state is) (next_number_small state can.room) can.least can.most layers (named_next_allowed (renews (Some kind) k) state draw)
     in
     record {
@@ -174,14 +175,14 @@ changed_storable state kind order draw is can =
 
 -- ---- a new key
 
-pub key_made_allowed : (state : State) (kind : KeyKind) (draw : List ℕ) → IsStorableState state → region_key_format.Allowed (key_made state kind draw)
+pub key_made_allowed : (state : State) (kind : KeyKind) (draw : List ℕ) → IsStorableState state → region_key_format.Allowed (key_made (view_of state) kind draw)
 key_made_allowed state kind draw is =
-    region_key_allowed (key_made state kind draw) (made_small state is) (born_seed_allowed draw state.serial (made (entries_of state.log))) (omega arith)
+    region_key_allowed (key_made (view_of state) kind draw) (made_small state is) (born_seed_allowed draw state.serial (made (entries_of state.log))) (omega arith)
 
 with_log : (state : State) (L : ℕ) (kind : KeyKind) (draw : List ℕ) → IsStorableState state → 2 ≤ L → L ≤ 3 → length state.log + 1 ≤ 128 → (uses : ℕ)
-    → IsStorableState (record state { log = log_with state (key_entry state L kind draw); uses = uses })
+    → IsStorableState (record state { log = log_with state (entry_of (view_of state) (fact.NewKey L kind) draw); uses = uses })
 with_log state L kind draw is least most room uses =
-    let entry : Entry = key_entry state L kind draw in
+    let entry : Entry = entry_of (view_of state) (fact.NewKey L kind) draw in
     let own : entry_format.Allowed entry =
     new_key_allowed (length state.log) (number_of (entries_of state.log)) (made (entries_of state.log)) L kind _
     (small_length state is) (number_small state is) (made_small state is) least most (born_public_allowed draw state.serial (made (entries_of state.log)))
@@ -201,8 +202,8 @@ keyed_storable : (state : State) (L : ℕ) (kind : KeyKind) (draw : List ℕ) �
     → length (region_of state L).keys < 8 → IsStorableState (keyed state L kind draw)
 unfolding keyed
 keyed_storable state L kind draw is least most room keys =
-    with_region_storable _ L (with_key (key_made state kind draw) (region_of state L)) (with_log state L kind draw is least most room _)
-    (with_key_storable (key_made state kind draw) (region_of state L) (key_made_allowed state kind draw is) keys (region_of-storable state L is))
+    with_region_storable _ L (with_key (key_made (view_of state) kind draw) (region_of state L)) (with_log state L kind draw is least most room _)
+    (with_key_storable (key_made (view_of state) kind draw) (region_of state L) (key_made_allowed state kind draw is) keys (region_of-storable state L is))
 
 -- ---- orders
 
@@ -244,12 +245,12 @@ can_bring ready order is allowed condition room =
     }
 
 carried_storable : (ready : State) (order : Order) (a : Act) (draw : List ℕ) → IsStorableState ready → CanBring ready order → least_layer (kind_of a) ≤ order.layer
-    → RegionHasRoom ready order.layer a → IsStorableState (carried_out ready order a draw)
+    → RegionHasRoom (view_of ready) order.layer a → IsStorableState (carried_out ready order a draw)
 carried_storable ready order (act.Establish owner trust) draw is can least keys = changed_storable ready Establish order draw is can
 carried_storable ready order act.Surrender draw is can least keys = changed_storable ready Surrender order draw is can
 carried_storable ready order (act.Load payload) draw is can least keys = changed_storable ready Load order draw is can
 carried_storable ready order (act.Emergency payload) draw is can least keys = changed_storable ready Emergency order draw is can
-carried_storable ready order (act.NewKey kind) draw is can least keys = keyed_storable ready order.layer kind draw is least can.most can.room keys
+carried_storable ready order (act.NewKey kind) draw is can least keys = keyed_storable ready order.layer kind draw is least can.most can.room (subst (λ n. n < 8) (region_keys_are ready order.layer) keys)
 
 -- ---- the state that is ready
 
@@ -267,20 +268,21 @@ succeeded_region : (state : State) (draw : List ℕ) (L : ℕ) → region_of (su
 unfolding succeeded
 succeeded_region state draw L = refl
 
-ready_keys : (state : State) (order : Order) (draw : List ℕ) (L : ℕ) (a : Act) → RegionHasRoom state L a → RegionHasRoom (ready_for state order draw) L a
+ready_keys : (state : State) (order : Order) (draw : List ℕ) (L : ℕ) (a : Act) → RegionHasRoom (view_of state) L a → RegionHasRoom (view_of (ready_for state order draw)) L a
 ready_keys state order draw L (act.Establish owner trust) room = tt
 ready_keys state order draw L act.Surrender room = tt
 ready_keys state order draw L (act.Load payload) room = tt
 ready_keys state order draw L (act.Emergency payload) room = tt
 ready_keys state order draw L (act.NewKey kind) room =
-    subst (λ (region : Region). length region.keys < 8) (sym (kept_ready (λ (s : State). region_of s L) state order draw (succeeded_region state draw L))) room
+    subst (λ n. n < 8) (sym (region_keys_are (ready_for state order draw) L))
+    (subst (λ (region : Region). length region.keys < 8) (sym (kept_ready (λ (s : State). region_of s L) state order draw (succeeded_region state draw L))) (subst (λ n. n < 8) (region_keys_are state L) room))
 
-pub obeyed_storable : (state : State) (order : Order) (draw : List ℕ) → order_format.Allowed order → Passes state order → IsStorableState state
+pub obeyed_storable : (state : State) (order : Order) (draw : List ℕ) → order_format.Allowed order → Passes (view_of state) order → IsStorableState state
     → IsStorableState (obeyed state order draw)
 unfolding obeyed
 obeyed_storable state order draw allowed passes is =
     let ready : State = ready_for state order draw in
-    let needed : Bool = needs_succession state order in
+    let needed : Bool = needs_succession (view_of state) order in
     let ready_is : IsStorableState ready = ready_by_storable state draw needed is passes.log in
     let condition : Condition ready.layers (change_by order) order.layer =
     subst (λ (l : Layers). Condition l (change_by order) order.layer) (sym (kept_ready (λ (s : State). s.layers) state order draw (succeeded_layers state draw))) passes.condition

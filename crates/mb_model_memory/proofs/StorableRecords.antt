@@ -1,5 +1,5 @@
 -- What can be stored has its records, and these have room.
-use Rattle.std.proofs.Common.{◌≡◌, ◌≢◌, ◌≤◌, ℕ, ◌+◌, List, [], ◌∷◌, ◌++◌, inl, inr, length, map, Bool, true, false, refl, subst, arith, length-append}
+use Rattle.std.proofs.Common.{sym, ◌≡◌, ◌≢◌, ◌≤◌, ℕ, ◌+◌, List, [], ◌∷◌, ◌++◌, inl, inr, length, map, Bool, true, false, refl, subst, arith, length-append}
 use Rattle.std.specs.Prelude.{◌==◌, nat_lt, All, if◌then◌else◌}
 use Rattle.std.specs.List.{AllByRecursion}
 use Rattle.std.proofs.lemmas.List.{length-map}
@@ -34,7 +34,10 @@ use Rattle.mb_model.specs.RootFormat.{region_key_format, outgoing_format, fate_f
 use Rattle.mb_model.specs.RegionFormat.{secret_format, secrets_format, keys_format, region_format}
 use Rattle.mb_model.specs.OrderFormat.{order_format}
 use Rattle.mb_model.specs.Flash.{codes_format, public_entry_format, public_format, with_signature, without_signature, public_of_parts}
-use Rattle.mb_model.specs.OrderStep.{needs_succession, Passes, signed_by, log_with, cosigned_by, key_made, ready_for, own_entry, obeyed}
+use Rattle.mb_model.specs.OrderStep.{needs_succession, Passes, signed_by, log_with, cosigned_by, key_made, ready_for, obeyed, succession_entry, entry_of, fact_of, view_of}
+use Rattle.mb_model.specs.Work.{pending_for}
+use Rattle.mb_model_memory.specs.Commits.{new_entries}
+use Rattle.mb_model_memory.proofs.Additions.{own_fate, gives_way, outgoing_with, outgoing_is, fate_is, new_entries_are}
 use Rattle.mb_model.specs.Fates.{change_fate}
 use Rattle.mb_model.specs.Clean.{root_of}
 use Rattle.mb_model.specs.Valid.{IsValidState}
@@ -46,7 +49,6 @@ use Rattle.mb_model_lemmas.proofs.ValidStates.{valid_is_ruled}
 use Rattle.mb_model_lemmas.proofs.ValidLogs.{named_is_some}
 use Rattle.mb_model_lemmas.proofs.ValidSteps.{obeyed_valid}
 use Rattle.mb_model_lemmas.proofs.PublicLemmas.{entry_from_signed}
-use Rattle.mb_model.specs.Work.{own_fate, gives_way, outgoing_with, succession_entry, new_entries, pending_for}
 use Rattle.mb_model_memory.specs.Commits.{root_for}
 use Rattle.mb_model_memory.specs.Storable.{IsStorableRegion, IsStorableState, HasRegionRecord}
 use Rattle.mb_model_memory.proofs.StorableFormats.{keep_allowed, some_allowed, none_allowed, born_public_allowed, succession_allowed}
@@ -95,7 +97,7 @@ own_fate_allowed ready order act.Surrender draw m is = change_fate_allowed ready
 own_fate_allowed ready order (act.Load payload) draw m is = change_fate_allowed ready.layers Load order.layer (cosigned_by order) m
 own_fate_allowed ready order (act.Emergency payload) draw m is = change_fate_allowed ready.layers Emergency order.layer (cosigned_by order) m
 own_fate_allowed ready order (act.NewKey kind) draw m is =
-    either_fate (m == order.layer) (AddKey (key_made ready kind draw)) Keep (add_allowed (key_made ready kind draw) (key_made_allowed ready kind draw is)) keep_allowed
+    either_fate (m == order.layer) (AddKey (key_made (view_of ready) kind draw)) Keep (add_allowed (key_made (view_of ready) kind draw) (key_made_allowed ready kind draw is)) keep_allowed
 
 outgoing_allowed : (next : Bool) (state : State) → IsValidState state → IsStorableState state → (optional outgoing_format).Allowed (outgoing_with next state)
 unfolding outgoing_format
@@ -106,21 +108,21 @@ one_or_two : (needed : Bool) → (1 ≤ (if needed then 2 else 1)) × ((if neede
 one_or_two true = (omega arith, omega arith)
 one_or_two false = (omega arith, omega arith)
 
-ready_storable : (state : State) (order : Order) (draw : List ℕ) → IsStorableState state → Passes state order → IsStorableState (ready_for state order draw)
-ready_storable state order draw is passes = ready_by_storable state draw (needs_succession state order) is passes.log
+ready_storable : (state : State) (order : Order) (draw : List ℕ) → IsStorableState state → Passes (view_of state) order → IsStorableState (ready_for state order draw)
+ready_storable state order draw is passes = ready_by_storable state draw (needs_succession (view_of state) order) is passes.log
 
-pending_allowed : (state : State) (order : Order) (draw : List ℕ) → IsValidState state → IsStorableState state → Passes state order → pending_format.Allowed (pending_for state order draw)
+pending_allowed : (state : State) (order : Order) (draw : List ℕ) → IsValidState state → IsStorableState state → Passes (view_of state) order → pending_format.Allowed (pending_for state order draw)
 unfolding pending_format pending_for
 pending_allowed state order draw valid is passes =
     let ready = ready_storable state order draw is passes in (
-      one_or_two (needs_succession state order),
+      one_or_two (needs_succession (view_of state) order),
       (
-        outgoing_allowed (gives_way state order) state valid is,
-        (own_fate_allowed (ready_for state order draw) order order.act draw 2 ready, own_fate_allowed (ready_for state order draw) order order.act draw 3 ready),
+        subst (λ o. (optional outgoing_format).Allowed o) (sym (outgoing_is state order draw)) (outgoing_allowed (gives_way state order) state valid is),
+        (subst fate_format.Allowed (sym (fate_is state order draw 2)) (own_fate_allowed (ready_for state order draw) order order.act draw 2 ready), subst fate_format.Allowed (sym (fate_is state order draw 3)) (own_fate_allowed (ready_for state order draw) order order.act draw 3 ready)),
       ),
     )
 
-pub committed_root : (state : State) (order : Order) (draw : List ℕ) (area : ℕ) → area ≤ 1 → IsValidState state → IsStorableState state → order_format.Allowed order → Passes state order
+pub committed_root : (state : State) (order : Order) (draw : List ℕ) (area : ℕ) → area ≤ 1 → IsValidState state → IsStorableState state → order_format.Allowed order → Passes (view_of state) order
     → root_format.Allowed (root_for state order draw area)
 unfolding root_for
 committed_root state order draw area small valid is allowed passes =
@@ -162,7 +164,7 @@ public_allowed codes signed unsigned is are others some few =
     let all : AllByRecursion public_entry_format.Allowed entries = all_with signed (map without_signature unsigned) are (all_without unsigned others) in
     (tt, (is, ((omega (arith, some, size), omega (arith, few, size)), all_items public_entry_format (length entries) entries refl all)))
 
-not_empty : (log : List SignedEntry) → entries_of log ≢ [] → 1 ≤ length log
+not_empty : (log : List SignedEntry) → length (entries_of log) ≢ 0 → 1 ≤ length log
 not_empty [] some = absurd (some refl)
 not_empty (signed ∷ rest) some = omega arith
 
@@ -171,12 +173,12 @@ resting_public state valid is =
     let some : 1 ≤ length state.log = not_empty state.log (named_is_some (entries_of state.log) (public_of state.device) valid.device) in
     public_allowed state.codes state.log [] is.codes is.log (All-nil entry_format.Allowed) (omega (arith, some)) (omega (arith, is.few))
 
-own_allowed : (state : State) (order : Order) (draw : List ℕ) → order_format.Allowed order → Passes state order → IsStorableState state
-    → entry_format.Allowed (own_entry (ready_for state order draw) order order.act draw)
+own_allowed : (state : State) (order : Order) (draw : List ℕ) → order_format.Allowed order → Passes (view_of state) order → IsStorableState state
+    → entry_format.Allowed (entry_of (view_of (ready_for state order draw)) (fact_of (ready_for state order draw).layers order order.act) draw)
 unfolding signed_by
 own_allowed state order draw allowed passes is =
     let ready : State = ready_for state order draw in
-    let own : Entry = own_entry ready order order.act draw in
+    let own : Entry = entry_of (view_of ready) (fact_of ready.layers order order.act) draw in
     let are : All signed_entry_format.Allowed (log_with ready own) = subst (All signed_entry_format.Allowed) (appends_own state order draw) (obeyed_storable state order draw allowed passes is).log in
     entry_from_signed (signed_by ready.device (used (entries_of ready.log)) own) (All-split signed_entry_format.Allowed ready.log (signed_by ready.device (used (entries_of ready.log)) own) [] are)
 
@@ -190,17 +192,17 @@ new_few : (log : List SignedEntry) (needed : Bool) (first own : Entry) → lengt
 new_few log true first own room = (omega arith, omega (arith, room))
 new_few log false first own room = (omega arith, omega (arith, room))
 
-pub committed_public : (state : State) (order : Order) (draw : List ℕ) → IsStorableState state → order_format.Allowed order → Passes state order
+pub committed_public : (state : State) (order : Order) (draw : List ℕ) → IsStorableState state → order_format.Allowed order → Passes (view_of state) order
     → public_format.Allowed (public_of_parts (obeyed state order draw).codes state.log (new_entries state order draw))
-unfolding new_entries
 committed_public state order draw is allowed passes =
-    let needed : Bool = needs_succession state order in
-    let first : Entry = succession_entry state draw in
-    let own : Entry = own_entry (ready_for state order draw) order order.act draw in
+    let needed : Bool = needs_succession (view_of state) order in
+    let first : Entry = succession_entry (view_of state) draw in
+    let own : Entry = entry_of (view_of (ready_for state order draw)) (fact_of (ready_for state order draw).layers order order.act) draw in
     let first_is : entry_format.Allowed first = succession_allowed (length state.log) _ (small_length state is) (born_public_allowed draw state.serial (made (entries_of state.log))) in
     let are : All entry_format.Allowed (if needed then first ∷ own ∷ [] else own ∷ []) = new_allowed needed first own first_is (own_allowed state order draw allowed passes is) in
     let few = new_few state.log needed first own passes.log in
-    public_allowed (obeyed state order draw).codes state.log (if needed then first ∷ own ∷ [] else own ∷ []) (obeyed_storable state order draw allowed passes is).codes is.log are few.0 few.1
+    subst (λ (es : List Entry). public_format.Allowed (public_of_parts (obeyed state order draw).codes state.log es)) (sym (new_entries_are state order draw))
+    (public_allowed (obeyed state order draw).codes state.log (if needed then first ∷ own ∷ [] else own ∷ []) (obeyed_storable state order draw allowed passes is).codes is.log are few.0 few.1)
 
 pub public_room : (public : Public) → public_format.Allowed public → length (public_format.spelling public) ≤ 470000
 public_room public is = omega (arith, public_short.short public is)

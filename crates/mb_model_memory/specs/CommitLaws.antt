@@ -12,14 +12,14 @@ use Rattle.mb_model.specs.declared.stored.Root.{Root}
 use Rattle.mb_model.specs.Log.{entries_of, layers_of}
 use Rattle.mb_model.specs.OrderFormat.{order_format}
 use Rattle.mb_model.specs.RootFormat.{root_format}
-use Rattle.mb_model.specs.OrderStep.{Passes, obeyed}
+use Rattle.mb_model.specs.OrderStep.{Passes, obeyed, view_of}
+use Rattle.mb_model_memory.specs.Commits.{new_entries}
 use Rattle.mb_model.specs.Valid.{IsValidState}
 use Rattle.mb_model.specs.Memory.{AreSized, current, HoldsRecord}
 use Rattle.mb_model.specs.StoredLog.{AreCounted, HasIndex}
 use Rattle.mb_model.specs.Flash.{flash_area, HoldsPublic}
 use Rattle.mb_model.specs.Meaning.{HoldsRegion, Contents, HoldsContents, meant, StandsFor}
 use Rattle.mb_model.specs.Clean.{root_of, IsCleanFor}
-use Rattle.mb_model.specs.Work.{new_entries}
 use Rattle.mb_model_memory.specs.Commits.{root_for, committed, two_done, three_done, both_done, IsUnderWay}
 use Rattle.mb_model_memory.specs.Commits.{at_rest}
 use Rattle.mb_model_memory.specs.InForce.{AgreeInForce, AgreeBesides}
@@ -30,7 +30,7 @@ use Rattle.mb_model_memory.specs.InForce.{AgreeInForce, AgreeBesides}
 abbrev pub CommitsMeanTheirOrder : Type 0
 CommitsMeanTheirOrder =
     (state : State) (order : Order) (draw : List ℕ) (area : ℕ) → IsValidState state → order_format.Allowed order
-    → Passes state order → meant (committed state order draw area) ≡ obeyed state order draw
+    → Passes (view_of state) order → meant (committed state order draw area) ≡ obeyed state order draw
 
 -- its unsigned entries are as many as its root says, and can be signed
 abbrev pub CommitsAreCounted : Type 0
@@ -48,7 +48,7 @@ CommitsHaveAnIndex =
 abbrev pub CommittedMemoriesStand : Type 0
 CommittedMemoriesStand =
     (flash bbram : List ℕ) (state : State) (order : Order) (draw : List ℕ) (area : ℕ) → AreSized flash bbram
-    → IsValidState state → order_format.Allowed order → Passes state order
+    → IsValidState state → order_format.Allowed order → Passes (view_of state) order
     → HoldsContents flash bbram (committed state order draw area)
     → StandsFor flash bbram (Some (obeyed state order draw))
 

@@ -5,7 +5,8 @@ use Rattle.mb_model.specs.declared.order.Order.{Order}
 use Rattle.mb_model.specs.declared.state.State.{State}
 use Rattle.mb_model.specs.declared.stored.Root.{Root}
 use Rattle.mb_model.specs.OrderStep.{obeyed}
-use Rattle.mb_model.specs.Work.{new_entries, pending_for}
+use Rattle.mb_model.specs.declared.entry.Entry.{Entry}
+use Rattle.mb_model.specs.Work.{bodies_for, pending_for}
 use Rattle.mb_model.specs.Meaning.{Contents, fated, fate_of_two, fate_of_three}
 use Rattle.mb_model.specs.Clean.{root_of}
 
@@ -21,6 +22,10 @@ root_for state order draw area = record {
 }
 
 -- ---- the steps of the work
+
+-- the entries that an order appends
+abbrev pub new_entries : State → Order → List ℕ → List Entry
+new_entries state order draw = (bodies_for state order draw).entries
 
 -- What a memory holds once an order is committed: this root, the codes that the order leaves, the log as it was and the
 -- new entries unsigned, and both regions as they were.

@@ -14,14 +14,14 @@ use Rattle.mb_model.specs.KeyFormat.{public_key_format}
 use Rattle.mb_model.specs.OrderFormat.{order_format}
 use Rattle.mb_model.specs.RootFormat.{root_format}
 use Rattle.mb_model.specs.Flash.{public_format, public_of_parts}
-use Rattle.mb_model.specs.OrderStep.{Passes, obeyed}
+use Rattle.mb_model.specs.OrderStep.{Passes, obeyed, view_of}
+use Rattle.mb_model_memory.specs.Commits.{new_entries}
 use Rattle.mb_model.specs.Machine.{World, Step, Run}
 use Rattle.mb_model.specs.Valid.{IsValidState, Valid}
 use Rattle.mb_model.specs.Meaning.{StandsFor}
 use Rattle.mb_model.specs.Clean.{root_of}
 use Rattle.mb_model.specs.Factory.{state_at_birth}
 use Rattle.mb_model.specs.Script.{IsScriptEvent}
-use Rattle.mb_model.specs.Work.{new_entries}
 use Rattle.mb_model_memory.specs.Commits.{root_for}
 use Rattle.mb_model_memory.specs.Storable.{IsStorableRegion, IsStorableState, Storable, HasRegionRecord}
 
@@ -40,7 +40,7 @@ BornStatesAreStorable =
 -- and the state after an order that passes
 abbrev pub ObeyedStatesAreStorable : Type 0
 ObeyedStatesAreStorable =
-    (state : State) (order : Order) (draw : List ℕ) → order_format.Allowed order → Passes state order
+    (state : State) (order : Order) (draw : List ℕ) → order_format.Allowed order → Passes (view_of state) order
     → IsStorableState state → IsStorableState (obeyed state order draw)
 
 -- each step of an event that a script can give leads from a valid state that can be stored to one that can be stored
@@ -67,7 +67,7 @@ RestingRootsAreAllowed =
 abbrev pub CommittedRootsAreAllowed : Type 0
 CommittedRootsAreAllowed =
     (state : State) (order : Order) (draw : List ℕ) (area : ℕ) → area ≤ 1 → IsValidState state → IsStorableState state
-    → order_format.Allowed order → Passes state order → root_format.Allowed (root_for state order draw area)
+    → order_format.Allowed order → Passes (view_of state) order → root_format.Allowed (root_for state order draw area)
 
 -- so has its public record, where nothing is pending
 abbrev pub RestingPublicsAreAllowed : Type 0
@@ -79,7 +79,7 @@ RestingPublicsAreAllowed =
 abbrev pub CommittedPublicsAreAllowed : Type 0
 CommittedPublicsAreAllowed =
     (state : State) (order : Order) (draw : List ℕ) → IsStorableState state → order_format.Allowed order
-    → Passes state order
+    → Passes (view_of state) order
     → public_format.Allowed (public_of_parts (obeyed state order draw).codes state.log (new_entries state order draw))
 
 -- each region that can be stored has a record

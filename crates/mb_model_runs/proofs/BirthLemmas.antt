@@ -1,5 +1,5 @@
 -- The chain of a device's log is accepted for each key that was born in it.
-use Rattle.std.proofs.Common.{◌≡◌, ◌<◌, ℕ, List, [], ◌∷◌, ◌++◌, length, None, Some, false, refl, sym, ap, subst, ◌∙◌, arith, eq-eqb}
+use Rattle.std.proofs.Common.{◌≡◌, ◌≢◌, ◌<◌, ℕ, List, [], ◌∷◌, ◌++◌, length, Option, None, Some, false, refl, sym, ap, subst, ◌∙◌, arith, eq-eqb}
 use Rattle.std.specs.Prelude.{if◌then◌else◌}
 use Rattle.std.proofs.Math.Seq.{append_snoc}
 use Rattle.std.proofs.lemmas.List.Elements.{All-weaker}
@@ -10,8 +10,9 @@ use Rattle.mb_model.specs.declared.entry.Entry.{Entry}
 use Rattle.mb_model.specs.declared.entry.Entry.TheVariants.{NewKey}
 use Rattle.mb_model.specs.declared.entry.SignedEntry.{SignedEntry}
 use Rattle.mb_model.specs.declared.state.State.{State}
-use Rattle.mb_model.specs.Log.{entries_of, made, RuledLog}
+use Rattle.mb_model.specs.Log.{figures_of, entries_of, made, RuledLog}
 use Rattle.mb_model.specs.ChainFormat.{chain_format}
+use Rattle.mb_model.specs.SignedTexts.{entry_text, IsSignedBy}
 use Rattle.mb_model.specs.Valid.{EachFollows, IsValidState}
 use Rattle.mb_model.specs.Attach.{bare_chain}
 use Rattle.mb_model.specs.Acceptance.{IsGood, AreGood, IsBornOf, KeyEntry, key_in, key_of, report_of, Accepts}
@@ -19,20 +20,22 @@ use Rattle.mb_model.specs.ChainCommands.{IsChainOf}
 use Rattle.mb_model_lemmas.specs.AliveLaws.{makes, IsUnmade}
 use Rattle.mb_model_lemmas.proofs.LogLemmas.{made-push, last_of-split}
 use Rattle.mb_model_lemmas.proofs.AliveLemmas.{later_is_unmade}
+use Rattle.mb_model_lemmas.proofs.ChainLemmas.{in_charge_after}
 use Rattle.mb_model_lemmas.proofs.ValidStates.{valid_is_ruled}
 use Rattle.mb_model_lemmas.proofs.ReaderLemmas.{made_stands, makes_none}
 
 -- ---- entries
 
 good_at : (maker : PublicKey) (log : List SignedEntry) → EachFollows log → IsBornOf maker log → (before : List SignedEntry) (signed : SignedEntry) (rest : List SignedEntry)
-    → log ≡ before ++ signed ∷ rest → IsGood maker (entries_of before) signed
+    → log ≡ before ++ signed ∷ rest → IsGood maker (figures_of (entries_of before)) signed
 good_at maker log each born [] signed rest split =
     let it = each [] signed rest split in
     record { certified = born signed rest split; in_place = it.in_order; ruled = it.ruled }
 good_at maker log each born (first ∷ more) signed rest split =
     let it = each (first ∷ more) signed rest split in
+    let some : length (entries_of (first ∷ more)) ≢ 0 = λ none. absurd (omega (arith, none)) in
     record {
-      certified = it.verifies (λ e. absurd (omega (arith, ap length e)));
+      certified = subst (λ (key : Option PublicKey). IsSignedBy key (entry_text signed.entry) signed.signature) (sym (in_charge_after maker (figures_of (entries_of (first ∷ more))) some)) (it.verifies some);
       in_place = it.in_order;
       ruled = it.ruled;
     }

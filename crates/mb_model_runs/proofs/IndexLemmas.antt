@@ -2,7 +2,7 @@
 use Rattle.std.proofs.Common.{◌≡◌, ◌≢◌, ◌<◌, ℕ, List, [], ◌∷◌, ◌++◌, length, Option, None, Some, refl, sym, ap, subst, ◌∙◌, arith}
 use Rattle.std.specs.Prelude.{All, IsSome}
 use Rattle.std.specs.Option.{option_or}
-use Rattle.std.proofs.lemmas.List.{map-append, length-map}
+use Rattle.std.proofs.lemmas.List.{map-append, length-map, nil_from_length}
 use Rattle.std.proofs.lemmas.List.Elements.{All-nil, All-cons, All-map}
 use Rattle.mb_model.specs.declared.key.PublicKey.{PublicKey}
 use Rattle.mb_model.specs.declared.entry.Entry.{Entry}
@@ -31,7 +31,7 @@ indices_count state front namer between signed valid has =
     let before : List SignedEntry = front ++ namer ∷ between in
     let follows = valid.log before signed has.rest has.split in
     let whole : entries_of before ≡ entries_of front ++ namer.entry ∷ entries_of between = map-append entry_in front (namer ∷ between) in
-    let some : entries_of before ≢ [] = λ e. not_first (entries_of front) namer.entry (entries_of between) (sym whole ∙ e) in
+    let some : length (entries_of before) ≢ 0 = λ none. not_first (entries_of front) namer.entry (entries_of between) (sym whole ∙ nil_from_length (entries_of before) none) in
     let key = some_is (device_in namer.entry) has.names in
     let none : All (λ e. device_in e ≡ None) (entries_of between) = All-map (λ e. device_in e ≡ None) entry_in between has.none in
     (follows.in_order some).next
@@ -95,9 +95,9 @@ key_named : (key : Option PublicKey) (text signature : List ℕ) → IsSignedBy 
 key_named None text signature signed = absurd signed
 key_named (Some k) text signature signed = (k, refl)
 
-some_entries : (log : List SignedEntry) → log ≢ [] → entries_of log ≢ []
+some_entries : (log : List SignedEntry) → log ≢ [] → length (entries_of log) ≢ 0
 some_entries [] some = absurd (some refl)
-some_entries (first ∷ rest) some = λ e. absurd (omega (arith, ap length e))
+some_entries (first ∷ rest) some = λ none. absurd (omega (arith, none))
 
 device_namer : (log : List SignedEntry) (key : PublicKey) → device_of (entries_of log) ≡ Some key → EndsAfter log
 unfolding device_of

@@ -12,7 +12,7 @@ use Rattle.mb_model.specs.Merkle.{Verifies}
 use Rattle.mb_model.specs.Layers.{layer_of}
 use Rattle.mb_model.specs.Rules.{authority}
 use Rattle.mb_model.specs.OrderFormat.{order_format, order_body}
-use Rattle.mb_model.specs.OrderStep.{change_by, IsSigned, IsCountersigned, obeyed, OrderStep, is_obeyed}
+use Rattle.mb_model.specs.OrderStep.{change_by, IsSigned, IsCountersigned, obeyed, OrderStep, is_obeyed, view_of}
 use Rattle.mb_model.specs.Log.{entries_of, number_of}
 use Rattle.mb_model.specs.Refusals.{Refusal}
 use Rattle.mb_model.specs.Machine.{Phase, ratchet, World, awake, awake_in, CommandStep, Machine}
@@ -33,11 +33,11 @@ signed_by_owner owner key index text signature less is made =
     let verifies : Verifies (public_of key) text signature = subst (λ (s : List ℕ). Verifies (public_of key) text s) (sym made) (signature_verifies key index text less) in
     subst (λ (o : Option PublicKey). IsSignedBy o text signature) (sym is) verifies
 
-pub right_signature : (state : State) (order : Order) → IsRightlySigned state order → IsSigned state order
+pub right_signature : (state : State) (order : Order) → IsRightlySigned state order → IsSigned (view_of state) order
 right_signature state order right =
     signed_by_owner (authority state.layers (change_by order) order.layer) right.key right.index (order_text (order_body order)) order.signature right.left right.charge right.signature
 
-pub right_countersignature : (state : State) (order : Order) (by : Countersignature) → IsRightlyCountersigned state order by → IsCountersigned state order by
+pub right_countersignature : (state : State) (order : Order) (by : Countersignature) → IsRightlyCountersigned state order by → IsCountersigned (view_of state) order by
 right_countersignature state order by right =
     signed_by_owner (layer_of state.layers by.layer).owner right.key right.index (countersigned_text by.layer (order_body order)) by.signature right.left right.owner right.signature
 
@@ -57,7 +57,7 @@ order_obeyed state text draw order spelled stands signed countersigned =
         targets = stands.targets;
         condition = stands.condition;
         signature = right_signature state order signed;
-        countersignatures = All-weaker (IsRightlyCountersigned state order) (IsCountersigned state order) (right_countersignature state order) order.countersignatures countersigned;
+        countersignatures = All-weaker (IsRightlyCountersigned state order) (IsCountersigned (view_of state) order) (right_countersignature state order) order.countersignatures countersigned;
         log = stands.log;
         keys = stands.keys;
       };
@@ -80,18 +80,18 @@ right_order_obeyed world state text draw order at was spelled stands signed coun
 
 -- ---- what officers' tools make
 
-pub signed_order_passes : (state : State) (order : Order) (k : Keyfile) → k.next < 32 → HasCharge state order k.seed → IsSigned state (signed_order k order)
+pub signed_order_passes : (state : State) (order : Order) (k : Keyfile) → k.next < 32 → HasCharge state order k.seed → IsSigned (view_of state) (signed_order k order)
 signed_order_passes state order k less owns =
     right_signature state (signed_order k order) (record { key = k.seed; index = k.next; charge = owns; left = less; signature = refl })
 
-pub countersigned_stays_signed : (state : State) (order : Order) (k : Keyfile) (m : ℕ) → IsSigned state order → IsSigned state (countersigned_order k m order)
+pub countersigned_stays_signed : (state : State) (order : Order) (k : Keyfile) (m : ℕ) → IsSigned (view_of state) order → IsSigned (view_of state) (countersigned_order k m order)
 countersigned_stays_signed state order k m signed = signed
 
 pub countersigned_order_passes : (state : State) (order : Order) (k : Keyfile) (m : ℕ) → k.next < 32 → OwnsLayer state m k.seed
-    → All (IsCountersigned state order) order.countersignatures
-    → All (IsCountersigned state (countersigned_order k m order)) (countersigned_order k m order).countersignatures
+    → All (IsCountersigned (view_of state) order) order.countersignatures
+    → All (IsCountersigned (view_of state) (countersigned_order k m order)) (countersigned_order k m order).countersignatures
 countersigned_order_passes state order k m less owns pass =
-    let P : Countersignature → Type 0 = IsCountersigned state order in
+    let P : Countersignature → Type 0 = IsCountersigned (view_of state) order in
     let new : Countersignature = countersignature_of k m order in
     let list : List Countersignature = order.countersignatures in
     let below : List Countersignature = filter (λ other. nat_lt other.layer m) list in

@@ -23,7 +23,8 @@ use Rattle.mb_model.specs.Rules.{admits}
 use Rattle.mb_model.specs.Log.{entries_of, made}
 use Rattle.mb_model.specs.Regions.{empty_region, is_epoch, without_configuration_keys, region_after, with_key}
 use Rattle.mb_model.specs.Signing.{public_of}
-use Rattle.mb_model.specs.OrderStep.{region_of, needs_succession, log_with, next_key, cosigned_by, succeeded, key_made, change_entry, changed, key_entry, keyed, carried_out, obeyed}
+use Rattle.mb_model.specs.OrderStep.{region_of, needs_succession, log_with, next_key, cosigned_by, succeeded, key_made, changed, keyed, carried_out, obeyed, entry_of, change_fact, view_of}
+use Rattle.mb_model.specs.declared.state.Fact.TheVariants as fact
 use Rattle.mb_model.specs.LayerEvents.{has_number, with_use}
 use Rattle.mb_model.specs.Machine.{World, Step, Run}
 use Rattle.mb_model.specs.Valid.{IsValidState, Valid}
@@ -100,7 +101,7 @@ after_stays P layers kind k by L region all = each (nat_lt L k) (admits layers k
 changed_spent : (n u : ℕ) (state : State) (kind : ChangeKind) (order : Order) (draw : List ℕ) → IsSpent n u state → IsSpent n u (changed state kind order draw)
 unfolding changed
 changed_spent n u state kind order draw spent = record {
-  born = born_more n state (change_entry state kind order draw) spent.born;
+  born = born_more n state (entry_of (view_of state) (change_fact state.layers kind order) draw) spent.born;
   two = after_stays (IsUsed n u) state.layers kind order.layer (cosigned_by order) 2 state.two spent.two;
   three = after_stays (IsUsed n u) state.layers kind order.layer (cosigned_by order) 3 state.three spent.three;
 }
@@ -109,11 +110,11 @@ keyed_spent : (n u : ℕ) (state : State) (L : ℕ) (kind : KeyKind) (draw : Lis
 unfolding keyed
 keyed_spent n u state L kind draw spent =
     let born : n < made (entries_of state.log) = spent.born in
-    let new : RegionKey = key_made state kind draw in
+    let new : RegionKey = key_made (view_of state) kind draw in
     let other : IsUsed n u new = λ is. absurd (omega (arith, is, born)) in
     let keeps : (r : Region) → All (IsUsed n u) r.keys → All (IsUsed n u) (with_key new r).keys = λ r all. All-push (IsUsed n u) r.keys new all other in
     record {
-      born = born_more n state (key_entry state L kind draw) born;
+      born = born_more n state (entry_of (view_of state) (fact.NewKey L kind) draw) born;
       two = kept_two (IsUsed n u) (with_key new) keeps (L == 2) (L == 3) state.two state.three spent.two spent.three;
       three = kept_three (IsUsed n u) (with_key new) keeps (L == 2) (L == 3) state.two state.three spent.two spent.three;
     }
@@ -121,7 +122,7 @@ keyed_spent n u state L kind draw spent =
 ready_spent : (n u : ℕ) (b : Bool) (state : State) (draw : List ℕ) → IsSpent n u state → IsSpent n u (if b then succeeded state draw else state)
 unfolding succeeded
 ready_spent n u true state draw spent = record {
-  born = born_more n state (Succession (length state.log) (public_of (next_key state draw))) spent.born;
+  born = born_more n state (Succession (length state.log) (public_of (next_key (view_of state) draw))) spent.born;
   two = spent.two;
   three = spent.three;
 }
@@ -137,7 +138,7 @@ carried_spent n u ready order (act.NewKey kind) draw spent = keyed_spent n u rea
 obeyed_spent : (n u : ℕ) (state : State) (order : Order) (draw : List ℕ) → IsSpent n u state → IsSpent n u (obeyed state order draw)
 unfolding obeyed
 obeyed_spent n u state order draw spent =
-    let b : Bool = needs_succession state order in
+    let b : Bool = needs_succession (view_of state) order in
     carried_spent n u (if b then succeeded state draw else state) order order.act draw (ready_spent n u b state draw spent)
 
 -- ---- steps

@@ -23,7 +23,7 @@ use Rattle.mb_model.specs.declared.reply.Reply.{Reply}
 use Rattle.mb_model.specs.declared.reply.Reply.TheVariants as reply
 use Rattle.mb_model.specs.declared.state.State.{State}
 use Rattle.mb_model.specs.Merkle.{Verifies}
-use Rattle.mb_model.specs.Log.{entries_of, is_change, serial_in, last_of, number_of, serial_of, Ruled, RuledLog}
+use Rattle.mb_model.specs.Log.{figures_of, entries_of, is_change, serial_in, last_of, number_of, serial_of, Ruled, RuledLog}
 use Rattle.mb_model.specs.Lives.{ends, Alive}
 use Rattle.mb_model.specs.Signing.{public_of, signature_of}
 use Rattle.mb_model.specs.ChainFormat.{statement_format, chain_format}
@@ -146,28 +146,28 @@ record IsQuiet (signed : SignedEntry) : Type 0 where
 stays_below : (n m number : ℕ) → n ≤ m → number ≡ m + 1 → nat_lt n number ≡ false → ⊥
 stays_below n m number low counted stays = grind (arith, low, counted, stays)
 
-no_change : (n : ℕ) (before : List Entry) (entry : Entry) → n ≤ number_of before → Ruled before entry → is_change_above n entry ≡ false → is_change entry ≡ false
+no_change : (n : ℕ) (before : List Entry) (entry : Entry) → n ≤ number_of before → Ruled (figures_of before) entry → is_change_above n entry ≡ false → is_change entry ≡ false
 no_change n before (Birth version serial key layers) low ruled stays = refl
 no_change n before (Change version position number kind layer cosigned layers kept next) low ruled stays =
     absurd (stays_below n (number_of before) number low ruled.1.counted stays)
 no_change n before (NewKey position number key_number layer kind key) low ruled stays = refl
 no_change n before (Succession position key) low ruled stays = refl
 
-no_birth : (before : List Entry) (entry : Entry) → before ≢ [] → Ruled before entry → serial_in entry ≡ None
+no_birth : (before : List Entry) (entry : Entry) → length before ≢ 0 → Ruled (figures_of before) entry → serial_in entry ≡ None
 no_birth before (Birth version serial key layers) some ruled = absurd (some ruled.0)
 no_birth before (Change version position number kind layer cosigned layers kept next) some ruled = refl
 no_birth before (NewKey position number key_number layer kind key) some ruled = refl
 no_birth before (Succession position key) some ruled = refl
 
-quiet_at : (past : List Entry) (n : ℕ) (signed : SignedEntry) → past ≢ [] → n ≤ number_of past → Ruled past signed.entry → stays_in n signed ≡ true → IsQuiet signed
+quiet_at : (past : List Entry) (n : ℕ) (signed : SignedEntry) → length past ≢ 0 → n ≤ number_of past → Ruled (figures_of past) signed.entry → stays_in n signed ≡ true → IsQuiet signed
 quiet_at past n signed some low ruled stays = record {
   change = no_change n past signed.entry low ruled (not_true (is_change_above n signed.entry) stays);
   serial = no_birth past signed.entry some ruled;
 }
 
-no_entries : (a b : List Entry) → a ≢ [] → a ++ b ≢ []
+no_entries : (a b : List Entry) → a ≢ [] → length (a ++ b) ≢ 0
 no_entries [] b some = absurd (some refl)
-no_entries (x ∷ a) b some = λ e. absurd (omega (arith, ap length e))
+no_entries (x ∷ a) b some = λ none. absurd (omega (arith, none))
 
 -- the entries after a log that stand before the next change are quiet
 quiet_after : (log cut tail : List SignedEntry) → RuledLog (entries_of (log ++ cut ++ tail)) → entries_of log ≢ []
@@ -181,7 +181,7 @@ quiet_after log cut tail ruled some stay =
     let whole : log ++ cut ++ tail ≡ (log ++ before) ++ signed ∷ (rest ++ tail) =
     ap (λ c. log ++ c ++ tail) split ∙ ap (λ l. l ++ tail) (sym (append_assoc log before (signed ∷ rest))) ∙ append_assoc (log ++ before) (signed ∷ rest) tail in
     let fronts : entries_of (log ++ before) ≡ past = map-append (λ (s : SignedEntry). s.entry) log before in
-    let here : Ruled past signed.entry = subst (λ (es : List Entry). Ruled es signed.entry) fronts
+    let here : Ruled (figures_of past) signed.entry = subst (λ (es : List Entry). Ruled (figures_of es) signed.entry) fronts
     (ruled (entries_of (log ++ before)) signed.entry (entries_of (rest ++ tail)) (split_entries (log ++ cut ++ tail) (log ++ before) signed (rest ++ tail) whole)) in
     let more : number_of past ≡ n + number_of (entries_of before) = number_of-append (entries_of log) (entries_of before) in
     quiet_at past n signed (no_entries (entries_of log) (entries_of before) some) (omega (arith, more)) here stays)

@@ -13,8 +13,8 @@ use Rattle.mb_model.specs.Layers.{layer_of}
 use Rattle.mb_model.specs.Rules.{authority}
 use Rattle.mb_model.specs.Log.{entries_of, number_of}
 use Rattle.mb_model.specs.OrderFormat.{order_format, order_body}
-use Rattle.mb_model.specs.OrderStep.{change_by, TargetsHold, MayBeGiven, IsSigned, IsCountersigned, LogHasRoom}
-use Rattle.mb_model.specs.OrderStep.{RegionHasRoom, obeyed}
+use Rattle.mb_model.specs.OrderStep.{view_of, change_by, TargetsHold, MayBeGiven, IsSigned, IsCountersigned}
+use Rattle.mb_model.specs.OrderStep.{LogHasRoom, RegionHasRoom, obeyed}
 use Rattle.mb_model.specs.Machine.{ratchet, World, Machine}
 use Rattle.mb_model.specs.SignedTexts.{order_text, countersigned_text}
 use Rattle.mb_model.specs.SignedOrders.{signed_order, countersigned_order}
@@ -47,19 +47,19 @@ pub record IsRightlyCountersigned (state : State) (order : Order) (by : Counters
 -- ---- what a device takes
 
 abbrev pub RightSignaturesPass : Type 0
-RightSignaturesPass = (state : State) (order : Order) → IsRightlySigned state order → IsSigned state order
+RightSignaturesPass = (state : State) (order : Order) → IsRightlySigned state order → IsSigned (view_of state) order
 
 abbrev pub RightCountersignaturesPass : Type 0
 RightCountersignaturesPass =
     (state : State) (order : Order) (by : Countersignature) → IsRightlyCountersigned state order by
-    → IsCountersigned state order by
+    → IsCountersigned (view_of state) order by
 
 -- an order that passes every check but those of signatures
 pub record PassesTheRest (state : State) (order : Order) : Type 0 where
-  pub targets : TargetsHold state order
-  pub condition : MayBeGiven state order
-  pub log : LogHasRoom state order
-  pub keys : RegionHasRoom state order.layer order.act
+  pub targets : TargetsHold (view_of state) order
+  pub condition : MayBeGiven (view_of state) order
+  pub log : LogHasRoom (view_of state) order
+  pub keys : RegionHasRoom (view_of state) order.layer order.act
 
 -- While layer 1 runs, such an order is obeyed, where the right officers signed and countersigned it.
 abbrev pub RightOrdersAreObeyed : Type 0
@@ -77,17 +77,19 @@ RightOrdersAreObeyed =
 abbrev pub SignedOrdersPass : Type 0
 SignedOrdersPass =
     (state : State) (order : Order) (k : Keyfile) → k.next < 32 → HasCharge state order k.seed
-    → IsSigned state (signed_order k order)
+    → IsSigned (view_of state) (signed_order k order)
 
 -- An order stays signed when it is countersigned.
 abbrev pub CountersigningKeepsTheSignature : Type 0
 CountersigningKeepsTheSignature =
-    (state : State) (order : Order) (k : Keyfile) (m : ℕ) → IsSigned state order
-    → IsSigned state (countersigned_order k m order)
+    (state : State) (order : Order) (k : Keyfile) (m : ℕ) → IsSigned (view_of state) order
+    → IsSigned (view_of state) (countersigned_order k m order)
 
 -- Where all countersignatures of an order pass, and the key of layer m's owner countersigns it for m, all pass again.
 abbrev pub CountersignedOrdersPass : Type 0
 CountersignedOrdersPass =
     (state : State) (order : Order) (k : Keyfile) (m : ℕ) → k.next < 32 → OwnsLayer state m k.seed
-    → All (IsCountersigned state order) order.countersignatures
-    → All (IsCountersigned state (countersigned_order k m order)) (countersigned_order k m order).countersignatures
+    → All (IsCountersigned (view_of state) order) order.countersignatures
+    → All
+    (IsCountersigned (view_of state) (countersigned_order k m order))
+    (countersigned_order k m order).countersignatures

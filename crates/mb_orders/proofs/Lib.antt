@@ -1,1 +1,1 @@
-mod States
+pub mod Plans

@@ -1,23 +1,29 @@
 -- What judging an order comes to: a plan, or the first check that the order fails. Is it what the rules say?
-use Rattle.std.specs.Prelude.{◌≡◌, ℕ, List, Option, None, Some, Result, Ok, Err}
+use Rattle.std.specs.Prelude.{◌≡◌, List, ℕ, Option, None, Some, Result, Ok, Err}
+use Rattle.mb_model.specs.declared.layer.Layers.{Layers}
+use Rattle.mb_model.specs.declared.order.Countersignature.{Countersignature}
 use Rattle.mb_model.specs.declared.order.Order.{Order}
-use Rattle.mb_model.specs.declared.state.State.{State}
+use Rattle.mb_model.specs.declared.state.View.{View}
+use Rattle.mb_model.specs.Layers.{layer_of}
+use Rattle.mb_model.specs.Rules.{authority}
+use Rattle.mb_model.specs.SignedTexts.{order_text, countersigned_text, IsSignedBy}
 use Rattle.mb_model.specs.Refusals.{Refusal, wrong_target, wrong_state, wrong_signature, wrong_countersignature}
 use Rattle.mb_model.specs.Refusals.{log_full, keys_full}
-use Rattle.mb_model.specs.OrderStep.{Passes, Fails, obeyed}
-use Rattle.mb_model.specs.Work.{bodies_for, fate_for}
+use Rattle.mb_model.specs.OrderStep.{change_by, fact_of, layers_after, Passes, Fails}
+use Rattle.mb_model.specs.Work.{bodies_by, region_fate}
 use Rattle.mb_orders.specs.declared.end.JudgeEnd.{JudgeEnd}
 use Rattle.mb_orders.specs.declared.end.JudgeEnd.TheVariants as end
 use Rattle.mb_orders.specs.declared.plan.Plan.{Plan}
 
--- what an order comes to that passes every check
-unfoldable pub plan_of : State → Order → List ℕ → Plan
-plan_of state order draw = record {
-  layers = (obeyed state order draw).layers;
-  bodies = bodies_for state order draw;
-  two = fate_for state order draw 2;
-  three = fate_for state order draw 3;
-}
+-- the owner in charge signed the order, which has this body
+abbrev pub IsSignedOver : Layers → Order → List ℕ → Type 0
+IsSignedOver layers order body =
+    IsSignedBy (authority layers (change_by order) order.layer) (order_text body) order.signature
+
+-- the owner of its layer gave a countersignature of the order with this body
+abbrev pub IsCountersignedOver : Layers → List ℕ → Countersignature → Type 0
+IsCountersignedOver layers body by =
+    IsSignedBy (layer_of layers by.layer).owner (countersigned_text by.layer body) by.signature
 
 -- the refusal that an end tells: want of memory tells none
 abbrev pub refusal_of : JudgeEnd → Option Refusal
@@ -30,11 +36,28 @@ refusal_of end.KeysFull = Some keys_full
 refusal_of end.NoMemory = None
 
 -- the order is refused for this, if for anything
-abbrev pub FailsFor : State → Order → Option Refusal → Type 0
-FailsFor state order (Some refusal) = Fails state order refusal
-FailsFor state order None = Unit {0}
+abbrev pub FailsFor : View → Order → Option Refusal → Type 0
+FailsFor view order (Some refusal) = Fails view order refusal
+FailsFor view order None = Unit {0}
 
--- what judging the order in this state, with this draw, comes to
-abbrev pub Judges : State → Order → List ℕ → Result Plan JudgeEnd → Type 0
-Judges state order draw (Ok plan) = Passes state order × (plan ≡ plan_of state order draw)
-Judges state order draw (Err end) = FailsFor state order (refusal_of end)
+-- what the checks come to
+abbrev pub ChecksBy : View → Order → Result (Unit {0}) JudgeEnd → Type 0
+ChecksBy view order (Ok passed) = Passes view order
+ChecksBy view order (Err end) = FailsFor view order (refusal_of end)
+
+-- what an order comes to that passes every check
+unfoldable pub plan_by : View → Order → List ℕ → Plan
+plan_by view order draw =
+    let fact = fact_of view.layers order order.act in
+    let bodies = bodies_by view fact draw in
+    record {
+      layers = layers_after view.layers fact;
+      bodies = bodies;
+      two = region_fate view.layers fact bodies.key 2;
+      three = region_fate view.layers fact bodies.key 3;
+    }
+
+-- what judging the order by these figures, with this draw, comes to
+abbrev pub Judges : View → Order → List ℕ → Result Plan JudgeEnd → Type 0
+Judges view order draw (Ok plan) = Passes view order × (plan ≡ plan_by view order draw)
+Judges view order draw (Err end) = FailsFor view order (refusal_of end)

@@ -1,7 +1,7 @@
 //! The checks of an order, in the order in which they are tried.
 
 ghost use Rattle.mb_model.specs.OrderFormat.{order_format};
-ghost use Rattle.mb_orders.specs.ByFigures.{ChecksBy};
+ghost use Rattle.mb_orders.specs.Judging.{ChecksBy};
 
 use crate::end::JudgeEnd;
 use crate::room::{log_has_room, region_has_room};

@@ -1,9 +1,7 @@
 //! Orders judged.
 
 ghost use Rattle.std.specs.Prelude.{◌≡◌, ◌+◌, ◌≤◌, OnErr};
-ghost use Rattle.mb_model.specs.declared.state.State.{State};
 ghost use Rattle.mb_model.specs.OrderFormat.{order_format};
-ghost use Rattle.mb_model.specs.Work.{view_of};
 ghost use Rattle.mb_orders.specs.Judging.{Judges};
 
 use crate::checks::check;
@@ -30,7 +28,7 @@ pub fn judge<L: Ledger>(
     requires uses { view.now.uses ≤ 31 }
     requires number { view.now.number ≤ 128 }
     requires keys_made { view.now.keys_made ≤ 128 }
-    ensures judged { (state : State) → view.now ≡ view_of state → Judges state order.now draw.now result }
+    ensures judged { Judges view.now order.now draw.now result }
     ensures cost { hashes.new ≤ hashes.old + 68798 }
     ensures unhashed { OnErr result (hashes.new ≡ hashes.old) }
 {

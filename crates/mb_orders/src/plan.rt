@@ -2,12 +2,10 @@
 
 ghost use Rattle.std.specs.Prelude.{◌≡◌, ◌+◌, ◌≤◌, ◌==◌, IfOk, OnErr};
 ghost use Rattle.std.specs.List.{list_any};
-ghost use Rattle.mb_model.specs.declared.state.State.{State};
-ghost use Rattle.mb_model.specs.OrderStep.{cosigned_by};
+ghost use Rattle.mb_model.specs.OrderStep.{cosigned_by, LogHasRoom, change_fact, fact_of, layers_after};
 ghost use Rattle.mb_model.specs.Fates.{change_fate};
-ghost use Rattle.mb_model.specs.Work.{view_of};
-ghost use Rattle.mb_orders.specs.ByFigures.{LogHasRoomBy, change_fact_by, fact_by, layers_by, fate_by};
-ghost use Rattle.mb_orders.specs.Judging.{plan_of};
+ghost use Rattle.mb_model.specs.Work.{region_fate};
+ghost use Rattle.mb_orders.specs.Judging.{plan_by};
 
 use mb_authority::{admits, after, kept_regions, layer_of, placed};
 use mb_lms::HashCount;
@@ -51,7 +49,7 @@ fn cosigned_by(order: &Order) -> Pair
 
 /// What the order makes true, which makes a change of the kind.
 fn change_fact(layers: &Layers, kind: ChangeKind, order: &Order) -> Fact
-    ensures { result ≡ change_fact_by layers.now kind order.now }
+    ensures { result ≡ change_fact layers.now kind order.now }
 {
     let cosigned = cosigned_by(order);
     let new = placed(&layer_of(layers, order.layer), &order.act);
@@ -66,7 +64,7 @@ fn change_fact(layers: &Layers, kind: ChangeKind, order: &Order) -> Fact
 
 /// What the order makes true.
 fn fact_of(layers: &Layers, order: &Order) -> Fact
-    ensures { result ≡ fact_by layers.now order.now order.now.act }
+    ensures { result ≡ fact_of layers.now order.now order.now.act }
 {
     match &order.act {
         Act::Establish { .. } => change_fact(layers, ChangeKind::Establish, order),
@@ -82,7 +80,7 @@ fn fact_of(layers: &Layers, order: &Order) -> Fact
 
 /// The layers after what an order makes true.
 fn layers_after(layers: &Layers, fact: &Fact) -> Layers
-    ensures { result ≡ layers_by layers.now fact.now }
+    ensures { result ≡ layers_after layers.now fact.now }
 {
     match fact {
         Fact::Change { layers, .. } => *layers,
@@ -105,7 +103,7 @@ fn change_fate(layers: &Layers, kind: ChangeKind, layer: u8, cosigned: Pair, reg
 
 /// What becomes of a region by what an order makes true, with the key that the order makes.
 fn fate_of(layers: &Layers, fact: &Fact, key: Option<RegionKey>, region: u8) -> Fate
-    ensures { result ≡ fate_by layers.now fact.now key region }
+    ensures { result ≡ region_fate layers.now fact.now key region }
 {
     match (fact, key) {
         (
@@ -134,8 +132,8 @@ pub fn make_plan<L: Ledger>(
     requires uses { view.now.uses ≤ 31 }
     requires number { view.now.number ≤ 128 }
     requires keys_made { view.now.keys_made ≤ 128 }
-    requires room { LogHasRoomBy view.now order.now }
-    ensures planned { (state : State) → view.now ≡ view_of state → IfOk result (λ plan. plan ≡ plan_of state order.now draw.now) }
+    requires room { LogHasRoom view.now order.now }
+    ensures planned { IfOk result (λ plan. plan ≡ plan_by view.now order.now draw.now) }
     ensures cost { hashes.new ≤ hashes.old + 68798 }
     ensures unhashed { OnErr result (hashes.new ≡ hashes.old) }
 {

@@ -1,7 +1,7 @@
 //! Whether the log and a region have room for what an order adds.
 
 ghost use Rattle.std.specs.Prelude.{◌≡◌, ◌↔◌, IsTrue};
-ghost use Rattle.mb_orders.specs.ByFigures.{keys_in, LogHasRoomBy, RegionHasRoomBy};
+ghost use Rattle.mb_model.specs.OrderStep.{region_keys, LogHasRoom, RegionHasRoom};
 
 use mb_authority::{change_by, renews};
 use mb_log::needed;
@@ -15,7 +15,7 @@ const KEY_LIMIT: u32 = 8;
 
 /// Whether the log has room for the order's entries.
 pub fn log_has_room(view: &View, order: &Order) -> bool
-    ensures { IsTrue result ↔ LogHasRoomBy view.now order.now }
+    ensures { IsTrue result ↔ LogHasRoom view.now order.now }
 {
     let renews = renews(change_by(order), order.layer);
     view.length <= LOG_LIMIT - needed(view.uses, renews)
@@ -23,7 +23,7 @@ pub fn log_has_room(view: &View, order: &Order) -> bool
 
 /// How many keys the layer's region has; only layers 2 and 3 have one.
 fn keys_in(view: &View, layer: u8) -> u32
-    ensures { result ≡ keys_in view.now layer }
+    ensures { result ≡ region_keys view.now layer }
 {
     match layer {
         2 => view.keys_two,
@@ -34,7 +34,7 @@ fn keys_in(view: &View, layer: u8) -> u32
 
 /// Whether the region has room for a key, where the order makes one.
 pub fn region_has_room(view: &View, order: &Order) -> bool
-    ensures { IsTrue result ↔ RegionHasRoomBy view.now order.now.layer order.now.act }
+    ensures { IsTrue result ↔ RegionHasRoom view.now order.now.layer order.now.act }
 {
     match &order.act {
         Act::NewKey { .. } => keys_in(view, order.layer) < KEY_LIMIT,

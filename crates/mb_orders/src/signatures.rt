@@ -4,7 +4,7 @@ ghost use Rattle.std.specs.Prelude.{◌≡◌, ◌↔◌, ◌++◌, ℕ, All, Is
 ghost use Rattle.mb_model.specs.declared.order.Countersignature.{Countersignature};
 ghost use Rattle.mb_model.specs.Rules.{IsFirstFailing};
 ghost use Rattle.mb_model.specs.SignedTexts.{IsSignedBy};
-ghost use Rattle.mb_orders.specs.ByFigures.{IsSignedOver, IsCountersignedOver};
+ghost use Rattle.mb_orders.specs.Judging.{IsSignedOver, IsCountersignedOver};
 
 use mb_authority::{authority, layer_of};
 use mb_command::{COUNTERSIGNATURE_HEAD, ORDER_HEAD};

@@ -1,71 +1,52 @@
 -- Whether each entry of a log is good, one entry after another.
-use Rattle.std.proofs.Common.{◌≡◌, ◌≢◌, ◌<◌, ◌+◌, ℕ, List, [], ◌∷◌, ◌++◌, length, take, drop, get_or, Option, None, Some, Bool, false, true≢false, refl, sym, ap, subst, ◌∙◌, arith, append_assoc}
+use Rattle.std.proofs.Common.{◌≡◌, ◌≢◌, ◌<◌, ◌+◌, ℕ, List, [], ◌∷◌, ◌++◌, length, take, drop, get_or, Option, None, Some, Bool, false, true≢false, sym, ap, subst, ◌∙◌, append_assoc}
 use Rattle.std.specs.Prelude.{◌↔◌, IsTrue, IfSome}
 use Rattle.std.proofs.lemmas.List.{take_more, take-append-drop}
 use Rattle.mb_model.specs.declared.key.PublicKey.{PublicKey}
 use Rattle.mb_model.specs.declared.entry.Entry.{Entry}
 use Rattle.mb_model.specs.declared.entry.SignedEntry.{SignedEntry}
-use Rattle.mb_model.specs.Log.{entries_of, Ordered, RuledLog}
+use Rattle.mb_model.specs.Log.{figures_of, entries_of, Ordered, RuledLog}
 use Rattle.mb_model.specs.Merkle.{leaf_number}
-use Rattle.mb_model.specs.Acceptance.{ChainRefusal, in_charge, IsInPlace, IsGood, AreGood}
+use Rattle.mb_model.specs.Acceptance.{ChainRefusal, IsInPlace, IsGood, AreGood}
 use Rattle.mb_model_lemmas.proofs.LogLemmas.{entries_more}
 use Rattle.mb_model_lemmas.proofs.ChainLemmas.{AreGood-push, good_is_ruled}
-use Rattle.mb_log.specs.declared.figures.Figures.{Figures}
+use Rattle.mb_model.specs.declared.state.Figures.{Figures}
 use Rattle.mb_log.specs.declared.life.Life.{Life}
-use Rattle.mb_log.specs.Figures.{figures_of}
 use Rattle.mb_log.specs.KeyLife.{IsLifeOf}
 use Rattle.mb_log.specs.Following.{InOrder}
 use Rattle.mb_verifier.specs.Checked.{IsBadEntry, HasBadEntry}
 
--- ---- the key in charge
-
--- before the first entry it is the maker's
-pub first_in_charge : (maker : PublicKey) (figures : Figures) (before : List Entry) → figures ≡ figures_of before → figures.length ≡ 0
-    → Some maker ≡ in_charge maker before
-unfolding figures_of
-first_in_charge maker figures [] is none = refl
-first_in_charge maker figures (first ∷ rest) is none = absurd (omega (arith, none, ap (λ (f : Figures). f.length) is))
-
--- and then the device key that is named last
-pub later_in_charge : (maker : PublicKey) (figures : Figures) (before : List Entry) → figures ≡ figures_of before → figures.length ≢ 0
-    → figures.device ≡ in_charge maker before
-unfolding figures_of
-later_in_charge maker figures [] is some = absurd (some (ap (λ (f : Figures). f.length) is))
-later_in_charge maker figures (first ∷ rest) is some = ap (λ (f : Figures). f.device) is
-
 -- ---- one entry
-
-pub counted : (figures : Figures) (before : List Entry) → figures ≡ figures_of before → figures.length ≡ length before
-unfolding figures_of
-counted figures before is = ap (λ (f : Figures). f.length) is
 
 pub uncertified : (told : Bool) (P : Type 0) → told ≡ false → (IsTrue told ↔ P) → P → ⊥
 uncertified told P off tells holds = true≢false (sym (tells.1 holds) ∙ off)
 
 -- the place of an entry, by the index that is read of its signature
-pub in_place : (before : List Entry) (signed : SignedEntry) (index : ℕ) → index ≡ leaf_number signed.signature → InOrder before signed.entry index → IsInPlace before signed
+pub in_place : (before : Figures) (signed : SignedEntry) (index : ℕ) → index ≡ leaf_number signed.signature → InOrder before signed.entry index → IsInPlace before signed
 in_place before signed index is order some = subst (λ (i : ℕ). Ordered before signed.entry i) is (order some)
 
-pub out_of_place : (before : List Entry) (signed : SignedEntry) (index : ℕ) → index ≡ leaf_number signed.signature → before ≢ [] → (Ordered before signed.entry index → ⊥) → IsInPlace before signed → ⊥
+pub out_of_place : (before : Figures) (signed : SignedEntry) (index : ℕ) → index ≡ leaf_number signed.signature → before.length ≢ 0 → (Ordered before signed.entry index → ⊥) → IsInPlace before signed → ⊥
 out_of_place before signed index is some wrong place = wrong (subst (λ (i : ℕ). Ordered before signed.entry i) (sym is) (place some))
 
 -- ---- a list of entries
 
-pub AreGood-more : (maker : PublicKey) (log : List SignedEntry) (i : ℕ) (d : SignedEntry) → i < length log → AreGood maker (take i log) → IsGood maker (entries_of (take i log)) (get_or log i d)
+pub AreGood-more : (maker : PublicKey) (log : List SignedEntry) (i : ℕ) (d : SignedEntry) (figures : Figures) → i < length log → figures ≡ figures_of (entries_of (take i log))
+    → AreGood maker (take i log) → IsGood maker figures (get_or log i d)
     → AreGood maker (take (i + 1) log)
-AreGood-more maker log i d within good next =
-    subst (AreGood maker) (sym (take_more log i d within)) (AreGood-push maker (take i log) (get_or log i d) good next)
+AreGood-more maker log i d figures within is good next =
+    subst (AreGood maker) (sym (take_more log i d within))
+    (AreGood-push maker (take i log) (get_or log i d) good (subst (λ (f : Figures). IsGood maker f (get_or log i d)) is next))
 
 -- the first that is not good
-pub bad_entry : (maker : PublicKey) (log : List SignedEntry) (i : ℕ) (d : SignedEntry) (why : ChainRefusal) → i < length log → AreGood maker (take i log)
-    → IsBadEntry maker (entries_of (take i log)) (get_or log i d) why → HasBadEntry maker log why
-bad_entry maker log i d why within good bad = record {
+pub bad_entry : (maker : PublicKey) (log : List SignedEntry) (i : ℕ) (d : SignedEntry) (figures : Figures) (why : ChainRefusal) → i < length log
+    → figures ≡ figures_of (entries_of (take i log)) → AreGood maker (take i log) → IsBadEntry maker figures (get_or log i d) why → HasBadEntry maker log why
+bad_entry maker log i d figures why within is good bad = record {
   before = take i log;
   signed = get_or log i d;
   rest = drop (i + 1) log;
   split = sym (take-append-drop (i + 1) log) ∙ ap (λ front. front ++ drop (i + 1) log) (take_more log i d within) ∙ append_assoc (take i log) (get_or log i d ∷ []) (drop (i + 1) log);
   good = good;
-  bad = bad;
+  bad = subst (λ (f : Figures). IsBadEntry maker f (get_or log i d) why) is bad;
 }
 
 -- ---- what they say

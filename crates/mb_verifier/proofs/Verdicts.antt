@@ -11,18 +11,16 @@ use Rattle.mb_model.specs.declared.entry.Statement.{Statement}
 use Rattle.mb_model.specs.declared.order.KeyKind.{KeyKind}
 use Rattle.mb_model.specs.declared.state.Configuration.{Configuration}
 use Rattle.mb_model.specs.declared.state.Report.{Report}
-use Rattle.mb_model.specs.Log.{entries_of, RuledLog}
+use Rattle.mb_model.specs.Log.{figures_of, entries_of, RuledLog}
 use Rattle.mb_model.specs.EntryFormat.{entry_format}
 use Rattle.mb_model.specs.ChainFormat.{chain_format}
 use Rattle.mb_model.specs.Acceptance.{ChainRefusal, bad_form, bad_signature, bad_order, breaks_rules, key_unknown, bad_statement, wrong_number, key_ended, AreGood, IsNext, IfStatement, IsCurrent, message_of, Accepts, IsRefused}
 use Rattle.mb_cert.proofs.Sizes.{chain_fits}
-use Rattle.mb_log.specs.declared.figures.Figures.{Figures}
+use Rattle.mb_model.specs.declared.state.Figures.{Figures}
 use Rattle.mb_log.specs.declared.life.BornKey.{BornKey}
 use Rattle.mb_log.specs.declared.life.Life.{Life}
-use Rattle.mb_log.specs.Figures.{figures_of}
 use Rattle.mb_log.specs.KeyLife.{as_entry, IsLifeOf}
 use Rattle.mb_verifier.proofs.Stating.{born_is, alive_is}
-use Rattle.mb_verifier.proofs.Judging.{counted}
 use Rattle.mb_model.proofs.EntryFormatLaws.{chain_exact}
 use Rattle.mb_model_lemmas.proofs.ChainLemmas.{accepted_is_ruled}
 use Rattle.mb_verifier.specs.declared.refusal.ChainRefusal as why
@@ -90,7 +88,7 @@ pub accepted : (maker : PublicKey) (bytes : List ℕ) (chain : Chain) (log : Lis
     → Accepts maker bytes n (record { layer = born.layer; kind = born.kind; alive = life.alive; lives = life.lives; entries = figures.length; message = message })
 accepted maker bytes chain log n figures life born message spelled log_is good figures_are is some current message_is =
     let own : IsLifeOf (entries_of chain.entries) n life = subst (λ (l : List SignedEntry). IsLifeOf (entries_of l) n life) log_is is in
-    let count : figures.length ≡ length chain.entries = counted figures (entries_of log) figures_are ∙ length-map log (λ (s : SignedEntry). s.entry) ∙ ap length log_is in
+    let count : figures.length ≡ length chain.entries = ap (λ (f : Figures). f.length) figures_are ∙ length-map log (λ (s : SignedEntry). s.entry) ∙ ap length log_is in
     record {
       chain = chain;
       spelled = spelled;

@@ -1,21 +1,22 @@
 -- What is wrong with an entry, and with a statement, by the log alone. Which check fails first?
-use Rattle.std.specs.Prelude.{◌≡◌, ◌≢◌, ℕ, List, ◌∷◌, ◌++◌, length, false}
+use Rattle.std.specs.Prelude.{◌≡◌, ◌≢◌, ℕ, List, ◌∷◌, ◌++◌, false}
 use Rattle.mb_model.specs.declared.key.PublicKey.{PublicKey}
 use Rattle.mb_model.specs.declared.entry.Entry.{Entry}
 use Rattle.mb_model.specs.declared.entry.SignedEntry.{SignedEntry}
 use Rattle.mb_model.specs.declared.entry.Statement.{Statement}
-use Rattle.mb_model.specs.Log.{entries_of, number_of, Ruled}
+use Rattle.mb_model.specs.declared.state.Figures.{Figures}
+use Rattle.mb_model.specs.Log.{figures_of, entries_of, number_of, Ruled}
 use Rattle.mb_model.specs.Acceptance.{ChainRefusal, bad_form, bad_signature, bad_order, breaks_rules, key_unknown}
 use Rattle.mb_model.specs.Acceptance.{bad_statement, wrong_number, key_ended, IsCertified, IsInPlace, AreGood}
 use Rattle.mb_model.specs.Acceptance.{KeyEntry, is_alive, IsStated}
 
--- an entry after these is refused for this, and for nothing that is tried before it
-abbrev pub IsBadEntry : PublicKey → List Entry → SignedEntry → ChainRefusal → Type 0
-IsBadEntry maker before signed (bad_signature i) = (i ≡ length before) × (IsCertified maker before signed → ⊥)
+-- an entry after a log with these figures is refused for this, and for nothing that is tried before it
+abbrev pub IsBadEntry : PublicKey → Figures → SignedEntry → ChainRefusal → Type 0
+IsBadEntry maker before signed (bad_signature i) = (i ≡ before.length) × (IsCertified maker before signed → ⊥)
 IsBadEntry maker before signed (bad_order i) =
-    (i ≡ length before) × IsCertified maker before signed × (IsInPlace before signed → ⊥)
+    (i ≡ before.length) × IsCertified maker before signed × (IsInPlace before signed → ⊥)
 IsBadEntry maker before signed (breaks_rules i) =
-    (i ≡ length before) × IsCertified maker before signed × IsInPlace before signed
+    (i ≡ before.length) × IsCertified maker before signed × IsInPlace before signed
     × (Ruled before signed.entry → ⊥)
 IsBadEntry maker before signed (bad_form offset) = ⊥
 IsBadEntry maker before signed key_unknown = ⊥
@@ -30,7 +31,7 @@ pub record HasBadEntry (maker : PublicKey) (log : List SignedEntry) (why : Chain
   pub rest : List SignedEntry
   pub split : log ≡ before ++ signed ∷ rest
   pub good : AreGood maker before
-  pub bad : IsBadEntry maker (entries_of before) signed why
+  pub bad : IsBadEntry maker (figures_of (entries_of before)) signed why
 
 -- the statement of a key that the log makes is refused for this, and for nothing that is tried before it
 abbrev pub IsBadStatement : List Entry → ℕ → KeyEntry → Statement → ChainRefusal → Type 0

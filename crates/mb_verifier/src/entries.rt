@@ -1,19 +1,17 @@
 //! Whether each entry of a chain is good: signed by the key in charge, in its place, and within the rules.
 
 ghost use Rattle.std.specs.Prelude.{◌≡◌, ◌↔◌, ◌≤◌, List, length, All, IfOk, IfErr, IfSome, OnOk, IsTrue};
-ghost use Rattle.mb_model.specs.declared.entry.Entry.{Entry};
 ghost use Rattle.mb_model.specs.EntryFormat.{entry_format};
-ghost use Rattle.mb_model.specs.Log.{entries_of};
+ghost use Rattle.mb_model.specs.Log.{figures_of, entries_of};
 ghost use Rattle.mb_model.specs.Acceptance.{in_charge, IsCertified, IsGood, AreGood};
-ghost use Rattle.mb_log.specs.Figures.{figures_of};
 ghost use Rattle.mb_log.specs.KeyLife.{IsLifeOf};
 ghost use Rattle.mb_verifier.specs.Checked.{IsBadEntry, HasBadEntry};
 ghost use Rattle.mb_verifier.specs.Ends.{refusal_of};
 
 use crate::refusal::ChainRefusal;
 use mb_cert::{certifies, leaf_number};
-use mb_log::{Figures, Life};
-use mb_model::{Follow, NoMemory, PublicKey, SignedEntry};
+use mb_log::{Life, add_entry, follows_figures, no_figures};
+use mb_model::{Figures, Follow, NoMemory, PublicKey, SignedEntry};
 use std::alloc::Global;
 
 /// What good entries say.
@@ -40,17 +38,17 @@ pub(crate) fn judge(
     ensures life { IfOk result (λ judged. IsLifeOf (entries_of log.now) key judged.life) }
     ensures refused { IfErr result (λ why. IfSome (refusal_of why) (HasBadEntry maker.now log.now)) }
 {
-    let mut figures = Figures::none();
+    let mut figures = no_figures();
     let mut life = Life::begin(alloc, key);
     for signed in log {
         check(alloc, maker, &figures, signed)?;
         life.add(&figures, &signed.entry)?;
-        figures.add(&signed.entry);
+        add_entry(&mut figures, &signed.entry);
     }
     Ok(Judged { figures, life })
 }
 
-/// Nothing where the entry, which comes after those with these figures, is good; else why it is refused.
+/// Nothing where the entry is good after a log with these figures; else why it is refused.
 fn check(
     alloc: Global,
     maker: &PublicKey,
@@ -58,21 +56,21 @@ fn check(
     signed: &SignedEntry,
 ) -> Result<(), ChainRefusal>
     requires { entry_format.Allowed signed.now.entry }
-    ensures good { (before : List Entry) → figures.now ≡ figures_of before → OnOk result (IsGood maker.now before signed.now) }
-    ensures refused { (before : List Entry) → figures.now ≡ figures_of before → IfErr result (λ why. IfSome (refusal_of why) (IsBadEntry maker.now before signed.now)) }
+    ensures good { OnOk result (IsGood maker.now figures.now signed.now) }
+    ensures refused { IfErr result (λ why. IfSome (refusal_of why) (IsBadEntry maker.now figures.now signed.now)) }
 {
     let entry = figures.length;
     if !is_certified(alloc, maker, figures, signed)? {
         return Err(ChainRefusal::Signature { entry });
     }
-    match figures.follows(&signed.entry, leaf_number(&signed.signature)) {
+    match follows_figures(figures, &signed.entry, leaf_number(&signed.signature)) {
         Follow::Yes => Ok(()),
         Follow::Order => Err(ChainRefusal::Order { entry }),
         Follow::Rules => Err(ChainRefusal::Rules { entry }),
     }
 }
 
-/// Whether the key in charge after the entries with these figures signed the next one.
+/// Whether the key in charge after a log with these figures signed the next entry.
 fn is_certified(
     alloc: Global,
     maker: &PublicKey,
@@ -80,7 +78,7 @@ fn is_certified(
     signed: &SignedEntry,
 ) -> Result<bool, NoMemory>
     requires { entry_format.Allowed signed.now.entry }
-    ensures { (before : List Entry) → figures.now ≡ figures_of before → IfOk result (λ yes. IsTrue yes ↔ IsCertified maker.now before signed.now) }
+    ensures { IfOk result (λ yes. IsTrue yes ↔ IsCertified maker.now figures.now signed.now) }
 {
     match in_charge(maker, figures) {
         Some(key) => certifies(alloc, &key, signed),
@@ -88,10 +86,10 @@ fn is_certified(
     }
 }
 
-/// The key in charge after the entries with these figures: the maker's before the first, and then the device key that
-/// they name last.
+/// The key in charge after a log with these figures: the maker's before the first entry, and then the device key that
+/// is named last.
 fn in_charge(maker: &PublicKey, figures: &Figures) -> Option<PublicKey>
-    ensures { (before : List Entry) → figures.now ≡ figures_of before → result ≡ in_charge maker.now before }
+    ensures { result ≡ in_charge maker.now figures.now }
 {
     if figures.length == 0 {
         Some(*maker)

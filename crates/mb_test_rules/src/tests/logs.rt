@@ -3,7 +3,7 @@
 ghost use Rattle.std.specs.Prelude.{◌≡◌, ◌<◌};
 
 use mb_lms::HashCount;
-use mb_log::{Figures, Life, bodies, follows, lives};
+use mb_log::{Life, add_entry, bodies, follows, lives, no_figures};
 use mb_model::{
     Bodies, Chains, ChangeKind, CodeName, Configuration, Entry, Fact, Follow, KeyKind, KeySeed,
     Layer, Layers, NoMemory, Pair, PublicKey, SignedEntry, Tree, Trust, Trusts, View,
@@ -231,11 +231,11 @@ fn lived(rt: &impl Abort, alloc: Global, entries: &[Entry], numbers: &[u32]) -> 
 
 /// Whether key 1 lives after the entries, and in how many configurations it lived.
 fn life_of(alloc: Global, entries: &[Entry]) -> Result<(bool, usize), NoMemory> {
-    let mut figures = Figures::none();
+    let mut figures = no_figures();
     let mut life = Life::begin(alloc, 1);
     for entry in entries {
         life.add(&figures, entry)?;
-        figures.add(entry);
+        add_entry(&mut figures, entry);
     }
     Ok((life.alive, life.lives.as_slice().len()))
 }

@@ -3,9 +3,9 @@ use Rattle.mb_log.proofs.Added.{bodies_made}
 use Rattle.mb_log.proofs.additions.bodies.Goals as goal
 
 pub returns-clause-bodies : goal.returns-clause-bodies
-returns-clause-bodies g c = λ state order view_is fact_is.
-    bodies_made state order c.args.draw.now c.args.view.now c.make_ready-ready.result c.args.fact.now c.names_next-next_named.result
+returns-clause-bodies g c =
+    bodies_made c.args.draw.now c.args.view.now c.make_ready-ready.result c.args.fact.now c.names_next-next_named.result
     c.in_ok-entries.entries.items c.make_ready-ready.new.entries.items c.from_vec.result c.own_addition-own.result.entry c.own_addition-own.result.device
-    c.own_addition-own.result.uses c.outgoing.result c.own_addition-own.result.key view_is fact_is c.names_next-next_named.ensures
+    c.own_addition-own.result.uses c.outgoing.result c.own_addition-own.result.key c.names_next-next_named.ensures
     c.make_ready-ready.ensures.ready c.in_ok-entries.ensures.items c.make_ready-ready.ensures.entries (c.from_vec.ensures ∙ c.put.ensures.items)
     c.own_addition-own.ensures.entry c.own_addition-own.ensures.device c.own_addition-own.ensures.uses c.outgoing.ensures c.own_addition-own.ensures.key

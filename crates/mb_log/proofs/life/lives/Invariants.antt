@@ -1,7 +1,6 @@
 -- The figures and the life are those of the entries so far.
 use Rattle.std.proofs.Common.{◌≡◌, take}
-use Rattle.mb_model.specs.Log.{entries_of, RuledLog}
-use Rattle.mb_log.specs.Figures.{figures_of}
+use Rattle.mb_model.specs.Log.{figures_of, entries_of, RuledLog}
 use Rattle.mb_log.specs.KeyLife.{IsLifeOf}
 use Rattle.mb_log.proofs.life.lives.Given as goal
 

@@ -1,12 +1,7 @@
-use Rattle.mb_orders.proofs.States.{fact_is, planned}
+use Rattle.mb_orders.proofs.Plans.{planned}
 use Rattle.mb_orders.proofs.plan.make_plan.Goals as goal
 
 pub returns-clause-planned : goal.returns-clause-planned
-returns-clause-planned g c = λ state e.
-    planned state c.args.order.now c.args.draw.now c.args.view.now c.fact_of-fact.result _ c.in_ok-bodies.bodies _ _ e
-    c.fact_of-fact.ensures
-    c.layers_after.ensures
-    (c.in_ok-bodies.ensures.bodies state c.args.order.now e
-    (fact_is state c.args.order.now c.args.view.now c.fact_of-fact.result e c.fact_of-fact.ensures))
-    c.fate_of.ensures
-    c.fate_of-2.ensures
+returns-clause-planned g c =
+    planned c.args.order.now c.args.draw.now c.args.view.now c.fact_of-fact.result _ c.in_ok-bodies.bodies _ _
+    c.fact_of-fact.ensures c.layers_after.ensures c.in_ok-bodies.ensures.bodies c.fate_of.ensures c.fate_of-2.ensures

@@ -1,6 +1,6 @@
 use Rattle.std.proofs.Common.{◌≡◌, true, false, refl}
 use Rattle.mb_authority.proofs.Firsts.{found, passed, ended}
-use Rattle.mb_orders.specs.ByFigures.{IsCountersignedOver}
+use Rattle.mb_orders.specs.Judging.{IsCountersignedOver}
 use Rattle.mb_orders.proofs.signatures.countersignature_fails.Goals as goal
 
 pub returns-then-not-is_countersigned : goal.returns-then-not-is_countersigned

@@ -1,25 +1,23 @@
-use Rattle.mb_verifier.proofs.Judging.{counted, uncertified, in_place, out_of_place}
+use Rattle.std.proofs.Common.{refl}
+use Rattle.mb_verifier.proofs.Judging.{uncertified, in_place, out_of_place}
 use Rattle.mb_verifier.proofs.entries.check.Goals as goal
 
 pub returns-then-not-branch-clause-refused : goal.returns-then-not-branch-clause-refused
-returns-then-not-branch-clause-refused c = λ before is. (
-  counted c.args.figures.now before is,
-  uncertified _ _ c.if-not-branch.true (c.in_ok-is_certified.ensures before is),
-)
+returns-then-not-branch-clause-refused c = (refl, uncertified _ _ c.if-not-branch.true c.in_ok-is_certified.ensures)
 
 pub returns-in-Order-clause-refused : goal.returns-in-Order-clause-refused
-returns-in-Order-clause-refused c = λ before is.
-    let wrong = c.in-Order.ensures before is in (
-      counted c.args.figures.now before is,
-      (c.in_ok-is_certified.ensures before is).0 c.if-not-branch.false,
-      out_of_place before c.args.signed.now c.leaf_number.result c.leaf_number.ensures wrong.0 wrong.1,
+returns-in-Order-clause-refused c =
+    let wrong = c.in-Order.ensures in (
+      refl,
+      c.in_ok-is_certified.ensures.0 c.if-not-branch.false,
+      out_of_place c.args.figures.now c.args.signed.now c.leaf_number.result c.leaf_number.ensures wrong.0 wrong.1,
     )
 
 pub returns-in-Rules-clause-refused : goal.returns-in-Rules-clause-refused
-returns-in-Rules-clause-refused c = λ before is.
-    let wrong = c.in-Rules.ensures before is in (
-      counted c.args.figures.now before is,
-      (c.in_ok-is_certified.ensures before is).0 c.if-not-branch.false,
-      in_place before c.args.signed.now c.leaf_number.result c.leaf_number.ensures wrong.0,
+returns-in-Rules-clause-refused c =
+    let wrong = c.in-Rules.ensures in (
+      refl,
+      c.in_ok-is_certified.ensures.0 c.if-not-branch.false,
+      in_place c.args.figures.now c.args.signed.now c.leaf_number.result c.leaf_number.ensures wrong.0,
       wrong.1,
     )
