@@ -8,17 +8,11 @@ set -euo pipefail
 export LC_ALL=C
 
 here=$(cd "$(dirname "${BASH_SOURCE[0]}")" && pwd)
-program=$(realpath "${1:-$here/../crates/miniboot/out/miniboot}")
+# shellcheck source=../checks/program.sh
+. "$here/../checks/program.sh"
+find_program "$@"
+need python3
 jar=${JAR:-/usr/share/java/bcprov.jar}
-
-if [ ! -x "$program" ]; then
-    echo "$program is not there: examples/device-life/run.sh builds the program" >&2
-    exit 1
-fi
-if ! command -v python3 >/dev/null; then
-    echo "python3 is needed, and is not on the PATH" >&2
-    exit 1
-fi
 work=$(mktemp -d)
 trap 'rm -rf "$work"' EXIT
 

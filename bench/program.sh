@@ -1,16 +1,14 @@
 # Read by the scripts of this folder: a program of a folder here, and how long it takes.
 
+# shellcheck source=../checks/program.sh
+. "$(dirname "${BASH_SOURCE[0]}")/../checks/program.sh"
+
 # program NAME CRATES..: proves and builds the program of bench/NAME over these crates, in a copy of the repository, with
 # what was proved there before, that is removed at the end. `program` is then the built file, and `work` a folder.
 program() {
     local name=$1 crate
     shift
-    for tool in rt python3; do
-        if ! command -v "$tool" >/dev/null; then
-            echo "$tool is needed, and is not on the PATH" >&2
-            exit 1
-        fi
-    done
+    need rt python3
     work=$(mktemp -d)
     trap 'rm -rf "$work"' EXIT
     tar --create crates.txt HANDLES crates | tar --extract --directory "$work"

@@ -8,27 +8,11 @@
 # status 1 then. With -j N it works in N processes.
 set -euo pipefail
 export LC_ALL=C
-usage="usage: checks/chains.sh [-j N] [PROGRAM]"
 
 here=$(cd "$(dirname "${BASH_SOURCE[0]}")" && pwd)
-processes=1
-if [ "${1-}" = -j ]; then
-    processes=${2-}
-    shift 2 || true
-fi
-if [ $# -gt 1 ] || ! [[ "$processes" =~ ^[1-9][0-9]?$ ]]; then
-    echo "$usage" >&2
-    exit 2
-fi
-program=$(realpath "${1:-$here/../crates/miniboot/out/miniboot}")
-
-if [ ! -x "$program" ]; then
-    echo "$program is not there: examples/device-life/run.sh builds the program" >&2
-    exit 1
-fi
-if ! command -v python3 >/dev/null; then
-    echo "python3 is needed, and is not on the PATH" >&2
-    exit 1
-fi
+# shellcheck source=program.sh
+. "$here/program.sh"
+take_words "usage: checks/chains.sh [-j N] [PROGRAM]" "$@"
+need python3
 
 exec python3 -B "$here/chains/bad_input.py" -j "$processes" "$program"
