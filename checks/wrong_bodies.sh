@@ -94,6 +94,9 @@ def try_without_answers(own, edit):
             built = (other / "out").resolve()
             (other / "out").unlink()
             shutil.copytree(built, other / "out", copy_function=linked)
+    kept = TOP / "crates" / own.name / "out"
+    if kept.is_dir() and not (own / "out").exists():
+        shutil.copytree(kept, own / "out")
     for part in PARTS:
         if (TOP / "crates" / own.name / part).is_dir():
             shutil.rmtree(own / part)
