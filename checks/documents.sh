@@ -1,21 +1,27 @@
 #!/usr/bin/env bash
 # What the documents say of the tree. Each link in the pages at the top, in docs/ and in peers/ leads to a file that is
-# there, and to a heading where it names one; each path in backquotes that begins in a folder of the repository is
-# there, and so is each file of code that is named by its end; no line but that of a table has over 120 columns; each row
-# of docs/proved.md names public calls of its section's crate, and clauses that these calls have; each clause of each
-# public call has a row there, but for those that its table of common clauses has; and the table of crates in
+# there, and to a heading where it names one; the name in backquotes that a link to definitions or code shows is defined
+# in that file, or is the file's own; each path in backquotes that begins in a folder of the repository is there, and so
+# is each file of code that is named by its end; no line but that of a table has over 120 columns; each row of
+# docs/proved.md names public calls of its section's crate, and clauses that these calls have; each clause of each public
+# call has a row there, but for those that its table of common clauses has; and the table of crates in
 # docs/architecture.md has a row for each crate and for nothing else, and names those on which each stands as crates.txt
 # does. A method of a trait is a call of the type that implements it where it has clauses of its own there. Prints a line
 # for each that is wrong, and nothing where none is.
 set -u
 cd "$(dirname "$0")/.." || exit 2
 
-python3 - <<'PYTHON'
+python3 -B - <<'PYTHON'
 import pathlib
 import re
 import sys
 
+sys.path.insert(0, "checks")
+from definitions import names_of
+
 LINK = re.compile(r"(?<!!)\[[^\]]*\]\(([^)\s]+)\)")
+NAMED = re.compile(r"\[`([^`\]]+)`\]\(([^)\s#]+\.(?:antt|rt))\)")
+ITEM = re.compile(r"^\s*(?:pub )?(?:const )?(?:fn|struct|enum|trait|const|type) (\w+)", re.M)
 PATH = re.compile(r"`((?:crates|docs|checks|examples|bench|peers|\.ci)/[A-Za-z0-9_./-]+)`")
 CODE = re.compile(r"`([a-z_/]+\.rt)`")
 WIDEST = 120
@@ -46,6 +52,12 @@ def anchors_of(text):
     return found
 
 
+def defined_in(file):
+    """The names that a file defines, with its own."""
+    text = file.read_text()
+    return {file.name} | (names_of(text) if file.suffix == ".antt" else set(ITEM.findall(text)))
+
+
 def check_links(path):
     for number, line in enumerate(path.read_text().splitlines(), 1):
         for target in LINK.findall(line):
@@ -57,6 +69,10 @@ def check_links(path):
                 report(path, number, f"no file for the link {target}")
             elif anchor and anchor not in anchors_of(file.read_text()):
                 report(path, number, f"no heading for the link {target}")
+        for name, target in NAMED.findall(line):
+            file = path.parent / target
+            if file.exists() and name.split("::")[-1] not in defined_in(file):
+                report(path, number, f"{name} is not defined in {target}")
         for name in PATH.findall(line):
             if "/out/" not in name and "NAME" not in name and not pathlib.Path(name).exists():
                 report(path, number, f"no file {name}")

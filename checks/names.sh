@@ -5,36 +5,12 @@
 set -u
 cd "$(dirname "$0")/.." || exit 2
 
-python3 - crates/mb_model/specs <<'PYTHON'
+python3 -B - crates/mb_model/specs <<'PYTHON'
 import pathlib
-import re
 import sys
 
-TYPE = re.compile(r"(?:pub )?(record|data) ([^\s:({]+)")
-FUNCTION = re.compile(r"(?:unfoldable |abbrev )?(?:pub )?([^\s:({]+) :(?!:)")
-CONSTRUCTORS = re.compile(r"  ((?:[^\s:(){}-]\S*\s)+):")
-
-
-def names_of(text):
-    names = set()
-    inside = None
-    for line in text.splitlines():
-        begins = TYPE.match(line)
-        if begins:
-            inside = begins[1]
-            names.add(begins[2])
-            continue
-        if line and not line.startswith((" ", "--")):
-            inside = None
-            defines = FUNCTION.match(line)
-            if defines:
-                names.add(defines[1])
-        elif inside == "data":
-            makes = CONSTRUCTORS.match(line)
-            if makes:
-                names.update(makes[1].split())
-    return names
-
+sys.path.insert(0, "checks")
+from definitions import names_of
 
 files = {}
 for path in sorted(pathlib.Path(sys.argv[1]).glob("*.antt")):
