@@ -19,7 +19,7 @@ import sys
 sys.path.insert(0, "checks")
 from definitions import names_of
 
-LINK = re.compile(r"(?<!!)\[[^\]]*\]\(([^)\s]+)\)")
+LINK = re.compile(r"\[[^\]]*\]\(([^)\s]+)\)")
 NAMED = re.compile(r"\[`([^`\]]+)`\]\(([^)\s#]+\.(?:antt|rt))\)")
 ITEM = re.compile(r"^\s*(?:pub )?(?:const )?(?:fn|struct|enum|trait|const|type) (\w+)", re.M)
 PATH = re.compile(r"`((?:crates|docs|checks|examples|bench|peers|\.ci)/[A-Za-z0-9_./-]+)`")
