@@ -3,7 +3,7 @@
 # who asks and what; then come the commands and what the program prints. Among a device's events order1 stands for the
 # line of that order. Fails where what is shown is not what expected.txt says.
 #
-#     run.sh               proves and builds the program first
+#     run.sh               proves and builds the program first, and tells each crate that is proved
 #     run.sh PROGRAM       takes a program that is built
 #     run.sh --unproved    compiles the program without proving anything, and has it make and serve a life of its own
 #
