@@ -4,14 +4,16 @@
 # in that file, or is the file's own; each path in backquotes that begins in a folder of the repository is there, and so
 # is each file of code that is named by its end; no line but that of a table has over 120 columns; each row of
 # docs/proved.md names public calls of its section's crate, and clauses that these calls have; each clause of each public
-# call has a row there, but for those that its table of common clauses has; and the table of crates in
+# call has a row there, but for those that its table of common clauses has; the table of crates in
 # docs/architecture.md has a row for each crate and for nothing else, and names those on which each stands as crates.txt
-# does. A method of a trait is a call of the type that implements it where it has clauses of its own there. Prints a line
-# for each that is wrong, and nothing where none is.
+# does; and the commands that docs/commands.md lists first are those of --help, in its order. A method of a trait is a
+# call of the type that implements it where it has clauses of its own there. Prints a line for each that is wrong, and
+# nothing where none is.
 set -u
 cd "$(dirname "$0")/.." || exit 2
 
 python3 -B - <<'PYTHON'
+import itertools
 import pathlib
 import re
 import sys
@@ -225,12 +227,32 @@ def check_crates(path):
         report(path, 1, f"no row for the crate {name}")
 
 
+# ---- the list of commands
+
+def commands_of(path, begins):
+    """The lines of a list of commands, which begin with these words: the words of each, up to two spaces."""
+    return [
+        re.split(r" {2,}", line[len(begins):])[0]
+        for line in path.read_text().splitlines()
+        if line.startswith(begins)
+    ]
+
+
+def check_commands(path):
+    usage = commands_of(pathlib.Path("crates/mb_top/src/line.rt"), "  miniboot ")
+    listed = commands_of(path, "    miniboot ")[: len(usage)]
+    for said, printed in itertools.zip_longest(listed, usage):
+        if said != printed:
+            report(path, 1, f"--help has {printed}, and the list {said}")
+
+
 folders = [".", "docs", "peers"]
 documents = [page for folder in folders for page in sorted(pathlib.Path(folder).glob("*.md"))]
 for document in documents:
     check_links(document)
 check_proved(pathlib.Path("docs/proved.md"))
 check_crates(pathlib.Path("docs/architecture.md"))
+check_commands(pathlib.Path("docs/commands.md"))
 print("\n".join(wrong), end="\n" if wrong else "")
 sys.exit(1 if wrong else 0)
 PYTHON
