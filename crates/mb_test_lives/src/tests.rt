@@ -136,7 +136,7 @@ fn go_through(
     parts: &[&[Step]],
 ) -> Result<(), Fail> {
     for steps in parts {
-        go_on(rt, host, hashes)?;
+        go_on(rt, host, steps)?;
     }
     Ok(())
 }
