@@ -1,13 +1,14 @@
 #!/usr/bin/env bash
 # Tries the wrong bodies of checks/wrong-bodies, or those of the crates that are named: edits in the form of must-fail
-# edits, a folder for each crate, which the gate does not try, for its time. The prover has to refuse each, in a copy of
-# its crate. Prints a line for each that is proved, for each that does not apply, and for each that is refused only at a
-# proof that was written by hand, which shows nothing of the contract: such an edit is tried again without the answers
-# that no longer fit, and the line says where the search stops then. An edit with a line `test: CRATE TEST` is one that no
-# clause can refuse: that test of that crate has to fail over it. One with a line `free: REASON` gives an answer that
-# every contract leaves free, and has to be proved. The last line counts. Fails where any other is proved, where a free
-# one is refused, or where one does not apply. It takes half a minute of a processor for each edit, over crates that are
-# proved, and more for others.
+# edits, a folder for each crate, which the gate does not try, for its time: checks/wrong_bodies.sh [-j N] [CRATE..]. The
+# prover has to refuse each, in a copy of its crate. Prints a line for each that is proved, for each that does not apply,
+# and for each that is refused only at a proof that was written by hand, which shows nothing of the contract: such an edit
+# is tried again without the answers that no longer fit, and the line says where the search stops then. An edit with a
+# line `test: CRATE TEST` is one that no clause can refuse: that test of that crate has to fail over it. One with a line
+# `free: REASON` gives an answer that every contract leaves free, and has to be proved. The last line counts. Fails where
+# any other is proved, where a free one is refused, or where one does not apply. It begins with what `rt check` has kept
+# of each crate, and then takes some ten seconds of a processor for each try; a crate of which nothing is kept is proved
+# first. With -j N it tries those of N crates at a time.
 set -u
 cd "$(dirname "$0")/.." || exit 2
 
@@ -17,53 +18,32 @@ if ! command -v rt >/dev/null; then
 fi
 
 python3 - "$@" <<'PYTHON'
+import collections
+import concurrent.futures
 import os
 import pathlib
+import queue
 import re
 import shutil
 import subprocess
 import sys
 import tempfile
+import threading
 
 TOP = pathlib.Path.cwd()
 EDITS = TOP / "checks" / "wrong-bodies"
 PARTS = ["src", "specs", "proofs"]
 TRIES = 8
 
-SAID = re.compile(r"rt: must-fail ([a-z_0-9]+)/(\S+)\.edit: (.*)")
-AT_A_PROOF = re.compile(r"(?:\./)?(proofs/\S+?):(\d+):\d+: error: (.*)")
 BY_TEST = re.compile(r"^test: (\w+) (\w+)$", re.M)
 FREE = re.compile(r"^free: (.+)$", re.M)
+AT_A_PROOF = re.compile(r"(?:\./)?(proofs/\S+?):(\d+):\d+: error: (.*)")
 AT_A_CLAUSE = re.compile(r"note: (src/\S+: .*)")
+# what the prover says of a text that it cannot read, and of a proof file that names what is gone
+UNREAD = re.compile(r"is not in scope|has no field|is no name|operand is missing|expected the end|cannot continue")
 
-counts = {"refused": 0, "refused at a proof": 0, "free": 0, "proved": 0, "not applied": 0, "not judged": 0}
-
-
-def room_for(crate, room):
-    """A copy of the sources of all crates, over what is built of the others, with the crate's wrong bodies as its
-    must-fail edits."""
-    for name in ["crates.txt", "HANDLES"]:
-        shutil.copy(TOP / name, room / name)
-    for other in (TOP / "crates").iterdir():
-        for part in PARTS:
-            if (other / part).is_dir():
-                shutil.copytree(other / part, room / "crates" / other.name / part)
-        if other.name != crate and (other / "out").is_dir():
-            (room / "crates" / other.name / "out").symlink_to(other / "out")
-    shutil.copytree(EDITS / crate, room / "crates" / crate / "must-fail")
-    return room / "crates" / crate
-
-
-def pairs_of(edit):
-    """The file, the old text and the new text of each pair."""
-    path, old = "", ""
-    for line in edit.read_text().split("\n"):
-        if line.startswith("file: "):
-            path = line[len("file: "):].strip()
-        elif line.startswith("old: "):
-            old = line[len("old: "):]
-        elif line.startswith("new:"):
-            yield path, old, line[len("new:"):].removeprefix(" ")
+counts = collections.Counter()
+printing = threading.Lock()
 
 
 def linked(source, target):
@@ -72,6 +52,42 @@ def linked(source, target):
         os.link(source, target)
     except OSError:
         shutil.copy2(source, target)
+
+
+def make_room(room):
+    """The sources of all crates, and links to what is built of them."""
+    for name in ["crates.txt", "HANDLES"]:
+        shutil.copy(TOP / name, room / name)
+    for crate in (TOP / "crates").iterdir():
+        restore(room, crate.name)
+        if (crate / "out" / "rlib").is_dir():
+            shutil.copytree(crate / "out" / "rlib", room / "crates" / crate.name / "out" / "rlib", copy_function=linked)
+
+
+def restore(room, crate):
+    """The sources of a crate as they are."""
+    for part in PARTS:
+        own = room / "crates" / crate / part
+        if own.exists():
+            shutil.rmtree(own)
+        if (TOP / "crates" / crate / part).is_dir():
+            shutil.copytree(TOP / "crates" / crate / part, own)
+
+
+def apply(edit, own):
+    """Changes the sources, or says why they cannot be changed so."""
+    path, old = "", ""
+    for line in edit.read_text().split("\n"):
+        if line.startswith("file: "):
+            path = line[len("file: "):].strip()
+        elif line.startswith("old: "):
+            old = line[len("old: "):]
+        elif line.startswith("new:"):
+            if not (own / path).is_file() or (own / path).read_text().count(old) != 1:
+                return f"not once in {path}: {old}"
+            text = (own / path).read_text().replace(old, line[len("new:"):].removeprefix(" "))
+            (own / path).write_text(text)
+    return ""
 
 
 def without(text, numbers):
@@ -87,105 +103,104 @@ def without(text, numbers):
     return "\n".join(kept + ([] if broken else block)) + "\n"
 
 
-def try_without_answers(own, edit):
-    """Where the search stops once the answers that the edit breaks are gone."""
-    for other in own.parent.iterdir():
-        if (other / "out").is_symlink():
-            built = (other / "out").resolve()
-            (other / "out").unlink()
-            shutil.copytree(built, other / "out", copy_function=linked)
-    kept = TOP / "crates" / own.name / "out"
-    if kept.is_dir() and not (own / "out").exists():
-        shutil.copytree(kept, own / "out")
-    for part in PARTS:
-        if (TOP / "crates" / own.name / part).is_dir():
-            shutil.rmtree(own / part)
-            shutil.copytree(TOP / "crates" / own.name / part, own / part)
-    for path, old, new in pairs_of(edit):
-        (own / path).write_text((own / path).read_text().replace(old, new))
+def is_unread(line):
+    """Whether the prover could not read a text of src/ or specs/, where a false statement reads well."""
+    at = re.match(r"(?:\./)?(src|specs)/\S+?:\d+:\d+: error: (?:`[^`]*`: )?(.*)", line)
+    return bool(at) and bool(UNREAD.search(re.sub(r"`[^`]*`", "", at[2])))
+
+
+def try_by_prover(own):
+    """What became of the edited crate, and where the search stopped if answers had to go."""
+    gone = ""
     for _ in range(TRIES):
-        ran = subprocess.run(["rt", "check"], cwd=own, capture_output=True, text=True, errors="replace")
+        ran = subprocess.run(
+            ["rt", "check", "--jobs", "1"], cwd=own, capture_output=True, text=True, errors="replace"
+        )
         said = ran.stdout + ran.stderr
         if ran.returncode == 0:
-            return "proved", "it is proved"
-        broken = {}
+            return "proved", f"{gone}it is proved"
+        if "logic=not-proved" not in said or any(map(is_unread, said.split("\n"))):
+            return "not judged", said.strip().split("\n")[-1][:160]
+        broken = collections.defaultdict(set)
         for path, number, _ in AT_A_PROOF.findall(said):
             if path.endswith(("/Answers.antt", "/Invariants.antt")):
-                broken.setdefault(path, set()).add(int(number))
+                broken[path].add(int(number))
+        if not broken:
+            clause, lemma = AT_A_CLAUSE.search(said), AT_A_PROOF.search(said)
+            if clause:
+                return "refused", gone and f"{gone}{clause[1][:160]}"
+            return "refused at a proof", f"{gone}{lemma[0][:160] if lemma else said.strip()[-160:]}"
         for path, numbers in broken.items():
             (own / path).write_text(without((own / path).read_text(), numbers))
-        if broken:
-            continue
-        clause, lemma = AT_A_CLAUSE.search(said), AT_A_PROOF.search(said)
-        if clause:
-            return "refused", clause[1][:160]
-        if lemma:
-            return "refused at a proof", lemma[0][:160]
-        return "refused at a proof", said.strip().split("\n")[-1][:160]
+        gone = "refused at a proof; without it: "
     return "refused at a proof", f"after {TRIES} tries answers still do not fit"
 
 
-def judge(own, name, said):
-    """What became of an edit, and what to print of it."""
-    free = FREE.search((own / "must-fail" / f"{name}.edit").read_text())
-    if "NOT REFUSED" in said:
-        return ("free", f"proved, and may be: {free[1]}") if free else ("proved", "it is proved")
-    if free:
-        return "not judged", f"refused, though it is said to be free: {said}"
-    if "BAD EDIT" in said:
-        return "not applied", said
-    if "only because a proof file" in said or re.search(r"it must be: (\./)?proofs/", said):
-        what, where = try_without_answers(own, own / "must-fail" / f"{name}.edit")
-        return what, f"refused at a proof; without it: {where}"
-    return "refused", ""
-
-
-def try_by_test(own, edit):
-    """What the test that an edit names says of it, and what to print of that."""
-    crate, test = BY_TEST.search(edit.read_text()).groups()
-    for path, old, new in pairs_of(edit):
-        text = (own / path).read_text()
-        if text.count(old) != 1:
-            return "not applied", f"not once in {path}: {old}"
-        (own / path).write_text(text.replace(old, new))
-    ran = subprocess.run(["rt", "try", "--test"], cwd=own.parent / crate, capture_output=True, text=True, errors="replace")
-    shutil.rmtree(own / "src")
-    shutil.copytree(TOP / "crates" / own.name / "src", own / "src")
+def try_by_test(room, crate, test):
+    """What a test says of the edited crate."""
+    ran = subprocess.run(
+        ["rt", "try", "--test"], cwd=room / "crates" / crate, capture_output=True, text=True, errors="replace"
+    )
     ended = re.search(rf"^test (?:\S+::)?{test} \.\.\. (ok|FAILED)", ran.stdout + ran.stderr, re.M)
     if not ended:
         return "not judged", f"{crate} ran no test {test}"
     return ("proved", f"{test} of {crate} passes") if ended[1] == "ok" else ("refused", "")
 
 
-def try_crate(crate):
-    with tempfile.TemporaryDirectory() as work:
-        own = room_for(crate, pathlib.Path(work))
-        for edit in sorted((own / "must-fail").glob("*.edit")):
-            if BY_TEST.search(edit.read_text()):
-                kept = edit.rename(pathlib.Path(work) / edit.name)
-                what, text = try_by_test(own, kept)
-                counts[what] += 1
-                if text:
-                    print(f"{crate}/{edit.stem}: {text}", flush=True)
-        ran = subprocess.run(["rt", "must-fail", crate], cwd=work, capture_output=True, text=True, errors="replace")
-        found = SAID.findall(ran.stdout + ran.stderr)
-        names = {edit.stem for edit in (own / "must-fail").glob("*.edit")}
-        for name in sorted(names - {name for _, name, _ in found}):
-            counts["not judged"] += 1
-            print(f"{crate}/{name}: not judged", flush=True)
-        for _, name, said in found:
-            what, text = judge(own, name, said)
+def try_edit(room, crate, edit):
+    own = room / "crates" / crate
+    restore(room, crate)
+    why = apply(edit, own)
+    if why:
+        return "not applied", why
+    by_test, free = BY_TEST.search(edit.read_text()), FREE.search(edit.read_text())
+    if by_test:
+        return try_by_test(room, *by_test.groups())
+    what, text = try_by_prover(own)
+    if free and what == "proved":
+        return "free", f"proved, and may be: {free[1]}"
+    if free:
+        return "not judged", f"refused, though it is said to be free: {text}"
+    return what, text
+
+
+def try_crate(crate, rooms):
+    room = rooms.get()
+    own = room / "crates" / crate
+    # its own work is copied, since a check adds to it
+    shutil.rmtree(own / "out", ignore_errors=True)
+    if (TOP / "crates" / crate / "out").is_dir():
+        shutil.copytree(TOP / "crates" / crate / "out", own / "out")
+    for edit in sorted((EDITS / crate).glob("*.edit")):
+        what, text = try_edit(room, crate, edit)
+        with printing:
             counts[what] += 1
             if text:
-                print(f"{crate}/{name}: {text}", flush=True)
+                print(f"{crate}/{edit.stem}: {text}", flush=True)
+    restore(room, crate)
+    rooms.put(room)
 
 
-crates = sys.argv[1:] or sorted(path.name for path in EDITS.iterdir() if path.is_dir())
+words, at_once = sys.argv[1:], 1
+if words[:1] == ["-j"]:
+    if len(words) < 2 or not re.fullmatch("[1-9][0-9]?", words[1]):
+        sys.exit("usage: checks/wrong_bodies.sh [-j N] [CRATE..]")
+    at_once, words = int(words[1]), words[2:]
+crates = words or sorted(path.name for path in EDITS.iterdir() if path.is_dir())
 for crate in crates:
     if not (EDITS / crate).is_dir():
         sys.exit(f"{crate} has no wrong bodies")
-for crate in crates:
-    try_crate(crate)
-print(", ".join(f"{number} {what}" for what, number in counts.items()))
+with tempfile.TemporaryDirectory() as work, concurrent.futures.ThreadPoolExecutor(at_once) as tries:
+    rooms = queue.Queue()
+    for number in range(min(at_once, len(crates))):
+        room = pathlib.Path(work, str(number))
+        (room / "crates").mkdir(parents=True)
+        make_room(room)
+        rooms.put(room)
+    # those with the most edits first, so that none is left alone at the end
+    by_length = sorted(crates, key=lambda crate: -len(list((EDITS / crate).glob("*.edit"))))
+    list(tries.map(lambda crate: try_crate(crate, rooms), by_length))
+kinds = ["refused", "refused at a proof", "free", "proved", "not applied", "not judged"]
+print(", ".join(f"{counts[what]} {what}" for what in kinds))
 sys.exit(1 if counts["proved"] or counts["not applied"] or counts["not judged"] else 0)
 PYTHON
