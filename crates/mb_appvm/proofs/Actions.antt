@@ -9,7 +9,7 @@ use Rattle.mb_appvm.specs.declared.machine.Step.{Step}
 use Rattle.mb_appvm.specs.declared.machine.Step.TheVariants as step
 use Rattle.mb_appvm.specs.declared.trap.Trap.TheVariants as trap
 use Rattle.mb_appvm.specs.Instructions.{Stands}
-use Rattle.mb_appvm.specs.Application.{Surroundings, goes, takes, leaves, does, lacks, overflows}
+use Rattle.mb_appvm.specs.Application.{Surroundings, goes, takes, leaves, does, lacks_operands, overflows}
 use Rattle.mb_appvm.specs.Acting.{state_of, DoesStep, DoesOn, DoesPlainOn}
 
 -- no value is taken and none is left
@@ -83,7 +83,7 @@ steps_on s i next old new result is room on = record {
 
 pub lacks_values : (s : Surroundings) (i : Instruction) (next : ℕ) (old : Machine) → Stands s.code old.place i next → length old.stack.items < takes i
     → DoesStep s old (step.Traps trap.TooFewValues) old
-lacks_values s i next old is few = record { is = lacks i next is few refl; kept = refl }
+lacks_values s i next old is few = record { is = lacks_operands i next is few refl; kept = refl }
 
 pub lacks_room : (s : Surroundings) (i : Instruction) (next : ℕ) (old : Machine) → Stands s.code old.place i next → takes i ≤ length old.stack.items
     → takes i + 256 < length old.stack.items + leaves i → DoesStep s old (step.Traps trap.TooManyValues) old

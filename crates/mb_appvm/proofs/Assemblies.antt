@@ -8,8 +8,8 @@ use Rattle.mb_model.specs.Lines.{HasLines}
 use Rattle.mb_model_lemmas.proofs.LineLemmas.{HasLines-none, HasLines-nil, HasLines-same, HasLines-always}
 use Rattle.mb_appvm.specs.declared.lines.Said.{Said}
 use Rattle.mb_appvm.specs.declared.lines.Said.TheVariants as says
-use Rattle.mb_appvm.specs.Assembly.{SaysLine, IsSayable, size_of, is_label, GivesLabel, HasTarget, AreRight, Assembles, AssemblyFailsAt}
-use Rattle.mb_appvm.specs.Checking.{ReadsTo, IsTarget, IsGiven, AreSound, CountsSound, IsCode}
+use Rattle.mb_appvm.specs.Assembly.{SaysAssemblyLine, IsSayable, size_of, is_label, GivesLabel, HasTarget, AreRight, Assembles, AssemblyFailsAt}
+use Rattle.mb_appvm.specs.Checking.{ReadsTo, IsTarget, IsGiven, AreSoundLines, CountsSound, IsCode}
 use Rattle.mb_appvm.proofs.Labels.{is_label-true, same_bytes-refl, none_given}
 use Rattle.mb_appvm.proofs.Words.{SaysLine-same}
 
@@ -28,7 +28,7 @@ zip_length R [] (y ∷ ys) all = absurd all
 zip_length R (x ∷ xs) [] all = absurd all
 zip_length R (x ∷ xs) (y ∷ ys) all = omega (arith, zip_length R xs ys all.1)
 
-pub said_unique : (lines : List (List ℕ)) (a b : List Said) → AllZip SaysLine lines a → AllZip SaysLine lines b → a ≡ b
+pub said_unique : (lines : List (List ℕ)) (a b : List Said) → AllZip SaysAssemblyLine lines a → AllZip SaysAssemblyLine lines b → a ≡ b
 said_unique [] [] [] za zb = refl
 said_unique [] (x ∷ a) b za zb = absurd za
 said_unique [] [] (y ∷ b) za zb = absurd zb
@@ -39,14 +39,14 @@ said_unique (line ∷ lines) (x ∷ a) (y ∷ b) za zb =
     let tail = said_unique lines a b za.1 zb.1 in
     cc
 
-pub all_sayable : (lines : List (List ℕ)) (said : List Said) → AllZip SaysLine lines said → All IsSayable said
+pub all_sayable : (lines : List (List ℕ)) (said : List Said) → AllZip SaysAssemblyLine lines said → All IsSayable said
 all_sayable [] [] all = All-nil IsSayable
 all_sayable [] (s ∷ said) all = absurd all
 all_sayable (line ∷ lines) [] all = absurd all
 all_sayable (line ∷ lines) (s ∷ said) all = All-cons IsSayable s said all.0.sayable (all_sayable lines said all.1)
 
 -- a line in the middle says something
-middle : (before later : List (List ℕ)) (line : List ℕ) (said : List Said) → AllZip SaysLine (before ++ line ∷ later) said → (s : Said) × SaysLine line s
+middle : (before later : List (List ℕ)) (line : List ℕ) (said : List Said) → AllZip SaysAssemblyLine (before ++ line ∷ later) said → (s : Said) × SaysAssemblyLine line s
 middle [] later line [] all = absurd all
 middle [] later line (s ∷ said) all = (s, all.0)
 middle (x ∷ before) later line [] all = absurd all
@@ -54,12 +54,12 @@ middle (x ∷ before) later line (s ∷ said) all = middle before later line sai
 
 -- ---- labels
 
-gives_more : (line : List ℕ) (front : List (List ℕ)) (said : List Said) (name : List ℕ) (s : Said) → AllZip SaysLine (line ∷ front) (s ∷ said) → (b : Bool) → is_label name s ≡ b
+gives_more : (line : List ℕ) (front : List (List ℕ)) (said : List Said) (name : List ℕ) (s : Said) → AllZip SaysAssemblyLine (line ∷ front) (s ∷ said) → (b : Bool) → is_label name s ≡ b
     → (b || list_any (is_label name) said) ≡ true → (list_any (is_label name) said ≡ true → GivesLabel front name) → GivesLabel (line ∷ front) name
-gives_more line front said name s all true is any on = inl (subst (λ (x : Said). SaysLine line x) (is_label-true s name is) all.0)
+gives_more line front said name s all true is any on = inl (subst (λ (x : Said). SaysAssemblyLine line x) (is_label-true s name is) all.0)
 gives_more line front said name s all false is any on = inr (on any)
 
-gives_front : (front : List (List ℕ)) (said : List Said) (name : List ℕ) → AllZip SaysLine front said → list_any (is_label name) said ≡ true → GivesLabel front name
+gives_front : (front : List (List ℕ)) (said : List Said) (name : List ℕ) → AllZip SaysAssemblyLine front said → list_any (is_label name) said ≡ true → GivesLabel front name
 gives_front [] [] name all any = absurd cc
 gives_front [] (s ∷ said) name all any = absurd all
 gives_front (line ∷ front) [] name all any = absurd all
@@ -69,7 +69,7 @@ or_right : (a b : Bool) → b ≡ true → (a || b) ≡ true
 or_right true b e = refl
 or_right false b e = e
 
-front_gives : (front : List (List ℕ)) (said : List Said) (name : List ℕ) → AllZip SaysLine front said → GivesLabel front name → list_any (is_label name) said ≡ true
+front_gives : (front : List (List ℕ)) (said : List Said) (name : List ℕ) → AllZip SaysAssemblyLine front said → GivesLabel front name → list_any (is_label name) said ≡ true
 front_gives [] [] name all gives = absurd gives
 front_gives [] (s ∷ said) name all gives = absurd all
 front_gives (line ∷ front) [] name all gives = absurd all
@@ -95,7 +95,7 @@ gives_split (line ∷ front) later name (inr more) =
 
 -- ---- targets
 
-target_out : (front later : List (List ℕ)) (all : List Said) (rest : List ℕ) (s : Said) → AllZip SaysLine front all → HasLines rest later
+target_out : (front later : List (List ℕ)) (all : List Said) (rest : List ℕ) (s : Said) → AllZip SaysAssemblyLine front all → HasLines rest later
     → IsTarget all rest s → HasTarget (front ++ later) s
 target_out front later all rest (says.Label name) zip has target = tt
 target_out front later all rest (says.Whole i) zip has target = tt
@@ -103,7 +103,7 @@ target_out front later all rest (says.JumpTo kind name) zip has (inl any) = give
 target_out front later all rest (says.JumpTo kind name) zip has (inr gives) =
     gives_right front later name (subst (λ (x : List (List ℕ)). GivesLabel x name) (HasLines-same rest gives.lines later gives.has has) gives.gives)
 
-target_in : (front later : List (List ℕ)) (all : List Said) (rest : List ℕ) (s : Said) → AllZip SaysLine front all → HasLines rest later
+target_in : (front later : List (List ℕ)) (all : List Said) (rest : List ℕ) (s : Said) → AllZip SaysAssemblyLine front all → HasLines rest later
     → HasTarget (front ++ later) s → IsTarget all rest s
 target_in front later all rest (says.Label name) zip has target = tt
 target_in front later all rest (says.Whole i) zip has target = tt
@@ -121,20 +121,20 @@ given all rest (says.JumpTo kind name) none (inr gives) = absurd (none_given res
 
 -- ---- the lines at the front of a text
 
-are_right : (front later : List (List ℕ)) (all : List Said) (rest : List ℕ) (n : ℕ) → AllZip SaysLine front all → HasLines rest later
-    → AreSound all rest (take n all) → AreRight (front ++ later) (take n front) (take n all)
+are_right : (front later : List (List ℕ)) (all : List Said) (rest : List ℕ) (n : ℕ) → AllZip SaysAssemblyLine front all → HasLines rest later
+    → AreSoundLines all rest (take n all) → AreRight (front ++ later) (take n front) (take n all)
 are_right front later all rest n zip has sound = record {
-  worded = zip_take SaysLine n front all zip;
+  worded = zip_take SaysAssemblyLine n front all zip;
   labels = sound.labels;
   targets = All-weaker (IsTarget all rest) (HasTarget (front ++ later)) (λ s. target_out front later all rest s zip has) (take n all) sound.targets;
   short = sound.short;
 }
 
-are_sound : (front later : List (List ℕ)) (all : List Said) (rest : List ℕ) (n : ℕ) (said : List Said) → AllZip SaysLine front all → HasLines rest later
-    → AreRight (front ++ later) (take n front) said → AreSound all rest (take n all)
+are_sound : (front later : List (List ℕ)) (all : List Said) (rest : List ℕ) (n : ℕ) (said : List Said) → AllZip SaysAssemblyLine front all → HasLines rest later
+    → AreRight (front ++ later) (take n front) said → AreSoundLines all rest (take n all)
 are_sound front later all rest n said zip has right =
-    let same = said_unique (take n front) said (take n all) right.worded (zip_take SaysLine n front all zip) in
-    subst (λ (x : List Said). AreSound all rest x) same
+    let same = said_unique (take n front) said (take n all) right.worded (zip_take SaysAssemblyLine n front all zip) in
+    subst (λ (x : List Said). AreSoundLines all rest x) same
     (record {
       labels = right.labels;
       targets = All-weaker (HasTarget (front ++ later)) (IsTarget all rest) (λ s. target_in front later all rest s zip has) said right.targets;
@@ -147,7 +147,7 @@ pub wrong_within : (text rest : List ℕ) (said : List Said) (n : ℕ) → Reads
 wrong_within text rest said n read counts less =
     let later = HasLines-always rest in
     let front = read.front in
-    let within : n < length front = omega (arith, less, zip_length SaysLine front said read.worded) in
+    let within : n < length front = omega (arith, less, zip_length SaysAssemblyLine front said read.worded) in
     let more : take (n + 1) front ≡ take n front ++ get_or front n [] ∷ [] = take_more front n [] within in
     record {
       lines = front ++ later.0;
@@ -173,7 +173,7 @@ stopped : (text rest : List ℕ) (said : List Said) (n : ℕ) (later : List (Lis
 stopped text rest said n [] read counts all some has = absurd (omega (arith, some, ap length (HasLines-none rest has)))
 stopped text rest said n (line ∷ later) read counts all some has =
     let front = read.front in
-    let long : n ≡ length front = omega (arith, all, zip_length SaysLine front said read.worded) in
+    let long : n ≡ length front = omega (arith, all, zip_length SaysAssemblyLine front said read.worded) in
     let whole : take n front ≡ front = take_all n front (omega (arith, long)) in
     record {
       lines = front ++ line ∷ later;
@@ -198,10 +198,10 @@ wrong_after text rest said n read counts all some =
     let within = counts.within in
     stopped text rest said n later.0 read counts (omega (arith, all, within)) some later.1
 
-sound_whole : (said : List Said) (rest : List ℕ) (n : ℕ) → CountsSound said rest n → (n < length said → ⊥) → AreSound said rest said
+sound_whole : (said : List Said) (rest : List ℕ) (n : ℕ) → CountsSound said rest n → (n < length said → ⊥) → AreSoundLines said rest said
 sound_whole said rest n counts all =
     let within = counts.within in
-    subst (λ (x : List Said). AreSound said rest x) (take_all n said (omega (arith, all, within))) counts.right
+    subst (λ (x : List Said). AreSoundLines said rest x) (take_all n said (omega (arith, all, within))) counts.right
 
 pub all_given : (said : List Said) (rest : List ℕ) (n : ℕ) → CountsSound said rest n → (n < length said → ⊥) → rest ≡ [] → All (IsGiven said) said
 all_given said rest n counts all none =
@@ -215,7 +215,7 @@ pub assembled : (text rest code : List ℕ) (said : List Said) (n : ℕ) → Rea
 assembled text rest code said n read counts all none is =
     let front = read.front in
     let has = subst (λ (x : List ℕ). HasLines x []) (sym none) HasLines-nil in
-    let long : length front ≤ n = omega (arith, all, zip_length SaysLine front said read.worded) in
+    let long : length front ≤ n = omega (arith, all, zip_length SaysAssemblyLine front said read.worded) in
     let whole = are_right front [] said rest n read.worded has counts.right in
     let right = subst (λ (x : List (List ℕ)). AreRight (front ++ []) x (take n said)) (take_all n front long ∙ sym (append-nil front)) whole in
     record {

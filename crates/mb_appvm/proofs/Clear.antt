@@ -10,7 +10,7 @@ use Rattle.mb_model_lemmas.proofs.LineLemmas.{HasLines-same, cons_same}
 use Rattle.mb_appvm.specs.declared.lines.Said.{Said}
 use Rattle.mb_appvm.specs.declared.lines.Said.TheVariants as says
 use Rattle.mb_appvm.specs.Instructions.{instruction_format}
-use Rattle.mb_appvm.specs.Assembly.{SaysLine, jump_to, size_of, is_label, IsNew, LabelsDiffer, HasTarget, AreRight, FailsAssembly, IsPlaced, Makes, piece, IsAssembly}
+use Rattle.mb_appvm.specs.Assembly.{SaysAssemblyLine, jump_to, size_of, is_label, IsNew, LabelsDiffer, HasTarget, AreRight, FailsAssembly, IsPlaced, Makes, piece, IsAssembly}
 use Rattle.mb_appvm.specs.Listing.{AssembliesAreClear, ListingsAssemble}
 use Rattle.mb_appvm.proofs.Labels.{same_bytes-refl}
 use Rattle.mb_appvm.proofs.Soundness.{or_parts}
@@ -95,8 +95,8 @@ differ_take (suc n) (x ∷ xs) differ = (new_take x n xs differ.0, differ_take n
 -- what stands at the front of right lines is right
 right_front : (lines front later : List (List ℕ)) (said : List Said) → AreRight lines (front ++ later) said → AreRight lines front (take (length front) said)
 right_front lines front later said right = record {
-  worded = subst (λ (x : List (List ℕ)). AllZip SaysLine x (take (length front) said)) (take_at front later (length front) refl)
-      (zip_take SaysLine (length front) (front ++ later) said right.worded);
+  worded = subst (λ (x : List (List ℕ)). AllZip SaysAssemblyLine x (take (length front) said)) (take_at front later (length front) refl)
+      (zip_take SaysAssemblyLine (length front) (front ++ later) said right.worded);
   labels = differ_take (length front) said right.labels;
   targets = All-take (HasTarget lines) (length front) said right.targets;
   short = omega (arith, right.short, sum_by-take-le size_of said (length front));

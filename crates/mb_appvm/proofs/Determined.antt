@@ -12,13 +12,13 @@ use Rattle.mb_appvm.specs.declared.instruction.Instruction.{Instruction}
 use Rattle.mb_appvm.specs.declared.instruction.Instruction.TheVariants as instruction
 use Rattle.mb_appvm.specs.declared.running.AppEnd.{AppEnd}
 use Rattle.mb_appvm.specs.Instructions.{Stands}
-use Rattle.mb_appvm.specs.Application.{AppState, Surroundings, Outcome, goes, ends, traps, takes, leaves, DoesCopy, DoesGet, DoesPlain, Does, AppStep, unknown, lacks, overflows, does}
-use Rattle.mb_appvm.specs.Runs.{first_state, Leads, RunsTo, readable_secrets, RunsEndOnce, RunsSeeNothingElse}
+use Rattle.mb_appvm.specs.Application.{AppState, Surroundings, StepOutcome, goes, run_halts, traps, takes, leaves, DoesCopy, DoesGet, DoesPlain, Does, AppStep, unknown, lacks_operands, overflows, does}
+use Rattle.mb_appvm.specs.Runs.{first_state, LeadsOn, RunsTo, readable_secrets, RunsEndOnce, RunsSeeNothingElse}
 use Rattle.mb_appvm.proofs.Instructions.{instruction_exact}
 
 -- ---- what an instruction does is one thing
 
-either_same : {P Q : Type 0} (x y o p : Outcome) → (P → Q → ⊥) → (P × (o ≡ x)) ⊎ (Q × (o ≡ y)) → (P × (p ≡ x)) ⊎ (Q × (p ≡ y)) → o ≡ p
+either_same : {P Q : Type 0} (x y o p : StepOutcome) → (P → Q → ⊥) → (P × (o ≡ x)) ⊎ (Q × (o ≡ y)) → (P × (p ≡ x)) ⊎ (Q × (p ≡ y)) → o ≡ p
 either_same x y o p apart (inl a) (inl b) = a.1 ∙ sym b.1
 either_same x y o p apart (inl a) (inr b) = absurd (apart a.0 b.0)
 either_same x y o p apart (inr a) (inl b) = absurd (apart b.0 a.0)
@@ -27,7 +27,7 @@ either_same x y o p apart (inr a) (inr b) = a.1 ∙ sym b.1
 pushed_none : (xs : List ℕ) (x : ℕ) → [] ≡ xs ++ x ∷ [] → ⊥
 pushed_none xs x e = omega (arith, ap length e, length-append xs (x ∷ []))
 
-plain_same : (input : List ℕ) (i : Plain) (next : ℕ) (values : List ℕ) (m : AppState) (o p : Outcome) → DoesPlain input i next values m o → DoesPlain input i next values m p → o ≡ p
+plain_same : (input : List ℕ) (i : Plain) (next : ℕ) (values : List ℕ) (m : AppState) (o p : StepOutcome) → DoesPlain input i next values m o → DoesPlain input i next values m p → o ≡ p
 plain_same input plain.Halt next [] m o p a b = a ∙ sym b
 plain_same input plain.Halt next (x ∷ more) m o p a b = absurd a
 plain_same input plain.Pop next [] m o p a b = absurd a
@@ -73,11 +73,11 @@ plain_same input plain.Emit next [] m o p a b = absurd a
 plain_same input plain.Emit next (x ∷ []) m o p a b = either_same _ _ o p (λ full room. omega (arith, full, room)) a b
 plain_same input plain.Emit next (x ∷ y ∷ more) m o p a b = absurd a
 
-copy_same : (secret : Option Secret) (next address : ℕ) (m : AppState) (o p : Outcome) → DoesCopy secret next address m o → DoesCopy secret next address m p → o ≡ p
+copy_same : (secret : Option Secret) (next address : ℕ) (m : AppState) (o p : StepOutcome) → DoesCopy secret next address m o → DoesCopy secret next address m p → o ≡ p
 copy_same None next address m o p a b = a ∙ sym b
 copy_same (Some secret) next address m o p a b = either_same _ _ o p (λ past within. omega (arith, past, within)) a b
 
-get_same : (secrets : Option (List Secret)) (name : List ℕ) (next address : ℕ) (m : AppState) (o p : Outcome) → DoesGet secrets name next address m o → DoesGet secrets name next address m p → o ≡ p
+get_same : (secrets : Option (List Secret)) (name : List ℕ) (next address : ℕ) (m : AppState) (o p : StepOutcome) → DoesGet secrets name next address m o → DoesGet secrets name next address m p → o ≡ p
 get_same None name next address m o p a b = a ∙ sym b
 get_same (Some secrets) name next address m o p a b = copy_same (find (has_name name) secrets) next address m o p a b
 
@@ -88,7 +88,7 @@ with_secrets code input secrets = record { code = code; input = input; secrets =
 abbrev Same : (ℕ → Option (List Secret)) → (ℕ → Option (List Secret)) → Type 0
 Same f g = (region : ℕ) → f region ≡ g region
 
-does_same : (code input : List ℕ) (f g : ℕ → Option (List Secret)) → Same f g → (i : Instruction) (next : ℕ) (values : List ℕ) (m : AppState) (o p : Outcome)
+does_same : (code input : List ℕ) (f g : ℕ → Option (List Secret)) → Same f g → (i : Instruction) (next : ℕ) (values : List ℕ) (m : AppState) (o p : StepOutcome)
     → Does (with_secrets code input f) i next values m o → Does (with_secrets code input g) i next values m p → o ≡ p
 does_same code input f g same (instruction.Plain i) next values m o p a b = plain_same input i next values m o p a b
 does_same code input f g same (instruction.Push n) next [] m o p a b = a ∙ sym b
@@ -122,7 +122,7 @@ last_values (k ∷ a) (l ∷ b) x y e long =
     let front = parts.0 in
     (cc, parts.1)
 
-does_one : (code input : List ℕ) (f g : ℕ → Option (List Secret)) (m : AppState) (o p : Outcome) → Same f g → (i j : Instruction) (next later : ℕ) (rest others values more : List ℕ)
+does_one : (code input : List ℕ) (f g : ℕ → Option (List Secret)) (m : AppState) (o p : StepOutcome) → Same f g → (i j : Instruction) (next later : ℕ) (rest others values more : List ℕ)
     → (i ≡ j) × (next ≡ later) → m.stack ≡ rest ++ values → m.stack ≡ others ++ more → length values ≡ takes i → length more ≡ takes j
     → Does (with_secrets code input f) i next values (record m { stack = rest }) o → Does (with_secrets code input g) j later more (record m { stack = others }) p → o ≡ p
 does_one code input f g m o p same i j next later rest others values more is es et la lb a b =
@@ -134,27 +134,27 @@ does_one code input f g m o p same i j next later rest others values more is es 
     does_same code input f g same j later more (record m { stack = others }) o p
     (subst (λ (r : List ℕ). Does (with_secrets code input f) j later more (record m { stack = r }) o) parts.0 third) b
 
-step_same : (code input : List ℕ) (f g : ℕ → Option (List Secret)) (m : AppState) (o p : Outcome) → IsBytes code → Same f g
+step_same : (code input : List ℕ) (f g : ℕ → Option (List Secret)) (m : AppState) (o p : StepOutcome) → IsBytes code → Same f g
     → AppStep (with_secrets code input f) m o → AppStep (with_secrets code input g) m p → o ≡ p
 step_same code input f g m o p are same (unknown none a) (unknown other b) = a ∙ sym b
-step_same code input f g m o p are same (unknown none a) (lacks j later there few b) = absurd (none j later there)
+step_same code input f g m o p are same (unknown none a) (lacks_operands j later there few b) = absurd (none j later there)
 step_same code input f g m o p are same (unknown none a) (overflows j later there enough many b) = absurd (none j later there)
 step_same code input f g m o p are same (unknown none a) (does j later there others more split enough room b) = absurd (none j later there)
-step_same code input f g m o p are same (lacks i next stands few a) (unknown none b) = absurd (none i next stands)
-step_same code input f g m o p are same (lacks i next stands few a) (lacks j later there fewer b) = a ∙ sym b
-step_same code input f g m o p are same (lacks i next stands few a) (overflows j later there enough many b) =
+step_same code input f g m o p are same (lacks_operands i next stands few a) (unknown none b) = absurd (none i next stands)
+step_same code input f g m o p are same (lacks_operands i next stands few a) (lacks_operands j later there fewer b) = a ∙ sym b
+step_same code input f g m o p are same (lacks_operands i next stands few a) (overflows j later there enough many b) =
     absurd (omega (arith, few, enough, ap takes (one_instruction code m.place i j next later are stands there).0))
-step_same code input f g m o p are same (lacks i next stands few a) (does j later there others more split enough room b) =
+step_same code input f g m o p are same (lacks_operands i next stands few a) (does j later there others more split enough room b) =
     absurd (omega (arith, few, enough, ap takes (one_instruction code m.place i j next later are stands there).0, ap length split, length-append others more))
 step_same code input f g m o p are same (overflows i next stands enough many a) (unknown none b) = absurd (none i next stands)
-step_same code input f g m o p are same (overflows i next stands enough many a) (lacks j later there few b) =
+step_same code input f g m o p are same (overflows i next stands enough many a) (lacks_operands j later there few b) =
     absurd (omega (arith, few, enough, ap takes (one_instruction code m.place i j next later are stands there).0))
 step_same code input f g m o p are same (overflows i next stands enough many a) (overflows j later there other more b) = a ∙ sym b
 step_same code input f g m o p are same (overflows i next stands enough many a) (does j later there others more split all room b) =
     let is = (one_instruction code m.place i j next later are stands there).0 in
     absurd (omega (arith, many, all, room, ap takes is, ap leaves is, ap length split, length-append others more))
 step_same code input f g m o p are same (does i next stands rest values split enough room a) (unknown none b) = absurd (none i next stands)
-step_same code input f g m o p are same (does i next stands rest values split enough room a) (lacks j later there few b) =
+step_same code input f g m o p are same (does i next stands rest values split enough room a) (lacks_operands j later there few b) =
     absurd (omega (arith, few, enough, ap takes (one_instruction code m.place i j next later are stands there).0, ap length split, length-append rest values))
 step_same code input f g m o p are same (does i next stands rest values split enough room a) (overflows j later there all many b) =
     let is = (one_instruction code m.place i j next later are stands there).0 in
@@ -164,10 +164,10 @@ step_same code input f g m o p are same (does i next stands rest values split en
 
 -- ---- a run comes to one end
 
-leads_same : (GoesOn Other : AppState → Type 0) (m : AppState) (o : Outcome) (steps : ℕ) (a b : AppEnd) → ((next : AppState) → GoesOn next → Other next → a ≡ b)
-    → Leads GoesOn m o steps a → Leads Other m o steps b → a ≡ b
+leads_same : (GoesOn Other : AppState → Type 0) (m : AppState) (o : StepOutcome) (steps : ℕ) (a b : AppEnd) → ((next : AppState) → GoesOn next → Other next → a ≡ b)
+    → LeadsOn GoesOn m o steps a → LeadsOn Other m o steps b → a ≡ b
 leads_same GoesOn Other m (goes next) steps a b on la lb = on next la lb
-leads_same GoesOn Other m ends steps a b on la lb = la ∙ sym lb
+leads_same GoesOn Other m run_halts steps a b on la lb = la ∙ sym lb
 leads_same GoesOn Other m (traps cause) steps a b on la lb = la ∙ sym lb
 
 run_same : (code input : List ℕ) (f g : ℕ → Option (List Secret)) → IsBytes code → Same f g → (m : AppState) (steps more : ℕ) (a b : AppEnd)
@@ -180,7 +180,7 @@ run_same code input f g are same m steps (suc more) a b ra rb =
     let other = λ (next : AppState). RunsTo (with_secrets code input g) next (steps + 1) more b in
     leads_same on other m rb.0 (steps + 1) a b
     (λ next xa xb. run_same code input f g are same next (steps + 1) more a b xa xb)
-    (subst (λ (o : Outcome). Leads on m o (steps + 1) a) outcome ra.2) rb.2
+    (subst (λ (o : StepOutcome). LeadsOn on m o (steps + 1) a) outcome ra.2) rb.2
 
 pub runs_end_once : RunsEndOnce
 runs_end_once = λ code input secrets steps a b are ra rb. run_same code input secrets secrets are (λ region. refl) first_state 0 steps a b ra rb

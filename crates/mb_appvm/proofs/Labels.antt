@@ -11,7 +11,7 @@ use Rattle.mb_words.specs.Words.{SplitsLine}
 use Rattle.mb_words.proofs.NextLines.{with_line}
 use Rattle.mb_appvm.specs.declared.lines.Said.{Said}
 use Rattle.mb_appvm.specs.declared.lines.Said.TheVariants as says
-use Rattle.mb_appvm.specs.Assembly.{SaysLine, is_label, GivesLabel}
+use Rattle.mb_appvm.specs.Assembly.{SaysAssemblyLine, is_label, GivesLabel}
 use Rattle.mb_appvm.specs.Checking.{TextGives}
 use Rattle.mb_appvm.proofs.Names.{named_is}
 use Rattle.mb_appvm.proofs.Words.{SaysLine-same}
@@ -30,13 +30,13 @@ is_label-true (says.Label other) name e = ap (λ (x : List ℕ). says.Label x) (
 is_label-true (says.Whole i) name e = absurd cc
 is_label-true (says.JumpTo kind other) name e = absurd cc
 
-pub label_line : (r : Bool) (line name : List ℕ) (s : Said) → SaysLine line s → r ≡ is_label name s → IsTrue r ↔ SaysLine line (says.Label name)
+pub label_line : (r : Bool) (line name : List ℕ) (s : Said) → SaysAssemblyLine line s → r ≡ is_label name s → IsTrue r ↔ SaysAssemblyLine line (says.Label name)
 label_line r line name s is e = (
-  (λ yes. subst (λ (x : Said). SaysLine line x) (is_label-true s name (sym e ∙ yes)) is),
+  (λ yes. subst (λ (x : Said). SaysAssemblyLine line x) (is_label-true s name (sym e ∙ yes)) is),
   (λ label. e ∙ ap (is_label name) (SaysLine-same line s (says.Label name) is label) ∙ same_bytes-refl name),
 )
 
-pub no_label_line : (line name : List ℕ) → ((s : Said) → SaysLine line s → ⊥) → IsTrue false ↔ SaysLine line (says.Label name)
+pub no_label_line : (line name : List ℕ) → ((s : Said) → SaysAssemblyLine line s → ⊥) → IsTrue false ↔ SaysAssemblyLine line (says.Label name)
 no_label_line line name none = ((λ yes. absurd (false≢true yes)), (λ label. absurd (none (says.Label name) label)))
 
 -- ---- a text, line by line
@@ -48,13 +48,13 @@ gives_on rest line later name splits some gives = record {
   gives = inr gives.gives;
 }
 
-gives_here : (rest line later name : List ℕ) → SplitsLine rest line later → 0 < length rest → SaysLine line (says.Label name) → TextGives rest name
+gives_here : (rest line later name : List ℕ) → SplitsLine rest line later → 0 < length rest → SaysAssemblyLine line (says.Label name) → TextGives rest name
 gives_here rest line later name splits some is =
     let more = HasLines-always later in
     record { lines = line ∷ more.0; has = with_line rest line later more.0 splits some more.1; gives = inl is }
 
 pub gives_parts : (rest line later name : List ℕ) → SplitsLine rest line later → 0 < length rest → TextGives rest name
-    → SaysLine line (says.Label name) ⊎ TextGives later name
+    → SaysAssemblyLine line (says.Label name) ⊎ TextGives later name
 gives_parts rest line later name splits some gives =
     let more = HasLines-always later in
     let same = HasLines-same rest gives.lines (line ∷ more.0) gives.has (with_line rest line later more.0 splits some more.1) in
@@ -67,11 +67,11 @@ gives_parts rest line later name splits some gives =
 abbrev pub Alike : List ℕ → List ℕ → List ℕ → Type 0
 Alike text rest name = TextGives text name ↔ TextGives rest name
 
-pub gives_now : (text rest line later name : List ℕ) → Alike text rest name → SplitsLine rest line later → 0 < length rest → SaysLine line (says.Label name)
+pub gives_now : (text rest line later name : List ℕ) → Alike text rest name → SplitsLine rest line later → 0 < length rest → SaysAssemblyLine line (says.Label name)
     → IsTrue true ↔ TextGives text name
 gives_now text rest line later name alike splits some is = ((λ yes. alike.1 (gives_here rest line later name splits some is)), (λ gives. refl))
 
-pub gives_later : (text rest line later name : List ℕ) → Alike text rest name → SplitsLine rest line later → 0 < length rest → (SaysLine line (says.Label name) → ⊥)
+pub gives_later : (text rest line later name : List ℕ) → Alike text rest name → SplitsLine rest line later → 0 < length rest → (SaysAssemblyLine line (says.Label name) → ⊥)
     → Alike text later name
 gives_later text rest line later name alike splits some none = (
   (λ gives. elim (gives_parts rest line later name splits some (alike.0 gives)) [ inl is ↦ absurd (none is) | inr on ↦ on ]),

@@ -15,8 +15,8 @@ use Rattle.mb_appvm.specs.declared.keyword.Jump.TheVariants as jump
 use Rattle.mb_appvm.specs.declared.lines.Said.{Said}
 use Rattle.mb_appvm.specs.declared.lines.Said.TheVariants as says
 use Rattle.mb_appvm.specs.Instructions.{instruction_format, Stands}
-use Rattle.mb_appvm.specs.Assembly.{keyword_word, keyword_of_instruction, SaysLine, size_of, HasTarget, LabelsDiffer, Makes, piece, Assembles}
-use Rattle.mb_appvm.specs.Listing.{instruction_line, bytes_of, IsListing, LacksInstruction}
+use Rattle.mb_appvm.specs.Assembly.{keyword_word, keyword_of_instruction, SaysAssemblyLine, size_of, HasTarget, LabelsDiffer, Makes, piece, Assembles}
+use Rattle.mb_appvm.specs.Listing.{instruction_line, listing_bytes, IsListing, LacksInstruction}
 use Rattle.mb_appvm.proofs.Sizes.{size_plain, size_push, size_jump, size_get}
 use Rattle.mb_appvm.proofs.Words.{Above, keyword_above, decimal_above, push_fits, jump_fits, get_named}
 
@@ -35,7 +35,7 @@ pub record IsListedTo (code : List ℕ) (place : ℕ) (text : List ℕ) : Type 0
   pub listed : List Instruction
   pub allowed : All instruction_format.Allowed listed
   pub within : place ≤ length code
-  pub front : take place code ≡ bytes_of listed
+  pub front : take place code ≡ listing_bytes listed
   pub written : text ≡ text_of (map instruction_line listed)
 
 take_next : (code : List ℕ) (place next : ℕ) (i : Instruction) → Stands code place i next → take next code ≡ take place code ++ instruction_format.spelling i
@@ -135,7 +135,7 @@ are_lines (i ∷ listed) all =
     All-cons IsLine (instruction_line i) (lines_of listed) (one_line i (All-head instruction_format.Allowed i listed all))
     (are_lines listed (All-tail instruction_format.Allowed i listed all))
 
-are_said : (listed : List Instruction) → All instruction_format.Allowed listed → AllZip SaysLine (lines_of listed) (map whole listed)
+are_said : (listed : List Instruction) → All instruction_format.Allowed listed → AllZip SaysAssemblyLine (lines_of listed) (map whole listed)
 are_said [] all = tt
 are_said (i ∷ listed) all = (
   record { sayable = All-head instruction_format.Allowed i listed all; spelled = refl },
@@ -150,17 +150,17 @@ no_targets : (lines : List (List ℕ)) (listed : List Instruction) → All (HasT
 no_targets lines [] = All-nil (HasTarget lines)
 no_targets lines (i ∷ listed) = All-cons (HasTarget lines) (whole i) (map whole listed) tt (no_targets lines listed)
 
-sizes : (listed : List Instruction) → sum_by size_of (map whole listed) ≡ length (bytes_of listed)
+sizes : (listed : List Instruction) → sum_by size_of (map whole listed) ≡ length (listing_bytes listed)
 sizes [] = refl
 sizes (i ∷ listed) =
     sum_by-cons size_of (whole i) (map whole listed) ∙ ap (λ (n : ℕ). length (instruction_format.spelling i) + n) (sizes listed)
-    ∙ sym (ap length (flat_map-cons instruction_format.spelling i listed) ∙ length-append (instruction_format.spelling i) (bytes_of listed))
+    ∙ sym (ap length (flat_map-cons instruction_format.spelling i listed) ∙ length-append (instruction_format.spelling i) (listing_bytes listed))
 
 are_made : (all : List Said) (listed : List Instruction) → AllZip (Makes all) (map whole listed) (map instruction_format.spelling listed)
 are_made all [] = tt
 are_made all (i ∷ listed) = (refl, are_made all listed)
 
-pieces_whole : (listed : List Instruction) → bytes_of listed ≡ flat_map piece (map instruction_format.spelling listed)
+pieces_whole : (listed : List Instruction) → listing_bytes listed ≡ flat_map piece (map instruction_format.spelling listed)
 pieces_whole [] = refl
 pieces_whole (i ∷ listed) = ap (λ (x : List ℕ). instruction_format.spelling i ++ x) (pieces_whole listed)
 

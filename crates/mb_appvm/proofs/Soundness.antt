@@ -12,7 +12,7 @@ use Rattle.mb_appvm.specs.declared.keyword.Jump.{Jump}
 use Rattle.mb_appvm.specs.declared.lines.Said.{Said}
 use Rattle.mb_appvm.specs.declared.lines.Said.TheVariants as says
 use Rattle.mb_appvm.specs.Assembly.{size_of, is_label, IsNew, LabelsDiffer}
-use Rattle.mb_appvm.specs.Checking.{IsTarget, AreSound, CountsSound}
+use Rattle.mb_appvm.specs.Checking.{IsTarget, AreSoundLines, CountsSound}
 use Rattle.mb_appvm.proofs.Labels.{same_bytes-refl}
 
 -- ---- one line
@@ -112,27 +112,27 @@ differ_front (x ∷ xs) s differ =
 
 -- ---- counting
 
-pub one_more : (all : List Said) (rest : List ℕ) (at : ℕ) (s d : Said) → at < length all → s ≡ get_or all at d → AreSound all rest (take at all)
-    → IsNew s (take at all) × IsTarget all rest s → sum_by size_of (take at all) + size_of s ≤ 32768 → AreSound all rest (take (at + 1) all)
+pub one_more : (all : List Said) (rest : List ℕ) (at : ℕ) (s d : Said) → at < length all → s ≡ get_or all at d → AreSoundLines all rest (take at all)
+    → IsNew s (take at all) × IsTarget all rest s → sum_by size_of (take at all) + size_of s ≤ 32768 → AreSoundLines all rest (take (at + 1) all)
 one_more all rest at s d within is sound right short =
     let more : take (at + 1) all ≡ take at all ++ s ∷ [] = take_more all at d within ∙ ap (λ (x : Said). take at all ++ x ∷ []) (sym is) in
-    subst (λ (xs : List Said). AreSound all rest xs) (sym more)
+    subst (λ (xs : List Said). AreSoundLines all rest xs) (sym more)
     (record {
       labels = differ_push (take at all) s sound.labels right.0;
       targets = All-push (IsTarget all rest) (take at all) s sound.targets right.1;
       short = omega (arith, short, sum_by_push size_of (take at all) s);
     })
 
-pub last_sound : (all : List Said) (rest : List ℕ) (at : ℕ) (s d : Said) → at < length all → s ≡ get_or all at d → AreSound all rest (take (at + 1) all)
+pub last_sound : (all : List Said) (rest : List ℕ) (at : ℕ) (s d : Said) → at < length all → s ≡ get_or all at d → AreSoundLines all rest (take (at + 1) all)
     → (IsNew s (take at all) × IsTarget all rest s) × (sum_by size_of (take at all) + size_of s ≤ 32768)
 last_sound all rest at s d within is sound =
     let more : take (at + 1) all ≡ take at all ++ s ∷ [] = take_more all at d within ∙ ap (λ (x : Said). take at all ++ x ∷ []) (sym is) in
-    let whole = subst (λ (xs : List Said). AreSound all rest xs) more sound in
+    let whole = subst (λ (xs : List Said). AreSoundLines all rest xs) more sound in
     let parts = differ_front (take at all) s whole.labels in
     let short = whole.short in
     ((parts.1, (All-pop (IsTarget all rest) (take at all ++ s ∷ []) (take at all) (Some s) refl whole.targets).1), omega (arith, short, sum_by_push size_of (take at all) s))
 
-pub sound_here : (all : List Said) (rest : List ℕ) (at size : ℕ) (s d : Said) → at < length all → s ≡ get_or all at d → AreSound all rest (take at all)
+pub sound_here : (all : List Said) (rest : List ℕ) (at size : ℕ) (s d : Said) → at < length all → s ≡ get_or all at d → AreSoundLines all rest (take at all)
     → size ≡ sum_by size_of (take at all) → 32768 < size + size_of s → CountsSound all rest at
 sound_here all rest at size s d within is sound same long = record {
   within = omega (arith, within);
@@ -140,7 +140,7 @@ sound_here all rest at size s d within is sound same long = record {
   wrong = λ less more. (let short = (last_sound all rest at s d within is more).1 in omega (arith, short, same, long));
 }
 
-pub sound_stop : (all : List Said) (rest : List ℕ) (at : ℕ) (s d : Said) → at < length all → s ≡ get_or all at d → AreSound all rest (take at all)
+pub sound_stop : (all : List Said) (rest : List ℕ) (at : ℕ) (s d : Said) → at < length all → s ≡ get_or all at d → AreSoundLines all rest (take at all)
     → (IsNew s (take at all) × IsTarget all rest s → ⊥) → CountsSound all rest at
 sound_stop all rest at s d within is sound wrong = record {
   within = omega (arith, within);
@@ -148,14 +148,14 @@ sound_stop all rest at s d within is sound wrong = record {
   wrong = λ less more. wrong (last_sound all rest at s d within is more).0;
 }
 
-pub sound_all : (all : List Said) (rest : List ℕ) (at : ℕ) → at ≡ length all → AreSound all rest (take at all) → CountsSound all rest (length all)
+pub sound_all : (all : List Said) (rest : List ℕ) (at : ℕ) → at ≡ length all → AreSoundLines all rest (take at all) → CountsSound all rest (length all)
 sound_all all rest at is sound = record {
   within = omega arith;
-  right = subst (λ (n : ℕ). AreSound all rest (take n all)) is sound;
+  right = subst (λ (n : ℕ). AreSoundLines all rest (take n all)) is sound;
   wrong = λ less more. omega (arith, less);
 }
 
-pub sound_none : (all : List Said) (rest : List ℕ) → AreSound all rest (take 0 all)
+pub sound_none : (all : List Said) (rest : List ℕ) → AreSoundLines all rest (take 0 all)
 sound_none all rest = record { labels = tt; targets = All-nil (IsTarget all rest); short = omega arith }
 
 pub sizes : (all : List Said) (at size more : ℕ) (s d : Said) → at < length all → s ≡ get_or all at d → size ≡ sum_by size_of (take at all) → more ≡ size_of s

@@ -25,7 +25,7 @@ use Rattle.mb_appvm.specs.declared.lines.Said.TheVariants as says
 use Rattle.mb_words.specs.Words.{FindsSome}
 use Rattle.mb_appvm.specs.Instructions.{instruction_format}
 use Rattle.mb_appvm.specs.Reading.{SaysWords}
-use Rattle.mb_appvm.specs.Assembly.{keyword_word, jump_to, keyword_of, operand_of, line_of_words, IsLabelName, IsSayable, SaysLine}
+use Rattle.mb_appvm.specs.Assembly.{keyword_word, jump_to, keyword_of, operand_of, line_of_words, IsLabelName, IsSayable, SaysAssemblyLine}
 
 -- ---- keywords
 
@@ -303,7 +303,7 @@ says_no_jump kind x label none s says =
 
 -- what a line of these words says
 pub line_found : (line word : List ℕ) (k : Keyword) (o : Option (List ℕ)) (r : Option Said) → line ≡ line_of_words word o → word ≡ keyword_word k
-    → FindsSome (SaysWords k o) r → FindsSome (SaysLine line) r
+    → FindsSome (SaysWords k o) r → FindsSome (SaysAssemblyLine line) r
 line_found line word k o (Some s) e is says = record {
   sayable = says.sayable;
   spelled = e ∙ ap (λ (w : List ℕ). line_of_words w o) is ∙ ap (λ (j : Keyword). line_of_words (keyword_word j) o) (sym says.begins)
@@ -317,7 +317,7 @@ line_found line word k o None e is none = λ s says.
 
 -- a line whose first word is no keyword says nothing
 pub line_none : (line word : List ℕ) (o : Option (List ℕ)) → line ≡ line_of_words word o → Without 32 word → ((k : Keyword) → word ≡ keyword_word k → ⊥)
-    → (s : Said) → SaysLine line s → ⊥
+    → (s : Said) → SaysAssemblyLine line s → ⊥
 line_none line word o e plain none s says =
     let parts = same_words word (keyword_word (keyword_of s)) o (operand_of s) plain (spaceless (keyword_word (keyword_of s)) (keyword_above (keyword_of s))) (sym e ∙ says.spelled) in
     none (keyword_of s) parts.0
@@ -352,7 +352,7 @@ said_same (says.Whole (instruction.Jump to)) b sa sb k o = same_jump b jump.Alwa
 said_same (says.Whole (instruction.JumpZero to)) b sa sb k o = same_jump b jump.IfZero to sa sb (sym k) (sym o)
 said_same (says.Whole (instruction.Call to)) b sa sb k o = same_jump b jump.Calling to sa sb (sym k) (sym o)
 
-pub SaysLine-same : (line : List ℕ) (a b : Said) → SaysLine line a → SaysLine line b → a ≡ b
+pub SaysLine-same : (line : List ℕ) (a b : Said) → SaysAssemblyLine line a → SaysAssemblyLine line b → a ≡ b
 SaysLine-same line a b sa sb =
     let parts = same_words (keyword_word (keyword_of a)) (keyword_word (keyword_of b)) (operand_of a) (operand_of b)
     (spaceless (keyword_word (keyword_of a)) (keyword_above (keyword_of a))) (spaceless (keyword_word (keyword_of b)) (keyword_above (keyword_of b)))

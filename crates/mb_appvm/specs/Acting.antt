@@ -13,7 +13,7 @@ use Rattle.mb_appvm.specs.declared.running.Stop.TheVariants as stop
 use Rattle.mb_appvm.specs.declared.running.AppEnd.{AppEnd}
 use Rattle.mb_appvm.specs.declared.running.AppEnd.TheVariants as end
 use Rattle.mb_appvm.specs.Instructions.{Stands}
-use Rattle.mb_appvm.specs.Application.{AppState, Surroundings, Outcome, goes, ends, traps, takes, plain_takes}
+use Rattle.mb_appvm.specs.Application.{AppState, Surroundings, StepOutcome, goes, run_halts, traps, takes, plain_takes}
 use Rattle.mb_appvm.specs.Application.{Does, DoesPlain, AppStep}
 use Rattle.mb_appvm.specs.Runs.{readable_secrets}
 
@@ -59,21 +59,21 @@ state_of machine = record {
 }
 
 -- the outcome that an answer and the machine after it stand for
-abbrev pub outcome_of : Step → Machine → Outcome
+abbrev pub outcome_of : Step → Machine → StepOutcome
 outcome_of step.GoesOn new = goes (state_of new)
-outcome_of step.Ends new = ends
+outcome_of step.Ends new = run_halts
 outcome_of (step.Traps cause) new = traps cause
 
 -- a machine that does not go on is as it was
-abbrev pub IsKept : Step → Machine → Machine → Type 0
-IsKept step.GoesOn old new = Unit {0}
-IsKept step.Ends old new = state_of new ≡ state_of old
-IsKept (step.Traps cause) old new = state_of new ≡ state_of old
+abbrev pub KeepsMachine : Step → Machine → Machine → Type 0
+KeepsMachine step.GoesOn old new = Unit {0}
+KeepsMachine step.Ends old new = state_of new ≡ state_of old
+KeepsMachine (step.Traps cause) old new = state_of new ≡ state_of old
 
 -- what a step answers and leaves is one step of the machine
 pub record DoesStep (seen : Surroundings) (old : Machine) (result : Step) (new : Machine) : Type 0 where
   pub is : AppStep seen (state_of old) (outcome_of result new)
-  pub kept : IsKept result old new
+  pub kept : KeepsMachine result old new
 
 -- the machine without the values that an instruction takes
 abbrev pub without_values : Machine → List ℕ → AppState
@@ -87,7 +87,7 @@ pub record DoesOn (seen : Surroundings) (it : Instruction) (next : ℕ) (old : M
   pub split : old.stack.items ≡ rest ++ values
   pub enough : length values ≡ takes it
   pub does : Does seen it next values (without_values old rest) (outcome_of result new)
-  pub kept : IsKept result old new
+  pub kept : KeepsMachine result old new
 
 -- an instruction without an operand was done with the values that it takes
 pub record DoesPlainOn (input : List ℕ) (kind : Plain) (next : ℕ) (old : Machine) (result : Step) (new : Machine)
@@ -97,10 +97,10 @@ pub record DoesPlainOn (input : List ℕ) (kind : Plain) (next : ℕ) (old : Mac
   pub split : old.stack.items ≡ rest ++ values
   pub enough : length values ≡ plain_takes kind
   pub does : DoesPlain input kind next values (without_values old rest) (outcome_of result new)
-  pub kept : IsKept result old new
+  pub kept : KeepsMachine result old new
 
 -- the end of a run that stops for this reason with this machine
-abbrev pub end_of : Stop → Machine → AppEnd
-end_of (stop.Halted steps) machine = end.Halted steps machine.output.items
-end_of (stop.Trap cause) machine = end.Trap cause machine.place machine.output.items
-end_of stop.OutOfSteps machine = end.OutOfSteps machine.output.items
+abbrev pub run_end : Stop → Machine → AppEnd
+run_end (stop.Halted steps) machine = end.Halted steps machine.output.items
+run_end (stop.Trap cause) machine = end.Trap cause machine.place machine.output.items
+run_end stop.OutOfSteps machine = end.OutOfSteps machine.output.items

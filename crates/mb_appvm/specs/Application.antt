@@ -32,10 +32,10 @@ pub record Surroundings : Type 0 where
   pub secrets : ℕ → Option (List Secret)
 
 -- what an instruction leads to: the next machine, the end, or a trap
-pub data Outcome : Type 0 where
-  goes : AppState → Outcome
-  ends : Outcome
-  traps : Trap → Outcome
+pub data StepOutcome : Type 0 where
+  goes : AppState → StepOutcome
+  run_halts : StepOutcome
+  traps : Trap → StepOutcome
 
 -- the number by which a trap is told
 abbrev pub trap_number : Trap → ℕ
@@ -130,7 +130,7 @@ after_write address bytes machine =
     record machine { memory = take address machine.memory ++ bytes ++ drop (address + length bytes) machine.memory }
 
 -- an operation pushes its result, or traps if it has none
-abbrev pub outcome_of_result : Option ℕ → ℕ → AppState → Outcome
+abbrev pub outcome_of_result : Option ℕ → ℕ → AppState → StepOutcome
 outcome_of_result None next machine = traps trap.DivisionByZero
 outcome_of_result (Some value) next machine = goes (after_push next (value ∷ []) machine)
 
@@ -139,7 +139,7 @@ abbrev pub absent_secret : ℕ
 absent_secret = 4294967295
 
 -- the secret is copied to memory and its length is pushed, or it does not fit
-abbrev pub DoesCopy : Option Secret → ℕ → ℕ → AppState → Outcome → Type 0
+abbrev pub DoesCopy : Option Secret → ℕ → ℕ → AppState → StepOutcome → Type 0
 DoesCopy None next address machine outcome = outcome ≡ goes (after_push next (absent_secret ∷ []) machine)
 DoesCopy (Some secret) next address machine outcome =
     ((1024 < address + length secret.value) × (outcome ≡ traps trap.BadAddress))
@@ -147,15 +147,15 @@ DoesCopy (Some secret) next address machine outcome =
     × (outcome ≡ goes (after_push next (length secret.value ∷ []) (after_write address secret.value machine))))
 
 -- the region may not be read, or its secret with this name is looked for
-abbrev pub DoesGet : Option (List Secret) → List ℕ → ℕ → ℕ → AppState → Outcome → Type 0
+abbrev pub DoesGet : Option (List Secret) → List ℕ → ℕ → ℕ → AppState → StepOutcome → Type 0
 DoesGet None name next address machine outcome = outcome ≡ traps trap.BadRegion
 DoesGet (Some secrets) name next address machine outcome =
     DoesCopy (find (has_name name) secrets) next address machine outcome
 
 -- What an instruction without an operand does with the values that it takes, the last of them from the top; the
 -- machine is without these values.
-abbrev pub DoesPlain : List ℕ → Plain → ℕ → List ℕ → AppState → Outcome → Type 0
-DoesPlain input plain.Halt next [] machine outcome = outcome ≡ ends
+abbrev pub DoesPlain : List ℕ → Plain → ℕ → List ℕ → AppState → StepOutcome → Type 0
+DoesPlain input plain.Halt next [] machine outcome = outcome ≡ run_halts
 DoesPlain input plain.Pop next (a ∷ []) machine outcome = outcome ≡ goes (after_push next [] machine)
 DoesPlain input plain.Dup next (a ∷ []) machine outcome = outcome ≡ goes (after_push next (a ∷ a ∷ []) machine)
 DoesPlain input plain.Swap next (a ∷ b ∷ []) machine outcome = outcome ≡ goes (after_push next (b ∷ a ∷ []) machine)
@@ -182,7 +182,7 @@ DoesPlain input plain.Emit next (value ∷ []) machine outcome =
 DoesPlain input kind next values machine outcome = ⊥
 
 -- what any instruction does
-abbrev pub Does : Surroundings → Instruction → ℕ → List ℕ → AppState → Outcome → Type 0
+abbrev pub Does : Surroundings → Instruction → ℕ → List ℕ → AppState → StepOutcome → Type 0
 Does seen (instruction.Plain kind) next values machine outcome = DoesPlain seen.input kind next values machine outcome
 Does seen (instruction.Push number) next [] machine outcome = outcome ≡ goes (after_push next (number ∷ []) machine)
 Does seen (instruction.Jump to) next [] machine outcome = outcome ≡ goes (after_push to [] machine)
@@ -200,10 +200,10 @@ Does seen it next values machine outcome = ⊥
 
 -- One step, with the traps in their order: no instruction stands at the place, or it finds too few values, or it would
 -- leave more than 256, or it does what it does with the values that it takes.
-pub data AppStep (seen : Surroundings) (machine : AppState) (outcome : Outcome) : Type 0 where
+pub data AppStep (seen : Surroundings) (machine : AppState) (outcome : StepOutcome) : Type 0 where
   unknown : ((it : Instruction) (next : ℕ) → Stands seen.code machine.place it next → ⊥)
       → outcome ≡ traps trap.NoInstruction → AppStep seen machine outcome
-  lacks : (it : Instruction) (next : ℕ) → Stands seen.code machine.place it next → length machine.stack < takes it
+  lacks_operands : (it : Instruction) (next : ℕ) → Stands seen.code machine.place it next → length machine.stack < takes it
       → outcome ≡ traps trap.TooFewValues → AppStep seen machine outcome
   overflows : (it : Instruction) (next : ℕ) → Stands seen.code machine.place it next → takes it ≤ length machine.stack
       → takes it + 256 < length machine.stack + leaves it → outcome ≡ traps trap.TooManyValues

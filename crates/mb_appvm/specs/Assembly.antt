@@ -117,7 +117,7 @@ IsSayable (says.Whole it) = instruction_format.Allowed it
 IsSayable (says.JumpTo kind name) = IsLabelName name
 
 -- what a line says
-pub record SaysLine (line : List ℕ) (meaning : Said) : Type 0 where
+pub record SaysAssemblyLine (line : List ℕ) (meaning : Said) : Type 0 where
   pub sayable : IsSayable meaning
   pub spelled : line ≡ line_of meaning
 
@@ -148,7 +148,7 @@ LabelsDiffer (meaning ∷ rest) = IsNew meaning rest × LabelsDiffer rest
 -- one of the lines gives the label
 abbrev pub GivesLabel : List (List ℕ) → List ℕ → Type 0
 GivesLabel [] name = ⊥
-GivesLabel (line ∷ rest) name = SaysLine line (says.Label name) ⊎ GivesLabel rest name
+GivesLabel (line ∷ rest) name = SaysAssemblyLine line (says.Label name) ⊎ GivesLabel rest name
 
 -- a line of the text gives the label to which a line jumps
 abbrev pub HasTarget : List (List ℕ) → Said → Type 0
@@ -159,7 +159,7 @@ HasTarget lines (says.JumpTo kind name) = GivesLabel lines name
 -- The lines at the front of a text are right: each says something, no two give one label, the text gives each label to
 -- which they jump, and they make at most 32,768 bytes of code.
 pub record AreRight (lines front : List (List ℕ)) (said : List Said) : Type 0 where
-  pub worded : AllZip SaysLine front said
+  pub worded : AllZip SaysAssemblyLine front said
   pub labels : LabelsDiffer said
   pub targets : All (HasTarget lines) said
   pub short : sum_by size_of said ≤ 32768

@@ -9,16 +9,16 @@ use Rattle.mb_appvm.specs.declared.assembling.AsmEnd.{AsmEnd}
 use Rattle.mb_appvm.specs.declared.assembling.AsmEnd.TheVariants as end
 use Rattle.mb_appvm.specs.declared.lines.Said.{Said}
 use Rattle.mb_appvm.specs.declared.lines.Said.TheVariants as says
-use Rattle.mb_appvm.specs.Assembly.{SaysLine, size_of, is_label, LabelsDiffer, GivesLabel, Makes, piece}
+use Rattle.mb_appvm.specs.Assembly.{SaysAssemblyLine, size_of, is_label, LabelsDiffer, GivesLabel, Makes, piece}
 use Rattle.mb_appvm.specs.Assembly.{Assembles, AssemblyFailsAt}
 
 -- a text is lines that say these, and a rest whose first line says nothing
 pub record ReadsTo (text : List ℕ) (said : List Said) (rest : List ℕ) : Type 0 where
   pub front : List (List ℕ)
-  pub worded : AllZip SaysLine front said
+  pub worded : AllZip SaysAssemblyLine front said
   pub forward : (more : List (List ℕ)) → HasLines rest more → HasLines text (front ++ more)
   pub stops : (line : List ℕ) (later : List (List ℕ)) → HasLines rest (line ∷ later)
-      → (meaning : Said) → SaysLine line meaning → ⊥
+      → (meaning : Said) → SaysAssemblyLine line meaning → ⊥
   pub few : length said + length rest ≤ length text
 
 -- a line of a text gives the label
@@ -34,7 +34,7 @@ IsTarget all rest (says.Whole it) = Unit {0}
 IsTarget all rest (says.JumpTo kind name) = IsTrue (list_any (is_label name) all) ⊎ TextGives rest name
 
 -- the first lines are right, among all and a rest
-pub record AreSound (all : List Said) (rest : List ℕ) (front : List Said) : Type 0 where
+pub record AreSoundLines (all : List Said) (rest : List ℕ) (front : List Said) : Type 0 where
   pub labels : LabelsDiffer front
   pub targets : All (IsTarget all rest) front
   pub short : sum_by size_of front ≤ 32768
@@ -42,8 +42,8 @@ pub record AreSound (all : List Said) (rest : List ℕ) (front : List Said) : Ty
 -- so many lines are right, and no more
 pub record CountsSound (all : List Said) (rest : List ℕ) (count : ℕ) : Type 0 where
   pub within : count ≤ length all
-  pub right : AreSound all rest (take count all)
-  pub wrong : count < length all → AreSound all rest (take (count + 1) all) → ⊥
+  pub right : AreSoundLines all rest (take count all)
+  pub wrong : count < length all → AreSoundLines all rest (take (count + 1) all) → ⊥
 
 -- the label to which a line jumps is among the lines
 abbrev pub IsGiven : List Said → Said → Type 0

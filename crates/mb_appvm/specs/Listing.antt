@@ -13,14 +13,14 @@ abbrev pub instruction_line : Instruction → List ℕ
 instruction_line it = line_of (says.Whole it)
 
 -- these instructions as bytes, one after another
-abbrev pub bytes_of : List Instruction → List ℕ
-bytes_of listed = flat_map instruction_format.spelling listed
+abbrev pub listing_bytes : List Instruction → List ℕ
+listing_bytes listed = flat_map instruction_format.spelling listed
 
 -- the text of a code: the line of each of its instructions
 pub record IsListing (code text : List ℕ) : Type 0 where
   pub listed : List Instruction
   pub allowed : All instruction_format.Allowed listed
-  pub whole : code ≡ bytes_of listed
+  pub whole : code ≡ listing_bytes listed
   pub written : text ≡ text_of (map instruction_line listed)
 
 -- Whole instructions lead to this place of a code, where bytes are left and no whole instruction stands.
@@ -28,8 +28,8 @@ pub record LacksInstruction (code : List ℕ) (place : ℕ) : Type 0 where
   pub listed : List Instruction
   pub rest : List ℕ
   pub allowed : All instruction_format.Allowed listed
-  pub split : code ≡ bytes_of listed ++ rest
-  pub here : place ≡ length (bytes_of listed)
+  pub split : code ≡ listing_bytes listed ++ rest
+  pub here : place ≡ length (listing_bytes listed)
   pub some : rest ≢ []
   pub none : (it : Instruction) (next : ℕ) → Stands code place it next → ⊥
 

@@ -8,24 +8,24 @@ use Rattle.mb_model.specs.declared.region.Secret.{Secret}
 use Rattle.mb_model.specs.Layers.{is_upper, is_runnable}
 use Rattle.mb_appvm.specs.declared.running.AppEnd.{AppEnd}
 use Rattle.mb_appvm.specs.declared.running.AppEnd.TheVariants as end
-use Rattle.mb_appvm.specs.Application.{AppState, Surroundings, Outcome, goes, ends, traps, AppStep}
+use Rattle.mb_appvm.specs.Application.{AppState, Surroundings, StepOutcome, goes, run_halts, traps, AppStep}
 
 -- a machine before its first instruction
 abbrev pub first_state : AppState
 first_state = record { place = 0; stack = []; returns = []; memory = replicate 1024 0; output = [] }
 
 -- what follows from an outcome: the next machine goes on, or the run ends
-abbrev pub Leads : (AppState → Type 0) → AppState → Outcome → ℕ → AppEnd → Type 0
-Leads GoesOn machine (goes next) steps ending = GoesOn next
-Leads GoesOn machine ends steps ending = ending ≡ end.Halted steps machine.output
-Leads GoesOn machine (traps cause) steps ending = ending ≡ end.Trap cause machine.place machine.output
+abbrev pub LeadsOn : (AppState → Type 0) → AppState → StepOutcome → ℕ → AppEnd → Type 0
+LeadsOn GoesOn machine (goes next) steps ending = GoesOn next
+LeadsOn GoesOn machine run_halts steps ending = ending ≡ end.Halted steps machine.output
+LeadsOn GoesOn machine (traps cause) steps ending = ending ≡ end.Trap cause machine.place machine.output
 
 -- From a machine that has done so many steps, and may do so many more, a run ends so.
 unfoldable pub RunsTo : Surroundings → AppState → ℕ → ℕ → AppEnd → Type 0
 RunsTo seen machine steps zero ending = ending ≡ end.OutOfSteps machine.output
 RunsTo seen machine steps (suc more) ending =
-    (outcome : Outcome) × AppStep seen machine outcome
-    × Leads (λ next. RunsTo seen next (steps + 1) more ending) machine outcome (steps + 1) ending
+    (outcome : StepOutcome) × AppStep seen machine outcome
+    × LeadsOn (λ next. RunsTo seen next (steps + 1) more ending) machine outcome (steps + 1) ending
 
 -- the running layer may read this region: it is 2 or 3, not below the layer, and names a layer that may run
 abbrev pub is_readable : Layers → ℕ → ℕ → Bool

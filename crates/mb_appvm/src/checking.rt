@@ -2,7 +2,7 @@
 
 ghost use Rattle.std.specs.Prelude.{◌≡◌, ◌↔◌, ◌<◌, ◌≤◌, ◌+◌, ◌^◌, length, IsTrue};
 ghost use Rattle.std.specs.List.{list_any};
-ghost use Rattle.mb_appvm.specs.Assembly.{SaysLine, size_of, is_label, IsNew};
+ghost use Rattle.mb_appvm.specs.Assembly.{SaysAssemblyLine, size_of, is_label, IsNew};
 ghost use Rattle.mb_appvm.specs.Instructions.{instruction_format};
 ghost use Rattle.mb_appvm.specs.Checking.{TextGives, IsTarget, CountsSound};
 ghost use Rattle.mb_appvm.specs.declared.lines.Said.TheVariants as says;
@@ -79,7 +79,7 @@ fn gives_label(text: &[u8], name: &[u8]) -> bool
 
 /// Whether the line is the label with this name.
 fn says_label(line: &[u8], name: &[u8]) -> bool
-    ensures { IsTrue result ↔ SaysLine line.now (says.Label name.now) }
+    ensures { IsTrue result ↔ SaysAssemblyLine line.now (says.Label name.now) }
 {
     match read_line(line) {
         Some(said) => is_label(&said, name),

@@ -3,7 +3,7 @@
 ghost use Rattle.std.specs.Prelude.{◌≡◌, ◌↔◌, ◌++◌, ◌∷◌, IsTrue, Some, None};
 ghost use Rattle.mb_model.specs.Script.{IsName};
 ghost use Rattle.mb_words.specs.Words.{FindsSome};
-ghost use Rattle.mb_appvm.specs.Assembly.{jump_to, IsLabelName, SaysLine};
+ghost use Rattle.mb_appvm.specs.Assembly.{jump_to, IsLabelName, SaysAssemblyLine};
 ghost use Rattle.mb_appvm.specs.declared.keyword.Keyword.TheVariants as key;
 ghost use Rattle.mb_appvm.specs.Reading.{SaysWords};
 
@@ -30,7 +30,7 @@ pub enum Said<'a> {
 
 /// What a line says; `None` if it is not in the grammar.
 pub(crate) fn read_line(line: &[u8]) -> Option<Said<'_>>
-    ensures { FindsSome (SaysLine line.now) result }
+    ensures { FindsSome (SaysAssemblyLine line.now) result }
 {
     match split_at_byte(line, b' ') {
         Some((word, operand)) => match find_keyword(word) {

@@ -2,7 +2,7 @@
 
 ghost use Rattle.std.specs.Prelude.{◌≤◌, length, IfOk};
 ghost use Rattle.mb_appvm.specs.Runs.{readable_secrets, RunsTo, AppRun};
-ghost use Rattle.mb_appvm.specs.Acting.{state_of, surroundings_of, end_of};
+ghost use Rattle.mb_appvm.specs.Acting.{state_of, surroundings_of, run_end};
 
 use crate::environment::Environment;
 use crate::machine::{Machine, Step};
@@ -87,7 +87,7 @@ pub enum Stop {
 fn run(machine: &mut Machine, environment: &Environment<'_>, steps: u32) -> Stop
     requires code { length environment.now.code.now ≤ 4194304 }
     requires input { length environment.now.input.now ≤ 4194304 }
-    ensures { RunsTo (surroundings_of environment.now) (state_of machine.old) 0 steps (end_of result machine.new) }
+    ensures { RunsTo (surroundings_of environment.now) (state_of machine.old) 0 steps (run_end result machine.new) }
 {
     for done in 0..steps {
         match machine.step(environment) {

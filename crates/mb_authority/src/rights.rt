@@ -2,7 +2,7 @@
 
 ghost use Rattle.std.specs.Prelude.{◌≡◌};
 ghost use Rattle.mb_model.specs.Rules.{authority, condition, signing_layer};
-ghost use Rattle.mb_model.specs.OrderStep.{change_by};
+ghost use Rattle.mb_model.specs.OrderChecks.{change_by};
 
 use crate::kinds::change_by;
 use crate::layers::{is_owned, is_runnable, is_upper, layer_of};

@@ -10,7 +10,7 @@ use Rattle.mb_model.specs.Pieces.{part}
 use Rattle.mb_model.specs.Board.{put}
 use Rattle.mb_model.proofs.Places.{length-part, part-put, put-put}
 use Rattle.mb_board.specs.Cuts.{filling, torn_by, LeavesWhatItKeeps}
-use Rattle.mb_board.specs.Shown.{Contents}
+use Rattle.mb_board.specs.Shown.{BankContents}
 
 pub length-filling : (tear : Tear) (n : ℕ) → length (filling tear n) ≡ n
 unfolding filling
@@ -71,10 +71,10 @@ torn_by-put tear at count bytes memory sized within =
     ap (λ range. put at (torn_by tear range) (put at bytes memory)) stored
     ∙ put-put at (torn_by tear bytes) bytes memory (omega (arith, length-torn_by tear bytes)) (omega arith)
 
-pub torn_write : (tear : Tear) (at count : ℕ) (bytes : List ℕ) (old written new : Contents) → new ≡ record written { bytes = put at (torn_by tear (part at count written.bytes)) written.bytes } → written ≡ record old { bytes = put at bytes old.bytes } → count ≡ length bytes → at + length bytes ≤ length old.bytes → new ≡ record old { bytes = put at (torn_by tear bytes) old.bytes }
+pub torn_write : (tear : Tear) (at count : ℕ) (bytes : List ℕ) (old written new : BankContents) → new ≡ record written { bytes = put at (torn_by tear (part at count written.bytes)) written.bytes } → written ≡ record old { bytes = put at bytes old.bytes } → count ≡ length bytes → at + length bytes ≤ length old.bytes → new ≡ record old { bytes = put at (torn_by tear bytes) old.bytes }
 torn_write tear at count bytes old written new spoils writes sized within =
-    let spoiled : Contents → Contents = λ bank. record bank { bytes = put at (torn_by tear (part at count bank.bytes)) bank.bytes } in
-    let with_bytes : List ℕ → Contents = λ all. record old { bytes = all } in
+    let spoiled : BankContents → BankContents = λ bank. record bank { bytes = put at (torn_by tear (part at count bank.bytes)) bank.bytes } in
+    let with_bytes : List ℕ → BankContents = λ all. record old { bytes = all } in
     spoils ∙ (ap spoiled writes ∙ ap with_bytes (torn_by-put tear at count bytes old.bytes sized within))
 
 -- a tear that keeps all of the bytes leaves them

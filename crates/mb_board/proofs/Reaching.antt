@@ -1,14 +1,14 @@
 -- What a level of the ratchet reaches lies in one sector.
 use Rattle.std.proofs.Common.{◌≡◌, ℕ, ◌+◌, ◌%◌, ◌<◌, ◌≤◌, ◌⊎◌, inl, inr, arith}
-use Rattle.mb_model.specs.Memory.{Slot, slots}
-use Rattle.mb_board.specs.Reach.{ReachesSlot, Reached, selector, first_area, second_area}
+use Rattle.mb_model.specs.Memory.{SlotOffsets, slots}
+use Rattle.mb_board.specs.Reach.{ReachesSlot, Reached, selector, in_first_area, in_second_area}
 
 -- the three slots
 three : (level slot : ℕ) → ReachesSlot level slot → ((slot ≡ 1) ⊎ (slot ≡ 2)) ⊎ (slot ≡ 3)
 three level slot reaches = grind arith
 
 -- where a slot stands
-record InSectors (slot : Slot) : Type 0 where
+record InSectors (slot : SlotOffsets) : Type 0 where
   selector : slot.selector < 4
   first : slot.first % 4096 ≡ 0
   second : slot.second % 4096 ≡ 0
@@ -27,9 +27,9 @@ pub within_sector : (level at n : ℕ) → Reached level at n → at % 4096 + n 
 within_sector level at n (selector slot reaches is one) =
     let stands : InSectors (slots slot) = in_sectors level slot reaches in
     omega arith
-within_sector level at n (first_area slot reaches least most) =
+within_sector level at n (in_first_area slot reaches least most) =
     let stands : InSectors (slots slot) = in_sectors level slot reaches in
     omega arith
-within_sector level at n (second_area slot reaches least most) =
+within_sector level at n (in_second_area slot reaches least most) =
     let stands : InSectors (slots slot) = in_sectors level slot reaches in
     omega arith

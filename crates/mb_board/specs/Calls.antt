@@ -14,14 +14,14 @@ level_of (Ok value) level = level
 level_of (Err stop) level = 0
 
 -- one more write call, of which no more than 1,000 are counted
-abbrev pub one_more : ℕ → ℕ
-one_more writes = if nat_lt writes 1000 then writes + 1 else writes
+abbrev pub counted_write : ℕ → ℕ
+counted_write writes = if nat_lt writes 1000 then writes + 1 else writes
 
 -- Each call is counted. A stop is counted as one too, and after it no power loss is armed.
 abbrev pub metered : {A E : Type 0} → Result A E → Meter → Meter
-metered (Ok value) meter = record meter { writes = one_more meter.writes }
+metered (Ok value) meter = record meter { writes = counted_write meter.writes }
 metered (Err stop) meter =
-    record { armed = false; stops = meter.stops + 1; writes = one_more meter.writes }
+    record { armed = false; stops = meter.stops + 1; writes = counted_write meter.writes }
 
 -- Of a range of a memory any bytes were written; all others are as before.
 pub record Torn (at n : ℕ) (before after : List ℕ) : Type 0 where

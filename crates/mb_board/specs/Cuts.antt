@@ -7,7 +7,7 @@ use Rattle.mb_model.specs.declared.event.Event.{Event}
 use Rattle.mb_model.specs.declared.event.Event.TheVariants as event
 use Rattle.mb_model.specs.declared.event.Tear.{Tear}
 use Rattle.mb_model.specs.Board.{Meter}
-use Rattle.mb_board.specs.Calls.{one_more, stops_by}
+use Rattle.mb_board.specs.Calls.{counted_write, stops_by}
 use Rattle.mb_board.specs.declared.fuse.Cut.{Cut}
 
 -- a tear has 1 to 16 bytes to fill with
@@ -56,7 +56,7 @@ cut_left (Ok value) (Some cut) = Some (record cut { count = cut.count - 1 })
 -- what is armed and counted after a call: a stop is counted, and so is each call
 abbrev pub fuse_after : {A E : Type 0} → Result A E → Armed → Armed
 fuse_after result fuse =
-    record { cut = cut_left result fuse.cut; stops = stops_by result fuse.stops; writes = one_more fuse.writes }
+    record { cut = cut_left result fuse.cut; stops = stops_by result fuse.stops; writes = counted_write fuse.writes }
 
 -- the power loss that is armed after an event was handed out
 abbrev pub cut_after : Option Event → Option Cut → Option Cut

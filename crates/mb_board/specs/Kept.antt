@@ -13,5 +13,5 @@ pub record IsSameUnchanged (changed : List Bool) (standing bytes : List ℕ) : T
   pub same : (sector : ℕ) → sector < length changed → get_or changed sector false ≡ false
       → sector_of sector standing ≡ sector_of sector bytes
 
-abbrev pub IsKept : Inside → Type 0
-IsKept bank = IsSameUnchanged bank.changed.items bank.standing.items bank.bytes.items
+abbrev pub KeepsStanding : Inside → Type 0
+KeepsStanding bank = IsSameUnchanged bank.changed.items bank.standing.items bank.bytes.items

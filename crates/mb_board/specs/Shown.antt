@@ -5,16 +5,16 @@ use Rattle.mb_board.specs.Calls.{power_of, level_of}
 use Rattle.mb_board.specs.Cuts.{Armed, fuse_after}
 
 -- one of its memories: the bytes, and what they were when they were last kept
-pub record Contents : Type 0 where
+pub record BankContents : Type 0 where
   pub bytes : List ℕ
   pub standing : List ℕ
 
 -- a memory whose bytes were just kept
-abbrev pub kept : List ℕ → Contents
-kept bytes = record { bytes = bytes; standing = bytes }
+abbrev pub just_kept : List ℕ → BankContents
+just_kept bytes = record { bytes = bytes; standing = bytes }
 
 -- its power, the level of its ratchet, its memory, its events, and when power will fail
-pub record Shown : Type 0 where
+pub record BoardShown : Type 0 where
   pub power : Bool
   pub level : ℕ
   pub memory : Memory
@@ -27,7 +27,7 @@ pub record Rest : Type 0 where
   pub ledger : Ledger
   pub fuse : Armed
 
-abbrev pub rest_of : Shown → Rest
+abbrev pub rest_of : BoardShown → Rest
 rest_of board = record { memory = board.memory; ledger = board.ledger; fuse = board.fuse }
 
 -- both memories are empty
@@ -35,7 +35,7 @@ abbrev pub unloaded : Memory
 unloaded = record { flash = []; bbram = [] }
 
 -- The board after a write call that ended so and left this memory: its events and answers stay.
-abbrev pub board_after : {A E : Type 0} → Result A E → Memory → Shown → Shown
+abbrev pub board_after : {A E : Type 0} → Result A E → Memory → BoardShown → BoardShown
 board_after result memory board = record board {
   power = power_of result;
   level = level_of result board.level;

@@ -3,7 +3,7 @@ use Rattle.std.specs.Prelude.{◌≡◌, ◌+◌, ◌≤◌, length, option_to_l
 use Rattle.mb_model.specs.Script.{IsScriptEvent}
 use Rattle.mb_board.specs.declared.sim.SimBoard.TheInside.{Inside}
 
-pub record IsSound (board : Inside) : Type 0 where
+pub record IsSoundBoard (board : Inside) : Type 0 where
   -- the copies are those of the events that wait
   pub copies : board.copies.items ≡ board.waiting.items
   pub count : length board.waiting.items ≤ 65536

@@ -6,7 +6,7 @@ ghost use Rattle.mb_model.specs.Pieces.{part};
 ghost use Rattle.mb_model.specs.Board.{put, erased, zeros};
 ghost use Rattle.mb_board.specs.Cuts.{HasFill, filling, torn_by};
 ghost use Rattle.mb_board.specs.Kept.{IsSameUnchanged, sector_of};
-ghost use Rattle.mb_board.specs.Shown.{kept};
+ghost use Rattle.mb_board.specs.Shown.{just_kept};
 
 use mb_model::{NoMemory, SECTOR_LENGTH, Tear};
 use std::alloc::Global;
@@ -24,20 +24,20 @@ pub struct Bank {
 }
 
 impl Model for Bank {
-    ghost use Rattle.mb_board.specs.Shown.{Contents};
-    ghost use Rattle.mb_board.specs.Kept.{IsKept};
+    ghost use Rattle.mb_board.specs.Shown.{BankContents};
+    ghost use Rattle.mb_board.specs.Kept.{KeepsStanding};
 
-    ghost Value = { Contents };
+    ghost Value = { BankContents };
 
     ghost view = { λ s. record { bytes = s.bytes.items; standing = s.standing.items } };
 
-    ghost invariant = { IsKept };
+    ghost invariant = { KeepsStanding };
 }
 
 impl Bank {
     /// A memory of no bytes.
     pub fn new(alloc: Global) -> Bank
-        ensures { result ≡ kept [] }
+        ensures { result ≡ just_kept [] }
     {
         Bank {
             bytes: Vec::new(alloc),
@@ -49,7 +49,7 @@ impl Bank {
     /// A memory of these bytes, which are kept. `NoMemory` where an allocation fails, of which no clause says when.
     pub fn from_slice(alloc: Global, bytes: &[u8]) -> Result<Bank, NoMemory>
         requires { length bytes.now % 4096 ≡ 0 }
-        ensures { IfOk result (λ bank. bank ≡ kept bytes.now) }
+        ensures { IfOk result (λ bank. bank ≡ just_kept bytes.now) }
     {
         Ok(Bank {
             bytes: Vec::from_slice(alloc, bytes)?,
@@ -132,7 +132,7 @@ impl Bank {
 
     /// Keeps the bytes as they are now.
     pub fn keep(&mut self)
-        ensures { self.new ≡ kept self.old.bytes }
+        ensures { self.new ≡ just_kept self.old.bytes }
     {
         copy_changed(&mut self.standing, &self.bytes, &mut self.changed);
     }
@@ -178,7 +178,7 @@ fn spoil(memory: &mut Vec<u8>, at: usize, count: usize, tear: &Tear)
     ensures { memory.new.items ≡ put at (torn_by tear.now (part at count memory.old.items)) memory.old.items }
 {
     let kept = count.min(tear.keep as usize);
-    store_filling(memory, at + kept, count - kept, tear);
+    store_filling(memory, at + just_kept, count - just_kept, tear);
 }
 
 /// Stores `count` bytes of the filling of a tear from `at` on.

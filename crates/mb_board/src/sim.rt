@@ -11,7 +11,7 @@ ghost use Rattle.mb_model.specs.Acknowledged.{MayAnswer};
 ghost use Rattle.mb_board.specs.Calls.{Torn, held_by};
 ghost use Rattle.mb_board.specs.Cuts.{unused, passes, left_by, cut_after, meter_of, is_armed};
 ghost use Rattle.mb_board.specs.Reach.{Reached};
-ghost use Rattle.mb_board.specs.Shown.{Rest, Shown, board_after, rest_of, unloaded};
+ghost use Rattle.mb_board.specs.Shown.{Rest, BoardShown, board_after, rest_of, unloaded};
 
 use crate::bank::{Bank, are_bytes};
 use crate::board::{Board, Stopped};
@@ -65,10 +65,10 @@ pub struct SimBoard {
 
 impl Model for SimBoard {
     ghost use Rattle.mb_model.specs.Board.{phase_at};
-    ghost use Rattle.mb_board.specs.Shown.{Shown};
-    ghost use Rattle.mb_board.specs.Sound.{IsSound};
+    ghost use Rattle.mb_board.specs.Shown.{BoardShown};
+    ghost use Rattle.mb_board.specs.Sound.{IsSoundBoard};
 
-    ghost Value = { Shown };
+    ghost Value = { BoardShown };
 
     ghost view = { λ s. record {
       power = s.is_on;
@@ -87,7 +87,7 @@ impl Model for SimBoard {
       fuse = s.fuse;
     } };
 
-    ghost invariant = { IsSound };
+    ghost invariant = { IsSoundBoard };
 }
 
 impl SimBoard {

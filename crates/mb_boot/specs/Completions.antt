@@ -9,7 +9,7 @@ use Rattle.mb_model.specs.declared.entry.SignedEntry.{SignedEntry}
 use Rattle.mb_model.specs.declared.state.Codes.{Codes}
 use Rattle.mb_model.specs.declared.stored.Root.{Root}
 use Rattle.mb_model.specs.Flash.{public_format, public_of_parts}
-use Rattle.mb_model.specs.OrderStep.{signed_by}
+use Rattle.mb_model.specs.OrderEffects.{signed_by}
 use Rattle.mb_model.specs.StoredLog.{AreCounted, completed}
 
 -- the bytes spell the record of these codes and of this log, and their buffer has kept its room

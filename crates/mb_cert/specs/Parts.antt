@@ -7,5 +7,5 @@ use Rattle.mb_model.specs.declared.entry.SignedEntry.{SignedEntry}
 use Rattle.mb_model.specs.EntryFormat.{signed_entry_format}
 
 -- the entries of a chain, after their number
-unfoldable pub log_format : Format (List SignedEntry)
-log_format = counted (between w16 1 128) signed_entry_format
+unfoldable pub chain_entries_format : Format (List SignedEntry)
+chain_entries_format = counted (between w16 1 128) signed_entry_format

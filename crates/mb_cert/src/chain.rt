@@ -8,7 +8,7 @@ ghost use Rattle.mb_bytes.specs.Reads.{Reads, ReadsWhole, bad_at};
 ghost use Rattle.mb_bytes.specs.Puts.{Puts, Writes};
 ghost use Rattle.mb_cert.specs.Ends.{chain_at};
 ghost use Rattle.mb_cert.specs.Bounds.{StatementFits, LogFits, ChainFits};
-ghost use Rattle.mb_cert.specs.Parts.{log_format};
+ghost use Rattle.mb_cert.specs.Parts.{chain_entries_format};
 
 use crate::end::ChainEnd;
 use crate::statement::{put_statement, statement_at};
@@ -40,7 +40,7 @@ pub fn read_chain(alloc: Global, bytes: &[u8]) -> Result<Chain, ChainEnd>
     Ok(chain)
 }
 
-#[tactic(auto, unfolding(mb_model::specs::ChainFormat::chain_format, crate::specs::Parts::log_format))]
+#[tactic(auto, unfolding(mb_model::specs::ChainFormat::chain_format, crate::specs::Parts::chain_entries_format))]
 fn chain_at(alloc: Global, cursor: &mut Cursor<'_>) -> Result<Chain, ChainEnd>
     ensures { Reads chain_at chain_format cursor.old result cursor.new }
 {
@@ -61,9 +61,9 @@ fn word_at(cursor: &mut Cursor<'_>) -> Result<(), BadRecord>
     Ok(())
 }
 
-#[tactic(auto, unfolding(crate::specs::Parts::log_format))]
+#[tactic(auto, unfolding(crate::specs::Parts::chain_entries_format))]
 fn entries_at(alloc: Global, cursor: &mut Cursor<'_>) -> Result<Log, ChainEnd>
-    ensures { Reads chain_at log_format cursor.old result cursor.new }
+    ensures { Reads chain_at chain_entries_format cursor.old result cursor.new }
 {
     let count = u16_between(cursor, 1, ENTRIES)?;
     let mut entries = Items::new(alloc);
@@ -118,7 +118,7 @@ pub fn write_chain(chain: &Chain, out: &mut Vec<u8>) -> Result<(), NoMemory>
     }
 }
 
-#[tactic(auto, unfolding(mb_model::specs::ChainFormat::chain_format, crate::specs::Parts::log_format))]
+#[tactic(auto, unfolding(mb_model::specs::ChainFormat::chain_format, crate::specs::Parts::chain_entries_format))]
 fn put_chain(out: &mut Vec<u8>, chain: &Chain) -> Result<(), NoMemory>
     requires { ChainFits chain.now }
     ensures { Puts (chain_format.spelling chain.now) out.old result out.new }
@@ -128,10 +128,10 @@ fn put_chain(out: &mut Vec<u8>, chain: &Chain) -> Result<(), NoMemory>
     put_optional_statement(out, &chain.statement)
 }
 
-#[tactic(auto, unfolding(crate::specs::Parts::log_format))]
+#[tactic(auto, unfolding(crate::specs::Parts::chain_entries_format))]
 fn put_entries(out: &mut Vec<u8>, entries: &[SignedEntry]) -> Result<(), NoMemory>
     requires { LogFits entries.now }
-    ensures { Puts (log_format.spelling entries.now) out.old result out.new }
+    ensures { Puts (chain_entries_format.spelling entries.now) out.old result out.new }
 {
     put_u16(out, entries.len() as u16)?;
     for signed in entries {

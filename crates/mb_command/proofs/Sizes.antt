@@ -8,7 +8,7 @@ use Rattle.mb_model.specs.declared.order.Order.{Order}
 use Rattle.mb_model.specs.OrderFormat.{differs_in, payload_format, act_by, body_of, body_format, sized_signature_format, Climb, countersignature_format, climbed, countersignatures_format, order_format}
 use Rattle.mb_model.specs.Rules.{kind_of}
 use Rattle.mb_model.proofs.FormatBounds.{most_two}
-use Rattle.mb_command.specs.Writing.{HasShortCode, HasShortSignature, IsSized}
+use Rattle.mb_command.specs.Writing.{HasShortCode, HasShortSignature, IsSizedOrder}
 
 pub short_code : (act : Act) → (act_by (kind_of act) (differs_in act)).Allowed act → HasShortCode act
 unfolding payload_format
@@ -25,7 +25,7 @@ short_signature (suc n) climb [] h k d lt = absurd h
 short_signature (suc n) climb (c ∷ cs) h zero d lt = h.0.1.0.1
 short_signature (suc n) climb (c ∷ cs) h (suc k) d lt = short_signature n (climbed climb c) cs h.1 k d (omega arith)
 
-pub sized_of : (order : Order) → order_format.Allowed order → IsSized order
+pub sized_of : (order : Order) → order_format.Allowed order → IsSizedOrder order
 unfolding order_format body_format sized_signature_format countersignatures_format
 sized_of order h =
     let two = most_two (body_of order) h.0 in

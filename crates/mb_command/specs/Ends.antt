@@ -4,6 +4,6 @@ use Rattle.mb_command.specs.declared.end.OrderEnd.{OrderEnd}
 use Rattle.mb_command.specs.declared.end.OrderEnd.TheVariants.{NoMemory, BadText}
 
 -- the offset at which an error points, and None where an allocation failed
-abbrev pub text_at : OrderEnd → Option ℕ
-text_at (BadText at) = Some at
-text_at NoMemory = None
+abbrev pub order_text_at : OrderEnd → Option ℕ
+order_text_at (BadText at) = Some at
+order_text_at NoMemory = None

@@ -16,7 +16,7 @@ HasShortCode (NewKey kind) = Unit {0}
 abbrev pub HasShortSignature : Countersignature → Type 0
 HasShortSignature c = length c.signature ≤ 9324
 
-pub record IsSized (order : Order) : Type 0 where
+pub record IsSizedOrder (order : Order) : Type 0 where
   pub targets : length order.targets ≤ 8
   pub code : HasShortCode order.act
   pub signature : length order.signature ≤ 9324

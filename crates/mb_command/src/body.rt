@@ -4,7 +4,7 @@ ghost use Rattle.std.specs.Prelude.{◌≡◌, ◌≤◌, length, take, IfOk};
 ghost use Rattle.mb_model.specs.OrderFormat.{body_by, body_format, body_of, order_body, order_format};
 ghost use Rattle.mb_bytes.specs.Reads.{ReadsAs};
 ghost use Rattle.mb_bytes.specs.Puts.{Puts};
-ghost use Rattle.mb_command.specs.Ends.{text_at};
+ghost use Rattle.mb_command.specs.Ends.{order_text_at};
 ghost use Rattle.mb_command.specs.Parts.{body_in, HasLayer};
 ghost use Rattle.mb_command.specs.Writing.{HasShortCode};
 
@@ -30,7 +30,7 @@ fn after_form_at(
     cursor: &mut Cursor,
     form: OrderForm,
 ) -> Result<SignedPart, OrderEnd>
-    ensures reads { ReadsAs body_in text_at (body_by form) cursor.old result cursor.new }
+    ensures reads { ReadsAs body_in order_text_at (body_by form) cursor.old result cursor.new }
     ensures layer { IfOk result HasLayer }
 {
     let layer = u8_between(cursor, least_layer(form.kind), 3)?;
@@ -46,7 +46,7 @@ fn after_form_at(
 /// The signed part of an order. `NoMemory` where an allocation fails, of which no clause says when.
 #[tactic(auto, unfolding(mb_model::specs::OrderFormat::body_format))]
 pub fn body_at(alloc: Global, cursor: &mut Cursor) -> Result<SignedPart, OrderEnd>
-    ensures reads { ReadsAs body_in text_at body_format cursor.old result cursor.new }
+    ensures reads { ReadsAs body_in order_text_at body_format cursor.old result cursor.new }
     ensures layer { IfOk result HasLayer }
 {
     let form = form_at(cursor)?;

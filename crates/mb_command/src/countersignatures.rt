@@ -5,7 +5,7 @@ ghost use Rattle.std.specs.List.{All};
 ghost use Rattle.mb_model.specs.OrderFormat.{Body, sized_signature_format, countersignature_format, countersignatures_format};
 ghost use Rattle.mb_bytes.specs.Reads.{Reads};
 ghost use Rattle.mb_bytes.specs.Puts.{Puts};
-ghost use Rattle.mb_command.specs.Ends.{text_at};
+ghost use Rattle.mb_command.specs.Ends.{order_text_at};
 ghost use Rattle.mb_command.specs.Parts.{body_in, HasLayer, countersignature_bytes};
 ghost use Rattle.mb_command.specs.Writing.{HasShortSignature};
 
@@ -19,7 +19,7 @@ use std::alloc::Global;
 /// A signature after two bytes for its length. `NoMemory` where an allocation fails, of which no clause says when.
 #[tactic(auto, unfolding(mb_model::specs::OrderFormat::sized_signature_format))]
 pub fn signature_at(alloc: Global, cursor: &mut Cursor) -> Result<Bytes, OrderEnd>
-    ensures { Reads text_at sized_signature_format cursor.old result cursor.new }
+    ensures { Reads order_text_at sized_signature_format cursor.old result cursor.new }
 {
     let signature = bytes_after_u16(cursor, 0, SIGNATURE_LIMIT as u16)?;
     Ok(Bytes::copy(alloc, signature)?)
@@ -34,7 +34,7 @@ fn countersignature_at(
 ) -> Result<Countersignature, OrderEnd>
     requires below { below ≤ 3 }
     requires left { left ≤ 3 }
-    ensures reads { Reads text_at (countersignature_format (record { below = below; left = left })) cursor.old result cursor.new }
+    ensures reads { Reads order_text_at (countersignature_format (record { below = below; left = left })) cursor.old result cursor.new }
     ensures layer { IfOk result (λ c. c.layer ≤ 4 - left) }
 {
     let layer = u8_between(cursor, below + 1, 4 - left)?;
@@ -51,7 +51,7 @@ pub fn countersignatures_at(
     body: &SignedPart,
 ) -> Result<Countersignatures, OrderEnd>
     requires { HasLayer body.now }
-    ensures { Reads text_at (countersignatures_format (body_in body.now)) cursor.old result cursor.new }
+    ensures { Reads order_text_at (countersignatures_format (body_in body.now)) cursor.old result cursor.new }
 {
     let most = most_countersigned(kind_of(&body.act), body.layer);
     let count = u8_between(cursor, 0, most)?;

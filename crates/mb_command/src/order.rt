@@ -4,8 +4,8 @@ ghost use Rattle.std.specs.Prelude.{◌≤◌, length, IfErr, IfSome};
 ghost use Rattle.mb_model.specs.OrderFormat.{order_format};
 ghost use Rattle.mb_bytes.specs.Reads.{Reads, ReadsWhole};
 ghost use Rattle.mb_bytes.specs.Puts.{Puts, Writes};
-ghost use Rattle.mb_command.specs.Ends.{text_at};
-ghost use Rattle.mb_command.specs.Writing.{IsSized};
+ghost use Rattle.mb_command.specs.Ends.{order_text_at};
+ghost use Rattle.mb_command.specs.Writing.{IsSizedOrder};
 
 use crate::body::{body_at, put_body};
 use crate::countersignatures::{
@@ -21,7 +21,7 @@ const ORDER_LIMIT: usize = 65_536;
 
 #[tactic(auto, unfolding(mb_model::specs::OrderFormat::order_format))]
 fn order_at(alloc: Global, cursor: &mut Cursor) -> Result<Order, OrderEnd>
-    ensures { Reads text_at order_format cursor.old result cursor.new }
+    ensures { Reads order_text_at order_format cursor.old result cursor.new }
 {
     let body = body_at(alloc, cursor)?;
     let signature = signature_at(alloc, cursor)?;
@@ -37,7 +37,7 @@ fn order_at(alloc: Global, cursor: &mut Cursor) -> Result<Order, OrderEnd>
 
 fn whole_order(alloc: Global, bytes: &[u8]) -> Result<Order, OrderEnd>
     requires { length bytes.now ≤ 4194304 }
-    ensures { ReadsWhole text_at order_format bytes.now result }
+    ensures { ReadsWhole order_text_at order_format bytes.now result }
 {
     let mut cursor = Cursor::new(bytes);
     let order = order_at(alloc, &mut cursor)?;
@@ -54,8 +54,8 @@ fn whole_order(alloc: Global, bytes: &[u8]) -> Result<Order, OrderEnd>
 /// shorter than that, so no more bytes are looked at. Memory is taken for what the order holds, and nothing is said of
 /// when it is found: the tests read orders where there is enough.
 pub fn read_order(alloc: Global, bytes: &[u8]) -> Result<Order, OrderEnd>
-    ensures reads { ReadsWhole text_at order_format bytes.now result }
-    ensures near { IfErr result (λ end. IfSome (text_at end) (λ at. at ≤ 65536)) }
+    ensures reads { ReadsWhole order_text_at order_format bytes.now result }
+    ensures near { IfErr result (λ end. IfSome (order_text_at end) (λ at. at ≤ 65536)) }
 {
     match bytes.get(..ORDER_LIMIT) {
         Some(first) => whole_order(alloc, first),
@@ -65,7 +65,7 @@ pub fn read_order(alloc: Global, bytes: &[u8]) -> Result<Order, OrderEnd>
 
 #[tactic(auto, unfolding(mb_model::specs::OrderFormat::order_format))]
 fn put_order(out: &mut Vec<u8>, order: &Order) -> Result<(), NoMemory>
-    requires { IsSized order.now }
+    requires { IsSizedOrder order.now }
     ensures { Puts (order_format.spelling order.now) out.old result out.new }
 {
     put_body(out, order)?;

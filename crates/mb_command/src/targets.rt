@@ -6,7 +6,7 @@ ghost use Rattle.mb_format.specs.Combinators.{between, counted};
 ghost use Rattle.mb_model.specs.OrderFormat.{serial_tag, length_tag, owner_tag, code_tag, target_by, target_format};
 ghost use Rattle.mb_bytes.specs.Reads.{bad_at, Reads};
 ghost use Rattle.mb_bytes.specs.Puts.{Puts};
-ghost use Rattle.mb_command.specs.Ends.{text_at};
+ghost use Rattle.mb_command.specs.Ends.{order_text_at};
 ghost use Rattle.mb_command.specs.Parts.{named_bytes};
 
 use crate::end::OrderEnd;
@@ -59,7 +59,7 @@ fn target_at(cursor: &mut Cursor) -> Result<Target, BadRecord>
 /// The targets of an order, after a byte for their number. `NoMemory` where an allocation fails, of which no clause
 /// says when.
 pub fn targets_at(alloc: Global, cursor: &mut Cursor) -> Result<Targets, OrderEnd>
-    ensures { Reads text_at (counted (between w8 0 8) target_format) cursor.old result cursor.new }
+    ensures { Reads order_text_at (counted (between w8 0 8) target_format) cursor.old result cursor.new }
 {
     let count = u8_between(cursor, 0, 8)?;
     let mut targets = Items::new(alloc);

@@ -14,7 +14,8 @@ use Rattle.mb_model.specs.Clean.{Clean}
 use Rattle.mb_model.specs.Machine.{Phase, off, dead, ratchet, World, Machine, answered, lacks_memory}
 use Rattle.mb_model.specs.Meaning.{StandsFor, HasMeaning, is_dead, is_live}
 use Rattle.mb_model.specs.Memory.{IsBlank}
-use Rattle.mb_model.specs.Refusals.{zeroised, refused}
+use Rattle.mb_model.specs.declared.reply.Refusal.TheVariants.{Zeroised}
+use Rattle.mb_model.specs.Refusals.{refused}
 use Rattle.mb_model.specs.Valid.{Valid}
 use Rattle.mb_board.specs.Calls.{held_by}
 use Rattle.mb_model_memory.specs.Holding.{Means, IsReady}
@@ -22,7 +23,7 @@ use Rattle.mb_device_orders.specs.Remembering.{Knows}
 use Rattle.mb_boot.specs.Booting.{Cleans, KeepsState}
 use Rattle.mb_device.specs.declared.device.Device.TheVariants as device
 use Rattle.mb_device.specs.declared.device.Running.{Running}
-use Rattle.mb_device.specs.Sound.{IsSound, Steps}
+use Rattle.mb_device.specs.Sound.{IsSoundDevice, Steps}
 use Rattle.mb_device.proofs.Worlds.{boot_live, boot_none}
 use Rattle.mb_device.proofs.Steps.{live_world, live_sound, off_sound, cut_short}
 
@@ -60,7 +61,7 @@ the_off world state armed is live same =
     ∙ ap (λ (b : Bool). let w : World = record { state = Some state; phase = off; armed = b } in w) same
 
 module _ (state : Off) (before : Memory) (power : Bool) (level : ℕ) (meter : Meter) (world : World)
-    (sound : IsSound (device.Off state) (held_by before power level meter) world) where
+    (sound : IsSoundDevice (device.Off state) (held_by before power level meter) world) where
   pub is_booted : (after : Memory) → Cleans before after → KeepsState before after
       → ((o : Option State) → StandsFor before.flash before.bbram o → false ≡ is_none o) → IsBooted world after
   is_booted after clean kept found =
@@ -96,7 +97,7 @@ module _ (state : Off) (before : Memory) (power : Bool) (level : ℕ) (meter : M
       (boot_live world live.0 sound.fits live.1) (sound.shown.armed ∙ armed) refl (inl refl) (kept.kept world.state sound.shown.stands) sound.valid gone disarmed
 
   -- it was found dead
-  pub boot_found_dead : (corpse : Dead) (answer : Reply) (after : Memory) (on : Bool) (high : ℕ) (counted : Meter) → answer ≡ refused zeroised → after ≡ before
+  pub boot_found_dead : (corpse : Dead) (answer : Reply) (after : Memory) (on : Bool) (high : ℕ) (counted : Meter) → answer ≡ refused Zeroised → after ≡ before
       → ((o : Option State) → StandsFor before.flash before.bbram o → true ≡ is_none o) → on ≡ true → high ≡ 0 → counted ≡ meter
       → Steps world event.Boot answer (device.Dead corpse) (held_by after on high counted)
   boot_found_dead corpse answer after on high counted is same found is_on is_low counts =

@@ -20,7 +20,7 @@ use Rattle.mb_model_lemmas.proofs.MeaningLemmas.{one_meaning}
 use Rattle.mb_model_lemmas.proofs.RefusalLemmas.{written_is_on, tampered_is_dead}
 use Rattle.mb_model_lemmas.proofs.Splits.{two_splits}
 use Rattle.mb_device.specs.declared.device.Device.{Device}
-use Rattle.mb_device.specs.Sound.{IsSound, Steps}
+use Rattle.mb_device.specs.Sound.{IsSoundDevice, Steps}
 
 -- ---- one event
 

@@ -14,7 +14,7 @@ use Rattle.mb_model.specs.Script.{IsScriptEvent}
 use Rattle.mb_model_lemmas.proofs.RefusalLemmas.{written_is_on}
 use Rattle.mb_model_lemmas.proofs.ValidStates.{kept_rightly}
 use Rattle.mb_device.specs.declared.device.Device.{Device}
-use Rattle.mb_device.specs.Sound.{IsSound, HasSound, taken, CanStep, Steps}
+use Rattle.mb_device.specs.Sound.{IsSoundDevice, HasSound, taken, CanStep, Steps}
 use Rattle.mb_device.specs.Served.{IsServedFrom}
 use Rattle.mb_device.proofs.Cleans.{IsFramed, clean_after, WipesLast, at_boot, at_tamper, before, wiping_last}
 
@@ -25,7 +25,7 @@ pub record IsRunSo (world : World) (start : Ledger) (device : Device) (ledger : 
   pub all : map (λ a. a.event) more ++ ledger.waiting ≡ start.waiting
   pub last : World
   pub run : Run world more last
-  pub sound : IsSound device held last
+  pub sound : IsSoundDevice device held last
   pub wiped : AreWiping more → Clean held.memory.bbram last.state
 
 -- between two events
@@ -34,7 +34,7 @@ pub record Serves (start : Ledger) (first : Device) (at_first : Held) (device : 
   pub standing : ledger.standing ≡ held
   pub script : All IsScriptEvent ledger.waiting
   pub some : HasSound device held
-  pub runs : (world : World) → IsSound first at_first world → IsRunSo world start device ledger held
+  pub runs : (world : World) → IsSoundDevice first at_first world → IsRunSo world start device ledger held
 
 pub serves_first : (start : Ledger) (first : Device) (held : Held) → start.out ≡ None → start.standing ≡ held → All IsScriptEvent start.waiting → HasSound first held → Serves start first held first start held
 serves_first start first held none standing script some = record {
@@ -70,7 +70,7 @@ run_more (answer ∷ answered) one first mid last run step = (run.0, run.1, run_
 -- what is asked of an answer
 pub may_answer : (start : Ledger) (first : Device) (at_first : Held) (device next : Device) (ledger out kept : Ledger) (held stepped : Held) (e : Event) (rest : List Event) (reply : Reply)
     → Serves start first at_first device ledger held → out ≡ record ledger { waiting = rest; out = Some e } → kept ≡ out
-    → ((world : World) → IsSound device held world → Steps world e reply next stepped) → IsFramed held e reply stepped → MayAnswer kept.standing stepped e reply
+    → ((world : World) → IsSoundDevice device held world → Steps world e reply next stepped) → IsFramed held e reply stepped → MayAnswer kept.standing stepped e reply
 may_answer start first at_first device next ledger out kept held stepped e rest reply inv is_out is_kept steps framed =
     let has = inv.some in
     let done = steps has.world has.sound in
@@ -89,7 +89,7 @@ may_answer start first at_first device next ledger out kept held stepped e rest 
 
 -- after an event the memory has to be clean, where the answers leave it clean
 still_clean : {device : Device} (world : World) (e : Event) (reply : Reply) (next : Device) (held stepped : Held) (done : Steps world e reply next stepped) (more : List Answered)
-    → IsSound device held world → (AreWiping more → Clean held.memory.bbram world.state) → WipesLast more (record { event = e; reply = reply }) → HasToBeClean held stepped e reply
+    → IsSoundDevice device held world → (AreWiping more → Clean held.memory.bbram world.state) → WipesLast more (record { event = e; reply = reply }) → HasToBeClean held stepped e reply
 still_clean world e reply next held stepped done more sound wiped (at_boot booted) =
     powered (λ dark. written_is_on world e reply done.next done.step (ap may_be_cut booted) (done.sound.shown.phase ∙ dark))
 still_clean world e reply next held stepped done more sound wiped (at_tamper tampered) = zeroed tampered
@@ -99,14 +99,14 @@ still_clean world e reply next held stepped done more sound wiped (before wiping
 -- an event is taken, stepped and answered
 pub serves_more : (start : Ledger) (first : Device) (at_first : Held) (device next : Device) (ledger out kept after : Ledger) (held stepped now : Held) (e : Event) (rest : List Event) (reply : Reply)
     → Serves start first at_first device ledger held → ledger.waiting ≡ e ∷ rest → out ≡ record ledger { waiting = rest; out = Some e } → kept ≡ out
-    → ((world : World) → IsSound device held world → Steps world e reply next stepped) → IsFramed held e reply stepped
+    → ((world : World) → IsSoundDevice device held world → Steps world e reply next stepped) → IsFramed held e reply stepped
     → after ≡ record kept { out = None; answered = kept.answered ++ record { event = e; reply = reply } ∷ []; standing = stepped } → now ≡ stepped
     → Serves start first at_first next after now
 serves_more start first at_first device next ledger out kept after held stepped now e rest reply inv waits is_out is_kept steps framed is_answered is_now =
     let one : Answered = record { event = e; reply = reply } in
     let answered_is : after.answered ≡ ledger.answered ++ one ∷ [] = ap (λ (l : Ledger). l.answered) is_answered ∙ ap (λ (l : Ledger). l.answered ++ one ∷ []) (is_kept ∙ is_out) in
     let waiting_is : after.waiting ≡ rest = ap (λ (l : Ledger). l.waiting) is_answered ∙ ap (λ (l : Ledger). l.waiting) (is_kept ∙ is_out) in
-    let sound_now : (w : World) → IsSound next stepped w → IsSound next now w = λ w sound. subst (λ (h : Held). IsSound next h w) (sym is_now) sound in
+    let sound_now : (w : World) → IsSoundDevice next stepped w → IsSoundDevice next now w = λ w sound. subst (λ (h : Held). IsSoundDevice next h w) (sym is_now) sound in
     record {
       none_out = ap (λ (l : Ledger). l.out) is_answered;
       standing = ap (λ (l : Ledger). l.standing) is_answered ∙ sym is_now;
@@ -135,7 +135,7 @@ serves_more start first at_first device next ledger out kept after held stepped 
 
 -- nothing waits any more
 pub served : (start : Ledger) (first : Device) (at_first : Held) (device : Device) (ledger after : Ledger) (held now : Held) (world : World) → Serves start first at_first device ledger held
-    → IsSound first at_first world → AreBytes now.memory → ledger.waiting ≡ [] → after ≡ ledger → now ≡ held → IsServedFrom world start after now
+    → IsSoundDevice first at_first world → AreBytes now.memory → ledger.waiting ≡ [] → after ≡ ledger → now ≡ held → IsServedFrom world start after now
 served start first at_first device ledger after held now world inv sound bytes none is_after is_now =
     let so = inv.runs world sound in
     record {

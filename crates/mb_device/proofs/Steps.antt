@@ -10,13 +10,14 @@ use Rattle.mb_model.specs.Board.{Memory, Meter, Held}
 use Rattle.mb_model.specs.Clean.{Clean}
 use Rattle.mb_model.specs.Machine.{Phase, off, ratchet, World, Machine, may_want_memory, may_be_cut, answered, lacks_memory, loses_power}
 use Rattle.mb_model.specs.Meaning.{StandsFor}
-use Rattle.mb_model.specs.Refusals.{Refusal, refused}
+use Rattle.mb_model.specs.declared.reply.Refusal.{Refusal}
+use Rattle.mb_model.specs.Refusals.{refused}
 use Rattle.mb_model.specs.Valid.{Valid}
 use Rattle.mb_board.specs.Calls.{held_by}
 use Rattle.mb_model_memory.specs.Holding.{IsReady}
 use Rattle.mb_device.specs.declared.device.Device.{Device}
 use Rattle.mb_device.specs.declared.device.Device.TheVariants as device
-use Rattle.mb_device.specs.Sound.{IsSound, Fits, Steps}
+use Rattle.mb_device.specs.Sound.{IsSoundDevice, Fits, Steps}
 use Rattle.mb_device.proofs.Worlds.{ratchet_at, off_at}
 
 -- ---- worlds by their parts
@@ -36,7 +37,7 @@ the_world world r state is live =
 
 -- a device that runs layer r, whose memory is ready with this state
 pub live_sound : (after : Device) (r : ℕ) (memory : Memory) (power : Bool) (level : ℕ) (meter : Meter) (state : State) → IsReady memory state → power ≡ true → level ≡ r → 1 ≤ r
-    → Fits after (live_world r state meter.armed) → IsSound after (held_by memory power level meter) (live_world r state meter.armed)
+    → Fits after (live_world r state meter.armed) → IsSoundDevice after (held_by memory power level meter) (live_world r state meter.armed)
 live_sound after r memory power level meter state ready on at some fits = record {
   shown = record { stands = ready.means; phase = sym (ratchet_at power level r on at some); armed = refl };
   valid = ready.valid;
@@ -46,7 +47,7 @@ live_sound after r memory power level meter state ready on at some fits = record
 
 -- a device whose power is off
 pub off_sound : (state : Off) (memory : Memory) (power : Bool) (level : ℕ) (meter : Meter) (world : World) → StandsFor memory.flash memory.bbram world.state → Valid world.state → power ≡ false
-    → world.phase ≡ off → world.armed ≡ meter.armed → IsSound (device.Off state) (held_by memory power level meter) world
+    → world.phase ≡ off → world.armed ≡ meter.armed → IsSoundDevice (device.Off state) (held_by memory power level meter) world
 off_sound state memory power level meter world stands valid gone is_off armed = record {
   shown = record { stands = stands; phase = is_off ∙ sym (off_at power level gone); armed = armed };
   valid = valid;
@@ -58,7 +59,7 @@ off_sound state memory power level meter world stands valid gone is_off armed = 
 off_not_ratchet : (r : ℕ) → ratchet r ≡ off → ⊥
 off_not_ratchet r e = cc
 
-pub running_ready : (device : Device) (r : ℕ) (held : Held) (world : World) (state : State) → IsSound device held world → world.phase ≡ ratchet r → world.state ≡ Some state
+pub running_ready : (device : Device) (r : ℕ) (held : Held) (world : World) (state : State) → IsSoundDevice device held world → world.phase ≡ ratchet r → world.state ≡ Some state
     → IsReady held.memory state
 running_ready device r held world state sound is live = record {
   means = subst (λ (o : Option State). StandsFor held.memory.flash held.memory.bbram o) live sound.shown.stands;
@@ -69,7 +70,7 @@ running_ready device r held world state sound is live = record {
 -- ---- steps
 
 -- an answer by which nothing changes
-pub stays : (before after : Device) (held : Held) (world : World) (e : Event) (answer : Reply) → Machine world e answer world → IsSound before held world → Fits after world
+pub stays : (before after : Device) (held : Held) (world : World) (e : Event) (answer : Reply) → Machine world e answer world → IsSoundDevice before held world → Fits after world
     → Steps world e answer after held
 stays before after held world e answer machine sound fits = record {
   next = world;
@@ -79,16 +80,16 @@ stays before after held world e answer machine sound fits = record {
 
 -- a refusal by which nothing changes
 pub refuses : (before after : Device) (held : Held) (world : World) (e : Event) (answer : Reply) (refusal : Refusal) → answer ≡ refused refusal → Machine world e (refused refusal) world
-    → IsSound before held world → Fits after world → Steps world e answer after held
+    → IsSoundDevice before held world → Fits after world → Steps world e answer after held
 refuses before after held world e answer refusal is machine sound fits = stays before after held world e answer (subst (λ (a : Reply). Machine world e a world) (sym is) machine) sound fits
 
 -- memory was wanted, and nothing has changed
 pub lacks : (before after : Device) (held now : Held) (world : World) (e : Event) (answer : Reply) → answer ≡ reply.NoMemory → IsTrue (may_want_memory e) → now ≡ held
-    → IsSound before held world → Fits after world → Steps world e answer after now
+    → IsSoundDevice before held world → Fits after world → Steps world e answer after now
 lacks before after held now world e answer is wants same sound fits = record {
   next = world;
   step = lacks_memory (record { answered = is; wanted = wants; stays = refl });
-  sound = subst (λ (h : Held). IsSound after h world) (sym same) (record { shown = sound.shown; valid = sound.valid; clean = sound.clean; fits = fits });
+  sound = subst (λ (h : Held). IsSoundDevice after h world) (sym same) (record { shown = sound.shown; valid = sound.valid; clean = sound.clean; fits = fits });
 }
 
 -- power failed: the event counts wholly or not at all
@@ -113,7 +114,7 @@ cut_short state world e told whole left memory power level meter machine armed w
 
 -- a refusal of a device that is as it was
 pub refuses_as : (before after : Device) (held : Held) (world : World) (e : Event) (answer : Reply) (refusal : Refusal) → before ≡ after → answer ≡ refused refusal
-    → IsSound before held world → (Fits after world → Machine world e (refused refusal) world) → Steps world e answer after held
+    → IsSoundDevice before held world → (Fits after world → Machine world e (refused refusal) world) → Steps world e answer after held
 refuses_as before after held world e answer refusal same is sound machine =
-    let own : IsSound after held world = subst (λ (d : Device). IsSound d held world) same sound in
+    let own : IsSoundDevice after held world = subst (λ (d : Device). IsSoundDevice d held world) same sound in
     refuses after after held world e answer refusal is (machine own.fits) own own.fits

@@ -14,7 +14,7 @@ use Rattle.mb_board.specs.Calls.{held_by}
 use Rattle.mb_device.specs.declared.device.Device.{Device}
 use Rattle.mb_device.specs.declared.device.Device.TheVariants as device
 use Rattle.mb_device.specs.declared.device.Running.{Running}
-use Rattle.mb_device.specs.Sound.{IsSound, IsRunning, Fits, taken, Steps}
+use Rattle.mb_device.specs.Sound.{IsSoundDevice, IsRunning, Fits, taken, Steps}
 use Rattle.mb_device.specs.Stepping.{IsOff}
 use Rattle.mb_device.proofs.Worlds.{off_at}
 
@@ -48,11 +48,11 @@ off_fits (device.One state running) world is at = absurd is
 off_fits (device.Two state running) world is at = absurd is
 off_fits (device.Three state running) world is at = absurd is
 
-pub goes_off : (before after : Device) (held now : Held) (world : World) → IsSound before held world → IsOff after → now ≡ taken event.Off held → Steps world event.Off reply.Off after now
+pub goes_off : (before after : Device) (held now : Held) (world : World) → IsSoundDevice before held world → IsOff after → now ≡ taken event.Off held → Steps world event.Off reply.Off after now
 goes_off before after held now world sound is_off same = record {
   next = record world { phase = off };
   step = answered (refl, refl);
-  sound = subst (λ (h : Held). IsSound after h (record world { phase = off })) (sym same) (record {
+  sound = subst (λ (h : Held). IsSoundDevice after h (record world { phase = off })) (sym same) (record {
     shown = record { stands = sound.shown.stands; phase = refl; armed = sound.shown.armed };
     valid = sound.valid;
     clean = λ on. absurd (on refl);
@@ -70,7 +70,7 @@ zeros_length : (n : ℕ) → length (zeros n) ≡ n
 unfolding zeros
 zeros_length n = length-replicate n 0
 
-pub is_tampered : (before after : Device) (held now : Held) (world : World) → IsSound before held world → IsOff after → now ≡ taken event.Tamper held
+pub is_tampered : (before after : Device) (held now : Held) (world : World) → IsSoundDevice before held world → IsOff after → now ≡ taken event.Tamper held
     → Steps world event.Tamper reply.Tampered after now
 is_tampered before after held now world sound is_off same =
     let next : World = record world { phase = off; state = None } in
@@ -78,7 +78,7 @@ is_tampered before after held now world sound is_off same =
     record {
       next = next;
       step = answered (refl, refl);
-      sound = subst (λ (h : Held). IsSound after h next) (sym same) (record {
+      sound = subst (λ (h : Held). IsSoundDevice after h next) (sym same) (record {
         shown = record {
           stands = record {
             sized = record { flash = sound.shown.stands.sized.flash; bbram = zeros_length (length held.memory.bbram) ∙ sound.shown.stands.sized.bbram };
@@ -105,12 +105,12 @@ still_fits (device.One state running) world fits = still_runs 1 running world fi
 still_fits (device.Two state running) world fits = still_runs 2 running world fits
 still_fits (device.Three state running) world fits = still_runs 3 running world fits
 
-pub is_armed : (device : Device) (held now : Held) (world : World) (count : ℕ) (tear : Tear) → IsSound device held world → now ≡ taken (event.Cut count tear) held
+pub is_armed : (device : Device) (held now : Held) (world : World) (count : ℕ) (tear : Tear) → IsSoundDevice device held world → now ≡ taken (event.Cut count tear) held
     → Steps world (event.Cut count tear) reply.Armed device now
 is_armed device held now world count tear sound same = record {
   next = record world { armed = true };
   step = answered (refl, refl);
-  sound = subst (λ (h : Held). IsSound device h (record world { armed = true })) (sym same) (record {
+  sound = subst (λ (h : Held). IsSoundDevice device h (record world { armed = true })) (sym same) (record {
     shown = record { stands = sound.shown.stands; phase = sound.shown.phase; armed = refl };
     valid = sound.valid;
     clean = sound.clean;

@@ -12,7 +12,9 @@ use Rattle.mb_model.specs.Board.{Memory, Meter}
 use Rattle.mb_model.specs.Layers.{is_runnable}
 use Rattle.mb_model.specs.Log.{entries_of, number_of}
 use Rattle.mb_model.specs.Machine.{ratchet, World, Told, awake_in, status_of, status_event, Machine, answered}
-use Rattle.mb_model.specs.Refusals.{Refusal, wrong_layer, refused}
+use Rattle.mb_model.specs.declared.reply.Refusal.{Refusal}
+use Rattle.mb_model.specs.declared.reply.Refusal.TheVariants.{WrongLayer}
+use Rattle.mb_model.specs.Refusals.{refused}
 use Rattle.mb_model.specs.Valid.{Valid, IsValidState}
 use Rattle.mb_board.specs.Calls.{held_by}
 use Rattle.mb_model_memory.specs.Holding.{IsReady}
@@ -20,7 +22,7 @@ use Rattle.mb_device_orders.specs.Remembering.{Knows}
 use Rattle.mb_device_orders.specs.declared.remembering.Known.{Known}
 use Rattle.mb_device.specs.declared.device.Device.{Device}
 use Rattle.mb_device.specs.declared.device.Running.{Running}
-use Rattle.mb_device.specs.Sound.{IsSound, IsRunning, Fits, Steps}
+use Rattle.mb_device.specs.Sound.{IsSoundDevice, IsRunning, Fits, Steps}
 use Rattle.mb_device.specs.Stepping.{status_known}
 use Rattle.mb_device.proofs.Worlds.{awake_at, go_second, go_third, go_no_second, go_no_third}
 use Rattle.mb_device.proofs.Steps.{live_world, live_sound, running_ready}
@@ -54,7 +56,7 @@ status_told world r running answer is own valid =
 
 -- the next layer runs now
 pub goes_on : (before after : Device) (r : ℕ) (running : Running) (memory new : Memory) (power power_new : Bool) (level level_new : ℕ) (meter meter_new : Meter) (world : World)
-    → IsSound before (held_by memory power level meter) world → (own : IsRunning r running world)
+    → IsSoundDevice before (held_by memory power level meter) world → (own : IsRunning r running world)
     → Machine world event.Go (reply.At (r + 1)) (record world { phase = ratchet (r + 1) }) → new ≡ memory → meter_new ≡ meter → power_new ≡ true → level_new ≡ r + 1
     → ((w : World) → IsRunning (r + 1) running w → Fits after w) → Steps world event.Go (reply.At (r + 1)) after (held_by new power_new level_new meter_new)
 goes_on before after r running memory new power power_new level level_new meter meter_new world sound own machine same counts on at fits =
@@ -80,8 +82,8 @@ pub third_runs : (world : World) (running : Running) → (own : IsRunning 2 runn
     → Machine world event.Go (reply.At 3) (record world { phase = ratchet 3 })
 third_runs world running own valid runs = go_third world own.state (awake_at world 2 own.state own.phase own.live) (known_runs running.known own.state 3 true own.knows (subst Valid own.live valid) runs)
 
-pub no_second : (world : World) (running : Running) → (own : IsRunning 1 running world) → Valid world.state → is_runnable running.known.figures.layers 2 ≡ false → Machine world event.Go (refused wrong_layer) world
+pub no_second : (world : World) (running : Running) → (own : IsRunning 1 running world) → Valid world.state → is_runnable running.known.figures.layers 2 ≡ false → Machine world event.Go (refused WrongLayer) world
 no_second world running own valid runs = go_no_second world own.state (awake_at world 1 own.state own.phase own.live) (known_runs running.known own.state 2 false own.knows (subst Valid own.live valid) runs)
 
-pub no_third : (world : World) (running : Running) → (own : IsRunning 2 running world) → Valid world.state → is_runnable running.known.figures.layers 3 ≡ false → Machine world event.Go (refused wrong_layer) world
+pub no_third : (world : World) (running : Running) → (own : IsRunning 2 running world) → Valid world.state → is_runnable running.known.figures.layers 3 ≡ false → Machine world event.Go (refused WrongLayer) world
 no_third world running own valid runs = go_no_third world own.state (awake_at world 2 own.state own.phase own.live) (known_runs running.known own.state 3 false own.knows (subst Valid own.live valid) runs)

@@ -19,8 +19,10 @@ use Rattle.mb_model.specs.Layers.{is_runnable}
 use Rattle.mb_model.specs.LayerEvents.{Outcome, put_event, get_event, drop_event, sign_event, sign_with, value_reply, has_name, has_number, with_secret, with_use, statement_of}
 use Rattle.mb_model.specs.Log.{entries_of, number_of}
 use Rattle.mb_model.specs.Machine.{ratchet, World, Told, awake_in, region_event, Machine, answered, may_want_memory}
-use Rattle.mb_model.specs.OrderStep.{region_of, with_region}
-use Rattle.mb_model.specs.Refusals.{Refusal, wrong_layer, region_full, key_spent, refused}
+use Rattle.mb_model.specs.Regions.{region_of, with_region}
+use Rattle.mb_model.specs.declared.reply.Refusal.{Refusal}
+use Rattle.mb_model.specs.declared.reply.Refusal.TheVariants.{WrongLayer, RegionFull, KeySpent}
+use Rattle.mb_model.specs.Refusals.{refused}
 use Rattle.mb_model.specs.Valid.{Valid, IsValidState}
 use Rattle.mb_board.specs.Calls.{held_by, power_of, level_of, IsMetered}
 use Rattle.mb_model_lemmas.proofs.ValidSteps.{machine_valid}
@@ -31,9 +33,9 @@ use Rattle.mb_device_orders.specs.declared.remembering.Known.{Known}
 use Rattle.mb_device.specs.declared.device.Device.{Device}
 use Rattle.mb_device.specs.declared.device.Device.TheVariants as device
 use Rattle.mb_device.specs.declared.device.Running.{Running}
-use Rattle.mb_device.specs.Sound.{IsSound, IsRunning, Fits, Steps}
+use Rattle.mb_device.specs.Sound.{IsSoundDevice, IsRunning, Fits, Steps}
 use Rattle.mb_device.specs.Stepping.{stop_told}
-use Rattle.mb_device.specs.Regions.{IsLayerEvent, region_named, layer_outcome, IsUsed}
+use Rattle.mb_device.specs.Regions.{IsLayerEvent, region_named, layer_outcome, IsUseStep}
 use Rattle.mb_device.proofs.Worlds.{at_ratchet, by_region}
 use Rattle.mb_device.proofs.Taken.{same_parts}
 use Rattle.mb_device.proofs.Steps as steps
@@ -59,18 +61,18 @@ region_machine r L state armed e is named here runs =
 
 -- control is past it, or it may not run
 pub region_barred : (r L : ℕ) (state : State) (armed : Bool) (e : Event) → IsLayerEvent e → L ≡ region_named e → (nat_lt L r || not (is_runnable state.layers L)) ≡ true
-    → Machine (live_world r state armed) e (refused wrong_layer) (live_world r state armed)
+    → Machine (live_world r state armed) e (refused WrongLayer) (live_world r state armed)
 region_barred r L state armed e is named barred_so =
-    by_region (live_world r state armed) e (refused wrong_layer) (live_world r state armed) is
-    (subst (λ (m : ℕ). ◌≡◌ {A = Told} (refused wrong_layer, live_world r state armed) (region_event (live_world r state armed) m (layer_outcome m e) (Ok (r, state)))) named
+    by_region (live_world r state armed) e (refused WrongLayer) (live_world r state armed) is
+    (subst (λ (m : ℕ). ◌≡◌ {A = Told} (refused WrongLayer, live_world r state armed) (region_event (live_world r state armed) m (layer_outcome m e) (Ok (r, state)))) named
     (rw barred_so refl))
 
 pub cannot_run : (b : Bool) (past : Bool) → b ≡ false → (past || not b) ≡ true
 cannot_run b past e = rw e (or-true past)
 
 -- a use that a running device refuses
-pub use_refused : (after : Device) (r L : ℕ) (running : Running) (held : Held) (world : World) (e : Event) (answer : Reply) → IsLayerEvent e → L ≡ region_named e → answer ≡ refused wrong_layer
-    → IsSound after held world → (own : IsRunning r running world) → Fits after world → (nat_lt L r ≡ true) ⊎ (is_runnable running.known.figures.layers L ≡ false) → Steps world e answer after held
+pub use_refused : (after : Device) (r L : ℕ) (running : Running) (held : Held) (world : World) (e : Event) (answer : Reply) → IsLayerEvent e → L ≡ region_named e → answer ≡ refused WrongLayer
+    → IsSoundDevice after held world → (own : IsRunning r running world) → Fits after world → (nat_lt L r ≡ true) ⊎ (is_runnable running.known.figures.layers L ≡ false) → Steps world e answer after held
 use_refused after r L running held world e answer is named told sound own fits why =
     let valid : IsValidState own.state = subst Valid own.live sound.valid in
     let state : State = own.state in
@@ -79,9 +81,9 @@ use_refused after r L running held world e answer is named told sound own fits w
       | inr still ↦ cannot_run (is_runnable state.layers L) (nat_lt L r) (known_runs running.known state L false own.knows valid still)
     ] in
     let same : world ≡ live_world r state world.armed = the_world world r state own.phase own.live in
-    let machine : Machine world e (refused wrong_layer) world =
-    subst (λ (w : World). Machine w e (refused wrong_layer) w) (sym same) (region_barred r L state world.armed e is named past) in
-    refuses after after held world e answer wrong_layer told machine sound fits
+    let machine : Machine world e (refused WrongLayer) world =
+    subst (λ (w : World). Machine w e (refused WrongLayer) w) (sym same) (region_barred r L state world.armed e is named past) in
+    refuses after after held world e answer WrongLayer told machine sound fits
 
 -- ---- a use that is answered
 
@@ -138,7 +140,7 @@ keeps_known known L (event.Command text draw) state is knows = absurd is
 
 -- a running device that may use its region
 pub record IsUse (r L : ℕ) (before : Device) (running : Running) (e : Event) (old : Memory) (power : Bool) (level : ℕ) (meter : Meter) (world : World) : Type 0 where
-  pub sound : IsSound before (held_by old power level meter) world
+  pub sound : IsSoundDevice before (held_by old power level meter) world
   pub own : IsRunning r running world
   pub layer : IsLayerEvent e
   pub named : L ≡ region_named e
@@ -201,7 +203,7 @@ module _ (r L : ℕ) (before : Device) (running : Running) (e : Event) (old : Me
   pub use_comes : {S : Type 0} (after : Device) (running_new : Running) (result : Result (S × Reply) Off) (new : Memory) (power_new : Bool) (level_new : ℕ) (meter_new : Meter)
       → ComesTo use_is.own.state (layer_outcome L e use_is.own.state) old new result → power_new ≡ power_of result → level_new ≡ level_of result level → IsMetered 3 result meter meter_new
       → power ≡ true → level ≡ r → ((w : World) → IsRunning r running_new w → Fits after w) → running_new.known ≡ running.known
-      → IsUsed world e after result (held_by new power_new level_new meter_new)
+      → IsUseStep world e after result (held_by new power_new level_new meter_new)
   use_comes {S} after running_new (Ok told) new power_new level_new meter_new comes is_power is_level metered on at fits known =
       use_told after running_new told.1 new power_new level_new meter_new comes (is_power ∙ sym on) is_level metered.armed on at fits known
   use_comes {S} after running_new (Err state) new power_new level_new meter_new comes is_power is_level metered on at fits known =
@@ -228,7 +230,7 @@ unfolding put_event
 put_goes_on L name value state =
     let region : Region = region_of state L in
     let new : Secret = record { name = name; value = value; born = number_of (entries_of state.log) } in
-    picked_goes_on (not (list_any (has_name name) region.secrets) && nat_le 16 (length region.secrets)) (refused region_full, state)
+    picked_goes_on (not (list_any (has_name name) region.secrets) && nat_le 16 (length region.secrets)) (refused RegionFull, state)
     (reply.Kept, with_region state L (record region { secrets = with_secret new region.secrets })) refl refl
 
 get_goes_on : (L : ℕ) (name : List ℕ) (state : State) → stop_told (get_event L name state).0 ≡ Ok tt
@@ -246,7 +248,7 @@ sign_with_goes_on : (L : ℕ) (key : Option RegionKey) (message : List ℕ) (sta
 sign_with_goes_on L None message state = refl
 sign_with_goes_on L (Some key) message state =
     let region : Region = region_of state L in
-    picked_goes_on (nat_le 32 key.uses) (refused key_spent, state)
+    picked_goes_on (nat_le 32 key.uses) (refused KeySpent, state)
     (reply.Signed key.number key.uses (statement_format.spelling (statement_of state key message)), with_region state L (record region { keys = with_use key.number region.keys })) refl refl
 
 sign_goes_on : (L number : ℕ) (message : List ℕ) (state : State) → stop_told (sign_event L number message state).0 ≡ Ok tt
@@ -286,7 +288,7 @@ unmetered n answer before after goes_on same =
 -- ---- for the calls
 
 -- power is on, and the level is that of the layer
-pub running_on : (device : Device) (r : ℕ) (memory : Memory) (power : Bool) (level : ℕ) (meter : Meter) (world : World) → IsSound device (held_by memory power level meter) world
+pub running_on : (device : Device) (r : ℕ) (memory : Memory) (power : Bool) (level : ℕ) (meter : Meter) (world : World) → IsSoundDevice device (held_by memory power level meter) world
     → world.phase ≡ ratchet r → (power ≡ true) × (level ≡ r)
 running_on device r memory power level meter world sound is = at_ratchet power level r (sym is ∙ sound.shown.phase)
 

@@ -9,7 +9,9 @@ use Rattle.mb_model.specs.declared.state.State.{State}
 use Rattle.mb_model.specs.Board.{phase_at}
 use Rattle.mb_model.specs.Layers.{is_runnable}
 use Rattle.mb_model.specs.Machine.{Phase, off, dead, ratchet, World, Told, awake, awake_in, boot_event, go_event, region_event, CommandStep, Machine}
-use Rattle.mb_model.specs.Refusals.{Refusal, powered_off, wrong_phase, zeroised, wrong_layer, refused}
+use Rattle.mb_model.specs.declared.reply.Refusal.{Refusal}
+use Rattle.mb_model.specs.declared.reply.Refusal.TheVariants.{PoweredOff, WrongPhase, Zeroised, WrongLayer}
+use Rattle.mb_model.specs.Refusals.{refused}
 use Rattle.mb_device.specs.Regions.{IsLayerEvent, region_named, layer_outcome}
 
 -- ---- phases
@@ -29,11 +31,11 @@ off_at power level gone = subst (λ (p : Bool). phase_at p level ≡ off) (sym g
 
 -- ---- whether the device is awake
 
-pub awake_off : (world : World) → world.phase ≡ off → awake_in world ≡ Err powered_off
-awake_off world is = subst (λ (p : Phase). awake p world.state ≡ Err powered_off) (sym is) refl
+pub awake_off : (world : World) → world.phase ≡ off → awake_in world ≡ Err PoweredOff
+awake_off world is = subst (λ (p : Phase). awake p world.state ≡ Err PoweredOff) (sym is) refl
 
-pub awake_dead : (world : World) → world.phase ≡ dead → awake_in world ≡ Err zeroised
-awake_dead world is = subst (λ (p : Phase). awake p world.state ≡ Err zeroised) (sym is) refl
+pub awake_dead : (world : World) → world.phase ≡ dead → awake_in world ≡ Err Zeroised
+awake_dead world is = subst (λ (p : Phase). awake p world.state ≡ Err Zeroised) (sym is) refl
 
 pub awake_at : (world : World) (r : ℕ) (state : State) → world.phase ≡ ratchet r → world.state ≡ Some state → awake_in world ≡ Ok (r, state)
 awake_at world r state is live =
@@ -49,8 +51,8 @@ pub command_refused : (world : World) (text draw : List ℕ) (refusal : Refusal)
 command_refused world text draw refusal e = subst (λ (on : Result (ℕ × State) Refusal). CommandStep world text draw on (refused refusal) world) (sym e) (refl, refl)
 
 -- any other layer than layer 1 takes no order
-pub command_past : (world : World) (text draw : List ℕ) (r : ℕ) (state : State) → 1 < r → awake_in world ≡ Ok (r, state) → Machine world (event.Command text draw) (refused wrong_phase) world
-command_past world text draw r state past e = subst (λ (on : Result (ℕ × State) Refusal). CommandStep world text draw on (refused wrong_phase) world) (sym e) (inr (past, refl, refl))
+pub command_past : (world : World) (text draw : List ℕ) (r : ℕ) (state : State) → 1 < r → awake_in world ≡ Ok (r, state) → Machine world (event.Command text draw) (refused WrongPhase) world
+command_past world text draw r state past e = subst (λ (on : Result (ℕ × State) Refusal). CommandStep world text draw on (refused WrongPhase) world) (sym e) (inr (past, refl, refl))
 
 -- ---- control
 
@@ -65,16 +67,16 @@ pub go_third : (world : World) (state : State) → awake_in world ≡ Ok (2, sta
 go_third world state e runs =
     subst (λ (on : Result (ℕ × State) Refusal). ◌≡◌ {A = Told} (reply.At 3, record world { phase = ratchet 3 }) (go_event world on)) (sym e) (rw runs refl)
 
-pub go_no_second : (world : World) (state : State) → awake_in world ≡ Ok (1, state) → is_runnable state.layers 2 ≡ false → Machine world event.Go (refused wrong_layer) world
+pub go_no_second : (world : World) (state : State) → awake_in world ≡ Ok (1, state) → is_runnable state.layers 2 ≡ false → Machine world event.Go (refused WrongLayer) world
 go_no_second world state e runs =
-    subst (λ (on : Result (ℕ × State) Refusal). ◌≡◌ {A = Told} (refused wrong_layer, world) (go_event world on)) (sym e) (rw runs refl)
+    subst (λ (on : Result (ℕ × State) Refusal). ◌≡◌ {A = Told} (refused WrongLayer, world) (go_event world on)) (sym e) (rw runs refl)
 
-pub go_no_third : (world : World) (state : State) → awake_in world ≡ Ok (2, state) → is_runnable state.layers 3 ≡ false → Machine world event.Go (refused wrong_layer) world
+pub go_no_third : (world : World) (state : State) → awake_in world ≡ Ok (2, state) → is_runnable state.layers 3 ≡ false → Machine world event.Go (refused WrongLayer) world
 go_no_third world state e runs =
-    subst (λ (on : Result (ℕ × State) Refusal). ◌≡◌ {A = Told} (refused wrong_layer, world) (go_event world on)) (sym e) (rw runs refl)
+    subst (λ (on : Result (ℕ × State) Refusal). ◌≡◌ {A = Told} (refused WrongLayer, world) (go_event world on)) (sym e) (rw runs refl)
 
-pub go_past : (world : World) (state : State) → awake_in world ≡ Ok (3, state) → Machine world event.Go (refused wrong_phase) world
-go_past world state e = subst (λ (on : Result (ℕ × State) Refusal). ◌≡◌ {A = Told} (refused wrong_phase, world) (go_event world on)) (sym e) refl
+pub go_past : (world : World) (state : State) → awake_in world ≡ Ok (3, state) → Machine world event.Go (refused WrongPhase) world
+go_past world state e = subst (λ (on : Result (ℕ × State) Refusal). ◌≡◌ {A = Told} (refused WrongPhase, world) (go_event world on)) (sym e) refl
 
 -- ---- booting
 
@@ -83,16 +85,16 @@ boot_live world state is live =
     subst (λ (p : Phase). ◌≡◌ {A = Told} (reply.Booted, record world { phase = ratchet 1 }) (boot_event world p world.state)) (sym is)
     (subst (λ (o : Option State). ◌≡◌ {A = Told} (reply.Booted, record world { phase = ratchet 1 }) (boot_event world off o)) (sym live) refl)
 
-pub boot_none : (world : World) → world.phase ≡ off → world.state ≡ None → Machine world event.Boot (refused zeroised) (record world { phase = dead })
+pub boot_none : (world : World) → world.phase ≡ off → world.state ≡ None → Machine world event.Boot (refused Zeroised) (record world { phase = dead })
 boot_none world is none =
-    subst (λ (p : Phase). ◌≡◌ {A = Told} (refused zeroised, record world { phase = dead }) (boot_event world p world.state)) (sym is)
-    (subst (λ (o : Option State). ◌≡◌ {A = Told} (refused zeroised, record world { phase = dead }) (boot_event world off o)) (sym none) refl)
+    subst (λ (p : Phase). ◌≡◌ {A = Told} (refused Zeroised, record world { phase = dead }) (boot_event world p world.state)) (sym is)
+    (subst (λ (o : Option State). ◌≡◌ {A = Told} (refused Zeroised, record world { phase = dead }) (boot_event world off o)) (sym none) refl)
 
-pub boot_dead : (world : World) → world.phase ≡ dead → Machine world event.Boot (refused zeroised) world
-boot_dead world is = subst (λ (p : Phase). ◌≡◌ {A = Told} (refused zeroised, world) (boot_event world p world.state)) (sym is) refl
+pub boot_dead : (world : World) → world.phase ≡ dead → Machine world event.Boot (refused Zeroised) world
+boot_dead world is = subst (λ (p : Phase). ◌≡◌ {A = Told} (refused Zeroised, world) (boot_event world p world.state)) (sym is) refl
 
-pub boot_again : (world : World) (r : ℕ) → world.phase ≡ ratchet r → Machine world event.Boot (refused wrong_phase) world
-boot_again world r is = subst (λ (p : Phase). ◌≡◌ {A = Told} (refused wrong_phase, world) (boot_event world p world.state)) (sym is) refl
+pub boot_again : (world : World) (r : ℕ) → world.phase ≡ ratchet r → Machine world event.Boot (refused WrongPhase) world
+boot_again world r is = subst (λ (p : Phase). ◌≡◌ {A = Told} (refused WrongPhase, world) (boot_event world p world.state)) (sym is) refl
 
 -- ---- the uses of regions
 

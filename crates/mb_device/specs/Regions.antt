@@ -39,6 +39,6 @@ layer_outcome L other state = (reply.NoMemory, state)
 
 -- The use is one step of the machine: to this device where it is answered, and to one whose power is off where power
 -- failed.
-abbrev pub IsUsed : {S : Type 0} → World → Event → Device → Result (S × Reply) Off → Held → Type 0
-IsUsed world event after (Ok told) now = Steps world event told.1 after now
-IsUsed world event after (Err state) now = Steps world event reply.Stopped (device.Off state) now
+abbrev pub IsUseStep : {S : Type 0} → World → Event → Device → Result (S × Reply) Off → Held → Type 0
+IsUseStep world event after (Ok told) now = Steps world event told.1 after now
+IsUseStep world event after (Err state) now = Steps world event reply.Stopped (device.Off state) now

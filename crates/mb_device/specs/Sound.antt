@@ -33,7 +33,7 @@ Fits (device.Three state running) world = IsRunning 3 running world
 
 -- The board holds this world, which a device can have. While power is on, its memory is clean. And what the device
 -- remembers fits.
-pub record IsSound (device : Device) (held : Held) (world : World) : Type 0 where
+pub record IsSoundDevice (device : Device) (held : Held) (world : World) : Type 0 where
   pub shown : Shows held world
   pub valid : Valid world.state
   pub clean : held.phase ≢ off → Clean held.memory.bbram world.state
@@ -42,7 +42,7 @@ pub record IsSound (device : Device) (held : Held) (world : World) : Type 0 wher
 -- so it is for some world
 pub record HasSound (device : Device) (held : Held) : Type 0 where
   pub world : World
-  pub sound : IsSound device held world
+  pub sound : IsSoundDevice device held world
 
 -- ---- one event
 
@@ -72,8 +72,8 @@ pub record CanStep (device : Device) (event : Event) (now : Held) : Type 0 where
 pub record Steps (world : World) (event : Event) (answer : Reply) (device : Device) (now : Held) : Type 0 where
   pub next : World
   pub step : Step world event answer next
-  pub sound : IsSound device now next
+  pub sound : IsSoundDevice device now next
 
 -- so it does from each world that the board can have held
 abbrev pub StepsFrom : Device → Held → Event → (Device × Reply) → Held → Type 0
-StepsFrom before old event told now = (world : World) → IsSound before old world → Steps world event told.1 told.0 now
+StepsFrom before old event told now = (world : World) → IsSoundDevice before old world → Steps world event told.1 told.0 now

@@ -5,7 +5,8 @@ use Rattle.mb_model.specs.declared.event.Event.TheVariants as event
 use Rattle.mb_model.specs.declared.reply.Reply.{Reply}
 use Rattle.mb_model.specs.declared.reply.Reply.TheVariants as reply
 use Rattle.mb_model.specs.Layers.{standing}
-use Rattle.mb_model.specs.Refusals.{Refusal, powered_off, wrong_phase, zeroised, wrong_layer}
+use Rattle.mb_model.specs.declared.reply.Refusal.{Refusal}
+use Rattle.mb_model.specs.declared.reply.Refusal.TheVariants.{PoweredOff, WrongPhase, Zeroised, WrongLayer}
 use Rattle.mb_model.specs.Board.{Memory, Meter}
 use Rattle.mb_model_memory.specs.Answering.{may_have_written}
 use Rattle.mb_device_orders.specs.declared.remembering.Known.{Known}
@@ -16,10 +17,10 @@ use Rattle.mb_device.specs.declared.refusal.Refusal.TheVariants as why
 
 -- the refusal that is told
 abbrev pub refusal_told : Why → Refusal
-refusal_told why.Off = powered_off
-refusal_told why.Phase = wrong_phase
-refusal_told why.Zeroised = zeroised
-refusal_told why.Layer = wrong_layer
+refusal_told why.Off = PoweredOff
+refusal_told why.Phase = WrongPhase
+refusal_told why.Zeroised = Zeroised
+refusal_told why.Layer = WrongLayer
 
 -- what is told of how a device stands that remembers this
 abbrev pub status_known : Known → Reply

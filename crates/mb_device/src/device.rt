@@ -5,7 +5,7 @@ ghost use Rattle.mb_model.specs.Acknowledged.{Shows};
 ghost use Rattle.mb_model.specs.Machine.{World};
 ghost use Rattle.mb_model.specs.Valid.{Valid};
 ghost use Rattle.mb_board.specs.Calls.{held_in};
-ghost use Rattle.mb_device.specs.Sound.{IsSound};
+ghost use Rattle.mb_device.specs.Sound.{IsSoundDevice};
 
 use mb_board::Board;
 use mb_device_orders::Known;
@@ -42,7 +42,7 @@ impl Device {
         requires off { (B.seen b.now).power ≡ false }
         ensures started { (world : World) → Shows (held_in (B.seen b.now)) world
             → Valid world.state
-            → IsSound result (held_in (B.seen b.now)) world }
+            → IsSoundDevice result (held_in (B.seen b.now)) world }
     {
         Device::Off(Off::first(b))
     }

@@ -11,9 +11,9 @@ ghost use Rattle.mb_model_memory.specs.Holding.{IsReady};
 ghost use Rattle.mb_model_memory.specs.Answering.{ComesTo, TellsOfWrites};
 ghost use Rattle.mb_device_orders.specs.Remembering.{Knows, IsRemembered};
 ghost use Rattle.mb_device.specs.declared.device.Device.{Device as Whole};
-ghost use Rattle.mb_device.specs.Sound.{IsSound, HasSound, IsRunning, Fits, StepsFrom};
+ghost use Rattle.mb_device.specs.Sound.{IsSoundDevice, HasSound, IsRunning, Fits, StepsFrom};
 ghost use Rattle.mb_device.specs.Stepping.{stop_told, IfNothingTold};
-ghost use Rattle.mb_device.specs.Regions.{IsLayerEvent, region_named, layer_outcome, IsUsed};
+ghost use Rattle.mb_device.specs.Regions.{IsLayerEvent, region_named, layer_outcome, IsUseStep};
 
 use crate::device::{Device, Running};
 use crate::refusal::Refusal;
@@ -84,9 +84,9 @@ fn use_region<S: Reaches<L>, L: Named, B: Board, C: Ledger>(
     requires event { IsLayerEvent event.now }
     requires named { L.place ≡ region_named event.now }
     requires script { IsScriptEvent event.now }
-    ensures steps { (world : World) (before after : Whole) → IsSound before (held_in (B.seen b.old)) world → IsRunning S.stage running.old world
+    ensures steps { (world : World) (before after : Whole) → IsSoundDevice before (held_in (B.seen b.old)) world → IsRunning S.stage running.old world
         → ((w : World) → IsRunning S.stage running.new w → Fits after w)
-        → IsUsed world event.now after result (held_in (B.seen b.new)) }
+        → IsUseStep world event.now after result (held_in (B.seen b.new)) }
     ensures writes { TellsOfWrites result (B.seen b.old).memory (B.seen b.new).memory (B.seen b.old).meter (B.seen b.new).meter }
     ensures ran { Ran 3 result (B.seen b.old) (B.seen b.new) }
     ensures told { IfOk result (λ used. stop_told used.1 ≡ Ok tt) }

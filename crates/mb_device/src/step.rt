@@ -7,7 +7,7 @@ ghost use Rattle.mb_model.specs.Machine.{World};
 ghost use Rattle.mb_model.specs.Script.{IsScriptEvent};
 ghost use Rattle.mb_board.specs.Calls.{held_in, IsMetered};
 ghost use Rattle.mb_boot.specs.Booting.{IsQuiet};
-ghost use Rattle.mb_device.specs.Sound.{IsSound, HasSound, taken, CanStep, Steps};
+ghost use Rattle.mb_device.specs.Sound.{IsSoundDevice, HasSound, taken, CanStep, Steps};
 ghost use Rattle.mb_device.specs.Stepping.{stop_told, IfNothingTold, IfBoot};
 ghost use Rattle.mb_device.specs.Served.{IsServedFrom};
 
@@ -33,7 +33,7 @@ impl Device {
         requires flash_bytes { IsBytes (B.seen b.old).memory.flash }
         requires bbram_bytes { IsBytes (B.seen b.old).memory.bbram }
         requires can_step { CanStep self event.now (held_in (B.seen b.old)) }
-        ensures steps { (before : Held) (world : World) → IsSound self before world
+        ensures steps { (before : Held) (world : World) → IsSoundDevice self before world
             → held_in (B.seen b.old) ≡ taken event.now before
             → Steps world event.now result.1 result.0 (held_in (B.seen b.new)) }
         ensures untold { IfNothingTold result.1 (B.seen b.old).memory (B.seen b.new).memory (B.seen b.old).meter (B.seen b.new).meter }
@@ -72,7 +72,7 @@ impl Device {
         requires events { All IsScriptEvent (B.seen b.old).ledger.waiting }
         requires standing { (B.seen b.old).ledger.standing ≡ held_in (B.seen b.old) }
         requires sound { HasSound self (held_in (B.seen b.old)) }
-        ensures served { (world : World) → IsSound self (held_in (B.seen b.old)) world
+        ensures served { (world : World) → IsSoundDevice self (held_in (B.seen b.old)) world
             → IsServedFrom world (B.seen b.old).ledger (B.seen b.new).ledger (held_in (B.seen b.new)) }
         ensures standing { (B.seen b.new).ledger.standing ≡ held_in (B.seen b.new) }
         ensures loaded { IsLoaded (B.seen b.new).memory }

@@ -8,19 +8,20 @@ use Rattle.mb_model.specs.declared.state.State.{State}
 use Rattle.mb_model.specs.declared.stored.Root.{Root}
 use Rattle.mb_model.specs.Board.{Memory}
 use Rattle.mb_model.specs.Log.{entries_of, number_of}
-use Rattle.mb_model.specs.OrderStep.{OrderStep, is_obeyed, obeyed}
+use Rattle.mb_model.specs.OrderEffects.{obeyed}
+use Rattle.mb_model.specs.OrderStep.{OrderStep, is_obeyed}
 use Rattle.mb_model.specs.declared.state.Figures.{Figures}
 use Rattle.mb_model_memory.specs.Holding.{Means, IsReady}
 use Rattle.mb_boot.specs.Settling.{IsOnlyRoot}
 use Rattle.mb_device_orders.specs.declared.judging.Judged.{Judged}
 use Rattle.mb_device_orders.specs.declared.remembering.Known.{Known}
 use Rattle.mb_device_orders.specs.Remembering.{Knows, IsRemembered}
-use Rattle.mb_device_orders.specs.Obeying.{IsOrderAnswered, lacks, tells, IsOrderCut}
-use Rattle.mb_device_orders.specs.Planning.{IsPassed, HasPassed, IsCommit, HasCommit}
+use Rattle.mb_device_orders.specs.Obeying.{IsOrderAnswered, answer_lacks, answer_tells, IsOrderCut}
+use Rattle.mb_device_orders.specs.Planning.{PassesAs, HasPassed, IsCommit, HasCommit}
 
 -- ---- what a device that remembers its state has of one
 
-pub has_passed : (known : Known) (memory : Memory) (text draw : List ℕ) (judged : Judged) → IsRemembered known memory → ((state : State) → IsReady memory state → Knows known state → IsPassed state text draw judged)
+pub has_passed : (known : Known) (memory : Memory) (text draw : List ℕ) (judged : Judged) → IsRemembered known memory → ((state : State) → IsReady memory state → Knows known state → PassesAs state text draw judged)
     → IsOnlyRoot memory.bbram judged.root → HasPassed memory judged
 has_passed known memory text draw judged is passes root = record {
   state = is.state;
@@ -32,8 +33,8 @@ has_passed known memory text draw judged is passes root = record {
 }
 
 pub has_commit : (known : Known) (memory : Memory) (text draw : List ℕ) (judged : Judged) (root : Root) (bytes : List ℕ) → IsRemembered known memory
-    → ((state : State) → IsReady memory state → Knows known state → IsPassed state text draw judged)
-    → ((state : State) (text draw : List ℕ) → IsReady memory state → IsPassed state text draw judged → IsCommit memory root bytes state judged.order draw) → HasCommit memory root bytes
+    → ((state : State) → IsReady memory state → Knows known state → PassesAs state text draw judged)
+    → ((state : State) (text draw : List ℕ) → IsReady memory state → PassesAs state text draw judged → IsCommit memory root bytes state judged.order draw) → HasCommit memory root bytes
 has_commit known memory text draw judged root bytes is passes commits = record {
   state = is.state;
   order = judged.order;
@@ -45,8 +46,8 @@ has_commit known memory text draw judged root bytes is passes commits = record {
 
 pub answered_same : (memory : Memory) (state : State) (text draw : List ℕ) (known : Known) (answer : Reply) → IsReady memory state → Knows known state → (answer ≡ reply.NoMemory) ⊎ OrderStep state text draw answer state
     → IsOrderAnswered state text draw known answer memory memory
-answered_same memory state text draw known answer ready knows (inl none) = lacks none refl knows
-answered_same memory state text draw known answer ready knows (inr step) = tells state step ready knows
+answered_same memory state text draw known answer ready knows (inl none) = answer_lacks none refl knows
+answered_same memory state text draw known answer ready knows (inr step) = answer_tells state step ready knows
 
 -- the answer to an order that is obeyed
 done_is : (known : Known) (next : State) → Knows known next → reply.Done known.figures.number known.figures.length ≡ reply.Done (number_of (entries_of next.log)) (length next.log)
@@ -54,7 +55,7 @@ done_is known next knows =
     ap (λ (n : ℕ). reply.Done n known.figures.length) (ap (λ (f : Figures). f.number) knows.figures)
     ∙ ap (λ (n : ℕ). reply.Done (number_of (entries_of next.log)) n) (ap (λ (f : Figures). f.length) knows.figures ∙ length-map next.log (λ (signed : SignedEntry). signed.entry))
 
-obeyed_step : (state : State) (text draw : List ℕ) (judged : Judged) (known : Known) → IsPassed state text draw judged → Knows known (obeyed state judged.order draw)
+obeyed_step : (state : State) (text draw : List ℕ) (judged : Judged) (known : Known) → PassesAs state text draw judged → Knows known (obeyed state judged.order draw)
     → OrderStep state text draw (reply.Done known.figures.number known.figures.length) (obeyed state judged.order draw)
 obeyed_step state text draw judged known passed knows = is_obeyed (record {
   order = judged.order;
@@ -64,12 +65,12 @@ obeyed_step state text draw judged known passed knows = is_obeyed (record {
   answered = done_is known (obeyed state judged.order draw) knows;
 })
 
-pub answered_done : (before after : Memory) (state : State) (text draw : List ℕ) (judged : Judged) (known : Known) → IsPassed state text draw judged → IsReady after (obeyed state judged.order draw) → Knows known (obeyed state judged.order draw)
+pub answered_done : (before after : Memory) (state : State) (text draw : List ℕ) (judged : Judged) (known : Known) → PassesAs state text draw judged → IsReady after (obeyed state judged.order draw) → Knows known (obeyed state judged.order draw)
     → IsOrderAnswered state text draw known (reply.Done known.figures.number known.figures.length) before after
 answered_done before after state text draw judged known passed ready knows =
-    tells (obeyed state judged.order draw) (obeyed_step state text draw judged known passed knows) ready knows
+    answer_tells (obeyed state judged.order draw) (obeyed_step state text draw judged known passed knows) ready knows
 
-pub order_cut : (after : Memory) (state : State) (text draw : List ℕ) (judged : Judged) (known : Known) → IsPassed state text draw judged → Knows known (obeyed state judged.order draw) → Means after state ⊎ Means after (obeyed state judged.order draw)
+pub order_cut : (after : Memory) (state : State) (text draw : List ℕ) (judged : Judged) (known : Known) → PassesAs state text draw judged → Knows known (obeyed state judged.order draw) → Means after state ⊎ Means after (obeyed state judged.order draw)
     → IsOrderCut state text draw after
 order_cut after state text draw judged known passed knows counts = record {
   number = known.figures.number;

@@ -7,7 +7,7 @@ use Rattle.mb_model.specs.Board.{Memory, IsLoaded}
 use Rattle.mb_model.specs.Clean.{root_of}
 use Rattle.mb_model.specs.Flash.{flash_area, BeginsArea, HoldsPublic}
 use Rattle.mb_model.specs.Meaning.{RootIn}
-use Rattle.mb_model.specs.OrderStep.{obeyed}
+use Rattle.mb_model.specs.OrderEffects.{obeyed}
 use Rattle.mb_model.specs.RootFormat.{root_format}
 use Rattle.mb_model_memory.specs.Commits.{new_entries}
 use Rattle.mb_model_lemmas.proofs.ValidSteps.{obeyed_valid}

@@ -6,7 +6,7 @@ use Rattle.mb_format.proofs.Whole.{IsClearWhole-from_exact}
 use Rattle.mb_bytes.specs.Reads.{FailsWholeAt}
 use Rattle.mb_command.specs.declared.end.OrderEnd.{OrderEnd}
 use Rattle.mb_command.specs.declared.end.OrderEnd.TheVariants.{BadText}
-use Rattle.mb_command.specs.Ends.{text_at}
+use Rattle.mb_command.specs.Ends.{order_text_at}
 use Rattle.mb_model.specs.declared.entry.SignedEntry.{SignedEntry}
 use Rattle.mb_model.specs.declared.order.Order.{Order}
 use Rattle.mb_model.specs.declared.region.Region.{Region}
@@ -21,8 +21,9 @@ use Rattle.mb_model.specs.Log.{entries_of, number_of, used, made}
 use Rattle.mb_model.specs.Meaning.{HoldsRegion}
 use Rattle.mb_model.specs.Memory.{current}
 use Rattle.mb_model.specs.OrderFormat.{order_format}
-use Rattle.mb_model.specs.Refusals.{Refusal}
-use Rattle.mb_model.specs.OrderStep.{OrderStep, view_of, spells_none, fails_check}
+use Rattle.mb_model.specs.declared.reply.Refusal.{Refusal}
+use Rattle.mb_model.specs.OrderChecks.{view_of}
+use Rattle.mb_model.specs.OrderStep.{OrderStep, spells_none, fails_check}
 use Rattle.mb_model.proofs.OrderFormatLaws.{order_exact}
 use Rattle.mb_model_lemmas.proofs.LogLemmas.{used-bound, number_of-le-length, made-le-length}
 use Rattle.mb_model_lemmas.proofs.ValidStates.{valid_is_ruled}
@@ -40,9 +41,9 @@ use Rattle.mb_device_orders.specs.Planning.{reply_for, ReadsText}
 
 -- ---- refusals
 
-pub no_order : (text : List ℕ) (end : OrderEnd) (at : ℕ) → end ≡ BadText at → IsBytes text → FailsWholeAt order_format text (text_at end) → (order : Order) → Spells order_format text order → ⊥
+pub no_order : (text : List ℕ) (end : OrderEnd) (at : ℕ) → end ≡ BadText at → IsBytes text → FailsWholeAt order_format text (order_text_at end) → (order : Order) → Spells order_format text order → ⊥
 no_order text end at is are fails order s =
-    let there : FailsWhole order_format text at = subst (λ (e : OrderEnd). FailsWholeAt order_format text (text_at e)) is fails in
+    let there : FailsWhole order_format text at = subst (λ (e : OrderEnd). FailsWholeAt order_format text (order_text_at e)) is fails in
     (IsClearWhole-from_exact order_exact).never_both text order at are s there
 
 refused_for : (state : State) (text draw : List ℕ) (order : Order) (refusal : Option Refusal) (answer : Reply) → Spells order_format text order → FailsFor (view_of state) order refusal → answer ≡ reply_for refusal

@@ -29,7 +29,8 @@ use Rattle.mb_model.specs.Clean.{root_of}
 use Rattle.mb_model.specs.Flash.{public_format, public_of_parts, with_signature, without_signature}
 use Rattle.mb_model.specs.Log.{figures_of, entries_of}
 use Rattle.mb_model.specs.Meaning.{RootIn}
-use Rattle.mb_model.specs.OrderStep.{view_of, signed_by, needs_succession, succeeded, changed, keyed, ready_for, codes_after, carried_out, obeyed}
+use Rattle.mb_model.specs.OrderChecks.{view_of, needs_succession}
+use Rattle.mb_model.specs.OrderEffects.{signed_by, succeeded, changed, keyed, ready_for, codes_after, carried_out, obeyed}
 use Rattle.mb_model.specs.StoredLog.{signed_for, outgoing_of, completed}
 use Rattle.mb_model.specs.Valid.{IsValidState}
 use Rattle.mb_model.specs.Work.{pending_for}
@@ -46,7 +47,7 @@ use Rattle.mb_model_memory.proofs.StorableRecords.{committed_public, public_room
 use Rattle.mb_device_orders.specs.declared.judging.Judged.{Judged}
 use Rattle.mb_device_orders.specs.declared.remembering.Known.{Known}
 use Rattle.mb_device_orders.specs.Remembering.{Knows}
-use Rattle.mb_device_orders.specs.Planning.{with_order, SpellsRecord, CanTake, IsPassed, HasPassed, IsCommit}
+use Rattle.mb_device_orders.specs.Planning.{with_order, SpellsRecord, CanTake, PassesAs, HasPassed, IsCommit}
 use Rattle.mb_device_orders.proofs.Remembered.{rest_in, root_is}
 
 -- ---- records in bytes
@@ -142,11 +143,11 @@ entries_are : (state : State) (order : Order) (draw : List ℕ) (plan : Plan) �
 unfolding plan_by
 entries_are state order draw plan is = ap (λ (p : Plan). p.bodies.entries) is
 
-pub planned_entries : (state : State) (text draw : List ℕ) (judged : Judged) → IsPassed state text draw judged → judged.plan.bodies.entries ≡ new_entries state judged.order draw
+pub planned_entries : (state : State) (text draw : List ℕ) (judged : Judged) → PassesAs state text draw judged → judged.plan.bodies.entries ≡ new_entries state judged.order draw
 planned_entries state text draw judged passed = entries_are state judged.order draw judged.plan passed.plan
 
 -- where the bytes spell the record at rest, this is the one with the order
-pub planned_record : (state : State) (text draw : List ℕ) (judged : Judged) → IsPassed state text draw judged → with_order judged.order.layer judged.order.act judged.plan.bodies.entries (public_of_parts state.codes state.log [])
+pub planned_record : (state : State) (text draw : List ℕ) (judged : Judged) → PassesAs state text draw judged → with_order judged.order.layer judged.order.act judged.plan.bodies.entries (public_of_parts state.codes state.log [])
     ≡ public_of_parts (obeyed state judged.order draw).codes state.log (new_entries state judged.order draw)
 planned_record state text draw judged passed =
     ap (λ (es : List Entry). with_order judged.order.layer judged.order.act es (public_of_parts state.codes state.log [])) (planned_entries state text draw judged passed)
@@ -225,7 +226,7 @@ obeyed_entries : (state : State) (order : Order) (draw : List ℕ) → IsValidSt
 obeyed_entries state order draw valid =
     ap entries_of (sym (committed_log state order draw 0 valid)) ∙ completed_entries (root_for state order draw 0) state.log (new_entries state order draw)
 
-pub knows_next : (memory : Memory) (state : State) (text draw : List ℕ) (judged : Judged) (known next : Known) → IsReady memory state → Knows known state → IsPassed state text draw judged → next.serial ≡ known.serial
+pub knows_next : (memory : Memory) (state : State) (text draw : List ℕ) (judged : Judged) (known next : Known) → IsReady memory state → Knows known state → PassesAs state text draw judged → next.serial ≡ known.serial
     → (added : List Entry) → added ≡ judged.plan.bodies.entries → ((log : List Entry) → length log + length added ≤ 1000 → known.figures ≡ figures_of log → next.figures ≡ figures_of (log ++ added))
     → Knows next (obeyed state judged.order draw)
 knows_next memory state text draw judged known next ready knows passed serial added same counts =
@@ -241,7 +242,7 @@ knows_next memory state text draw judged known next ready knows passed serial ad
 
 -- ---- the commit
 
-pub commit_is : (memory : Memory) (state : State) (text draw : List ℕ) (judged : Judged) (root : Root) (bytes : List ℕ) (ready : IsReady memory state) → IsBytes memory.bbram → IsPassed state text draw judged
+pub commit_is : (memory : Memory) (state : State) (text draw : List ℕ) (judged : Judged) (root : Root) (bytes : List ℕ) (ready : IsReady memory state) → IsBytes memory.bbram → PassesAs state text draw judged
     → ((any : Root) → RootIn memory.bbram any → any ≡ judged.root)
     → ((state : State) (order : Order) (draw : List ℕ) → judged.root ≡ root_of state judged.root.area → judged.plan ≡ plan_by (view_of state) order draw → root ≡ root_for state order draw (1 - judged.root.area))
     → (entries : List Entry) → entries ≡ judged.plan.bodies.entries

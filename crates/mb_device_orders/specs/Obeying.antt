@@ -13,10 +13,10 @@ use Rattle.mb_device_orders.specs.Remembering.{Knows}
 pub data IsOrderAnswered
     (state : State) (text draw : List ℕ) (known : Known) (answer : Reply) (before after : Memory) : Type 0 where
   -- an allocation failed, and nothing has changed
-  lacks : answer ≡ reply.NoMemory → after ≡ before → Knows known state →
+  answer_lacks : answer ≡ reply.NoMemory → after ≡ before → Knows known state →
       IsOrderAnswered state text draw known answer before after
   -- the bytes are answered so, and the memory is ready with the state to which they lead
-  tells : (next : State) → OrderStep state text draw answer next → IsReady after next → Knows known next →
+  answer_tells : (next : State) → OrderStep state text draw answer next → IsReady after next → Knows known next →
       IsOrderAnswered state text draw known answer before after
 
 -- Power failed while an order was obeyed: it counts wholly or not at all.

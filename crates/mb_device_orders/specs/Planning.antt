@@ -12,8 +12,12 @@ use Rattle.mb_model.specs.declared.stored.Root.{Root}
 use Rattle.mb_model.specs.Board.{Memory}
 use Rattle.mb_model.specs.Flash.{public_format, public_of_parts, without_signature}
 use Rattle.mb_model.specs.OrderFormat.{order_format}
-use Rattle.mb_model.specs.Refusals.{Refusal, bad_text, refused}
-use Rattle.mb_model.specs.OrderStep.{OrderStep, view_of, Passes, codes_after, obeyed}
+use Rattle.mb_model.specs.declared.reply.Refusal.{Refusal}
+use Rattle.mb_model.specs.declared.reply.Refusal.TheVariants.{BadText}
+use Rattle.mb_model.specs.Refusals.{refused}
+use Rattle.mb_model.specs.OrderChecks.{view_of, Passes}
+use Rattle.mb_model.specs.OrderEffects.{codes_after, obeyed}
+use Rattle.mb_model.specs.OrderStep.{OrderStep}
 use Rattle.mb_orders.specs.Judging.{plan_by}
 use Rattle.mb_model_memory.specs.Commits.{root_for, new_entries, at_rest}
 use Rattle.mb_model_memory.specs.Holding.{Holds, IsReady}
@@ -31,17 +35,17 @@ reply_for None = reply.NoMemory
 abbrev pub ReadsText : List ℕ → Result Order Reply → Type 0
 ReadsText text (Ok order) = Spells order_format text order
 ReadsText text (Err answer) =
-    (answer ≡ reply.NoMemory) ⊎ ((answer ≡ refused bad_text) × ((order : Order) → Spells order_format text order → ⊥))
+    (answer ≡ reply.NoMemory) ⊎ ((answer ≡ refused BadText) × ((order : Order) → Spells order_format text order → ⊥))
 
 -- the bytes spell an order that passes in this state, and this is what it comes to
-pub record IsPassed (state : State) (text draw : List ℕ) (judged : Judged) : Type 0 where
+pub record PassesAs (state : State) (text draw : List ℕ) (judged : Judged) : Type 0 where
   pub spelled : Spells order_format text judged.order
   pub passes : Passes (view_of state) judged.order
   pub plan : judged.plan ≡ plan_by (view_of state) judged.order draw
 
 -- what judging bytes in this state comes to: an order that passes, or an answer by which nothing changes
 abbrev pub JudgesText : State → List ℕ → List ℕ → Result Judged Reply → Type 0
-JudgesText state text draw (Ok judged) = IsPassed state text draw judged
+JudgesText state text draw (Ok judged) = PassesAs state text draw judged
 JudgesText state text draw (Err answer) = (answer ≡ reply.NoMemory) ⊎ OrderStep state text draw answer state
 
 -- some bytes spelled this order, which passes in a state with which the memory is ready
@@ -50,7 +54,7 @@ pub record HasPassed (memory : Memory) (judged : Judged) : Type 0 where
   pub text : List ℕ
   pub draw : List ℕ
   pub ready : IsReady memory state
-  pub passed : IsPassed state text draw judged
+  pub passed : PassesAs state text draw judged
   pub root : IsOnlyRoot memory.bbram judged.root
 
 -- ---- planning

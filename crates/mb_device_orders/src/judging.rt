@@ -6,7 +6,7 @@ ghost use Rattle.mb_model.specs.declared.region.Region.{Region};
 ghost use Rattle.mb_model.specs.declared.state.State.{State};
 ghost use Rattle.mb_model.specs.Memory.{current};
 ghost use Rattle.mb_model.specs.Meaning.{HoldsRegion};
-ghost use Rattle.mb_model.specs.OrderStep.{view_of};
+ghost use Rattle.mb_model.specs.OrderChecks.{view_of};
 ghost use Rattle.mb_orders.specs.Judging.{refusal_of};
 ghost use Rattle.mb_board.specs.Calls.{IsUp};
 ghost use Rattle.mb_region.specs.Regions.{HoldsSomeRegion};

@@ -8,14 +8,15 @@ ghost use Rattle.mb_model.specs.declared.state.State.{State};
 ghost use Rattle.mb_model.specs.declared.stored.Public.{Public};
 ghost use Rattle.mb_model.specs.Clean.{root_of};
 ghost use Rattle.mb_model.specs.Flash.{public_format, without_signature};
-ghost use Rattle.mb_model.specs.OrderStep.{view_of, code_after, codes_after, obeyed};
+ghost use Rattle.mb_model.specs.OrderChecks.{view_of};
+ghost use Rattle.mb_model.specs.OrderEffects.{code_after, codes_after, obeyed};
 ghost use Rattle.mb_model.specs.Log.{figures_of};
 ghost use Rattle.mb_board.specs.Calls.{IsPowered};
 ghost use Rattle.mb_orders.specs.Judging.{plan_by};
 ghost use Rattle.mb_model_memory.specs.Commits.{root_for};
 ghost use Rattle.mb_model_memory.specs.Holding.{IsReady};
 ghost use Rattle.mb_device_orders.specs.Remembering.{Knows};
-ghost use Rattle.mb_device_orders.specs.Planning.{with_order, SpellsRecord, CanTake, IsPassed, HasPassed, IsCommit};
+ghost use Rattle.mb_device_orders.specs.Planning.{with_order, SpellsRecord, CanTake, PassesAs, HasPassed, IsCommit};
 
 use crate::judging::Judged;
 use crate::remembering::Known;
@@ -182,10 +183,10 @@ pub fn plan_commit<B: Board>(
     requires bytes { IsBytes (B.seen b.now).memory.bbram }
     requires passed { HasPassed (B.seen b.now).memory judged }
     ensures commit { (state : State) (text : List ℕ) (draw : List ℕ) → IsReady (B.seen b.now).memory state
-        → IsPassed state text draw judged
+        → PassesAs state text draw judged
         → IfOk result (λ planned. IsCommit (B.seen b.now).memory planned.root room.new.public.items state judged.order draw) }
     ensures knows { (state : State) (text : List ℕ) (draw : List ℕ) → IsReady (B.seen b.now).memory state
-        → Knows known.now state → IsPassed state text draw judged
+        → Knows known.now state → PassesAs state text draw judged
         → IfOk result (λ planned. Knows planned.known (obeyed state judged.order draw)) }
 {
     let Judged { order, plan, root } = judged;

@@ -11,8 +11,9 @@ use Rattle.mb_model.specs.Board.{Memory}
 use Rattle.mb_model.specs.Layers.{Runnable}
 use Rattle.mb_model.specs.LayerEvents.{Outcome, has_name, value_reply, put_event, get_event, drop_event}
 use Rattle.mb_model.specs.Log.{entries_of, number_of}
-use Rattle.mb_model.specs.OrderStep.{region_of, with_region}
-use Rattle.mb_model.specs.Refusals.{region_full, refused}
+use Rattle.mb_model.specs.Regions.{region_of, with_region}
+use Rattle.mb_model.specs.declared.reply.Refusal.TheVariants.{RegionFull}
+use Rattle.mb_model.specs.Refusals.{refused}
 use Rattle.mb_model.specs.RegionFormat.{secret_format}
 use Rattle.mb_model.specs.Script.{IsName, FitsMessage}
 use Rattle.mb_model.specs.Valid.{IsValidState}
@@ -29,7 +30,7 @@ use Rattle.mb_format.specs.Combinators.{limit}
 use Rattle.std.specs.Int.{w32}
 use Rattle.mb_device_regions.specs.declared.end.NotPut.{NotPut}
 use Rattle.mb_device_regions.specs.declared.end.NotPut.TheVariants.{Full, NoMemory}
-use Rattle.mb_device_regions.specs.Secrets.{IsKeptRegion, is_full_for, put, IsPut, IsDropped, PutOf, PutsInto, secret_of}
+use Rattle.mb_device_regions.specs.Secrets.{IsKeptRegion, is_full_for, region_with_secret, IsPut, IsDropped, PutOf, PutsInto, secret_of}
 
 -- an answer is to the outcome that an event has
 pub answered_as : {outcome known : Outcome} {answer : Reply} {before after : Memory} → outcome ≡ known → IsAnswered known answer before after → IsAnswered outcome answer before after
@@ -44,7 +45,7 @@ pub put_record : (name value : List ℕ) (number : ℕ) (old new : Region) → I
 put_record name value number old new is_name fits small kept is =
     let secret : Secret = secret_of name value number in
     let own : secret_format.Allowed secret = secret_allowed secret is_name.some is_name.most (named name is_name) fits small in
-    subst HasRegionRecord (sym is.is) (region_record (put secret old) (put_region secret old own kept.storable is.room))
+    subst HasRegionRecord (sym is.is) (region_record (region_with_secret secret old) (put_region secret old own kept.storable is.room))
 
 pub drop_record : (name : List ℕ) (old new : Region) → IsKeptRegion old → IsDropped old name new → HasRegionRecord new
 drop_record name old new kept is = subst HasRegionRecord (sym is.is) (region_record (without_secret name old) (drop_region name old kept.storable))
@@ -68,31 +69,31 @@ dropped_as old new read name same is = subst (λ (n : List ℕ). IsDropped old n
 
 -- ---- a put
 
-put_full : (L : ℕ) (name value : List ℕ) (state : State) → is_full_for name (region_of state L) ≡ true → put_event L name value state ≡ (refused region_full, state)
+put_full : (L : ℕ) (name value : List ℕ) (state : State) → is_full_for name (region_of state L) ≡ true → put_event L name value state ≡ (refused RegionFull, state)
 unfolding put_event
 put_full L name value state full =
-    ap (λ (b : Bool). let o : Outcome = if b then (refused region_full, state) else (reply.Kept, with_region state L (put (secret_of name value (number_of (entries_of state.log))) (region_of state L))) in o) full
+    ap (λ (b : Bool). let o : Outcome = if b then (refused RegionFull, state) else (reply.Kept, with_region state L (region_with_secret (secret_of name value (number_of (entries_of state.log))) (region_of state L))) in o) full
 
 put_kept : (L : ℕ) (name value : List ℕ) (state : State) → is_full_for name (region_of state L) ≡ false
-    → put_event L name value state ≡ (reply.Kept, with_region state L (put (secret_of name value (number_of (entries_of state.log))) (region_of state L)))
+    → put_event L name value state ≡ (reply.Kept, with_region state L (region_with_secret (secret_of name value (number_of (entries_of state.log))) (region_of state L)))
 unfolding put_event
 put_kept L name value state room =
-    ap (λ (b : Bool). let o : Outcome = if b then (refused region_full, state) else (reply.Kept, with_region state L (put (secret_of name value (number_of (entries_of state.log))) (region_of state L))) in o) room
+    ap (λ (b : Bool). let o : Outcome = if b then (refused RegionFull, state) else (reply.Kept, with_region state L (region_with_secret (secret_of name value (number_of (entries_of state.log))) (region_of state L))) in o) room
 
 put_outcome : (L : ℕ) (name value : List ℕ) (number : ℕ) (state : State) (new : Region) → IsPut (region_of state L) (secret_of name value number) new → number ≡ number_of (entries_of state.log)
     → put_event L name value state ≡ (reply.Kept, with_region state L new)
 put_outcome L name value number state new is same =
     let next : Region → Outcome = λ (r : Region). (reply.Kept, with_region state L r) in
     put_kept L name value state is.room
-    ∙ ap (λ (n : ℕ). next (put (secret_of name value n) (region_of state L))) (sym same) ∙ ap next (sym is.is)
+    ∙ ap (λ (n : ℕ). next (region_with_secret (secret_of name value n) (region_of state L))) (sym same) ∙ ap next (sym is.is)
 
 put_valid : (L : ℕ) (name value : List ℕ) (number : ℕ) (state : State) (new : Region) → IsPut (region_of state L) (secret_of name value number) new → number ≡ number_of (entries_of state.log)
     → Runnable state.layers L → IsValidState state → IsValidState (with_region state L new)
 put_valid L name value number state new is same runs valid =
-    let now : Region = put (secret_of name value (number_of (entries_of state.log))) (region_of state L) in
+    let now : Region = region_with_secret (secret_of name value (number_of (entries_of state.log))) (region_of state L) in
     let next : IsValidState (with_region state L now) =
     valid_with state L now valid (λ upper. valid_over_put (entries_of state.log) state.layers L name value (region_of state L) (valid_is_ruled state valid) upper runs (region_is_valid state L upper valid)) in
-    subst (λ (r : Region). IsValidState (with_region state L r)) (ap (λ (n : ℕ). put (secret_of name value n) (region_of state L)) (sym same) ∙ sym is.is) next
+    subst (λ (r : Region). IsValidState (with_region state L r)) (ap (λ (n : ℕ). region_with_secret (secret_of name value n) (region_of state L)) (sym same) ∙ sym is.is) next
 
 pub put_refused : (L : ℕ) (name value : List ℕ) (state : State) (memory : Memory) → is_full_for name (region_of state L) ≡ true → IsReady memory state
     → IsAnswered (put_event L name value state) (reply.Refused 5) memory memory

@@ -12,7 +12,7 @@ use Rattle.mb_model.specs.Layers.{is_upper}
 use Rattle.mb_model.specs.Log.{entries_of}
 use Rattle.mb_model.specs.Meaning.{Contents, HoldsRegion, fate_of_two, fate_of_three}
 use Rattle.mb_model.specs.Memory.{IsBlank, current, other}
-use Rattle.mb_model.specs.OrderStep.{region_of, with_region}
+use Rattle.mb_model.specs.Regions.{region_of, with_region}
 use Rattle.mb_model.specs.Valid.{IsValidRegion, IsValidState}
 use Rattle.mb_model_lemmas.proofs.MeaningLemmas.{one_root_in}
 use Rattle.mb_model_lemmas.proofs.ValidStates.{region_is_valid}

@@ -13,13 +13,14 @@ use Rattle.mb_model.specs.Layers.{Runnable}
 use Rattle.mb_model.specs.LayerEvents.{Outcome, has_number, statement_of, sign_with, sign_event}
 use Rattle.mb_model.specs.Log.{entries_of, number_of}
 use Rattle.mb_model.specs.Memory.{IsBlank, current, other}
-use Rattle.mb_model.specs.OrderStep.{region_of, with_region}
-use Rattle.mb_model.specs.Refusals.{no_such_key, key_spent, refused}
+use Rattle.mb_model.specs.Regions.{region_of, with_region}
+use Rattle.mb_model.specs.declared.reply.Refusal.TheVariants.{NoSuchKey, KeySpent}
+use Rattle.mb_model.specs.Refusals.{refused}
 use Rattle.mb_model.specs.Valid.{IsValidState}
 use Rattle.mb_model_lemmas.proofs.FateLemmas.{keys_increase}
 use Rattle.mb_model_lemmas.proofs.ValidStates.{valid_is_ruled, region_is_valid, valid_with}
 use Rattle.mb_model_lemmas.proofs.ValidRegions.{valid_over_use}
-use Rattle.mb_layout.specs.Edits.{used, IsSpent}
+use Rattle.mb_layout.specs.Edits.{region_with_use, IsSpent}
 use Rattle.mb_model_memory.specs.Holding.{Means, IsReady, HasReady}
 use Rattle.mb_model_memory.specs.Answering.{IsAnswered, tells, IsCutShort}
 use Rattle.mb_model_memory.proofs.StorableSteps.{found_number}
@@ -27,7 +28,7 @@ use Rattle.mb_slot.specs.Slots.{IsSameBut}
 use Rattle.mb_region.specs.Regions.{IsRegionSlot}
 use Rattle.mb_region.proofs.Meant.{edited_or_kept}
 use Rattle.mb_outbound.specs.Binding.{HoldsOrdered, HasUse, IsBound, StoresUse, KeepsOrStoresUse}
-use Rattle.mb_device_regions.specs.Statements.{stated}
+use Rattle.mb_device_regions.specs.Statements.{signed_statement_bytes}
 use Rattle.mb_device_regions.proofs.Outcomes.{answered_as, cut_as}
 use Rattle.mb_device_regions.proofs.Readied.{region_held, region_valid, ready_edited, no_fate}
 
@@ -41,19 +42,19 @@ held_ordered L memory which has = record {
 
 -- ---- refusals
 
-no_key : (L number : ℕ) (message : List ℕ) (state : State) → find (has_number number) (region_of state L).keys ≡ None → sign_event L number message state ≡ (refused no_such_key, state)
+no_key : (L number : ℕ) (message : List ℕ) (state : State) → find (has_number number) (region_of state L).keys ≡ None → sign_event L number message state ≡ (refused NoSuchKey, state)
 unfolding sign_event
 no_key L number message state none = ap (λ (found : Option RegionKey). sign_with L found message state) none
 
 abbrev after_use : ℕ → RegionKey → List ℕ → State → Outcome
 after_use L key message state =
-    (reply.Signed key.number key.uses (statement_format.spelling (statement_of state key message)), with_region state L (used key.number (region_of state L)))
+    (reply.Signed key.number key.uses (statement_format.spelling (statement_of state key message)), with_region state L (region_with_use key.number (region_of state L)))
 
-spent_key : (L number : ℕ) (message : List ℕ) (state : State) → IsSpent (region_of state L) number → sign_event L number message state ≡ (refused key_spent, state)
+spent_key : (L number : ℕ) (message : List ℕ) (state : State) → IsSpent (region_of state L) number → sign_event L number message state ≡ (refused KeySpent, state)
 unfolding sign_event
 spent_key L number message state is =
     ap (λ (found : Option RegionKey). sign_with L found message state) is.found
-    ∙ ap (λ (b : Bool). let o : Outcome = if b then (refused key_spent, state) else after_use L is.key message state in o) (le-leb 32 is.key.uses is.spent)
+    ∙ ap (λ (b : Bool). let o : Outcome = if b then (refused KeySpent, state) else after_use L is.key message state in o) (le-leb 32 is.key.uses is.spent)
 
 -- nothing was written
 still_ready : (before after : Memory) (state : State) → after ≡ before → IsReady before state → IsReady after state
@@ -80,22 +81,22 @@ used_outcome : (L number : ℕ) (message : List ℕ) (state : State) (key : Regi
 unfolding sign_event
 used_outcome L number message state key has =
     ap (λ (found : Option RegionKey). sign_with L found message state) has.found
-    ∙ ap (λ (b : Bool). let o : Outcome = if b then (refused key_spent, state) else after_use L key message state in o) (left_one key.uses has.left)
+    ∙ ap (λ (b : Bool). let o : Outcome = if b then (refused KeySpent, state) else after_use L key message state in o) (left_one key.uses has.left)
 
 -- the bytes are those of the statement
 stated_as : (state : State) (key : RegionKey) (number right : ℕ) (seed : KeySeed) (serial : List ℕ) (configuration : ℕ) (message : List ℕ) → key.number ≡ number → right ≡ key.uses → seed ≡ key.seed
-    → serial ≡ state.serial → configuration ≡ number_of (entries_of state.log) → stated seed right number serial configuration message ≡ statement_format.spelling (statement_of state key message)
+    → serial ≡ state.serial → configuration ≡ number_of (entries_of state.log) → signed_statement_bytes seed right number serial configuration message ≡ statement_format.spelling (statement_of state key message)
 unfolding statement_of
 stated_as state key number right seed serial configuration message own index same serial_is number_is =
-    ap (λ (n : ℕ). stated seed right n serial configuration message) (sym own)
-    ∙ ap (λ (n : ℕ). stated seed n key.number serial configuration message) index
-    ∙ ap (λ (k : KeySeed). stated k key.uses key.number serial configuration message) same
-    ∙ ap (λ (xs : List ℕ). stated key.seed key.uses key.number xs configuration message) serial_is
-    ∙ ap (λ (n : ℕ). stated key.seed key.uses key.number state.serial n message) number_is
+    ap (λ (n : ℕ). signed_statement_bytes seed right n serial configuration message) (sym own)
+    ∙ ap (λ (n : ℕ). signed_statement_bytes seed n key.number serial configuration message) index
+    ∙ ap (λ (k : KeySeed). signed_statement_bytes k key.uses key.number serial configuration message) same
+    ∙ ap (λ (xs : List ℕ). signed_statement_bytes key.seed key.uses key.number xs configuration message) serial_is
+    ∙ ap (λ (n : ℕ). signed_statement_bytes key.seed key.uses key.number state.serial n message) number_is
 
-use_valid : (L number : ℕ) (state : State) → Runnable state.layers L → IsValidState state → IsValidState (with_region state L (used number (region_of state L)))
+use_valid : (L number : ℕ) (state : State) → Runnable state.layers L → IsValidState state → IsValidState (with_region state L (region_with_use number (region_of state L)))
 use_valid L number state runs valid =
-    valid_with state L (used number (region_of state L)) valid (λ upper. valid_over_use (entries_of state.log) state.layers L number (region_of state L) upper runs (region_is_valid state L upper valid))
+    valid_with state L (region_with_use number (region_of state L)) valid (λ upper. valid_over_use (entries_of state.log) state.layers L number (region_of state L) upper runs (region_is_valid state L upper valid))
 
 -- what a device is given of itself to sign
 pub record IsOwn (state : State) (serial : List ℕ) (number : ℕ) : Type 0 where
@@ -112,9 +113,9 @@ pub record UsesKey (L number : ℕ) (before after : Memory) : Type 0 where
   pub rest : IsSameBut L before.bbram after.bbram
 
 use_ready : (L number : ℕ) (before after : Memory) (state : State) → IsRegionSlot L → UsesKey L number before after → Runnable state.layers L → IsReady before state
-    → IsReady after (with_region state L (used number (region_of state L)))
+    → IsReady after (with_region state L (region_with_use number (region_of state L)))
 use_ready L number before after state which uses runs ready =
-    ready_edited L (used number) before after state which uses.bytes uses.loaded ready uses.sized uses.stores.stored uses.blank uses.rest (use_valid L number state runs ready.valid)
+    ready_edited L (region_with_use number) before after state which uses.bytes uses.loaded ready uses.sized uses.stores.stored uses.blank uses.rest (use_valid L number state runs ready.valid)
 
 reply_as : (number own right uses : ℕ) (bytes spelled : List ℕ) → own ≡ number → right ≡ uses → bytes ≡ spelled → reply.Signed number right bytes ≡ reply.Signed own uses spelled
 reply_as number own right uses bytes spelled same index is =
@@ -122,17 +123,17 @@ reply_as number own right uses bytes spelled same index is =
 
 pub signed_told : (L number right index : ℕ) (seed : KeySeed) (serial : List ℕ) (configuration : ℕ) (copied message bytes : List ℕ) (state : State) (before after : Memory) → IsRegionSlot L
     → IsBound (region_of state L) number right seed → UsesKey L number before after → IsOwn state serial configuration → copied ≡ message → index ≡ right
-    → bytes ≡ stated seed right number serial configuration copied → Runnable state.layers L → IsReady before state
+    → bytes ≡ signed_statement_bytes seed right number serial configuration copied → Runnable state.layers L → IsReady before state
     → IsAnswered (sign_event L number message state) (reply.Signed number index bytes) before after
 signed_told L number right index seed serial configuration copied message bytes state before after which bound uses own same index_is is runs ready =
     let key : RegionKey = bound.key in
     let own_number : key.number ≡ number = found_number number (region_of state L).keys key bound.has_use.found in
     let spelled : bytes ≡ statement_format.spelling (statement_of state key message) =
-    is ∙ ap (λ (xs : List ℕ). stated seed right number serial configuration xs) same
+    is ∙ ap (λ (xs : List ℕ). signed_statement_bytes seed right number serial configuration xs) same
     ∙ stated_as state key number right seed serial configuration message own_number bound.index bound.seed own.serial_is own.number_is in
     answered_as (used_outcome L number message state key bound.has_use)
     (tells (reply_as number key.number index key.uses bytes _ own_number (index_is ∙ bound.index) spelled)
-    (subst (λ (n : ℕ). IsReady after (with_region state L (used n (region_of state L)))) (sym own_number) (use_ready L number before after state which uses runs ready)))
+    (subst (λ (n : ℕ). IsReady after (with_region state L (region_with_use n (region_of state L)))) (sym own_number) (use_ready L number before after state which uses runs ready)))
 
 -- ---- a power loss
 
@@ -142,6 +143,6 @@ signed_cut L number message state before after key which has are sized either re
     let own_number : key.number ≡ number = found_number number (region_of state L).keys key has.found in
     cut_as (used_outcome L number message state key has) (record {
       writes = refl;
-      counts = subst (λ (n : ℕ). Means after state ⊎ Means after (with_region state L (used n (region_of state L)))) (sym own_number)
-          (edited_or_kept L (used number) before after which sized (no_fate L before state are ready) either state ready.means);
+      counts = subst (λ (n : ℕ). Means after state ⊎ Means after (with_region state L (region_with_use n (region_of state L)))) (sym own_number)
+          (edited_or_kept L (region_with_use number) before after which sized (no_fate L before state are ready) either state ready.means);
     })

@@ -20,13 +20,13 @@ abbrev pub is_full_for : List ℕ → Region → Bool
 is_full_for name region = not (list_any (has_name name) region.secrets) && nat_le 16 (length region.secrets)
 
 -- the region with the secret in place of the one that has its name, or after the others
-abbrev pub put : Secret → Region → Region
-put secret region = record region { secrets = with_secret secret region.secrets }
+abbrev pub region_with_secret : Secret → Region → Region
+region_with_secret secret region = record region { secrets = with_secret secret region.secrets }
 
 -- there was room for the secret, and it was put
 pub record IsPut (old : Region) (secret : Secret) (new : Region) : Type 0 where
   pub room : is_full_for secret.name old ≡ false
-  pub is : new ≡ put secret old
+  pub is : new ≡ region_with_secret secret old
 
 -- what putting a secret comes to
 abbrev pub PutOf : Region → Secret → Result (Unit {0}) NotPut → Region → Type 0

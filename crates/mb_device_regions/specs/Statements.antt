@@ -8,15 +8,15 @@ use Rattle.mb_model.specs.SignedTexts.{statement_text}
 use Rattle.mb_device_regions.specs.declared.signing.Prepared.{Prepared}
 
 -- the message is copied, and there is room for the longest statement
-pub record IsPrepared (message : List ℕ) (prepared : Prepared) : Type 0 where
+pub record IsPreparedMessage (message : List ℕ) (prepared : Prepared) : Type 0 where
   pub copied : prepared.message ≡ message
   pub empty : prepared.bytes.items ≡ []
   pub none : vec_len prepared.bytes ≡ 0
   pub room : 2481 ≤ vec_capacity prepared.bytes
 
 -- the bytes of the statement that this key signs at the index, in the device with this serial
-abbrev pub stated : KeySeed → ℕ → ℕ → List ℕ → ℕ → List ℕ → List ℕ
-stated seed index key serial number message = statement_format.spelling (record {
+abbrev pub signed_statement_bytes : KeySeed → ℕ → ℕ → List ℕ → ℕ → List ℕ → List ℕ
+signed_statement_bytes seed index key serial number message = statement_format.spelling (record {
   number = number;
   message = message;
   signature = signature_of seed index (statement_text serial key number message);

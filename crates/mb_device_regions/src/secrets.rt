@@ -6,7 +6,7 @@ ghost use Rattle.mb_model.specs.declared.state.State.{State};
 ghost use Rattle.mb_model.specs.Layers.{Runnable};
 ghost use Rattle.mb_model.specs.LayerEvents.{put_event, get_event, drop_event};
 ghost use Rattle.mb_model.specs.Log.{entries_of, number_of};
-ghost use Rattle.mb_model.specs.OrderStep.{region_of};
+ghost use Rattle.mb_model.specs.Regions.{region_of};
 ghost use Rattle.mb_model.specs.Script.{IsName, FitsMessage};
 ghost use Rattle.mb_board.specs.Calls.{IsUp, Ran};
 ghost use Rattle.mb_model_memory.specs.Holding.{IsReady, HasReady};

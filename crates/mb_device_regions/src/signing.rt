@@ -10,7 +10,7 @@ ghost use Rattle.mb_board.specs.Calls.{Ran};
 ghost use Rattle.mb_model_memory.specs.Holding.{IsReady};
 ghost use Rattle.mb_model_memory.specs.Answering.{ComesTo, TellsOfWrites};
 ghost use Rattle.mb_device_regions.specs.Uses.{CanAnswer};
-ghost use Rattle.mb_device_regions.specs.Statements.{IsPrepared, stated};
+ghost use Rattle.mb_device_regions.specs.Statements.{IsPreparedMessage, signed_statement_bytes};
 
 use mb_board::Board;
 use mb_cert::{Statement, write_statement};
@@ -44,7 +44,7 @@ struct Prepared {
 
 /// Takes all memory for a statement of the message.
 fn prepare(alloc: Global, message: &Bytes) -> Result<Prepared, NoMemory>
-    ensures { IfOk result (λ prepared. IsPrepared message.now prepared) }
+    ensures { IfOk result (λ prepared. IsPreparedMessage message.now prepared) }
 {
     let bytes = Vec::with_capacity(alloc, STATEMENT_LENGTH)?;
     Ok(Prepared {
@@ -64,8 +64,8 @@ fn state<Lg: Ledger>(
     hashes: &mut HashCount<Lg>,
 ) -> Bytes
     requires short { length prepared.message ≤ 128 }
-    requires prepared { IsPrepared prepared.message prepared }
-    ensures statement { result ≡ stated seed.now right key serial.now number prepared.message }
+    requires prepared { IsPreparedMessage prepared.message prepared }
+    ensures statement { result ≡ signed_statement_bytes seed.now right key serial.now number prepared.message }
     ensures cost { hashes.new ≤ hashes.old + 35473 }
 {
     let mut signature = [0; 2348];

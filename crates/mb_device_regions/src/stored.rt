@@ -5,7 +5,7 @@ ghost use Rattle.mb_format.specs.Format.{IsBytes};
 ghost use Rattle.mb_model.specs.declared.region.Region.{Region};
 ghost use Rattle.mb_model.specs.declared.state.State.{State};
 ghost use Rattle.mb_model.specs.Memory.{IsBlank, other};
-ghost use Rattle.mb_model.specs.OrderStep.{region_of, with_region};
+ghost use Rattle.mb_model.specs.Regions.{region_of, with_region};
 ghost use Rattle.mb_model.specs.Valid.{IsValidState};
 ghost use Rattle.mb_board.specs.Calls.{IsUp, Ran};
 ghost use Rattle.mb_model_memory.specs.Holding.{Means, IsReady, HasReady};

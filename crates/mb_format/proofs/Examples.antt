@@ -6,7 +6,7 @@ use Rattle.std.specs.List.{AllByRecursion}
 use Rattle.mb_format.specs.Format.{IsBytes, IsOffset, SpelledAt, IsShort, FailsWhole}
 use Rattle.mb_format.specs.Combinators.{items}
 use Rattle.mb_format.specs.Reading.{IsExact, IsLocal, raw_at, number_at}
-use Rattle.mb_format.specs.Examples.{Choice, Word, Text, Tag, word_tag, text_tag, tag_rows, tag_byte, tag_of, word_in, text_in, body_of, choice, sample, sample_into, sample_parts, short_bytes, short_sample, mistagged_bytes}
+use Rattle.mb_format.specs.Examples.{Choice, Word, Text, Tag, word_tag, text_tag, tag_rows, tag_byte, tag_of, word_in, text_in, choice_body, choice, sample, sample_into, sample_parts, short_bytes, short_sample, mistagged_bytes}
 use Rattle.mb_format.proofs.Rules.{exactly}
 use Rattle.mb_format.proofs.Fields.{IsTable, wide8, wide16, wide32, number_exact}
 use Rattle.mb_format.proofs.Bounds as bounds
@@ -21,11 +21,11 @@ word_only b n e = grind arith
 text_only : (b : Choice) (xs : List ℕ) → text_in b ≡ Some xs → Text xs ≡ b
 text_only b xs e = grind arith
 
-body_exact : (t : Tag) → IsExact (body_of t)
+body_exact : (t : Tag) → IsExact (choice_body t)
 body_exact word_tag = search (exactly, word_only) depth 20
 body_exact text_tag = search (exactly, text_only) depth 20
 
-tagged : (t : Tag) (b : Choice) → (body_of t).Allowed b → tag_of b ≡ t
+tagged : (t : Tag) (b : Choice) → (choice_body t).Allowed b → tag_of b ≡ t
 tagged t b h = grind arith
 
 pub choice_exact : IsExact choice
@@ -38,7 +38,7 @@ sample_exact = search (exactly, choice_exact) depth 20
 
 -- ---- how long, and how far
 
-body_short : (t : Tag) → IsShort (body_of t) 33
+body_short : (t : Tag) → IsShort (choice_body t) 33
 body_short word_tag = bounds.short_more (bounds.as_value_short Word word_in (bounds.number_short wide32)) (lit≤ tt)
 body_short text_tag = bounds.as_value_short Text text_in (bounds.sized_short 0 32 wide8)
 
@@ -52,7 +52,7 @@ sample_short = bounds.as_record_short sample_into sample_parts
     (bounds.pair_short (bounds.number_short wide16) (bounds.pair_short choice_short
     (bounds.pair_short (bounds.counted_short 0 3 wide8 (bounds.number_short wide16)) (bounds.sized_short 0 300 wide16))))
 
-body_local : (t : Tag) → IsLocal (body_of t) 33
+body_local : (t : Tag) → IsLocal (choice_body t) 33
 body_local word_tag = bounds.local_more (bounds.as_value_local Word word_in (bounds.number_local w32)) (lit≤ tt)
 body_local text_tag = bounds.as_value_local Text text_in (bounds.sized_local 0 32 wide8 (lit< tt))
 

@@ -31,12 +31,12 @@ abbrev pub text_in : Choice → Option (List ℕ)
 text_in (Word n) = None
 text_in (Text bytes) = Some bytes
 
-abbrev pub body_of : Tag → Format Choice
-body_of word_tag = as_value (number w32) Word word_in
-body_of text_tag = as_value (sized (between w8 0 32)) Text text_in
+abbrev pub choice_body : Tag → Format Choice
+choice_body word_tag = as_value (number w32) Word word_in
+choice_body text_tag = as_value (sized (between w8 0 32)) Text text_in
 
 unfoldable pub choice : Format Choice
-choice = led (table w8 tag_rows tag_byte) tag_of body_of
+choice = led (table w8 tag_rows tag_byte) tag_of choice_body
 
 pub record Sample : Type 0 where
   pub size : ℕ

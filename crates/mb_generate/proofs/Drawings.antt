@@ -11,7 +11,7 @@ use Rattle.rand_chacha.specs.ChaCha.{ChaCha, next_word, of_seed}
 use Rattle.mb_model.specs.Workload.{generated, DrawnBytes, DrawnSized, DrawnCode, DrawnRound, RoundDraws, Draws}
 use Rattle.std.specs.Prelude.{All}
 use Rattle.std.proofs.lemmas.List.Elements.{All-nil, All-cons}
-use Rattle.mb_generate.specs.Orders.{RoundFits, CodesFit}
+use Rattle.mb_generate.specs.Orders.{RoundFits, DrawsFit}
 use Rattle.mb_generate.specs.Drawing.{Gives, IsDrawn, DrawnEach, DrawnValues, DrawnRounds, AreDraws}
 
 -- ---- words
@@ -214,7 +214,7 @@ each_drawn Drawn Is one (words ∷ lists) (x ∷ xs) each = All-cons Is x xs (on
 drawn_fits : (words : List ℕ) (round : RoundDraws) → DrawnRound words round → RoundFits round
 drawn_fits words round is = record { code = code_short is.for_code round.code is.code; values = omega (arith, is.four) }
 
-pub draws_fit : (number rounds : ℕ) (draws : Draws) → AreDraws number rounds draws → CodesFit draws
+pub draws_fit : (number rounds : ℕ) (draws : Draws) → AreDraws number rounds draws → DrawsFit draws
 draws_fit number rounds draws are = record {
   one = code_short are.drawn.for_code_one draws.code_one are.drawn.code_one;
   two = code_short are.drawn.for_code_two draws.code_two are.drawn.code_two;

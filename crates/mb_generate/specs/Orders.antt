@@ -58,7 +58,7 @@ pub record RoundFits (round : RoundDraws) : Type 0 where
   pub values : length round.values ≤ 4
 
 -- so it is for all that is drawn
-pub record CodesFit (draws : Draws) : Type 0 where
+pub record DrawsFit (draws : Draws) : Type 0 where
   pub one : length draws.code_one ≤ 32768
   pub two : length draws.code_two ≤ 32768
   pub three : length draws.code_three ≤ 32768

@@ -2,14 +2,14 @@
 use Rattle.std.specs.Prelude.{◌*◌, ◌≤◌, List, length}
 use Rattle.mb_model.specs.declared.event.Event.{Event}
 use Rattle.mb_model.specs.declared.tools.Workload.{Workload}
-use Rattle.mb_model.specs.Outside.{file_limit}
-use Rattle.mb_model.specs.Lines.{Reads}
+use Rattle.mb_model.specs.declared.limits.TheConstants.{FILE_LIMIT}
+use Rattle.mb_model.specs.Lines.{ReadsLines}
 use Rattle.mb_model.specs.Script.{IsScript, commands_in}
 
 -- The script is one, its noise has 32 bytes for each of its commands, and neither is longer than an input may be.
 pub record CanBeServed (made : Workload) : Type 0 where
   pub undrawn : List Event
-  pub script : Reads IsScript made.script undrawn
+  pub script : ReadsLines IsScript made.script undrawn
   pub noise : 32 * commands_in undrawn ≤ length made.noise
-  pub script_fits : length made.script ≤ file_limit
-  pub noise_fits : length made.noise ≤ file_limit
+  pub script_fits : length made.script ≤ FILE_LIMIT
+  pub noise_fits : length made.noise ≤ FILE_LIMIT

@@ -13,7 +13,7 @@ ghost use Rattle.mb_model.specs.OrderLines.{order_line};
 ghost use Rattle.mb_model.specs.SignedOrders.{used_once, signed_order};
 ghost use Rattle.mb_model.specs.Workload.{first_plans, put_line, workload_lines};
 ghost use Rattle.mb_generate.specs.Drawing.{round_of, draws_of};
-ghost use Rattle.mb_generate.specs.Orders.{AreOfficers, HaveUsed, CodesFit};
+ghost use Rattle.mb_generate.specs.Orders.{AreOfficers, HaveUsed, DrawsFit};
 ghost use Rattle.mb_generate.specs.Scripts.{puts_text, first_orders_text, sign_line, AppendsRound, SignsRound};
 
 use crate::draws::{Drawn, RoundDrawn};
@@ -33,7 +33,7 @@ pub(crate) fn script_of<L: Ledger>(
     hashes: &mut HashCount<L>,
 ) -> Result<Vec<u8>, NoMemory>
     requires rounds { length drawn.now.rounds ≤ 24 }
-    requires fit { CodesFit (draws_of drawn.now) }
+    requires fit { DrawsFit (draws_of drawn.now) }
     requires officers { AreOfficers (draws_of drawn.now) [] officers.old }
     ensures text { IfOk result (λ script. script.items ≡ text_of (workload_lines (draws_of drawn.now))) }
     ensures cost { hashes.new ≤ hashes.old + 246163 + 106419 * length drawn.now.rounds }
@@ -58,7 +58,7 @@ fn put_first_orders<L: Ledger>(
     script: &mut Vec<u8>,
     hashes: &mut HashCount<L>,
 ) -> Result<(), NoMemory>
-    requires fit { CodesFit (draws_of drawn.now) }
+    requires fit { DrawsFit (draws_of drawn.now) }
     requires officers { AreOfficers (draws_of drawn.now) [] officers.old }
     ensures text { OnOk result (script.new.items ≡ script.old.items ++ first_orders_text (draws_of drawn.now)) }
     ensures officers { OnOk result (AreOfficers (draws_of drawn.now) (first_plans (draws_of drawn.now)) officers.new) }

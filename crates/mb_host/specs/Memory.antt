@@ -6,7 +6,7 @@ use Rattle.mb_model.specs.declared.items.File.{File}
 use Rattle.mb_model.specs.Outside.{Outside, raised}
 
 -- where two files have one name the first counts
-pub record Shown : Type 0 where
+pub record HostShown : Type 0 where
   pub files : List File
   pub printed : List ℕ
   -- the numbers of the calls that fail, and the number of the next call
@@ -20,7 +20,7 @@ pub record Shown : Type 0 where
   pub prints : ℕ
 
 -- a host with these files, nothing printed and no call yet, whose calls of these numbers fail
-abbrev pub host_of : List File → List ℕ → Shown
+abbrev pub host_of : List File → List ℕ → HostShown
 host_of files failing = record {
   files = files;
   printed = [];
@@ -35,11 +35,11 @@ host_of files failing = record {
 }
 
 -- the next call is one of those that fail
-abbrev pub next_fails : Shown → Bool
+abbrev pub next_fails : HostShown → Bool
 next_fails host = list_any (λ number. number == host.calls) host.failing
 
 -- Reads, writes and prints are numbered together: a call takes the next number, and the list stays.
-pub record IsNumbered (before after : Shown) : Type 0 where
+pub record IsNumbered (before after : HostShown) : Type 0 where
   pub next : after.calls ≡ raised before.calls
   pub list : after.failing ≡ before.failing
 
@@ -52,7 +52,7 @@ abbrev pub content_of : List File → List ℕ → Option (List ℕ)
 content_of files name = option_map (λ file. file.bytes) (find (is_named name) files)
 
 -- a host in memory tells all that it shows
-abbrev pub told : Shown → Outside
+abbrev pub told : HostShown → Outside
 told shown = record {
   files = Some (content_of shown.files);
   printed = Some shown.printed;

@@ -19,8 +19,8 @@ untold reads writes = record {
 }
 
 -- one fault more
-abbrev pub one_more : Faults → Faults
-one_more faults = record { count = raised faults.count }
+abbrev pub one_fault_more : Faults → Faults
+one_fault_more faults = record { count = raised faults.count }
 
 -- what is known of what was opened
 abbrev pub known : {S E : Type 0} → (S → Option (List ℕ)) → Result S E → Option (List ℕ)

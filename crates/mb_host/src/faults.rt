@@ -5,7 +5,7 @@
 
 ghost use Rattle.std.specs.Prelude.{◌≡◌, ℕ, ◌<◌, ◌≤◌, List, Option, length, take, IfSome, MatchOption, MatchResult};
 ghost use Rattle.std.specs.Io.KnownBytes.{Appends, Consumes, IsAtEnd, Keeps};
-ghost use Rattle.mb_host.specs.Real.{one_more};
+ghost use Rattle.mb_host.specs.Real.{one_fault_more};
 
 use crate::count::raised;
 use std::io;
@@ -27,7 +27,7 @@ impl Faults {
 
     // Counts what a call of the system gave, where that is an error.
     pub(crate) fn note<T>(&mut self, given: &io::Result<T>)
-        ensures { MatchResult given.now (λ _. self.new ≡ self.old) (λ _. self.new ≡ one_more self.old) }
+        ensures { MatchResult given.now (λ _. self.new ≡ self.old) (λ _. self.new ≡ one_fault_more self.old) }
     {
         if given.is_err() {
             self.count = raised(self.count);
@@ -43,7 +43,7 @@ pub(crate) trait Source {
     /// Fills the front of `piece`, and says how many bytes it gave; `None` after an error, which is counted. A piece
     /// that is not empty gets none at the end alone.
     fn give(&mut self, faults: &mut Faults, piece: &mut [u8]) -> Option<usize>
-        ensures counted { MatchOption result (faults.new ≡ one_more faults.old) (λ _. faults.new ≡ faults.old) }
+        ensures counted { MatchOption result (faults.new ≡ one_fault_more faults.old) (λ _. faults.new ≡ faults.old) }
         ensures bound { IfSome result (λ count. count ≤ length piece.new) }
         ensures bytes { MatchOption result
             (Keeps (left self.old) (left self.new))
@@ -69,7 +69,7 @@ pub(crate) trait Sink {
     /// Appends the first of `bytes`, at least one of them, and says how many it took; `None` after an error, which is
     /// counted. To take nothing is an error.
     fn take(&mut self, faults: &mut Faults, bytes: &[u8]) -> Option<usize>
-        ensures counted { MatchOption result (faults.new ≡ one_more faults.old) (λ _. faults.new ≡ faults.old) }
+        ensures counted { MatchOption result (faults.new ≡ one_fault_more faults.old) (λ _. faults.new ≡ faults.old) }
         ensures bound { IfSome result (λ count. count ≤ length bytes.now) }
         ensures some { IfSome result (λ count. 0 < count) }
         ensures bytes { MatchOption result

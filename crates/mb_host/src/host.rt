@@ -2,7 +2,7 @@
 
 ghost use Rattle.std.specs.Prelude.{◌≡◌, ◌≤◌, IfOk, OnOk, OnErr, IsErrOf, vec_len};
 ghost use Rattle.mb_model.specs.Outside.{Outside, HoldsFile, HoldsTooMuch, read_once, FailsToRead};
-ghost use Rattle.mb_model.specs.Outside.{Writes, FailsToWrite, Prints, FailsToPrint};
+ghost use Rattle.mb_model.specs.Outside.{WritesFile, FailsToWrite, Prints, FailsToPrint};
 
 use std::alloc::Global;
 
@@ -41,7 +41,7 @@ pub trait Host {
     /// Makes these bytes the whole file of this name, and leaves the others. After an error, which counts as a fault, it
     /// is not known what the file holds.
     fn write(&mut self, name: &str, bytes: &[u8]) -> Result<(), HostFailed>
-        ensures done { OnOk result (Writes name.now bytes.now (outside self.old) (outside self.new)) }
+        ensures done { OnOk result (WritesFile name.now bytes.now (outside self.old) (outside self.new)) }
         ensures failed { OnErr result (FailsToWrite name.now (outside self.old) (outside self.new)) };
 
     /// Prints these bytes. At an error, which counts as a fault, some of the first of them were printed.

@@ -3,7 +3,7 @@
 ghost use Rattle.std.specs.Prelude.{◌≡◌, ◌≤◌, Some, true, false, IfOk, OnOk, OnErr, IsErr, IsErrOf, vec_len, option_copied};
 ghost use Rattle.std.specs.List.{position};
 ghost use Rattle.mb_model.specs.Outside.{HoldsFile, HoldsTooMuch, read_once, FailsToRead};
-ghost use Rattle.mb_model.specs.Outside.{Writes, FailsToWrite, Prints, FailsToPrint, raised as raised_count};
+ghost use Rattle.mb_model.specs.Outside.{WritesFile, FailsToWrite, Prints, FailsToPrint, raised as raised_count};
 ghost use Rattle.mb_host.specs.Memory.{IsNumbered, Stores, content_of, host_of, is_named, next_fails, told};
 
 use crate::count::raised;
@@ -29,9 +29,9 @@ pub struct MemoryHost {
 }
 
 impl Model for MemoryHost {
-    ghost use Rattle.mb_host.specs.Memory.{Shown};
+    ghost use Rattle.mb_host.specs.Memory.{HostShown};
 
-    ghost Value = { Shown };
+    ghost Value = { HostShown };
 
     ghost view = { λ host. record {
       files = host.files.items;
@@ -169,7 +169,7 @@ impl Host for MemoryHost {
     fn write(&mut self, name: &str, bytes: &[u8]) -> Result<(), HostFailed>
         ensures listed { next_fails self.old ≡ true → IsErr result }
         ensures numbered { IsNumbered self.old self.new }
-        ensures done { OnOk result (Writes name.now bytes.now (told self.old) (told self.new)) }
+        ensures done { OnOk result (WritesFile name.now bytes.now (told self.old) (told self.new)) }
         ensures failed { OnErr result (FailsToWrite name.now (told self.old) (told self.new)) }
     {
         self.writes = raised(self.writes);

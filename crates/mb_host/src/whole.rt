@@ -3,7 +3,7 @@
 ghost use Rattle.std.specs.Prelude.{◌≡◌, ℕ, ◌<◌, ◌≤◌, IfOk, IfSome, IsErr, IsErrOf, OnErr, OnOk, length, take, vec_len};
 ghost use Rattle.std.specs.Io.KnownBytes.{Appends, Consumes, IsAtEnd};
 ghost use Rattle.mb_model.specs.Outside.{raised as raised_count};
-ghost use Rattle.mb_host.specs.Real.{one_more, known};
+ghost use Rattle.mb_host.specs.Real.{one_fault_more, known};
 
 use crate::count::raised;
 use crate::faults::{Faults, Sink, Source};
@@ -46,7 +46,7 @@ impl ReadCounts {
         ensures too_long { IsErrOf result HostEnd.TooLong → IfOk opened (λ source. IfSome (S.left source) (λ all.
             4194304 < length all)) }
         ensures failed { IsErrOf result HostEnd.Failed →
-            self.new ≡ record { calls = raised_count self.old.calls; faults = one_more self.old.faults } }
+            self.new ≡ record { calls = raised_count self.old.calls; faults = one_fault_more self.old.faults } }
         ensures counted { (IsErrOf result HostEnd.Failed → ⊥) →
             self.new ≡ record { calls = raised_count self.old.calls; faults = self.old.faults } }
     {
@@ -89,7 +89,7 @@ impl WriteCounts {
             Appends (known S.held opened.old) (known S.held opened.new) (take n bytes.now)) }
         ensures done { OnOk result (self.new ≡ record self.old { files = raised_count self.old.files }) }
         ensures failed { OnErr result
-            (self.new ≡ record self.old { files = raised_count self.old.files; faults = one_more self.old.faults }) }
+            (self.new ≡ record self.old { files = raised_count self.old.files; faults = one_fault_more self.old.faults }) }
     {
         self.files = raised(self.files);
         self.faults.note(opened);
@@ -105,7 +105,7 @@ impl WriteCounts {
         ensures part { OnErr result ((n : ℕ) × Appends (S.held output.old) (S.held output.new) (take n bytes.now)) }
         ensures done { OnOk result (self.new ≡ record self.old { prints = raised_count self.old.prints }) }
         ensures failed { OnErr result
-            (self.new ≡ record self.old { prints = raised_count self.old.prints; faults = one_more self.old.faults }) }
+            (self.new ≡ record self.old { prints = raised_count self.old.prints; faults = one_fault_more self.old.faults }) }
     {
         self.prints = raised(self.prints);
         write_whole(output, &mut self.faults, bytes)
@@ -122,7 +122,7 @@ fn read_whole<S: Source>(
     ensures end { OnOk result (IsAtEnd (S.left source.new)) }
     ensures short { IfOk result (λ bytes. vec_len bytes ≤ 4194304) }
     ensures too_long { IsErrOf result HostEnd.TooLong → IfSome (S.left source.old) (λ all. 4194304 < length all) }
-    ensures failed { IsErrOf result HostEnd.Failed → faults.new ≡ one_more faults.old }
+    ensures failed { IsErrOf result HostEnd.Failed → faults.new ≡ one_fault_more faults.old }
     ensures fine { (IsErrOf result HostEnd.Failed → ⊥) → faults.new ≡ faults.old }
 {
     let mut piece = [0; PIECE_LENGTH];
@@ -144,7 +144,7 @@ fn write_whole<S: Sink>(sink: &mut S, faults: &mut Faults, bytes: &[u8]) -> Resu
     ensures whole { OnOk result (Appends (S.held sink.old) (S.held sink.new) bytes.now) }
     ensures part { OnErr result ((n : ℕ) × Appends (S.held sink.old) (S.held sink.new) (take n bytes.now)) }
     ensures done { OnOk result (faults.new ≡ faults.old) }
-    ensures failed { OnErr result (faults.new ≡ one_more faults.old) }
+    ensures failed { OnErr result (faults.new ≡ one_fault_more faults.old) }
 {
     let mut rest = bytes;
     while !rest.is_empty() {

@@ -10,18 +10,18 @@ use Rattle.mb_model_lemmas.specs.AliveLaws.{goes_on, made_by}
 use Rattle.mb_model_lemmas.proofs.AliveLemmas.{alive_keys-push}
 use Rattle.mb_model_lemmas.proofs.ValidRegions.{filter-map}
 use Rattle.mb_image.specs.declared.alive.MadeKey.{MadeKey}
-use Rattle.mb_image.specs.Keys.{as_listed, listed}
+use Rattle.mb_image.specs.Keys.{as_listed, listed_keys}
 
 -- the keys that are left
 pub listed-filter : (L : ℕ) (entry : Entry) (keys kept : List MadeKey) → kept ≡ filter (λ made. goes_on L entry (as_listed made)) keys
-    → listed kept ≡ filter (goes_on L entry) (listed keys)
-listed-filter L entry keys kept is = ap listed is ∙ sym (filter-map (goes_on L entry) as_listed keys)
+    → listed_keys kept ≡ filter (goes_on L entry) (listed_keys keys)
+listed-filter L entry keys kept is = ap listed_keys is ∙ sym (filter-map (goes_on L entry) as_listed keys)
 
 -- the keys after one more entry
 pub alive_more : (log : List SignedEntry) (i L : ℕ) (d : SignedEntry) (before after : List MadeKey) → i < length log
-    → listed before ≡ alive_keys (entries_of (take i log)) L
-    → listed after ≡ filter (goes_on L (get_or log i d).entry) (listed before) ++ made_by L (get_or log i d).entry
-    → listed after ≡ alive_keys (entries_of (take (i + 1) log)) L
+    → listed_keys before ≡ alive_keys (entries_of (take i log)) L
+    → listed_keys after ≡ filter (goes_on L (get_or log i d).entry) (listed_keys before) ++ made_by L (get_or log i d).entry
+    → listed_keys after ≡ alive_keys (entries_of (take (i + 1) log)) L
 alive_more log i L d before after within was is =
     let entry : Entry = (get_or log i d).entry in
     is

@@ -9,7 +9,7 @@ use Rattle.mb_model.specs.declared.state.State.{State}
 use Rattle.mb_model.specs.declared.stored.Outgoing.{Outgoing}
 use Rattle.mb_model.specs.EntryFormat.{entry_format}
 use Rattle.mb_model.specs.Log.{entries_of, layers_of}
-use Rattle.mb_model.specs.OrderStep.{signed_by}
+use Rattle.mb_model.specs.OrderEffects.{signed_by}
 use Rattle.mb_model.specs.StoredLog.{HasIndex, signed_for, outgoing_of, completed}
 use Rattle.mb_model.specs.Memory.{IsImage}
 use Rattle.mb_model.specs.Meaning.{Contents, HoldsContents, meant, is_live, IsWellFormed}

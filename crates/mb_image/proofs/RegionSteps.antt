@@ -12,7 +12,7 @@ use Rattle.mb_model.specs.declared.region.Secret.{Secret}
 use Rattle.mb_model.specs.Lives as lives
 use Rattle.mb_model.specs.Valid.{as_made}
 use Rattle.mb_image.specs.declared.alive.MadeKey.{MadeKey}
-use Rattle.mb_image.specs.Keys.{as_listed, listed}
+use Rattle.mb_image.specs.Keys.{as_listed, listed_keys}
 use Rattle.mb_image.specs.Losses.{loss}
 
 -- ---- names
@@ -99,12 +99,12 @@ last_whole log i L last end was =
 
 -- keys that are equal at each place
 pub key_at : (keys : List RegionKey) (alive : List MadeKey) (at : ℕ) (d : RegionKey) (e : MadeKey) → at < length keys → at < length alive
-    → map as_made keys ≡ listed alive → as_made (get_or keys at d) ≡ as_listed (get_or alive at e)
+    → map as_made keys ≡ listed_keys alive → as_made (get_or keys at d) ≡ as_listed (get_or alive at e)
 key_at keys alive at d e within within' same =
     sym (get_or-map as_made keys at d (as_made d) within) ∙ ap (λ (ms : List lives.MadeKey). get_or ms at (as_made d)) same ∙ get_or-map as_listed alive at e (as_made d) within'
 
 -- where one key differs, not all are the same
 pub one_differs : (keys : List RegionKey) (alive : List MadeKey) (at : ℕ) (d : RegionKey) (e : MadeKey) (result : Bool) → at < length keys → length keys ≡ length alive
-    → (IsTrue result ↔ (as_made (get_or keys at d) ≡ as_listed (get_or alive at e))) → result ≡ false → map as_made keys ≡ listed alive → ⊥
+    → (IsTrue result ↔ (as_made (get_or keys at d) ≡ as_listed (get_or alive at e))) → result ≡ false → map as_made keys ≡ listed_keys alive → ⊥
 one_differs keys alive at d e result within long same off are =
     true≢false (sym (same.1 (key_at keys alive at d e within (omega (arith, within, long)) are)) ∙ off)

@@ -16,7 +16,7 @@ use Rattle.mb_model.specs.Regions.{empty_region, AdmittedSince}
 use Rattle.mb_model.specs.Signing.{public_of}
 use Rattle.mb_model.specs.Valid.{as_made, EachFollows, AreNamed, IsValidRegion, IsValidState}
 use Rattle.mb_image.specs.declared.alive.MadeKey.{MadeKey}
-use Rattle.mb_image.specs.Keys.{listed}
+use Rattle.mb_image.specs.Keys.{listed_keys}
 use Rattle.mb_image.specs.Losses.{loss}
 use Rattle.mb_image.proofs.Admission.{admitted_after, lost_before, alive_keys_are_admitted}
 use Rattle.mb_image.proofs.RegionSteps.{Differ}
@@ -56,7 +56,7 @@ AreKept log number L secrets =
 pub valid_where : (log : List Entry) (layers : Layers) (number L : ℕ) (region : Region) (alive : List MadeKey) (result : Bool)
     → IsTrue (is_upper L) → RuledLog log → number ≡ number_of log
     → ((layer_of layers L).reliable ≡ false → region ≡ empty_region) → length region.keys ≤ 8 → AreKept log number L region.secrets
-    → listed alive ≡ alive_keys log L → (IsTrue result ↔ (map as_made region.keys ≡ listed alive)) → (IsTrue result ↔ IsValidRegion log layers L region)
+    → listed_keys alive ≡ alive_keys log L → (IsTrue result ↔ (map as_made region.keys ≡ listed_keys alive)) → (IsTrue result ↔ IsValidRegion log layers L region)
 valid_where log layers number L region alive result upper ruled number_is may few kept alive_is same = (
   (λ on.
       let keys : map as_made region.keys ≡ alive_keys log L = same.0 on ∙ alive_is in

@@ -8,7 +8,7 @@ use Rattle.mb_model.specs.Flash.{with_signature, without_signature}
 use Rattle.mb_model.specs.StoredLog.{AreCounted}
 
 -- the stored entries are these signed ones, and after them these unsigned ones, as many as the pending work says
-pub record IsSplit
+pub record IsSplitLog
     (entries : List PublicEntry) (pending : Option Pending) (signed : List SignedEntry) (unsigned : List Entry)
     : Type 0 where
   pub whole : entries ≡ map with_signature signed ++ map without_signature unsigned

@@ -7,5 +7,5 @@ use Rattle.mb_image.specs.declared.alive.MadeKey.{MadeKey}
 abbrev pub as_listed : MadeKey → lives.MadeKey
 as_listed made = record { number = made.number; kind = made.kind; key = made.key }
 
-abbrev pub listed : List MadeKey → List lives.MadeKey
-listed keys = map as_listed keys
+abbrev pub listed_keys : List MadeKey → List lives.MadeKey
+listed_keys keys = map as_listed keys

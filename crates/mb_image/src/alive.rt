@@ -4,7 +4,7 @@ ghost use Rattle.std.specs.Prelude.{◌≡◌, ◌++◌, IfOk, OnOk, filter, opt
 ghost use Rattle.mb_model.specs.Lives.{ends, alive_keys};
 ghost use Rattle.mb_model.specs.Log.{entries_of};
 ghost use Rattle.mb_model_lemmas.specs.AliveLaws.{goes_on, made_by};
-ghost use Rattle.mb_image.specs.Keys.{listed};
+ghost use Rattle.mb_image.specs.Keys.{listed_keys};
 
 use mb_log::ends;
 use mb_model::{Entry, KeyKind, NoMemory, PublicKey, SignedEntry};
@@ -24,7 +24,7 @@ pub(crate) fn alive_keys(
     log: &[SignedEntry],
     layer: u8,
 ) -> Result<Vec<MadeKey>, NoMemory>
-    ensures { IfOk result (λ keys. listed keys.items ≡ alive_keys (entries_of log.now) layer) }
+    ensures { IfOk result (λ keys. listed_keys keys.items ≡ alive_keys (entries_of log.now) layer) }
 {
     let mut alive = Vec::new(alloc);
     for signed in log {
@@ -35,7 +35,7 @@ pub(crate) fn alive_keys(
 
 /// Drops the keys that an entry ends, and adds the one that it makes.
 fn pass(alive: &mut Vec<MadeKey>, layer: u8, entry: &Entry) -> Result<(), NoMemory>
-    ensures { OnOk result (listed alive.new.items ≡ filter (goes_on layer entry.now) (listed alive.old.items) ++ made_by layer entry.now) }
+    ensures { OnOk result (listed_keys alive.new.items ≡ filter (goes_on layer entry.now) (listed_keys alive.old.items) ++ made_by layer entry.now) }
 {
     drop_ended(alive, layer, entry);
     if let Some(made) = made_by(layer, entry) {
@@ -46,14 +46,14 @@ fn pass(alive: &mut Vec<MadeKey>, layer: u8, entry: &Entry) -> Result<(), NoMemo
 
 /// Drops the keys that an entry ends.
 fn drop_ended(alive: &mut Vec<MadeKey>, layer: u8, entry: &Entry)
-    ensures { listed alive.new.items ≡ filter (goes_on layer entry.now) (listed alive.old.items) }
+    ensures { listed_keys alive.new.items ≡ filter (goes_on layer entry.now) (listed_keys alive.old.items) }
 {
     alive.retain(|made| !ends(made.kind, layer, entry));
 }
 
 /// The key that an entry makes in the layer's region.
 fn made_by(layer: u8, entry: &Entry) -> Option<MadeKey>
-    ensures { listed (option_to_list result) ≡ made_by layer entry.now }
+    ensures { listed_keys (option_to_list result) ≡ made_by layer entry.now }
 {
     match *entry {
         Entry::NewKey {

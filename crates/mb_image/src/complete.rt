@@ -2,7 +2,7 @@
 
 ghost use Rattle.std.specs.Prelude.{◌≡◌, ℕ, ◌+◌, ◌*◌, ◌≤◌, ◌++◌, length, map, All, Some, IfOk, OnOk, IfSome};
 ghost use Rattle.mb_model.specs.EntryFormat.{entry_format};
-ghost use Rattle.mb_model.specs.OrderStep.{signed_by};
+ghost use Rattle.mb_model.specs.OrderEffects.{signed_by};
 ghost use Rattle.mb_model.specs.StoredLog.{signed_for, outgoing_of, completed};
 ghost use Rattle.mb_signer.specs.Tree.{IsTreeOf};
 
@@ -115,7 +115,7 @@ fn push_signed<L: Ledger>(
 }
 
 /// The entry signed by the key, whose tree is given, at the index.
-#[tactic(auto, unfolding(mb_model::specs::OrderStep::signed_by, mb_model::specs::SignedTexts::entry_text))]
+#[tactic(auto, unfolding(mb_model::specs::OrderEffects::signed_by, mb_model::specs::SignedTexts::entry_text))]
 fn signed_by<L: Ledger>(
     alloc: Global,
     key: &KeySeed,

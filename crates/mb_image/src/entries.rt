@@ -5,7 +5,7 @@ ghost use Rattle.mb_model.specs.declared.entry.Entry.{Entry};
 ghost use Rattle.mb_model.specs.declared.entry.SignedEntry.{SignedEntry};
 ghost use Rattle.mb_model.specs.Flash.{with_signature, without_signature};
 ghost use Rattle.mb_model.specs.StoredLog.{unsigned_by, CanSign};
-ghost use Rattle.mb_image.specs.Entries.{IsSplit};
+ghost use Rattle.mb_image.specs.Entries.{IsSplitLog};
 
 use mb_model::{Entries, Items, Log, NoMemory, Pending, PublicEntry, SignedEntry};
 use std::alloc::Global;
@@ -24,7 +24,7 @@ pub(crate) fn split_entries(
     entries: &[PublicEntry],
     pending: &Option<Pending>,
 ) -> Result<Option<Parted>, NoMemory>
-    ensures { IfOk result (λ parted. MatchOption parted ((signed : List SignedEntry) (unsigned : List Entry) → IsSplit entries.now pending.now signed unsigned → ⊥) (λ p. IsSplit entries.now pending.now p.signed p.unsigned)) }
+    ensures { IfOk result (λ parted. MatchOption parted ((signed : List SignedEntry) (unsigned : List Entry) → IsSplitLog entries.now pending.now signed unsigned → ⊥) (λ p. IsSplitLog entries.now pending.now p.signed p.unsigned)) }
 {
     let last = unsigned_by(pending);
     if !can_sign(pending) || entries.len() < last {

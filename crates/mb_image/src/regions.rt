@@ -5,7 +5,7 @@ ghost use Rattle.mb_model.specs.Layers.{layer_of, is_upper};
 ghost use Rattle.mb_model.specs.Log.{entries_of, number_of, RuledLog};
 ghost use Rattle.mb_model.specs.Regions.{empty_region, AdmittedSince};
 ghost use Rattle.mb_model.specs.Valid.{as_made, IsValidRegion};
-ghost use Rattle.mb_image.specs.Keys.{as_listed, listed};
+ghost use Rattle.mb_image.specs.Keys.{as_listed, listed_keys};
 ghost use Rattle.mb_image.specs.Losses.{loss};
 
 use crate::alive::{MadeKey, alive_keys};
@@ -120,7 +120,7 @@ fn loss(layer: u8, entry: &Entry) -> u32
 
 /// Whether the keys are those that are alive, in order.
 fn are_alive<L: Ledger>(keys: &[RegionKey], alive: &[MadeKey], hashes: &mut HashCount<L>) -> bool
-    ensures alive { IsTrue result ↔ (map as_made keys.now ≡ listed alive.now) }
+    ensures alive { IsTrue result ↔ (map as_made keys.now ≡ listed_keys alive.now) }
     ensures cost { hashes.new ≤ hashes.old + 34399 * length keys.now }
 {
     if keys.len() != alive.len() {

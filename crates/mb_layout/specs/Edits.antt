@@ -28,15 +28,15 @@ IsFated fate old new =
     (region : Region) → SpellsRegion old region → CanBeStored (fated fate region) → SpellsRegion new (fated fate region)
 
 -- the region with one more use of the key of this number
-abbrev pub used : ℕ → Region → Region
-used number region = record region { keys = with_use number region.keys }
+abbrev pub region_with_use : ℕ → Region → Region
+region_with_use number region = record region { keys = with_use number region.keys }
 
 -- The first key of this number has an index left, and the bytes afterwards stand for the region with one more use of
 -- it, if that can be stored.
 pub record IsUsed (region : Region) (number : ℕ) (key : RegionKey) (new : List ℕ) : Type 0 where
   pub found : find (has_number number) region.keys ≡ Some key
   pub left : key.uses < 32
-  pub stored : CanBeStored (used number region) → SpellsRegion new (used number region)
+  pub stored : CanBeStored (region_with_use number region) → SpellsRegion new (region_with_use number region)
 
 -- no index of the key is left
 pub record IsSpent (region : Region) (number : ℕ) : Type 0 where

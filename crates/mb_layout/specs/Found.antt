@@ -2,6 +2,6 @@
 use Rattle.std.specs.Prelude.{Option, Some, None}
 
 -- the value has the property; where there is none, no value has it
-abbrev pub Finds : {A X : Type 0} → (X → A) → (A → Type 0) → Option X → Type 0
-Finds view Is (Some x) = Is (view x)
-Finds {A} view Is None = (a : A) → Is a → ⊥
+abbrev pub FindsBy : {A X : Type 0} → (X → A) → (A → Type 0) → Option X → Type 0
+FindsBy view Is (Some x) = Is (view x)
+FindsBy {A} view Is None = (a : A) → Is a → ⊥

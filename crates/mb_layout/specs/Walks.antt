@@ -11,6 +11,6 @@ pub record Passed {A : Type 0} (f : Format (List A)) (old : Cursor) (n : ℕ) (n
   pub number : length items ≡ n
   pub reads : ReadsOk f old items new
 
-abbrev pub Passes : {A : Type 0} → Format (List A) → Cursor → Result ℕ BadRecord → Cursor → Type 0
-Passes f old (Ok n) new = Passed f old n new
-Passes f old (Err bad) new = ReadsErr f old bad.at new
+abbrev pub PassesOver : {A : Type 0} → Format (List A) → Cursor → Result ℕ BadRecord → Cursor → Type 0
+PassesOver f old (Ok n) new = Passed f old n new
+PassesOver f old (Err bad) new = ReadsErr f old bad.at new

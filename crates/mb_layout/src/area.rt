@@ -5,7 +5,7 @@ ghost use Rattle.mb_model.specs.RootFormat.{root_format};
 ghost use Rattle.mb_model.specs.Memory.{IsBlank, HoldsInArea, HoldsRecord};
 ghost use Rattle.mb_model.specs.Meaning.{HoldsRegion};
 ghost use Rattle.mb_model.specs.Flash.{public_format, BeginsArea, BeginsWithRecord};
-ghost use Rattle.mb_layout.specs.Found.{Finds};
+ghost use Rattle.mb_layout.specs.Found.{FindsBy};
 
 use crate::end::LayoutEnd;
 use crate::public::public_of_bytes;
@@ -30,7 +30,7 @@ fn is_blank(bytes: &[u8]) -> bool
 /// The bytes that an area of the battery-backed memory holds, after two bytes for their number and before zeros. `None`
 /// where they are more than 4,094 or more than the area has, or a byte after them is not zero.
 pub fn record_in(area: &[u8]) -> Option<&[u8]>
-    ensures { Finds (λ bytes. bytes.now) (HoldsInArea area.now) result }
+    ensures { FindsBy (λ bytes. bytes.now) (HoldsInArea area.now) result }
 {
     let (number, rest) = area.split_first_chunk::<2>()?;
     let length = u16::from_be_bytes(*number) as usize;
@@ -44,7 +44,7 @@ pub fn record_in(area: &[u8]) -> Option<&[u8]>
 /// The bytes with which an area of the flash begins, after four bytes for their number and before any others. `None`
 /// where they are more than 470,000 or more than the area has.
 pub fn record_at_start(area: &[u8]) -> Option<&[u8]>
-    ensures { Finds (λ bytes. bytes.now) (BeginsArea area.now) result }
+    ensures { FindsBy (λ bytes. bytes.now) (BeginsArea area.now) result }
 {
     let (number, rest) = area.split_first_chunk::<4>()?;
     let length = u32::from_be_bytes(*number) as usize;
@@ -68,7 +68,7 @@ pub fn fill_area(bytes: &[u8], area: &mut [u8])
 
 /// The root whose record an area of the battery-backed memory holds; `None` exactly where it holds none.
 pub fn root_in(area: &[u8]) -> Option<Root>
-    ensures { Finds (λ root. root) (HoldsRecord root_format area.now) result }
+    ensures { FindsBy (λ root. root) (HoldsRecord root_format area.now) result }
 {
     let Some(bytes) = record_in(area) else {
         return None;
@@ -82,7 +82,7 @@ pub fn root_in(area: &[u8]) -> Option<Root>
 /// The region for which the bytes stand that an area of the battery-backed memory holds: the empty one where they are
 /// none. `None` exactly where it holds none; `NoMemory` where an allocation fails, of which no clause says when.
 pub fn region_in(alloc: Global, area: &[u8]) -> Result<Option<Region>, NoMemory>
-    ensures { IfOk result (λ found. Finds (λ region. region) (HoldsRegion area.now) found) }
+    ensures { IfOk result (λ found. FindsBy (λ region. region) (HoldsRegion area.now) found) }
 {
     let Some(bytes) = record_in(area) else {
         return Ok(None);
@@ -103,7 +103,7 @@ pub fn region_in(alloc: Global, area: &[u8]) -> Result<Option<Region>, NoMemory>
 /// The public record with which an area of the flash begins; `None` exactly where it begins with none; `NoMemory` where
 /// an allocation fails, of which no clause says when.
 pub fn public_at_start(alloc: Global, flash_area: &[u8]) -> Result<Option<Public>, NoMemory>
-    ensures { IfOk result (λ found. Finds (λ stored. stored) (BeginsWithRecord public_format flash_area.now) found) }
+    ensures { IfOk result (λ found. FindsBy (λ stored. stored) (BeginsWithRecord public_format flash_area.now) found) }
 {
     let Some(bytes) = record_at_start(flash_area) else {
         return Ok(None);

@@ -6,7 +6,7 @@ ghost use Rattle.mb_model.specs.declared.region.Secret.{Secret};
 ghost use Rattle.mb_model.specs.RegionFormat.{least_keys, secrets_format, keys_format, SpellsRegion};
 ghost use Rattle.mb_bytes.specs.Puts.{Puts};
 ghost use Rattle.mb_layout.specs.Edits.{CanBeStored};
-ghost use Rattle.mb_layout.specs.Walks.{Passes};
+ghost use Rattle.mb_layout.specs.Walks.{PassesOver};
 ghost use Rattle.mb_layout.specs.StoredRegion.{IsStoredAs, Walks, TakesApart};
 
 use crate::region::{SECRETS, put_keys, stored_secret_at};
@@ -28,7 +28,7 @@ pub struct StoredRegion<'a> {
 /// Moves the cursor past the secrets, which are not copied, and tells how many they are.
 #[tactic(auto, unfolding(mb_model::specs::RegionFormat::secrets_format))]
 fn pass_secrets(cursor: &mut Cursor<'_>) -> Result<u8, BadRecord>
-    ensures { Passes secrets_format cursor.old result cursor.new }
+    ensures { PassesOver secrets_format cursor.old result cursor.new }
 {
     let count = u8_between(cursor, 0, SECRETS)?;
     for _i in 0..count {

@@ -3,7 +3,7 @@
 ghost use Rattle.std.specs.Prelude.{◌≡◌, ◌≤◌, [], length, vec_capacity, OnErr};
 ghost use Rattle.mb_model.specs.RegionFormat.{SpellsRegion};
 ghost use Rattle.mb_model.specs.declared.region.Region.{Region};
-ghost use Rattle.mb_layout.specs.Edits.{UseOf, CanBeStored, used};
+ghost use Rattle.mb_layout.specs.Edits.{UseOf, CanBeStored, region_with_use};
 
 use crate::row::{key_of, used_keys};
 use crate::stored::{StoredRegion, store, stored_region};
@@ -28,8 +28,8 @@ pub enum NotUsed {
 pub fn use_in_record(bytes: &[u8], number: u32, out: &mut Vec<u8>) -> Result<RegionKey, NotUsed>
     requires room { 3091 ≤ vec_capacity out.old }
     requires short { length bytes.now ≤ 4194304 }
-    ensures used { (region : Region) → SpellsRegion bytes.now region → UseOf region number result out.new.items }
-    ensures capacity { (region : Region) → SpellsRegion bytes.now region → CanBeStored (used number region)
+    ensures region_with_use { (region : Region) → SpellsRegion bytes.now region → UseOf region number result out.new.items }
+    ensures capacity { (region : Region) → SpellsRegion bytes.now region → CanBeStored (region_with_use number region)
         → vec_capacity out.old ≤ vec_capacity out.new }
     ensures refused { OnErr result (out.new.items ≡ []) }
     ensures refused_capacity { OnErr result (vec_capacity out.old ≤ vec_capacity out.new) }
@@ -49,6 +49,6 @@ pub fn use_in_record(bytes: &[u8], number: u32, out: &mut Vec<u8>) -> Result<Reg
         least: stored.least,
         keys: used_keys(stored.keys.as_slice(), number),
     };
-    store(&used, out);
+    store(&region_with_use, out);
     Ok(key)
 }

@@ -8,7 +8,7 @@ use Rattle.mb_model.specs.declared.state.Bodies.{Bodies}
 use Rattle.mb_model.specs.declared.state.View.{View}
 use Rattle.mb_model.specs.declared.state.Fact.{Fact}
 use Rattle.mb_model.specs.declared.stored.Outgoing.{Outgoing}
-use Rattle.mb_model.specs.OrderStep.{names_next, entry_of, device_after, uses_after}
+use Rattle.mb_model.specs.OrderEffects.{names_next, entry_of, device_after, uses_after}
 use Rattle.mb_model.specs.Work.{ready_by, first_by, key_by, outgoing_by, bodies_by}
 
 pub bodies_made : (draw : List ℕ) (view ready : View) (fact : Fact) (names : Bool) (none items entries : List Entry) (own : Entry) (device : KeySeed) (uses : ℕ) (outgoing : Option Outgoing) (key : Option RegionKey)

@@ -2,7 +2,7 @@
 use Rattle.std.specs.Prelude.{ℕ, ◌+◌, ◌≤◌, ◌==◌, Bool, not, ◌&&◌, if◌then◌else◌}
 use Rattle.mb_model.specs.declared.state.View.{View}
 use Rattle.mb_model.specs.declared.state.Fact.{Fact}
-use Rattle.mb_model.specs.OrderStep.{names_next}
+use Rattle.mb_model.specs.OrderEffects.{names_next}
 
 -- how many entries are appended
 abbrev pub needed_with : ℕ → Bool → ℕ

@@ -12,7 +12,7 @@ InOrder before entry index = before.length ≢ 0 → Ordered before entry index
 
 -- What an answer says of an entry after a log with these figures, whose signature has this index. Exactly one answer is
 -- true of it.
-abbrev pub Follows : Figures → Entry → ℕ → Follow → Type 0
-Follows before entry index Yes = InOrder before entry index × Ruled before entry
-Follows before entry index Order = (before.length ≢ 0) × (Ordered before entry index → ⊥)
-Follows before entry index Rules = InOrder before entry index × (Ruled before entry → ⊥)
+abbrev pub FollowSays : Figures → Entry → ℕ → Follow → Type 0
+FollowSays before entry index Yes = InOrder before entry index × Ruled before entry
+FollowSays before entry index Order = (before.length ≢ 0) × (Ordered before entry index → ⊥)
+FollowSays before entry index Rules = InOrder before entry index × (Ruled before entry → ⊥)

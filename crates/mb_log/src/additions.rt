@@ -2,7 +2,7 @@
 
 ghost use Rattle.std.specs.Prelude.{◌≡◌, ◌+◌, ◌<◌, ◌≤◌, [], ◌∷◌, ◌++◌, IfOk, OnErr, vec_len, vec_capacity, if◌then◌else◌};
 ghost use Rattle.mb_model.specs.Signing.{public_of};
-ghost use Rattle.mb_model.specs.OrderStep.{names_next, next_key, named_next, entry_of, device_after, uses_after};
+ghost use Rattle.mb_model.specs.OrderEffects.{names_next, next_key, named_next, entry_of, device_after, uses_after};
 ghost use Rattle.mb_model.specs.Work.{ready_by, first_by, key_by, outgoing_by, bodies_by};
 ghost use Rattle.mb_log.specs.Additions.{needed_with, HasRoom};
 

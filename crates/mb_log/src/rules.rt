@@ -5,7 +5,7 @@ ghost use Rattle.mb_model.specs.declared.entry.Entry.{Entry};
 ghost use Rattle.mb_model.specs.Layers.{layer_of};
 ghost use Rattle.mb_model.specs.Rules.{CanPlace, after};
 ghost use Rattle.mb_model.specs.Log.{figures_of, entries_of, StandsAt, AreFirst, HaveEqualTrusts, MayHaveVersion, Ordered, CountsRightly, MakesRightly, ChangesRightly, MayAllCosign, Ruled};
-ghost use Rattle.mb_log.specs.Following.{Follows};
+ghost use Rattle.mb_log.specs.Following.{FollowSays};
 
 use crate::additions::LAST_INDEX;
 use crate::figures::{figures_of, unowned};
@@ -16,7 +16,7 @@ use mb_model::{ChangeKind, Entry, Figures, Follow, Layer, Layers, Pair, PublicKe
 /// before it and it has a wrong position or index, else `Rules` exactly where it breaks the rules of the log.
 pub fn follows(before: &[SignedEntry], entry: &Entry, index: u32) -> Follow
     requires { length before.now ≤ 128 }
-    ensures { Follows (figures_of (entries_of before.now)) entry.now index result }
+    ensures { FollowSays (figures_of (entries_of before.now)) entry.now index result }
 {
     follows_figures(&figures_of(before), entry, index)
 }
@@ -24,7 +24,7 @@ pub fn follows(before: &[SignedEntry], entry: &Entry, index: u32) -> Follow
 /// Whether the entry, whose signature has this index, may follow a log with these figures. Answers as `follows` does of
 /// the log itself.
 pub fn follows_figures(figures: &Figures, entry: &Entry, index: u32) -> Follow
-    ensures { Follows figures.now entry.now index result }
+    ensures { FollowSays figures.now entry.now index result }
 {
     if figures.length > 0 && !is_next(figures, entry, index) {
         return Follow::Order;

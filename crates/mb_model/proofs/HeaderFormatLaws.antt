@@ -1,6 +1,6 @@
 -- Headers of the flash and sectors of the log are read exactly.
 use Rattle.std.proofs.Common.{◌≡◌, ℕ, ◌≤◌, ◌<◌, ◌-◌, List, [], ◌∷◌, length, Option, None, Some, Bool, true, false, refl, arith, lit≤, lit<}
-use Rattle.std.specs.Prelude.{◌==◌, nat_le, if◌then◌else◌}
+use Rattle.std.specs.Prelude.{◌+◌, ◌==◌, nat_le, if◌then◌else◌}
 use Rattle.std.specs.Int.{w8}
 use Rattle.std.proofs.lemmas.Bool.{leb-false}
 use Rattle.mb_format.specs.Reading.{IsExact}
@@ -24,12 +24,12 @@ entry_bytes_exact = search exactly depth 20
 
 -- ---- unsigned entries
 
-most_by : (b : Bool) (signed : ℕ) → nat_le signed 126 ≡ b → (if b then 2 else 128 - signed) ≤ 2
+most_by : (b : Bool) (signed : ℕ) → nat_le (signed + 2) 128 ≡ b → (if b then 2 else 128 - signed) ≤ 2
 most_by true signed e = lit≤ tt
-most_by false signed e = omega (arith, leb-false signed 126 e)
+most_by false signed e = omega (arith, leb-false (signed + 2) 128 e)
 
 pub few_unsigned : (signed : ℕ) → most_unsigned signed ≤ 2
-few_unsigned signed = most_by (nat_le signed 126) signed refl
+few_unsigned signed = most_by (nat_le (signed + 2) 128) signed refl
 
 most_small : (signed : ℕ) → most_unsigned signed < limit w8
 most_small signed =

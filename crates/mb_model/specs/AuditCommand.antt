@@ -12,7 +12,7 @@ use Rattle.mb_model.specs.Log.{entries_of}
 use Rattle.mb_model.specs.Lives.{lives_of}
 use Rattle.mb_model.specs.ChainFormat.{chain_format}
 use Rattle.mb_model.specs.Acceptance.{Verdict, accepting, refusing, IsVerdict, Honest}
-use Rattle.mb_model.specs.Commands.{Command, read, find, either, print, refuse}
+use Rattle.mb_model.specs.Commands.{Command, read, find, either_command, print, refuse}
 use Rattle.mb_model.specs.Inputs.{image_input, root_input, chain_bytes_input}
 use Rattle.mb_model.specs.VerifyCommand.{refused_line}
 
@@ -50,7 +50,7 @@ pub record IsAudited
 -- the lists are compared, or the chain is refused
 abbrev pub compare : State → ℕ → Verdict → Command
 compare state n (accepting report) =
-    either (report.lives ≡ own_lives state report.entries n) (print (ended (codes "agrees"))) (refuse (codes "differs"))
+    either_command (report.lives ≡ own_lives state report.entries n) (print (ended (codes "agrees"))) (refuse (codes "differs"))
 compare state n (refusing why) = refuse (refused_line why)
 
 -- a dead device has no log, whatever the chain is

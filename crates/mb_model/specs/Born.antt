@@ -2,18 +2,19 @@
 use Rattle.std.specs.Prelude.{ℕ, List, ◌∷◌, ◌++◌, take}
 use Rattle.std.specs.Int.{w32, to_be_bytes}
 use Rattle.sha2.specs.Sha256.{sha256}
+use Rattle.mb_model.specs.declared.separators.TheConstants.{KEY_IDENTIFIER, KEY_SECRET, OFFICER_IDENTIFIER, OFFICER_SECRET}
 use Rattle.mb_model.specs.declared.key.KeySeed.{KeySeed}
 
 -- the key with the number n of a device, made of an event's draw of 32 bytes and the device's serial
 unfoldable pub born_key : List ℕ → List ℕ → ℕ → KeySeed
 born_key draw serial n = record {
-  identifier = take 16 (sha256 (0x11 ∷ draw ++ serial ++ to_be_bytes w32 n));
-  seed = sha256 (0x10 ∷ draw ++ serial ++ to_be_bytes w32 n);
+  identifier = take 16 (sha256 (KEY_IDENTIFIER ∷ draw ++ serial ++ to_be_bytes w32 n));
+  seed = sha256 (KEY_SECRET ∷ draw ++ serial ++ to_be_bytes w32 n);
 }
 
 -- an officer's key, made of 32 bytes of noise
 unfoldable pub officer_key : List ℕ → KeySeed
 officer_key noise = record {
-  identifier = take 16 (sha256 (0x13 ∷ noise));
-  seed = sha256 (0x12 ∷ noise);
+  identifier = take 16 (sha256 (OFFICER_IDENTIFIER ∷ noise));
+  seed = sha256 (OFFICER_SECRET ∷ noise);
 }

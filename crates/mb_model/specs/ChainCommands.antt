@@ -12,7 +12,7 @@ use Rattle.mb_model.specs.Log.{entries_of}
 use Rattle.mb_model.specs.ChainFormat.{chain_format}
 use Rattle.mb_model.specs.Attach.{bare_chain, stated_chain}
 use Rattle.mb_model.specs.Acceptance.{IsBornOf, AreGood, KeyEntry, key_of, report_of, Accepts}
-use Rattle.mb_model.specs.Commands.{Command, read, find, either, write, print, refuse}
+use Rattle.mb_model.specs.Commands.{Command, read, find, either_command, write, print, refuse}
 use Rattle.mb_model.specs.Inputs.{image_input, chain_input, statement_input}
 
 -- the names of the files of `chain`
@@ -60,7 +60,7 @@ chain names = read (image_input names.image) (chain_of names)
 -- the statement is attached, unless the chain has one
 unfoldable pub attach_statement : AttachNames → Chain → Statement → Command
 attach_statement names chain statement =
-    either (chain.statement ≢ None) (refuse (codes "has statement"))
+    either_command (chain.statement ≢ None) (refuse (codes "has statement"))
     (write_entries names.out (stated_chain chain.entries statement))
 
 abbrev pub attach_to : AttachNames → Chain → Command

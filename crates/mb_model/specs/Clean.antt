@@ -1,5 +1,6 @@
 -- When battery-backed memory holds nothing but what its state says. Can a secret be left behind?
 use Rattle.std.specs.Prelude.{◌≡◌, ℕ, List, length, Option, None, Some}
+use Rattle.mb_model.specs.declared.limits.TheConstants.{BBRAM_LENGTH}
 use Rattle.mb_model.specs.declared.state.State.{State}
 use Rattle.mb_model.specs.declared.stored.Root.{Root}
 use Rattle.mb_model.specs.Memory.{current, other, IsBlank}
@@ -12,7 +13,7 @@ root_of state area =
 
 -- the areas in force hold the state's records, and all else is zero, but the life byte and the selectors
 pub record IsCleanFor (bbram : List ℕ) (state : State) : Type 0 where
-  pub sized : length bbram ≡ 28672
+  pub sized : length bbram ≡ BBRAM_LENGTH
   pub area : ℕ
   pub root : RootIn bbram (root_of state area)
   pub two : HoldsRegion (current bbram 2) state.two
@@ -23,5 +24,5 @@ pub record IsCleanFor (bbram : List ℕ) (state : State) : Type 0 where
 
 -- the memory is clean for a state; for a dead device it is all zero
 abbrev pub Clean : List ℕ → Option State → Type 0
-Clean bbram None = (length bbram ≡ 28672) × IsBlank bbram
+Clean bbram None = (length bbram ≡ BBRAM_LENGTH) × IsBlank bbram
 Clean bbram (Some state) = IsCleanFor bbram state

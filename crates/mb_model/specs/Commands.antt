@@ -9,8 +9,9 @@ use Rattle.mb_model.specs.declared.role.Role.TheVariants as role
 use Rattle.mb_model.specs.declared.role.Place.{Place}
 use Rattle.mb_model.specs.declared.role.Place.TheVariants as fault
 use Rattle.mb_model.specs.Texts.{ended}
-use Rattle.mb_model.specs.Outside.{Outside, HasRisen, file_limit, HoldsFile, HoldsTooMuch, read_once, FailsToRead}
-use Rattle.mb_model.specs.Outside.{Writes, FailsToWrite, Prints, FailsToPrint}
+use Rattle.mb_model.specs.declared.limits.TheConstants.{FILE_LIMIT}
+use Rattle.mb_model.specs.Outside.{Outside, HasRisen, HoldsFile, HoldsTooMuch, read_once, FailsToRead}
+use Rattle.mb_model.specs.Outside.{WritesFile, FailsToWrite, Prints, FailsToPrint}
 use Rattle.mb_model.specs.Board.{Held}
 
 -- ---- words
@@ -70,7 +71,7 @@ pub data Command : Type 1 where
   -- it goes on with some value of which this holds
   find : {A : Type 0} → (A → Type 0) → (A → Command) → Command
   -- where this holds it does the first, and else the second
-  either : Type 0 → Command → Command → Command
+  either_command : Type 0 → Command → Command → Command
   -- it serves the board's events, so that this holds of what was answered and of what the board held at the last answer
   serve : (List Answered → Held → Type 0) → (List Answered → Held → Command) → Command
   -- it writes an output
@@ -128,7 +129,7 @@ input_line role what = codes "input " ++ role_word role ++ codes " " ++ what
 pub record HasRead (outside : Outside) (name bytes : List ℕ) : Type 0 where
   pub held : HoldsFile outside name bytes
   pub are_bytes : IsBytes bytes
-  pub fits : length bytes ≤ file_limit
+  pub fits : length bytes ≤ FILE_LIMIT
 
 -- the command ends at an input
 pub data InputEnds {A : Type 0} (input : Input A) (past : Past) (e : Ended) : Type 0 where
@@ -168,14 +169,14 @@ CommandEnds (read {A = A} input rest) past e =
     × ((value : A) × input.Is bytes value × CommandEnds (rest value) past (onward (read_once e.before) e)))
 CommandEnds (find {A = A} Is rest) past e =
     ((value : A) × Is value × CommandEnds (rest value) past e) ⊎ WantsMemory past e
-CommandEnds (either If first second) past e =
+CommandEnds (either_command If first second) past e =
     (If × CommandEnds first past e) ⊎ ((If → ⊥) × CommandEnds second past e) ⊎ WantsMemory past e
 CommandEnds (serve IsServed rest) past e =
     (IsServed e.answered e.final × CommandEnds (rest e.answered e.final) (record past { answered = e.answered }) e)
     ⊎ WantsMemory past e
 CommandEnds (write output rest) past e =
     WriteEnds output past e
-    ⊎ ((mid : Outside) × Writes output.name output.bytes e.before mid
+    ⊎ ((mid : Outside) × WritesFile output.name output.bytes e.before mid
     × CommandEnds rest (record past { wrote = true }) (onward mid e))
     ⊎ WantsMemory past e
 CommandEnds (print text) past e = PrintEnds text past e ⊎ WantsMemory past e
@@ -192,11 +193,11 @@ pub record IsFaultless (before after : Outside) : Type 0 where
 -- Among these files is each input to which the command can come, short enough and not at fault.
 unfoldable pub HasInputsFor : Command → (List ℕ → Option (List ℕ)) → Type 0
 HasInputsFor (read {A = A} input rest) files =
-    (bytes : List ℕ) × (files input.name ≡ Some bytes) × (length bytes ≤ file_limit)
+    (bytes : List ℕ) × (files input.name ≡ Some bytes) × (length bytes ≤ FILE_LIMIT)
     × ((place : Place) → input.FaultyAt bytes place → ⊥)
     × ((value : A) → input.Is bytes value → HasInputsFor (rest value) files)
 HasInputsFor (find {A = A} Is rest) files = (value : A) → Is value → HasInputsFor (rest value) files
-HasInputsFor (either If first second) files =
+HasInputsFor (either_command If first second) files =
     (If → HasInputsFor first files) × ((If → ⊥) → HasInputsFor second files)
 HasInputsFor (serve IsServed rest) files =
     (answered : List Answered) (final : Held) → IsServed answered final → HasInputsFor (rest answered final) files
@@ -214,7 +215,7 @@ ComesToRefusal (read {A = A} input rest) files =
     (bytes : List ℕ) × (files input.name ≡ Some bytes)
     × ((value : A) × input.Is bytes value × ComesToRefusal (rest value) files)
 ComesToRefusal (find {A = A} Is rest) files = (value : A) × Is value × ComesToRefusal (rest value) files
-ComesToRefusal (either If first second) files =
+ComesToRefusal (either_command If first second) files =
     (If × ComesToRefusal first files) ⊎ ((If → ⊥) × ComesToRefusal second files)
 ComesToRefusal (serve IsServed rest) files =
     (answered : List Answered) × (final : Held) × IsServed answered final × ComesToRefusal (rest answered final) files

@@ -2,6 +2,7 @@
 use Rattle.std.specs.Prelude.{◌≡◌, ◌⊎◌, ℕ, ◌≤◌, List, [], ◌∷◌, ◌++◌, length, codes, IsTrue}
 use Rattle.std.specs.List.{AllZip}
 use Rattle.std.specs.Fmt.{decimal}
+use Rattle.mb_model.specs.declared.limits.TheConstants.{CODE_LIMIT, TARGET_LIMIT}
 use Rattle.mb_model.specs.declared.key.PublicKey.{PublicKey}
 use Rattle.mb_model.specs.declared.key.Trust.{Trust}
 use Rattle.mb_model.specs.declared.key.Trust.TheVariants.{Always, Never, Countersigned}
@@ -73,7 +74,7 @@ version_line version = spaced (codes "version" ∷ decimal version ∷ [])
 pub record AreLoadLines (lines : List (List ℕ)) (payload : Payload) : Type 0 where
   pub code_line : List ℕ
   pub coded : EndsInHex code_line (codes "code" ∷ []) payload.code
-  pub code_fits : length payload.code ≤ 32768
+  pub code_fits : length payload.code ≤ CODE_LIMIT
   pub version_fits : payload.version ≤ number_limit
   pub line_of_trusts : List ℕ
   pub trusted : SaysTrusts line_of_trusts payload.trust
@@ -104,7 +105,7 @@ pub record IsDraft (lines : List (List ℕ)) (order : Order) : Type 0 where
   pub spelled : lines ≡ spaced (order_words order.act order.layer) ∷ target_lines ++ act_lines
   pub named : MayBeFor (kind_of order.act) order.layer
   pub targeted : AllZip SaysTarget target_lines order.targets
-  pub few : length order.targets ≤ 8
+  pub few : length order.targets ≤ TARGET_LIMIT
   pub says_act : SayAct act_lines order.act
   pub unsigned : order.signature ≡ []
   pub alone : order.countersignatures ≡ []

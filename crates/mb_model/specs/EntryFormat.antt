@@ -4,6 +4,7 @@ use Rattle.std.specs.Int.{w8, w32}
 use Rattle.mb_format.specs.Format.{Format}
 use Rattle.mb_format.specs.Combinators.{raw, number, between, table, listed, nothing, flag_byte, optional}
 use Rattle.mb_format.specs.Combinators.{pair, as_value, as_record, led}
+use Rattle.mb_model.specs.declared.limits.TheConstants.{SIGNATURE_LENGTH}
 use Rattle.mb_model.specs.declared.key.PublicKey.{PublicKey}
 use Rattle.mb_model.specs.declared.layer.Layers.{Layers}
 use Rattle.mb_model.specs.declared.layer.Pair.{Pair}
@@ -157,7 +158,7 @@ entry_format = led (listed w8 entry_rows entry_byte) entry_tag entry_by
 
 -- a signature of types 5 and 3 (RFC 8554, section 5.4)
 abbrev pub signature_format : Format (List ℕ)
-signature_format = raw 2348
+signature_format = raw SIGNATURE_LENGTH
 
 -- an entry and its signature
 unfoldable pub signed_entry_format : Format SignedEntry

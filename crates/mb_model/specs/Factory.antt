@@ -14,7 +14,7 @@ use Rattle.mb_model.specs.Layers.{equal_trusts, unowned}
 use Rattle.mb_model.specs.Regions.{empty_region}
 use Rattle.mb_model.specs.Born.{born_key}
 use Rattle.mb_model.specs.Signing.{public_of}
-use Rattle.mb_model.specs.OrderStep.{signed_by}
+use Rattle.mb_model.specs.OrderEffects.{signed_by}
 use Rattle.mb_model.specs.Memory.{IsImage}
 use Rattle.mb_model.specs.Flash.{IsFactoryFlash}
 use Rattle.mb_model.specs.Clean.{IsCleanFor}

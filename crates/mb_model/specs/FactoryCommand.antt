@@ -9,7 +9,7 @@ use Rattle.mb_model.specs.KeyFormat.{keyfile_format}
 use Rattle.mb_model.specs.Texts.{ended}
 use Rattle.mb_model.specs.SignedOrders.{used_once}
 use Rattle.mb_model.specs.Factory.{serial_from, IsFactoryImage}
-use Rattle.mb_model.specs.Commands.{Command, read, find, either, write, print, refuse}
+use Rattle.mb_model.specs.Commands.{Command, read, find, either_command, write, print, refuse}
 use Rattle.mb_model.specs.Inputs.{birth_noise_input, key_input, owner_input, code_input}
 
 -- the names of the files
@@ -33,7 +33,7 @@ write_device names noise key image =
 -- the image of the new device, whose birth the maker's key signs, unless its 32 indices are used
 unfoldable pub make_device : FactoryNames → List ℕ → Keyfile → PublicKey → List ℕ → Command
 make_device names noise key owner code =
-    either (key.next ≡ 32) (refuse (codes "spent"))
+    either_command (key.next ≡ 32) (refuse (codes "spent"))
     (find (IsFactoryImage key.seed key.next owner code noise) (write_device names noise key))
 
 abbrev pub factory_owned : FactoryNames → List ℕ → Keyfile → PublicKey → Command

@@ -1,5 +1,6 @@
 -- What is wrong with an image for which no state stands. Is it told of each image, and the first thing first?
 use Rattle.std.specs.Prelude.{◌≢◌, ℕ, List, length, Some}
+use Rattle.mb_model.specs.declared.limits.TheConstants.{IMAGE_LENGTH}
 use Rattle.mb_model.specs.declared.entry.Entry.{Entry}
 use Rattle.mb_model.specs.declared.entry.SignedEntry.{SignedEntry}
 use Rattle.mb_model.specs.declared.region.Region.{Region}
@@ -43,5 +44,5 @@ IsFaulty flash bbram bad_state =
 
 -- the image has this fault, and none that is named before it
 abbrev pub HasFault : List ℕ → Fault → Type 0
-HasFault image bad_length = length image ≢ 1077248
+HasFault image bad_length = length image ≢ IMAGE_LENGTH
 HasFault image fault = (flash : List ℕ) × (bbram : List ℕ) × IsImage image flash bbram × IsFaulty flash bbram fault

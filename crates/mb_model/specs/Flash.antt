@@ -4,6 +4,7 @@ use Rattle.std.specs.Prelude.{◌≡◌, ℕ, ◌*◌, ◌≤◌, List, [], ◌�
 use Rattle.std.specs.Int.{w16, w32, to_be_bytes}
 use Rattle.mb_format.specs.Format.{Format, Spells}
 use Rattle.mb_format.specs.Combinators.{between, mark, optional, pair, as_record, then_value, sized, counted}
+use Rattle.mb_model.specs.declared.limits.TheConstants.{CODE_LIMIT, ENTRY_LIMIT}
 use Rattle.mb_model.specs.declared.entry.Entry.{Entry}
 use Rattle.mb_model.specs.declared.entry.SignedEntry.{SignedEntry}
 use Rattle.mb_model.specs.declared.entry.PublicEntry.{PublicEntry}
@@ -18,7 +19,7 @@ use Rattle.mb_model.specs.StoredLog.{AreCounted}
 
 -- the code of a layer after its length, where it has some
 unfoldable pub code_format : Format (Option (List ℕ))
-code_format = optional (sized (between w32 0 32768))
+code_format = optional (sized (between w32 0 CODE_LIMIT))
 
 -- the code of each layer, from the first on
 unfoldable pub codes_format : Format Codes
@@ -35,7 +36,7 @@ public_entry_format = as_record (pair entry_format (optional signature_format))
 -- the public record: its version, the codes, 1 to 128 entries
 unfoldable pub public_format : Format Public
 public_format = then_value (mark (1 ∷ []))
-    (as_record (pair codes_format (counted (between w16 1 128) public_entry_format))
+    (as_record (pair codes_format (counted (between w16 1 ENTRY_LIMIT) public_entry_format))
     (λ (codes, entries). record { codes = codes; entries = entries })
     (λ stored. (stored.codes, stored.entries)))
 

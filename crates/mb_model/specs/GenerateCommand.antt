@@ -12,11 +12,11 @@ use Rattle.mb_model.specs.Machine.{World}
 use Rattle.mb_model.specs.Board.{Held, image_of}
 use Rattle.mb_model.specs.Acknowledged.{Shows}
 use Rattle.mb_model.specs.Meaning.{IsWellFormed}
-use Rattle.mb_model.specs.Lines.{Reads, text_of}
+use Rattle.mb_model.specs.Lines.{ReadsLines, text_of}
 use Rattle.mb_model.specs.Script.{IsScript, Drawn}
 use Rattle.mb_model.specs.Listing.{summary}
 use Rattle.mb_model.specs.Workload.{IsWorkload}
-use Rattle.mb_model.specs.Commands.{Command, find, either, serve, write, print, lack}
+use Rattle.mb_model.specs.Commands.{Command, find, either_command, serve, write, print, lack}
 use Rattle.mb_model.specs.RunCommand.{IsServed}
 
 -- the number of the workload, how many rounds it has, and the names of its files
@@ -39,7 +39,7 @@ pub record IsPrepared (number rounds : ℕ) (made : Prepared) : Type 0 where
   pub generated : IsWorkload number rounds made.files
   pub image : IsWellFormed made.files.image made.state
   pub undrawn : List Event
-  pub script : Reads IsScript made.files.script undrawn
+  pub script : ReadsLines IsScript made.files.script undrawn
   pub noise : Drawn undrawn made.files.noise made.events
 
 -- how many entries a device's log has; a dead device has no log
@@ -57,7 +57,7 @@ pub record ShowsLog (final : Held) (entries : ℕ) : Type 0 where
 -- memory was wanted while the events were served, there is none.
 abbrev pub summarise : List Answered → Held → Command
 summarise answered final =
-    either (Any (λ a. a.reply ≡ reply.NoMemory) answered) lack
+    either_command (Any (λ a. a.reply ≡ reply.NoMemory) answered) lack
     (find (ShowsLog final) (λ entries. print (text_of (summary answered entries (sha256 (image_of final.memory))))))
 
 -- the three files are written, and then the events are served

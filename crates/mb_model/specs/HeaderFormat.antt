@@ -1,10 +1,11 @@
 -- How the header of a flash in segments is spelled, and an entry of the log in a sector of its own. Where does each
 -- layer's code stand, and which entries are signed? Entries are bytes here, of which nothing but their length is asked.
-use Rattle.std.specs.Prelude.{ℕ, ◌-◌, ◌==◌, nat_le, List, [], ◌∷◌, Option, None, Some, if◌then◌else◌}
+use Rattle.std.specs.Prelude.{◌+◌, ℕ, ◌-◌, ◌==◌, nat_le, List, [], ◌∷◌, Option, None, Some, if◌then◌else◌}
 use Rattle.std.specs.Int.{w8, w16, w32}
 use Rattle.mb_format.specs.Format.{Format}
 use Rattle.mb_format.specs.Combinators.{between, mark, either, both, pair, as_value, as_record, then_value}
 use Rattle.mb_format.specs.Combinators.{sized, counted}
+use Rattle.mb_model.specs.declared.limits.TheConstants.{CODE_LIMIT, ENTRY_LIMIT}
 use Rattle.mb_model.specs.declared.stored.Slot.{Slot}
 use Rattle.mb_model.specs.declared.stored.Header.{Header}
 use Rattle.mb_model.specs.EntryFormat.{signature_format}
@@ -13,7 +14,7 @@ use Rattle.mb_model.specs.EntryFormat.{signature_format}
 
 -- the length of a layer's code: 0 if no slot is named, else at most 32,768
 unfoldable pub code_length_format : ℕ → Format ℕ
-code_length_format which = either (which == 0) (between w32 0 0) (between w32 0 32768)
+code_length_format which = either (which == 0) (between w32 0 0) (between w32 0 CODE_LIMIT)
 
 -- the slot that holds a layer's code, 1 or 2, or 0 for none; then the length of the code
 unfoldable pub slot_format : Format Slot
@@ -29,7 +30,7 @@ entry_bytes_format = sized (between w16 1 400)
 
 -- how many entries may be unsigned beside so many signed ones: at most two, and at most 128 of both together
 abbrev pub most_unsigned : ℕ → ℕ
-most_unsigned signed = if nat_le signed 126 then 2 else 128 - signed
+most_unsigned signed = if nat_le (signed + 2) ENTRY_LIMIT then 2 else ENTRY_LIMIT - signed
 
 -- the first of some texts, if there is one
 abbrev pub first_text : List (List ℕ) → Option (List ℕ)
@@ -66,7 +67,7 @@ header_format = then_value (mark header_word) (as_record
     (pair slot_format  -- one
     (pair slot_format  -- two
     (pair slot_format  -- three
-    (both (between w16 1 128)  -- signed
+    (both (between w16 1 ENTRY_LIMIT)  -- signed
     unsigned_format))))  -- first and second
     (λ (one, (two, (three, (signed, (first, second))))). record {
       one = one;

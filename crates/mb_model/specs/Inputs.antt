@@ -2,6 +2,7 @@
 -- read in one way only?
 use Rattle.std.specs.Prelude.{◌≡◌, ℕ, ◌<◌, ◌≤◌, List, length, take, Option}
 use Rattle.mb_format.specs.Format.{Format, IsBytes, Spells, FailsWhole}
+use Rattle.mb_model.specs.declared.limits.TheConstants.{DRAW_LENGTH, CODE_LIMIT}
 use Rattle.mb_model.specs.declared.role.Role.{Role}
 use Rattle.mb_model.specs.declared.role.Role.TheVariants as role
 use Rattle.mb_model.specs.declared.role.Place.{Place}
@@ -14,7 +15,7 @@ use Rattle.mb_model.specs.declared.state.State.{State}
 use Rattle.mb_model.specs.declared.order.Order.{Order}
 use Rattle.mb_model.specs.declared.tools.Keyfile.{Keyfile}
 use Rattle.mb_model.specs.KeyFormat.{public_key_format, keyfile_format}
-use Rattle.mb_model.specs.Lines.{Reads, TextFailsAtLine}
+use Rattle.mb_model.specs.Lines.{ReadsLines, TextFailsAtLine}
 use Rattle.mb_model.specs.Drafts.{IsDraft}
 use Rattle.mb_model.specs.OrderLines.{IsOrderLine, IsStatementLine}
 use Rattle.mb_model.specs.ChainFormat.{chain_format}
@@ -47,7 +48,7 @@ abbrev pub text_input : {A : Type 0} → Role → (List (List ℕ) → A → Typ
 text_input role Grammar name = record {
   role = role;
   name = name;
-  Is = Reads Grammar;
+  Is = ReadsLines Grammar;
   FaultyAt = λ bytes place. (n : ℕ) × (place ≡ fault.Line n) × TextFailsAtLine Grammar bytes n;
 }
 
@@ -73,7 +74,7 @@ bounded_input role n name = record {
 
 -- the noise of which an officer's key is made
 abbrev pub key_noise_input : List ℕ → Input (List ℕ)
-key_noise_input name = leading_input role.Noise 32 name
+key_noise_input name = leading_input role.Noise DRAW_LENGTH name
 
 -- the file of an officer's key
 abbrev pub key_input : List ℕ → Input Keyfile
@@ -89,7 +90,7 @@ owner_input name = binary_input role.Owner public_key_format name
 
 -- the code of a layer
 abbrev pub code_input : List ℕ → Input (List ℕ)
-code_input name = bounded_input role.Code 32768 name
+code_input name = bounded_input role.Code CODE_LIMIT name
 
 -- the draft of an order
 abbrev pub draft_input : List ℕ → Input Order

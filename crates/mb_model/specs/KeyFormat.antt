@@ -4,6 +4,7 @@ use Rattle.std.specs.Prelude.{ℕ, List, [], ◌∷◌}
 use Rattle.std.specs.Int.{w32}
 use Rattle.mb_format.specs.Format.{Format}
 use Rattle.mb_format.specs.Combinators.{raw, between, table, mark, pair, as_record, then_value}
+use Rattle.mb_model.specs.declared.limits.TheConstants.{KEY_USES}
 use Rattle.mb_model.specs.declared.key.Tree.{Tree}
 use Rattle.mb_model.specs.declared.key.Tree.TheVariants.{H5, H10, H15, H20, H25}
 use Rattle.mb_model.specs.declared.key.Chains.{Chains}
@@ -44,6 +45,6 @@ keyfile_word = 0x4D ∷ 0x42 ∷ 0x4B ∷ 0x31 ∷ []
 
 -- a key file: its word, the key's seed, and the next index of the 32
 unfoldable pub keyfile_format : Format Keyfile
-keyfile_format = then_value (mark keyfile_word) (as_record (pair key_seed_format (between w32 0 32))
+keyfile_format = then_value (mark keyfile_word) (as_record (pair key_seed_format (between w32 0 KEY_USES))
     (λ (seed, next). record { seed = seed; next = next })
     (λ file. (file.seed, file.next)))

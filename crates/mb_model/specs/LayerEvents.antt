@@ -3,6 +3,7 @@ use Rattle.std.specs.Prelude.{ℕ, ◌+◌, ◌==◌, nat_lt, nat_le, Bool, not,
 use Rattle.std.specs.Prelude.{filter, find, Option, None, Some, if◌then◌else◌}
 use Rattle.std.specs.List.{list_any}
 use Rattle.mb_format.specs.Combinators.{same_bytes}
+use Rattle.mb_model.specs.declared.limits.TheConstants.{SECRET_LIMIT, KEY_USES}
 use Rattle.mb_model.specs.declared.entry.Statement.{Statement}
 use Rattle.mb_model.specs.declared.region.Secret.{Secret}
 use Rattle.mb_model.specs.declared.region.RegionKey.{RegionKey}
@@ -14,8 +15,9 @@ use Rattle.mb_model.specs.Log.{entries_of, number_of}
 use Rattle.mb_model.specs.Signing.{signature_of}
 use Rattle.mb_model.specs.ChainFormat.{statement_format}
 use Rattle.mb_model.specs.SignedTexts.{statement_text}
-use Rattle.mb_model.specs.Refusals.{wrong_layer, region_full, no_such_key, key_spent, refused}
-use Rattle.mb_model.specs.OrderStep.{region_of, with_region}
+use Rattle.mb_model.specs.declared.reply.Refusal.TheVariants.{WrongLayer, RegionFull, NoSuchKey, KeySpent}
+use Rattle.mb_model.specs.Refusals.{refused}
+use Rattle.mb_model.specs.Regions.{region_of, with_region}
 
 -- what an event comes to: its reply, and the state afterwards
 abbrev pub Outcome : Type 0
@@ -32,13 +34,13 @@ with_secret new secrets =
     then map (λ old. if has_name new.name old then new else old) secrets
     else secrets ++ new ∷ []
 
--- a secret is kept with the present configuration number; 16 is as many as there may be
+-- a secret is kept with the present configuration number, where the region has room
 unfoldable pub put_event : ℕ → List ℕ → List ℕ → State → Outcome
 put_event L name value state =
     let region = region_of state L in
     let new : Secret = record { name = name; value = value; born = number_of (entries_of state.log) } in
-    if not (list_any (has_name name) region.secrets) && nat_le 16 (length region.secrets)
-    then (refused region_full, state)
+    if not (list_any (has_name name) region.secrets) && nat_le SECRET_LIMIT (length region.secrets)
+    then (refused RegionFull, state)
     else (reply.Kept, with_region state L (record region { secrets = with_secret new region.secrets }))
 
 abbrev pub value_reply : Option Secret → Reply
@@ -78,10 +80,10 @@ statement_of state key message =
 
 -- the key signs with its next index; it has 32
 abbrev pub sign_with : ℕ → Option RegionKey → List ℕ → State → Outcome
-sign_with L None message state = (refused no_such_key, state)
+sign_with L None message state = (refused NoSuchKey, state)
 sign_with L (Some key) message state =
     let region = region_of state L in
-    if nat_le 32 key.uses then (refused key_spent, state)
+    if nat_le KEY_USES key.uses then (refused KeySpent, state)
     else (
       reply.Signed key.number key.uses (statement_format.spelling (statement_of state key message)),
       with_region state L (record region { keys = with_use key.number region.keys }),
@@ -95,5 +97,5 @@ sign_event L number message state =
 -- An event on region L at a ratchet is refused where control is past its layer, or the layer may not run.
 abbrev pub on_region : ℕ → ℕ → (State → Outcome) → State → Outcome
 on_region ratchet L event state =
-    if nat_lt L ratchet || not (is_runnable state.layers L) then (refused wrong_layer, state)
+    if nat_lt L ratchet || not (is_runnable state.layers L) then (refused WrongLayer, state)
     else event state

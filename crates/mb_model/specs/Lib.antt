@@ -31,6 +31,8 @@ pub mod RootFormat
 pub mod RegionFormat
 pub mod Refusals
 pub mod SignedTexts
+pub mod OrderChecks
+pub mod OrderEffects
 pub mod OrderStep
 pub mod LayerEvents
 pub mod Machine

@@ -81,7 +81,7 @@ pub data FailsAtLine {A : Type 0} (Grammar : List (List ℕ) → A → Type 0) (
   ends_early : EndsEarly Grammar lines n → FailsAtLine Grammar lines n
 
 -- a text stands in lines that stand for this value
-pub record Reads {A : Type 0} (Grammar : List (List ℕ) → A → Type 0) (text : List ℕ) (value : A) : Type 0 where
+pub record ReadsLines {A : Type 0} (Grammar : List (List ℕ) → A → Type 0) (text : List ℕ) (value : A) : Type 0 where
   pub lines : List (List ℕ)
   pub has : HasLines text lines
   pub stands : Grammar lines value

@@ -5,6 +5,7 @@ use Rattle.std.specs.Prelude.{take_while, count_by, sum_by}
 use Rattle.std.specs.Prelude.{Option, None, Some, is_some, is_none, IsSome, IsTrue, unwrap_or}
 use Rattle.std.specs.List.{list_any}
 use Rattle.std.specs.Option.{option_or}
+use Rattle.mb_model.specs.declared.limits.TheConstants.{LAST_INDEX}
 use Rattle.mb_model.specs.declared.key.PublicKey.{PublicKey}
 use Rattle.mb_model.specs.declared.layer.Layers.{Layers}
 use Rattle.mb_model.specs.declared.layer.Pair.{Pair}
@@ -139,7 +140,7 @@ pub record CountsRightly
   -- exactly the ordinary load of layer 1 makes the next device key
   pub renewed : is_some next ≡ renews (Some kind) k
   -- the last index of a device key signs no other change
-  pub last_index : before.uses ≡ 31 → IsSome next
+  pub last_index : before.uses ≡ LAST_INDEX → IsSome next
 
 -- each owner that countersigned a change of layer k may do so
 pub record MayAllCosign (layers : Layers) (kind : ChangeKind) (k : ℕ) (cosigned : Pair) : Type 0 where
@@ -167,7 +168,7 @@ pub record MakesRightly (before : Figures) (number key_number k : ℕ) : Type 0 
   pub key_counted : key_number ≡ before.keys_made
   pub allowed : Condition before.layers None k
   -- the last index of a device key signs no new key
-  pub last_index : before.uses ≢ 31
+  pub last_index : before.uses ≢ LAST_INDEX
 
 -- By the rules the entry may stand after a log with these figures: a birth at first and nowhere else, and a succession
 -- where the last index of a device key is left.
@@ -180,7 +181,7 @@ Ruled before (Change version position number kind layer cosigned layers kept nex
     × MayHaveVersion before.version_two version layers
 Ruled before (NewKey position number key_number layer kind key) =
     (before.length ≢ 0) × MakesRightly before number key_number layer
-Ruled before (Succession position key) = (before.length ≢ 0) × (before.uses ≡ 31)
+Ruled before (Succession position key) = (before.length ≢ 0) × (before.uses ≡ LAST_INDEX)
 
 -- each entry of a log may stand after those before it
 abbrev pub RuledLog : List Entry → Type 0

@@ -10,7 +10,9 @@ use Rattle.mb_model.specs.declared.reply.Reply.TheVariants as reply
 use Rattle.mb_model.specs.declared.state.State.{State}
 use Rattle.mb_model.specs.Layers.{is_runnable, standing}
 use Rattle.mb_model.specs.Log.{entries_of, number_of}
-use Rattle.mb_model.specs.Refusals.{Refusal, powered_off, wrong_phase, zeroised, wrong_layer, refused}
+use Rattle.mb_model.specs.declared.reply.Refusal.{Refusal}
+use Rattle.mb_model.specs.declared.reply.Refusal.TheVariants.{PoweredOff, WrongPhase, Zeroised, WrongLayer}
+use Rattle.mb_model.specs.Refusals.{refused}
 use Rattle.mb_model.specs.OrderStep.{OrderStep}
 use Rattle.mb_model.specs.LayerEvents.{Outcome, on_region, put_event, get_event, drop_event, sign_event}
 
@@ -37,15 +39,15 @@ Told = Reply × World
 -- Power comes on.
 abbrev pub boot_event : World → Phase → Option State → Told
 boot_event world off (Some state) = (reply.Booted, record world { phase = ratchet 1 })
-boot_event world off None = (refused zeroised, record world { phase = dead })
-boot_event world dead state = (refused zeroised, world)
-boot_event world (ratchet r) state = (refused wrong_phase, world)
+boot_event world off None = (refused Zeroised, record world { phase = dead })
+boot_event world dead state = (refused Zeroised, world)
+boot_event world (ratchet r) state = (refused WrongPhase, world)
 
 -- The state of a device that is on and alive, and the layer that runs. All but boot, off, tamper and cut need one.
 abbrev pub awake : Phase → Option State → Result (ℕ × State) Refusal
-awake off state = Err powered_off
-awake dead state = Err zeroised
-awake (ratchet r) None = Err zeroised
+awake off state = Err PoweredOff
+awake dead state = Err Zeroised
+awake (ratchet r) None = Err Zeroised
 awake (ratchet r) (Some state) = Ok (r, state)
 
 abbrev pub awake_in : World → Result (ℕ × State) Refusal
@@ -68,10 +70,10 @@ status_event world (Ok on) = (status_of on.1, world)
 abbrev pub go_event : World → Result (ℕ × State) Refusal → Told
 go_event world (Err refusal) = (refused refusal, world)
 go_event world (Ok on) =
-    if nat_lt 2 on.0 then (refused wrong_phase, world)
+    if nat_lt 2 on.0 then (refused WrongPhase, world)
     else if is_runnable on.1.layers (on.0 + 1)
     then (reply.At (on.0 + 1), record world { phase = ratchet (on.0 + 1) })
-    else (refused wrong_layer, world)
+    else (refused WrongLayer, world)
 
 -- what a layer does with a region
 abbrev pub region_event : World → ℕ → (State → Outcome) → Result (ℕ × State) Refusal → Told
@@ -86,7 +88,7 @@ CommandStep world text draw (Err refusal) answer next = (answer ≡ refused refu
 CommandStep world text draw (Ok on) answer next =
     ((on.0 ≡ 1)
     × ((state : State) × OrderStep on.1 text draw answer state × (next ≡ record world { state = Some state })))
-    ⊎ ((1 < on.0) × (answer ≡ refused wrong_phase) × (next ≡ world))
+    ⊎ ((1 < on.0) × (answer ≡ refused WrongPhase) × (next ≡ world))
 
 -- An event has this reply and leads to this world, where memory is found and power holds.
 abbrev pub Machine : World → Event → Reply → World → Type 0

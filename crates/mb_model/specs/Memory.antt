@@ -2,12 +2,13 @@
 use Rattle.std.specs.Prelude.{◌≡◌, ℕ, ◌%◌, ◌≤◌, ◌==◌, List, ◌++◌, length, slice_index, All, if◌then◌else◌}
 use Rattle.std.specs.Int.{w16, to_be_bytes}
 use Rattle.mb_format.specs.Format.{Format, Spells}
+use Rattle.mb_model.specs.declared.limits.TheConstants.{AREA_LENGTH, FLASH_LENGTH, BBRAM_LENGTH, RECORD_LIMIT}
 use Rattle.mb_model.specs.Pieces.{part}
 
 -- the two memories of a device, flash and battery-backed memory, have these lengths
 pub record AreSized (flash_bytes bbram_bytes : List ℕ) : Type 0 where
-  pub flash : length flash_bytes ≡ 1048576
-  pub bbram : length bbram_bytes ≡ 28672
+  pub flash : length flash_bytes ≡ FLASH_LENGTH
+  pub bbram : length bbram_bytes ≡ BBRAM_LENGTH
 
 -- An image: the flash, and then the battery-backed memory.
 abbrev pub IsImage : List ℕ → List ℕ → List ℕ → Type 0
@@ -20,21 +21,17 @@ IsBlank bytes = All (λ byte. byte ≡ 0) bytes
 -- ---- the table of the battery-backed memory
 
 -- a slot, in which a record stands: the offset of its selector, a byte, and those of its first and its second area
-pub record Slot : Type 0 where
+pub record SlotOffsets : Type 0 where
   pub selector : ℕ
   pub first : ℕ
   pub second : ℕ
 
 -- slot 1 is the root's, and slots 2 and 3 are those of regions 2 and 3
-abbrev pub slots : ℕ → Slot
+abbrev pub slots : ℕ → SlotOffsets
 slots slot =
     if slot == 1 then record { selector = 1; first = 4096; second = 8192 }
     else if slot == 2 then record { selector = 2; first = 12288; second = 16384 }
     else record { selector = 3; first = 20480; second = 24576 }
-
--- how many bytes an area has
-abbrev pub area_length : ℕ
-area_length = 4096
 
 -- the byte at offset 0 tells whether the device lives
 abbrev pub life_byte : List ℕ → ℕ
@@ -50,10 +47,10 @@ abbrev pub selector_of : List ℕ → ℕ → ℕ
 selector_of bbram slot = slice_index bbram (slots slot).selector
 
 unfoldable pub first_area : List ℕ → ℕ → List ℕ
-first_area bbram slot = part (slots slot).first area_length bbram
+first_area bbram slot = part (slots slot).first AREA_LENGTH bbram
 
 unfoldable pub second_area : List ℕ → ℕ → List ℕ
-second_area bbram slot = part (slots slot).second area_length bbram
+second_area bbram slot = part (slots slot).second AREA_LENGTH bbram
 
 -- the area in force, by the parity of the selector, and the other one
 unfoldable pub current : List ℕ → ℕ → List ℕ
@@ -65,7 +62,7 @@ other bbram slot = if selector_of bbram slot % 2 == 0 then second_area bbram slo
 -- an area holds these bytes: their length, the bytes, and zeros
 pub record HoldsInArea (area bytes : List ℕ) : Type 0 where
   pub rest : List ℕ
-  pub short : length bytes ≤ 4094
+  pub short : length bytes ≤ RECORD_LIMIT
   pub whole : area ≡ to_be_bytes w16 (length bytes) ++ bytes ++ rest
   pub blank : IsBlank rest
 

@@ -6,6 +6,7 @@ use Rattle.std.specs.Int.{w8, w16, w32}
 use Rattle.mb_format.specs.Format.{Format}
 use Rattle.mb_format.specs.Combinators.{raw, number, between, table, listed, nothing, sized, items, counted}
 use Rattle.mb_format.specs.Combinators.{both, pair, as_value, as_record, led}
+use Rattle.mb_model.specs.declared.limits.TheConstants.{CODE_LIMIT, TARGET_LIMIT, SIGNATURE_LIMIT}
 use Rattle.mb_model.specs.declared.key.PublicKey.{PublicKey}
 use Rattle.mb_model.specs.declared.key.Trust.{Trust}
 use Rattle.mb_model.specs.declared.key.Trust.TheVariants.{Always, Never, Countersigned}
@@ -147,7 +148,7 @@ made_in _ = None
 
 -- what a load carries: the version, the trusts, and the code after its length
 unfoldable pub payload_format : Bool → Format Payload
-payload_format differs = as_record (pair (number w32) (pair (given_trusts differs) (sized (between w32 0 32768))))
+payload_format differs = as_record (pair (number w32) (pair (given_trusts differs) (sized (between w32 0 CODE_LIMIT))))
     (λ (version, (trust, code)). record { version = version; trust = trust; code = code })
     (λ payload. (payload.version, (payload.trust, payload.code)))
 
@@ -174,7 +175,7 @@ body_of order = record { layer = order.layer; targets = order.targets; act = ord
 abbrev pub body_by : OrderForm → Format Body
 body_by form = as_record
     (pair (between w8 (least_layer form.kind) 3)
-    (pair (counted (between w8 0 8) target_format) (act_by form.kind form.differs)))
+    (pair (counted (between w8 0 TARGET_LIMIT) target_format) (act_by form.kind form.differs)))
     (λ (layer, (targets, act)). record { layer = layer; targets = targets; act = act })
     (λ body. (body.layer, (body.targets, body.act)))
 
@@ -189,7 +190,7 @@ order_body order = body_format.spelling (body_of order)
 
 -- a signature after its length
 unfoldable pub sized_signature_format : Format (List ℕ)
-sized_signature_format = sized (between w16 0 9324)
+sized_signature_format = sized (between w16 0 SIGNATURE_LIMIT)
 
 -- the layer that the next countersignature stands above, and how many are still to come
 pub record Climb : Type 0 where

@@ -1,4 +1,5 @@
 -- The world outside: what a host tells of its files and of what it printed, and how each of its calls changes that.
+use Rattle.mb_model.specs.declared.limits.TheConstants.{FILE_LIMIT}
 use Rattle.std.specs.Prelude.{◌≡◌, ◌≢◌, ℕ, ◌+◌, ◌-◌, ◌^◌, ◌<◌, ◌≤◌, ◌⊎◌, nat_lt, List, ◌++◌, length, take, Option, None}
 use Rattle.std.specs.Prelude.{Some, if◌then◌else◌}
 
@@ -28,10 +29,6 @@ HasRisen before after = (before < after) ⊎ (count_limit ≤ after)
 
 -- ---- files and printing
 
--- no input is longer than this
-abbrev pub file_limit : ℕ
-file_limit = 4194304
-
 -- where the host tells its files, the file of this name holds these bytes
 abbrev pub HoldsFile : Outside → List ℕ → List ℕ → Type 0
 HoldsFile outside name bytes =
@@ -45,7 +42,7 @@ HasNoFile outside name = (files : List ℕ → Option (List ℕ)) → outside.fi
 abbrev pub HoldsTooMuch : Outside → List ℕ → Type 0
 HoldsTooMuch outside name =
     (files : List ℕ → Option (List ℕ)) → outside.files ≡ Some files
-    → (bytes : List ℕ) × (files name ≡ Some bytes) × (file_limit < length bytes)
+    → (bytes : List ℕ) × (files name ≡ Some bytes) × (FILE_LIMIT < length bytes)
 
 -- where the host told its files, it tells them still, and all but the file of this name are as they were
 abbrev pub OtherFilesStay : Outside → Outside → List ℕ → Type 0
@@ -74,7 +71,7 @@ pub data FailsToRead (name : List ℕ) (before after : Outside) : Type 0 where
 -- ---- a write
 
 -- these bytes were made the whole file of this name
-pub record Writes (name bytes : List ℕ) (before after : Outside) : Type 0 where
+pub record WritesFile (name bytes : List ℕ) (before after : Outside) : Type 0 where
   pub stays : after ≡ record before { files = after.files; writes = raised before.writes }
   pub others : OtherFilesStay before after name
   pub holds : HoldsFile after name bytes

@@ -5,6 +5,7 @@ use Rattle.std.specs.List.{list_all}
 use Rattle.mb_format.specs.Format.{Format, Spells}
 use Rattle.mb_format.specs.Combinators.{number, between, mark, both, pair, as_record, then_value}
 use Rattle.mb_format.specs.Combinators.{sized, sized_that, counted}
+use Rattle.mb_model.specs.declared.limits.TheConstants.{NAME_LIMIT, VALUE_LIMIT, SECRET_LIMIT, KEY_LIMIT}
 use Rattle.mb_model.specs.declared.region.Secret.{Secret}
 use Rattle.mb_model.specs.declared.region.RegionKey.{RegionKey}
 use Rattle.mb_model.specs.declared.region.Region.{Region}
@@ -20,7 +21,7 @@ is_name bytes = list_all is_name_byte bytes
 
 -- a secret: its name and its value, each after its length, and the configuration number at which it was put
 unfoldable pub secret_format : Format Secret
-secret_format = as_record (pair (sized_that is_name (between w8 1 32)) (pair (sized (between w8 0 128)) (number w32)))
+secret_format = as_record (pair (sized_that is_name (between w8 1 NAME_LIMIT)) (pair (sized (between w8 0 VALUE_LIMIT)) (number w32)))
     (λ (name, (value, born)). record { name = name; value = value; born = born })
     (λ secret. (secret.name, (secret.value, secret.born)))
 
@@ -30,10 +31,10 @@ least_keys [] = 1
 least_keys (secret ∷ secrets) = 0
 
 unfoldable pub secrets_format : Format (List Secret)
-secrets_format = counted (between w8 0 16) secret_format
+secrets_format = counted (between w8 0 SECRET_LIMIT) secret_format
 
 unfoldable pub keys_format : ℕ → Format (List RegionKey)
-keys_format least = counted (between w8 least 8) region_key_format
+keys_format least = counted (between w8 least KEY_LIMIT) region_key_format
 
 -- the record of a region: its version, its secrets, its keys
 unfoldable pub region_format : Format Region

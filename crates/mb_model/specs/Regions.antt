@@ -1,6 +1,6 @@
 -- What is left of a region after a change, and what may be in it. Has a secret been kept over a change that its layer
 -- never agreed to?
-use Rattle.std.specs.Prelude.{◌≡◌, ℕ, ◌<◌, ◌≤◌, nat_lt, Bool, true, false, List, [], ◌∷◌, ◌++◌, All, filter, Option}
+use Rattle.std.specs.Prelude.{◌≡◌, ℕ, ◌==◌, ◌<◌, ◌≤◌, nat_lt, Bool, true, false, List, [], ◌∷◌, ◌++◌, All, filter, Option}
 use Rattle.std.specs.Prelude.{None, Some, if◌then◌else◌}
 use Rattle.mb_model.specs.declared.key.PublicKey.{PublicKey}
 use Rattle.mb_model.specs.declared.layer.Layers.{Layers}
@@ -74,3 +74,14 @@ pub record BothKeptRightly (state : State) : Type 0 where
 abbrev pub KeptRightly : Option State → Type 0
 KeptRightly None = Unit {0}
 KeptRightly (Some state) = BothKeptRightly state
+
+-- the region of layer 2 or 3; no other layer has one
+abbrev pub region_of : State → ℕ → Region
+region_of state L = if L == 2 then state.two else if L == 3 then state.three else empty_region
+
+-- the state with another region of layer 2 or 3
+abbrev pub with_region : State → ℕ → Region → State
+with_region state L region = record state {
+  two = if L == 2 then region else state.two;
+  three = if L == 3 then region else state.three;
+}

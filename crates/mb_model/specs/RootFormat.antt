@@ -5,6 +5,7 @@ use Rattle.std.specs.Int.{w8, w32}
 use Rattle.mb_format.specs.Format.{Format}
 use Rattle.mb_format.specs.Combinators.{raw, number, between, table, mark, nothing, optional}
 use Rattle.mb_format.specs.Combinators.{pair, as_value, as_record, led, then_value}
+use Rattle.mb_model.specs.declared.limits.TheConstants.{KEY_USES}
 use Rattle.mb_model.specs.declared.region.RegionKey.{RegionKey}
 use Rattle.mb_model.specs.declared.stored.Outgoing.{Outgoing}
 use Rattle.mb_model.specs.declared.stored.Fate.{Fate}
@@ -16,7 +17,7 @@ use Rattle.mb_model.specs.EntryFormat.{key_kind_format}
 
 -- a key of a region: its number, its kind, its seed, and how many of its 32 indices are used
 unfoldable pub region_key_format : Format RegionKey
-region_key_format = as_record (pair (number w32) (pair key_kind_format (pair key_seed_format (between w8 0 32))))
+region_key_format = as_record (pair (number w32) (pair key_kind_format (pair key_seed_format (between w8 0 KEY_USES))))
     (λ (number, (kind, (seed, uses))). record { number = number; kind = kind; seed = seed; uses = uses })
     (λ key. (key.number, (key.kind, (key.seed, key.uses))))
 
@@ -24,7 +25,7 @@ region_key_format = as_record (pair (number w32) (pair key_kind_format (pair key
 
 -- the device key that gives way: its seed and its uses
 unfoldable pub outgoing_format : Format Outgoing
-outgoing_format = as_record (pair key_seed_format (between w8 1 32))
+outgoing_format = as_record (pair key_seed_format (between w8 1 KEY_USES))
     (λ (seed, uses). record { seed = seed; uses = uses })
     (λ outgoing. (outgoing.seed, outgoing.uses))
 
@@ -80,7 +81,7 @@ root_format = then_value (mark (1 ∷ [])) (as_record
     (pair (between w8 0 1)  -- area
     (pair (raw 16)  -- serial
     (pair key_seed_format  -- device
-    (pair (between w8 0 32)  -- uses
+    (pair (between w8 0 KEY_USES)  -- uses
     (optional pending_format)))))  -- pending
     (λ (area, (serial, (device, (uses, pending)))). record {
       area = area;

@@ -21,7 +21,7 @@ use Rattle.mb_model.specs.Signing.{public_of}
 use Rattle.mb_model.specs.ChainFormat.{statement_format, chain_format}
 use Rattle.mb_model.specs.Attach.{stated_chain}
 use Rattle.mb_model.specs.Acceptance.{IsBornOf, Accepts}
-use Rattle.mb_model.specs.OrderStep.{region_of}
+use Rattle.mb_model.specs.Regions.{region_of}
 use Rattle.mb_model.specs.Machine.{World, Run}
 use Rattle.mb_model.specs.Valid.{as_made, Valid}
 
@@ -127,15 +127,16 @@ StatementsStayAccepted world (this ∷ rest) next run =
 
 -- ---- a history
 
--- A state that a device can have, whose regions hold the keys that are alive, and in whose log no device key signs two
--- entries with one index.
+-- A state that a device can have, whose regions hold the keys that are alive, and in whose log no two entries between
+-- which the device key in charge stays the same have one index.
 pub record IsSoundWorld (world : World) : Type 0 where
   pub valid : Valid world.state
   pub keys : (live : State) (L : ℕ) → world.state ≡ Some live → IsTrue (is_upper L) → HoldsLivingKeys live L
   pub once : (live : State) → world.state ≡ Some live → SignsEntriesOnce live.log
 
--- What a run tells, whatever its events: each of its worlds is sound, each log begins each later one, and no key of a
--- region signs two statements with one index, nor with one that was used before the run.
+-- What a run tells, whatever its events: each of its worlds is sound, each log begins each later one, and of two
+-- statements for one key number the later has the higher index, which is not below the uses that a key with this number
+-- had before the run.
 pub record IsSoundRun
     (world : World)
     (answered : List Answered)

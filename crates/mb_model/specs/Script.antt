@@ -4,6 +4,7 @@ use Rattle.std.specs.Prelude.{◌≡◌, ℕ, ◌*◌, ◌-◌, ◌<◌, ◌≤�
 use Rattle.std.specs.Prelude.{length, map, replicate, codes, All, filter, count_by, IsTrue}
 use Rattle.std.specs.List.{AllZip}
 use Rattle.std.specs.Fmt.{decimal}
+use Rattle.mb_model.specs.declared.limits.TheConstants.{NAME_LIMIT, MESSAGE_LIMIT, FILL_LIMIT, FLASH_LENGTH, CUT_LIMIT, DRAW_LENGTH, EVENT_LIMIT}
 use Rattle.mb_model.specs.declared.event.Event.{Event}
 use Rattle.mb_model.specs.declared.event.Event.TheVariants as event
 use Rattle.mb_model.specs.declared.event.Tear.{Tear}
@@ -17,29 +18,29 @@ use Rattle.mb_model.specs.Pieces.{part}
 -- the name of a secret: 1 to 32 printed characters of ASCII, and no space
 pub record IsName (name : List ℕ) : Type 0 where
   pub some : 1 ≤ length name
-  pub most : length name ≤ 32
+  pub most : length name ≤ NAME_LIMIT
   pub printed : All (λ byte. (0x21 ≤ byte) × (byte ≤ 0x7E)) name
 
 -- the value of a secret, or a message to be signed
 abbrev pub FitsMessage : List ℕ → Type 0
-FitsMessage bytes = length bytes ≤ 128
+FitsMessage bytes = length bytes ≤ MESSAGE_LIMIT
 
 -- The tear that keeps so many bytes and fills with these, at most 16. They stand first in its field of 16 bytes, and
 -- zeros after them.
 abbrev pub tear_of : ℕ → List ℕ → Tear
-tear_of keep fill = record { keep = keep; fill = fill ++ replicate (16 - length fill) 0; fill_length = length fill }
+tear_of keep fill = record { keep = keep; fill = fill ++ replicate (FILL_LIMIT - length fill) 0; fill_length = length fill }
 
 -- a tear keeps at most the length of the flash, and fills with 1 to 16 bytes
 pub record IsTear (tear : Tear) (fill : List ℕ) : Type 0 where
-  pub keep : tear.keep ≤ 1048576
+  pub keep : tear.keep ≤ FLASH_LENGTH
   pub some : 1 ≤ length fill
-  pub most : length fill ≤ 16
+  pub most : length fill ≤ FILL_LIMIT
   pub made : tear ≡ tear_of tear.keep fill
 
 -- a power loss is set for one of the next 100,000 write calls
 pub record IsCut (count : ℕ) (tear : Tear) (fill : List ℕ) : Type 0 where
   pub least : 1 ≤ count
-  pub most : count ≤ 100000
+  pub most : count ≤ CUT_LIMIT
   pub torn : IsTear tear fill
 
 -- An event that a line of a script can give, by the lengths and numbers that its words may have, with any draw of 32
@@ -51,7 +52,7 @@ IsScriptEvent event.Tamper = Unit {0}
 IsScriptEvent event.Status = Unit {0}
 IsScriptEvent event.Go = Unit {0}
 IsScriptEvent (event.Cut count tear) = (fill : List ℕ) × IsCut count tear fill
-IsScriptEvent (event.Command text draw) = length draw ≡ 32
+IsScriptEvent (event.Command text draw) = length draw ≡ DRAW_LENGTH
 IsScriptEvent (event.Put region name value) = IsTrue (is_upper region) × IsName name × FitsMessage value
 IsScriptEvent (event.Get region name) = IsTrue (is_upper region) × IsName name
 IsScriptEvent (event.Drop region name) = IsTrue (is_upper region) × IsName name
@@ -85,7 +86,7 @@ SaysEvent line event.Tamper = line ≡ codes "tamper"
 SaysEvent line event.Status = line ≡ codes "status"
 SaysEvent line event.Go = line ≡ codes "go"
 SaysEvent line (event.Cut count tear) = IsCutLine line count tear
-SaysEvent line (event.Command text draw) = EndsInHex line (codes "command" ∷ []) text × (draw ≡ replicate 32 0)
+SaysEvent line (event.Command text draw) = EndsInHex line (codes "command" ∷ []) text × (draw ≡ replicate DRAW_LENGTH 0)
 SaysEvent line (event.Put region name value) =
     IsTrue (is_upper region) × IsName name × FitsMessage value
     × EndsInHex line (codes "put" ∷ decimal region ∷ name ∷ []) value
@@ -105,7 +106,7 @@ is_skipped (byte ∷ rest) = byte == 35
 -- The lines of a script stand for these events: one for each line that is not skipped, in order, at most 65,536.
 pub record IsScript (lines : List (List ℕ)) (events : List Event) : Type 0 where
   pub said : AllZip SaysEvent (filter (λ line. not (is_skipped line)) lines) events
-  pub most : length events ≤ 65536
+  pub most : length events ≤ EVENT_LIMIT
 
 -- ---- draws
 
@@ -133,7 +134,7 @@ commands_in events = count_by is_command events
 
 -- the event with its draw: the i-th command, from 0, has the bytes 32 i to 32 i + 31 of the noise
 abbrev pub drawn_event : List ℕ → List Event → Event → Event
-drawn_event noise before (event.Command text draw) = event.Command text (part (32 * commands_in before) 32 noise)
+drawn_event noise before (event.Command text draw) = event.Command text (part (DRAW_LENGTH * commands_in before) DRAW_LENGTH noise)
 drawn_event noise before other = other
 
 -- the events with their draws
@@ -142,9 +143,9 @@ drawn_events noise events = map (λ at. drawn_event noise at.0 at.1) (with_befor
 
 -- the noise has fewer than 32 bytes for each command
 abbrev pub IsShortNoise : List Event → List ℕ → Type 0
-IsShortNoise events noise = length noise < 32 * commands_in events
+IsShortNoise events noise = length noise < DRAW_LENGTH * commands_in events
 
 -- the noise has 32 bytes for each command, and gives the events these draws
 pub record Drawn (events : List Event) (noise : List ℕ) (drawn : List Event) : Type 0 where
-  pub enough : 32 * commands_in events ≤ length noise
+  pub enough : DRAW_LENGTH * commands_in events ≤ length noise
   pub given : drawn ≡ drawn_events noise events

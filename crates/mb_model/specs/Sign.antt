@@ -8,7 +8,7 @@ use Rattle.mb_model.specs.KeyFormat.{keyfile_format}
 use Rattle.mb_model.specs.Texts.{ended}
 use Rattle.mb_model.specs.OrderLines.{order_line}
 use Rattle.mb_model.specs.SignedOrders.{used_once, signed_order, countersigned_order, IsCountersignable}
-use Rattle.mb_model.specs.Commands.{Command, read, either, write, print, refuse}
+use Rattle.mb_model.specs.Commands.{Command, read, either_command, write, print, refuse}
 use Rattle.mb_model.specs.Inputs.{key_input, draft_input, order_input}
 
 -- the names of the files of `sign`
@@ -38,7 +38,7 @@ use_index key_name out_name key order =
 -- the key signs, unless its 32 indices are used
 unfoldable pub sign_by : List ℕ → List ℕ → Keyfile → Order → Command
 sign_by key_name out_name key order =
-    either (key.next ≡ 32) (refuse (codes "spent")) (use_index key_name out_name key order)
+    either_command (key.next ≡ 32) (refuse (codes "spent")) (use_index key_name out_name key order)
 
 abbrev pub sign_draft : SignNames → Keyfile → Command
 sign_draft names key = read (draft_input names.draft) (λ order.
@@ -50,7 +50,7 @@ sign names = read (key_input names.key) (sign_draft names)
 -- the key countersigns as the owner of a layer, unless the order cannot take that
 abbrev pub countersign_by : CountersignNames → Keyfile → Order → Command
 countersign_by names key order =
-    either (IsCountersignable order names.layer → ⊥) (refuse (codes "not countersignable"))
+    either_command (IsCountersignable order names.layer → ⊥) (refuse (codes "not countersignable"))
     (sign_by names.key names.out key (countersigned_order key names.layer order))
 
 abbrev pub countersign_order : CountersignNames → Keyfile → Command

@@ -6,7 +6,7 @@ use Rattle.mb_model.specs.declared.order.Order.{Order}
 use Rattle.mb_model.specs.declared.tools.Keyfile.{Keyfile}
 use Rattle.mb_model.specs.Rules.{is_load}
 use Rattle.mb_model.specs.OrderFormat.{order_body}
-use Rattle.mb_model.specs.OrderStep.{change_by}
+use Rattle.mb_model.specs.OrderChecks.{change_by}
 use Rattle.mb_model.specs.SignedTexts.{order_text, countersigned_text}
 use Rattle.mb_model.specs.Signing.{signature_of}
 

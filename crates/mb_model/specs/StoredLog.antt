@@ -7,7 +7,7 @@ use Rattle.mb_model.specs.declared.entry.SignedEntry.{SignedEntry}
 use Rattle.mb_model.specs.declared.stored.Root.{Root}
 use Rattle.mb_model.specs.declared.stored.Pending.{Pending}
 use Rattle.mb_model.specs.declared.stored.Outgoing.{Outgoing}
-use Rattle.mb_model.specs.OrderStep.{signed_by}
+use Rattle.mb_model.specs.OrderEffects.{signed_by}
 
 -- how many entries are not signed yet
 abbrev pub unsigned_by : Option Pending → ℕ

@@ -2,6 +2,7 @@
 use Rattle.std.specs.Prelude.{◌≡◌, ◌≢◌, ℕ, ◌≤◌, false, List, ◌∷◌, ◌++◌, length, map}
 use Rattle.std.specs.Prelude.{All, AllPairs, Option, None, Some}
 use Rattle.sha2.specs.Sha256.{sha256}
+use Rattle.mb_model.specs.declared.limits.TheConstants.{KEY_LIMIT}
 use Rattle.mb_model.specs.declared.layer.CodeName.{CodeName}
 use Rattle.mb_model.specs.declared.layer.Layers.{Layers}
 use Rattle.mb_model.specs.declared.entry.Entry.{Entry}
@@ -53,7 +54,7 @@ pub record IsValidRegion (log : List Entry) (layers : Layers) (L : ℕ) (region 
   pub empty : (layer_of layers L).reliable ≡ false → region ≡ empty_region
   pub names : AllPairs (λ a b. a.name ≢ b.name) region.secrets
   pub past : All (λ secret. secret.born ≤ number_of log) region.secrets
-  pub few : length region.keys ≤ 8
+  pub few : length region.keys ≤ KEY_LIMIT
   pub keys : map as_made region.keys ≡ alive_keys log L
   pub kept : RegionKeptRightly log L region
 

@@ -14,8 +14,9 @@ use Rattle.mb_model.specs.declared.stored.Fate.{Fate}
 use Rattle.mb_model.specs.declared.stored.Fate.TheVariants.{Keep}
 use Rattle.mb_model.specs.declared.stored.Outgoing.{Outgoing}
 use Rattle.mb_model.specs.declared.stored.Pending.{Pending}
-use Rattle.mb_model.specs.OrderStep.{view_of, succeeds, entries_needed, fact_of, names_next, next_key, entry_of}
-use Rattle.mb_model.specs.OrderStep.{succession_entry, device_after, uses_after, key_made}
+use Rattle.mb_model.specs.OrderChecks.{view_of, succeeds, entries_needed}
+use Rattle.mb_model.specs.OrderEffects.{fact_of, names_next, next_key, entry_of}
+use Rattle.mb_model.specs.OrderEffects.{succession_entry, device_after, uses_after, key_made}
 use Rattle.mb_model.specs.Fates.{change_fate, key_fate}
 
 -- ---- the entries and the keys

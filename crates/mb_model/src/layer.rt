@@ -1,7 +1,7 @@
 //! The layers of a device.
 
 ghost use Rattle.std.specs.Prelude.{◌≡◌};
-ghost use Rattle.mb_model.specs.Layers.{equal_trusts, are_equal};
+ghost use Rattle.mb_model.specs.Layers.{equal_trusts, are_equal, unowned};
 
 use crate::key::{PublicKey, Trust};
 
@@ -59,6 +59,20 @@ pub struct Layer {
     pub reliable: bool,
     /// Which changes beneath it the layer goes along with: over others it loses its secrets and is not reliable.
     pub trust: Trusts,
+}
+
+impl Layer {
+    /// A layer without an owner.
+    pub fn unowned() -> Layer
+        ensures { result ≡ unowned }
+    {
+        Layer {
+            owner: None,
+            code: None,
+            reliable: false,
+            trust: Trusts::equal(Trust::Never),
+        }
+    }
 }
 
 /// The layers of a device that can change. Layer 1 always has an owner and is reliable.

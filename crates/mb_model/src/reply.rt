@@ -1,5 +1,8 @@
 //! What a device answers.
 
+ghost use Rattle.std.specs.Prelude.{◌≡◌};
+ghost use Rattle.mb_model.specs.Refusals.{refusal_number, refused};
+
 use crate::bytes::Bytes;
 
 /// How a layer stands.
@@ -62,4 +65,68 @@ pub enum Reply {
     Stopped,
     /// An allocation failed; nothing has changed.
     NoMemory,
+}
+
+/// Why an event is refused.
+#[derive(Clone, Copy, PartialEq, Eq)]
+pub enum Refusal {
+    /// Power is off.
+    PoweredOff,
+    /// Another layer runs than the one that the event is for.
+    WrongPhase,
+    /// The device has been opened, and keeps nothing.
+    Zeroised,
+    /// Control is past this layer, or the layer may not run.
+    WrongLayer,
+    /// The region holds as many secrets as it can.
+    RegionFull,
+    /// The region has no such key.
+    NoSuchKey,
+    /// All indices of the key are used.
+    KeySpent,
+    /// The bytes are no order.
+    BadText,
+    /// The target of the order at this index, from 0, does not hold.
+    WrongTarget(u8),
+    /// The order may not be given as the layers stand.
+    WrongState,
+    /// The order is not signed by the owner in charge.
+    WrongSignature,
+    /// The order is not countersigned by the owner of this layer, 2 or 3.
+    WrongCountersignature(u8),
+    /// The log has no room for the order's entries.
+    LogFull,
+    /// The region holds as many keys as it can.
+    KeysFull,
+}
+
+impl Refusal {
+    /// The number by which a reply gives the reason.
+    pub fn number(self) -> u8
+        ensures { result ≡ refusal_number self }
+    {
+        match self {
+            Refusal::PoweredOff => 1,
+            Refusal::WrongPhase => 2,
+            Refusal::Zeroised => 3,
+            Refusal::WrongLayer => 4,
+            Refusal::RegionFull => 5,
+            Refusal::NoSuchKey => 6,
+            Refusal::KeySpent => 7,
+            Refusal::BadText => 10,
+            Refusal::WrongTarget(_) => 11,
+            Refusal::WrongState => 12,
+            Refusal::WrongSignature => 13,
+            Refusal::WrongCountersignature(_) => 14,
+            Refusal::LogFull => 15,
+            Refusal::KeysFull => 16,
+        }
+    }
+
+    /// The reply to an event that is refused for this reason.
+    pub fn reply(self) -> Reply
+        ensures { result ≡ refused self }
+    {
+        Reply::Refused(self.number())
+    }
 }

@@ -1,5 +1,8 @@
 //! What stands in a device's memory: the decoded records.
 
+ghost use Rattle.std.specs.Prelude.{◌≡◌};
+ghost use Rattle.mb_model.specs.Meaning.{fate_of_two, fate_of_three};
+
 use crate::bytes::Bytes;
 use crate::entry::PublicEntries;
 use crate::key::KeySeed;
@@ -52,6 +55,28 @@ pub struct Root {
     /// How many of the device key's 32 indices are used, those of entries not signed yet included.
     pub uses: u32,
     pub pending: Option<Pending>,
+}
+
+impl Root {
+    /// What is still to be done to region 2.
+    pub fn fate_of_two(&self) -> Fate
+        ensures { result ≡ fate_of_two self.now.pending }
+    {
+        match &self.pending {
+            Some(pending) => pending.two,
+            None => Fate::Keep,
+        }
+    }
+
+    /// What is still to be done to region 3.
+    pub fn fate_of_three(&self) -> Fate
+        ensures { result ≡ fate_of_three self.now.pending }
+    {
+        match &self.pending {
+            Some(pending) => pending.three,
+            None => Fate::Keep,
+        }
+    }
 }
 
 /// The public record of the flash.

@@ -1,14 +1,79 @@
 //! What the officers' tools read and write.
 
+ghost use Rattle.std.specs.Prelude.{◌≡◌, ◌≤◌, ◌<◌, ◌+◌, IfSome, IsNone};
+ghost use Rattle.mb_model.specs.declared.limits.TheConstants.{KEY_USES};
+
 use crate::bytes::Bytes;
 use crate::key::KeySeed;
+use crate::limits::KEY_USES;
+use std::marker::Model;
+
+/// The index with which a key signs next, from 0; the number of its indices, 32, if all are used.
+#[derive(Clone, Copy, PartialEq, Eq)]
+pub struct NextIndex {
+    index: u32,
+}
+
+impl Model for NextIndex {
+    ghost use Rattle.std.specs.Prelude.{ℕ, ◌≤◌};
+    ghost use Rattle.mb_model.specs.declared.limits.TheConstants.{KEY_USES};
+
+    ghost Value = { ℕ };
+
+    ghost view = { λ next. next.index };
+
+    ghost invariant = { λ next. next.index ≤ KEY_USES };
+
+    ghost inverse = { λ index. record { index = index } };
+}
+
+impl NextIndex {
+    /// The first index of a key.
+    pub fn first() -> NextIndex
+        ensures { result ≡ 0 }
+    {
+        NextIndex { index: 0 }
+    }
+
+    /// The index with this number; none if a key has no such index, and its last one is not before it.
+    pub fn new(number: u32) -> Option<NextIndex>
+        ensures some { IfSome result (λ next. (next ≡ number) × (number ≤ KEY_USES)) }
+        ensures none { IsNone result → KEY_USES < number }
+    {
+        if number > KEY_USES as u32 {
+            return None;
+        }
+        Some(NextIndex { index: number })
+    }
+
+    /// The number of the index.
+    pub fn number(self) -> u32
+        ensures number { result ≡ self }
+        ensures most { result ≤ KEY_USES }
+    {
+        self.index
+    }
+
+    /// Takes the index for a signature, unless all are used.
+    pub fn take(&mut self) -> Option<u32>
+        ensures some { IfSome result (λ index. (index ≡ self.old) × (index < KEY_USES) × (self.new ≡ self.old + 1)) }
+        ensures none { IsNone result → (self.old ≡ KEY_USES) × (self.new ≡ self.old) }
+    {
+        let index = self.index;
+        if index >= KEY_USES as u32 {
+            return None;
+        }
+        self.index = index + 1;
+        Some(index)
+    }
+}
 
 /// An officer's key.
 #[derive(Clone, Copy, PartialEq, Eq)]
 pub struct Keyfile {
     pub seed: KeySeed,
-    /// The next index that signs, 0 to 32: none is left at 32.
-    pub next: u32,
+    /// The index with which the key signs next.
+    pub next: NextIndex,
 }
 
 /// A record that is not in its form.

@@ -26,7 +26,7 @@ use Rattle.mb_model.specs.Acknowledged.{Shows, powered, zeroed, left}
 use Rattle.mb_model.proofs.RecordFormatLaws.{region_exact}
 use Rattle.mb_model_lemmas.proofs.LineLemmas.{cons_same, cons_none}
 use Rattle.mb_model_lemmas.proofs.MeaningLemmas.{not_blank}
-use Rattle.mb_model_examples.specs.MemoryCounterExamples.{AreaCounterExamples, MeaningCounterExamples, ImageCounterExamples, IsLeft, CleanCounterExamples, booted_and_stopped, WipingCounterExamples, AnswerCounterExamples}
+use Rattle.mb_model_examples.specs.MemoryCounterExamples.{AreaCounterExamples, MeaningCounterExamples, ImageCounterExamples, IsLeftOver, CleanCounterExamples, booted_and_stopped, WipingCounterExamples, AnswerCounterExamples}
 use Rattle.mb_model_examples.proofs.RecordProofs.{byte_test, are_bytes, fails}
 use Rattle.mb_model_examples.proofs.StepProofs.{never_unarmed}
 
@@ -152,7 +152,7 @@ wiping = record {
   stopped = λ wiping. stopped_wipes_nothing event.Boot (λ e. absurd (grind (arith, e))) wiping.sooner wiping.wiping wiping.later wiping.split wiping.wipes;
 }
 
-pub not_clean : (bbram : List ℕ) (offset : ℕ) → life_byte bbram ≡ 0xA5 → IsLeft bbram offset → (state : Option State) → Clean bbram state → ⊥
+pub not_clean : (bbram : List ℕ) (offset : ℕ) → life_byte bbram ≡ 0xA5 → IsLeftOver bbram offset → (state : Option State) → Clean bbram state → ⊥
 not_clean bbram offset life byte None is = (clean bbram).alive life is
 not_clean bbram offset life byte (Some state) is = (clean bbram).left offset byte state is
 

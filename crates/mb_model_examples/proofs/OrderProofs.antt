@@ -21,12 +21,16 @@ use Rattle.mb_model.specs.Log.{entries_of, number_of, used, made}
 use Rattle.mb_model.specs.Rules.{after}
 use Rattle.mb_model.specs.Merkle.{Verifies}
 use Rattle.mb_model.specs.OrderFormat.{target_format, body_format, sized_signature_format, countersignatures_format, order_format}
-use Rattle.mb_model.specs.Refusals.{Refusal, refusal_number, wrong_target, wrong_state, wrong_signature}
-use Rattle.mb_model.specs.OrderStep.{TargetHoldsIn, MayBeGiven, IsCountersigned, LogHasRoom, RegionHasRoom, Fails, signed_by, succeeded, changed, keyed, obeyed, spells_none, fails_check, is_obeyed, view_of}
+use Rattle.mb_model.specs.declared.reply.Refusal.{Refusal}
+use Rattle.mb_model.specs.declared.reply.Refusal.TheVariants.{WrongTarget, WrongState, WrongSignature}
+use Rattle.mb_model.specs.Refusals.{refusal_number}
+use Rattle.mb_model.specs.OrderChecks.{TargetHoldsIn, MayBeGiven, IsCountersigned, LogHasRoom, RegionHasRoom, Fails, view_of}
+use Rattle.mb_model.specs.OrderEffects.{signed_by, succeeded, changed, keyed, obeyed}
+use Rattle.mb_model.specs.OrderStep.{spells_none, fails_check, is_obeyed}
 use Rattle.mb_model.proofs.OrderFormatLaws.{order_exact}
 use Rattle.mb_model_examples.specs.RuleExamples.{officer, seven}
 use Rattle.mb_model_examples.specs.Device.{alive}
-use Rattle.mb_model_examples.specs.OrderExamples.{plain, surrender_two, establish_two, elsewhere, load_of, key_for_three, empty_by, RefusesOrder, RefusedOrders, with_eight_keys, LaterRefusals, Obeys, ObeyedOrders, LeavingExamples, key_nearly_used, nearly_full, grown, SuccessionExamples}
+use Rattle.mb_model_examples.specs.OrderExamples.{plain, surrender_two, establish_two, elsewhere, load_of, key_for_three, empty_by, RefusesOrder, RefusedOrders, with_eight_keys, LaterRefusals, ObeysOrder, ObeyedOrders, LeavingExamples, key_nearly_used, nearly_full, grown, SuccessionExamples}
 use Rattle.mb_model_examples.proofs.RecordProofs.{byte_test, are_bytes, spells, fails}
 
 -- ---- refusals
@@ -48,7 +52,7 @@ nobodys n text h =
     let sized : ◌≡◌ {A = ℕ} 0 2348 = h.form.sized in
     omega arith
 
-second_target_fails : (signature : List ℕ) (order : Order) → Fails (view_of (alive signature)) (elsewhere order) (wrong_target 1)
+second_target_fails : (signature : List ℕ) (order : Order) → Fails (view_of (alive signature)) (elsewhere order) (WrongTarget 1)
 second_target_fails signature order = (
   target.Serial (replicate 16 8),
   record {
@@ -70,21 +74,21 @@ refusals signature = record {
   no_order = spells_no_order (alive signature) (0 ∷ []) 0 refl refl;
   longer = spells_no_order (alive signature) (order_format.spelling surrender_two ++ 0 ∷ []) 6 refl refl;
   target =
-      refuses (alive signature) _ (elsewhere surrender_two) (wrong_target 1)
+      refuses (alive signature) _ (elsewhere surrender_two) (WrongTarget 1)
       (spells order_exact (order_format.spelling (elsewhere surrender_two)) (elsewhere surrender_two) refl refl)
       (second_target_fails signature surrender_two);
   second_target = second_target_fails signature surrender_two;
   target_before_state =
-      refuses (alive signature) _ (elsewhere establish_two) (wrong_target 1)
+      refuses (alive signature) _ (elsewhere establish_two) (WrongTarget 1)
       (spells order_exact (order_format.spelling (elsewhere establish_two)) (elsewhere establish_two) refl refl)
       (second_target_fails signature establish_two);
   state_before_signature =
-      refuses (alive signature) _ establish_two wrong_state
+      refuses (alive signature) _ establish_two WrongState
       (spells order_exact (order_format.spelling establish_two) establish_two refl refl)
       (All-nil (TargetHoldsIn (view_of (alive signature))), false≢true);
   not_signed = λ h. nobodys 1 _ h;
   signature_wrong =
-      refuses (alive signature) _ surrender_two wrong_signature
+      refuses (alive signature) _ surrender_two WrongSignature
       (spells order_exact (order_format.spelling surrender_two) surrender_two refl refl)
       (All-nil (TargetHoldsIn (view_of (alive signature))), refl, λ h. nobodys 2 _ h);
 }
@@ -145,7 +149,7 @@ obeys_plain : (state : State) (layer : ℕ) (does : Act) (by_owner : List ℕ) (
     → MayBeGiven (view_of state) (plain layer does by_owner) → LogHasRoom (view_of state) (plain layer does by_owner) → RegionHasRoom (view_of state) layer does
     → ((draw : List ℕ) → number_of (entries_of (obeyed state (plain layer does by_owner) draw).log) ≡ number)
     → ((draw : List ℕ) → length (obeyed state (plain layer does by_owner) draw).log ≡ size)
-    → Obeys state (plain layer does by_owner) number size
+    → ObeysOrder state (plain layer does by_owner) number size
 obeys_plain state layer does by_owner number size may log keys numbered sized = record {
   passes = λ signed. record {
     targets = All-nil (TargetHoldsIn (view_of state));

@@ -27,7 +27,7 @@ use Rattle.mb_model.proofs.OrderFormatLaws.{body_exact}
 use Rattle.mb_model.proofs.KeyFormatLaws.{public_key_exact, keyfile_exact, layer_exact}
 use Rattle.mb_model.proofs.EntryFormatLaws.{entry_exact, statement_exact, chain_exact}
 use Rattle.mb_model.proofs.RecordFormatLaws.{root_exact, region_exact, public_exact}
-use Rattle.mb_model_examples.specs.RecordValues.{bytes_of, officer_file, officer_file_digits, officer_public, officer_public_digits, surrender_body, new_key_body, load_three_body, load_one_body, load_one_body_digits, emergency_body, emergency_body_digits, split_load_body, split_load_body_digits, split_establish_body, split_establish_body_digits, split_emergency_body, split_emergency_body_digits, area_of_a_key, reliable_layer, reliable_layer_digits, doubted_layer, doubted_layer_digits, bare_layer, bare_layer_digits, split_layer, split_layer_digits, wary_layer, wary_layer_digits, birth_of_version_two, birth_of_version_two_digits, load_of_version_two, load_of_version_two_digits, birth, birth_digits, load_of_one, load_of_one_digits, emergency_of_two, emergency_of_two_digits, new_key, new_key_digits, succession, succession_digits, settled_root, settled_root_digits, busy_root, busy_root_digits, small_root, small_root_digits, region_of_both, region_of_both_digits, region_of_a_key, region_of_a_key_digits, statement, statement_bytes, chain, chain_bytes, stored, stored_bytes}
+use Rattle.mb_model_examples.specs.RecordValues.{bytes_of, officer_file, officer_file_digits, officer_public, officer_public_digits, surrender_body, new_key_body, load_three_body, load_one_body, load_one_body_digits, emergency_body, emergency_body_digits, split_load_body, split_load_body_digits, split_establish_body, split_establish_body_digits, split_emergency_body, split_emergency_body_digits, area_of_a_key, reliable_layer, reliable_layer_digits, doubted_layer, doubted_layer_digits, bare_layer, bare_layer_digits, split_layer, split_layer_digits, wary_layer, wary_layer_digits, birth_of_version_two, birth_of_version_two_digits, load_of_version_two, load_of_version_two_digits, birth, birth_digits, load_of_one, load_of_one_digits, emergency_of_two, emergency_of_two_digits, new_key_entry, new_key_digits, succession, succession_digits, settled_root_value, settled_root_digits, busy_root, busy_root_digits, small_root, small_root_digits, region_of_both, region_of_both_digits, region_of_a_key, region_of_a_key_digits, statement, statement_bytes, chain_example, chain_bytes, stored, stored_bytes}
 use Rattle.mb_model_examples.specs.RecordExamples.{KeyRecords, LayerRecords, BodyRecords, EntryRecords, RootRecords, RegionRecords, StatementRecords, ChainRecords, PublicRecords, with_byte, FailingRecords}
 
 -- ---- bytes
@@ -98,7 +98,7 @@ entries = record {
   of_birth = spells entry_exact (bytes_of birth_digits) birth refl refl;
   of_load = spells entry_exact (bytes_of load_of_one_digits) load_of_one refl refl;
   of_emergency = spells entry_exact (bytes_of emergency_of_two_digits) emergency_of_two refl refl;
-  of_new_key = spells entry_exact (bytes_of new_key_digits) new_key refl refl;
+  of_new_key = spells entry_exact (bytes_of new_key_digits) new_key_entry refl refl;
   of_succession = spells entry_exact (bytes_of succession_digits) succession refl refl;
   of_birth_of_version_two = spells entry_exact (bytes_of birth_of_version_two_digits) birth_of_version_two refl refl;
   of_load_of_version_two = spells entry_exact (bytes_of load_of_version_two_digits) load_of_version_two refl refl;
@@ -107,7 +107,7 @@ entries = record {
 pub roots : RootRecords
 unfolding decode_pairs number_bytes number_at raw_at key_seed_format key_kind_format region_key_format outgoing_format fate_format pending_format root_format
 roots = record {
-  settled = spells root_exact (bytes_of settled_root_digits) settled_root refl refl;
+  settled = spells root_exact (bytes_of settled_root_digits) settled_root_value refl refl;
   busy = spells root_exact (bytes_of busy_root_digits) busy_root refl refl;
   small = spells root_exact (bytes_of small_root_digits) small_root refl refl;
 }
@@ -137,7 +137,7 @@ statements = record { spelled = spells statement_exact statement_bytes statement
 
 pub chains : ChainRecords
 unfolding decode_pairs number_bytes number_at raw_at items public_key_format trust_format code_name_format layer_format layers_format key_kind_format birth_format new_key_format entry_format signed_entry_format statement_format chain_format
-chains = record { spelled = spells chain_exact chain_bytes chain refl refl; size = refl; first = refl; hash = chain_hash }
+chains = record { spelled = spells chain_exact chain_bytes chain_example refl refl; size = refl; first = refl; hash = chain_hash }
 
 pub publics : PublicRecords
 unfolding decode_pairs number_bytes number_at raw_at items public_key_format trust_format code_name_format layer_format layers_format key_kind_format birth_format new_key_format succession_format entry_format code_format codes_format public_entry_format public_format

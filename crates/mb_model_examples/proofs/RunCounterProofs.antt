@@ -19,7 +19,7 @@ use Rattle.mb_model.specs.declared.event.Event.TheVariants as event
 use Rattle.mb_model.specs.declared.reply.Reply.{Reply}
 use Rattle.mb_model.specs.declared.reply.Reply.TheVariants as reply
 use Rattle.mb_model.specs.declared.state.State.{State}
-use Rattle.mb_model.specs.Refusals.{Refusal}
+use Rattle.mb_model.specs.declared.reply.Refusal.{Refusal}
 use Rattle.mb_model.specs.Signing.{public_of}
 use Rattle.mb_model.specs.LayerFormat.{trust_format}
 use Rattle.mb_model.specs.OrderFormat.{target_format, payload_format, body_format, sized_signature_format, countersignatures_format, order_format}
@@ -27,7 +27,8 @@ use Rattle.mb_model.specs.Log.{device_in, last_of, layers_of}
 use Rattle.mb_model.specs.Lives.{MadeKey, splits, alive_keys, ends, Alive}
 use Rattle.mb_model.specs.Regions.{AdmittedSince}
 use Rattle.mb_model.specs.Rules.{IsFirstFailing}
-use Rattle.mb_model.specs.OrderStep.{view_of, TargetHoldsIn, IsCountersigned, spells_none, fails_check, is_obeyed}
+use Rattle.mb_model.specs.OrderChecks.{view_of, TargetHoldsIn, IsCountersigned}
+use Rattle.mb_model.specs.OrderStep.{spells_none, fails_check, is_obeyed}
 use Rattle.mb_model.specs.Machine.{Phase, World, Told, off, dead, ratchet, boot_event, awake_in, status_of, status_event, Step, answered, lacks_memory, loses_power}
 use Rattle.mb_model.specs.Acknowledged.{AreWiping}
 use Rattle.mb_model.specs.Board.{Held}

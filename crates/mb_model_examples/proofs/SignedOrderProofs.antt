@@ -18,8 +18,10 @@ use Rattle.mb_model.specs.OrderFormat.{target_format, payload_format, body_forma
 use Rattle.mb_model.specs.SignedTexts.{order_text}
 use Rattle.mb_model.specs.Winternitz.{coef, shortfall, checksum, digits_of, message_hash, one_time_key_mark, chain_step, steps_from, steps, value_at, chain_ends, one_time_key}
 use Rattle.mb_model.specs.Merkle.{leaf_node, inner_node, parent_node, climb, leaf_number, randomizer, chain_values, path_in, root_from, hash_of, HasForm, Verifies}
-use Rattle.mb_model.specs.Refusals.{wrong_signature}
-use Rattle.mb_model.specs.OrderStep.{TargetHoldsIn, IsCountersigned, signed_by, succeeded, changed, obeyed, fails_check, is_obeyed, view_of}
+use Rattle.mb_model.specs.declared.reply.Refusal.TheVariants.{WrongSignature}
+use Rattle.mb_model.specs.OrderChecks.{TargetHoldsIn, IsCountersigned, view_of}
+use Rattle.mb_model.specs.OrderEffects.{signed_by, succeeded, changed, obeyed}
+use Rattle.mb_model.specs.OrderStep.{fails_check, is_obeyed}
 use Rattle.mb_model.proofs.OrderFormatLaws.{order_exact}
 use Rattle.mb_model_examples.specs.RecordValues.{bytes_of}
 use Rattle.mb_model_examples.specs.SignedOrder.{owner_one, unended_signature, good_signature, flipped_signature, establish_order, order_bytes, newborn, VerifiedOrders}
@@ -261,7 +263,7 @@ verified signature draw = record {
   refused_order = fails_check (record {
     order = establish_order flipped_signature;
     spelled = spells order_exact (order_bytes flipped_signature) (establish_order flipped_signature) refl refl;
-    refusal = wrong_signature;
+    refusal = WrongSignature;
     fails = (All-nil (TargetHoldsIn (view_of (newborn signature))), refl, flipped);
     answered = refl;
     stays = refl;

@@ -10,8 +10,10 @@ use Rattle.mb_model.specs.declared.reply.Reply.TheVariants as reply
 use Rattle.mb_model.specs.declared.state.State.{State}
 use Rattle.mb_model.specs.Layers.{is_runnable}
 use Rattle.mb_model.specs.Log.{number_of}
-use Rattle.mb_model.specs.Refusals.{Refusal, wrong_layer, refusal_number, powered_off, zeroised, refused}
-use Rattle.mb_model.specs.OrderStep.{region_of}
+use Rattle.mb_model.specs.declared.reply.Refusal.{Refusal}
+use Rattle.mb_model.specs.declared.reply.Refusal.TheVariants.{PoweredOff, Zeroised, WrongLayer}
+use Rattle.mb_model.specs.Refusals.{refusal_number, refused}
+use Rattle.mb_model.specs.Regions.{region_of}
 use Rattle.mb_model.specs.LayerEvents.{Outcome, has_name, value_reply, put_event, get_event, drop_event, sign_event}
 use Rattle.mb_model.specs.Machine.{off, dead, World, Told, awake_in, status_of, status_event, go_event, region_event, CommandStep, Machine, may_want_memory, may_be_cut, Step, answered, lacks_memory, loses_power}
 use Rattle.mb_model_lemmas.specs.RefusalLaws.{BringsBytes}
@@ -48,9 +50,9 @@ refuses_others world refusal e = record {
 
 pub sleeping : (state : State) → SleepingExamples state
 sleeping state = record {
-  at_off = refuses_others (world_at off state) powered_off refl;
-  at_off_without_state = refuses_others (dead_world off) powered_off refl;
-  at_dead = refuses_others (dead_world dead) zeroised refl;
+  at_off = refuses_others (world_at off state) PoweredOff refl;
+  at_off_without_state = refuses_others (dead_world off) PoweredOff refl;
+  at_dead = refuses_others (dead_world dead) Zeroised refl;
 }
 
 pub awake_ones : (state : State) → AwakeExamples state
@@ -115,7 +117,7 @@ get_uncut : (world : World) (L : ℕ) (name : List ℕ) (on : Result (ℕ × Sta
 unfolding get_event
 get_uncut world L name (Err refusal) = refl
 get_uncut world L name (Ok on) =
-    either_outcome_uncut (nat_lt L on.0 || not (is_runnable on.1.layers L)) (refused wrong_layer, on.1) (get_event L name on.1) refl
+    either_outcome_uncut (nat_lt L on.0 || not (is_runnable on.1.layers L)) (refused WrongLayer, on.1) (get_event L name on.1) refl
     (value_uncut (find (has_name name) (region_of on.1 L).secrets))
 
 pub stops : (world : World) → StopExamples world

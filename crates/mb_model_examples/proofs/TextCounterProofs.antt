@@ -14,7 +14,7 @@ use Rattle.mb_model.specs.Memory.{IsBlank, selector_of}
 use Rattle.mb_model.specs.Pieces.{part}
 use Rattle.mb_model.specs.Factory.{IsBornWith}
 use Rattle.mb_model.specs.ChainFormat.{statement_format}
-use Rattle.mb_model.specs.Lines.{Reads, TextFailsAtLine}
+use Rattle.mb_model.specs.Lines.{ReadsLines, TextFailsAtLine}
 use Rattle.mb_model.specs.Script.{IsScript}
 use Rattle.mb_model.specs.OrderLines.{IsStatementLine}
 use Rattle.mb_model.specs.Workload.{DrawnBytes, workload_lines}
@@ -40,20 +40,20 @@ lines = record {
 }
 
 -- a text that stands for a value has no line that is wrong
-reads_and_fails : {A : Type 0} (Grammar : List (List ℕ) → A → Type 0) (text : List ℕ) (value : A) (n : ℕ) → Reads Grammar text value
+reads_and_fails : {A : Type 0} (Grammar : List (List ℕ) → A → Type 0) (text : List ℕ) (value : A) (n : ℕ) → ReadsLines Grammar text value
     → TextFailsAtLine Grammar text n → ⊥
 reads_and_fails Grammar text value n reads fails =
     let same = HasLines-same text reads.lines fails.lines reads.has fails.has in
     FailsAtLine-none Grammar fails.lines value n (subst (λ (lines : List (List ℕ)). Grammar lines value) same reads.stands) fails.fails
 
-boots : Reads IsScript boot_text (event.Boot ∷ [])
+boots : ReadsLines IsScript boot_text (event.Boot ∷ [])
 boots = record {
   lines = codes "boot" ∷ [];
   has = record { plain = lines_plain (codes "boot" ∷ []) refl; whole = inl refl };
   stands = record { said = (refl, tt); most = lit≤ tt };
 }
 
-boots_only : (events : List Event) → Reads IsScript boot_text events → event.Boot ∷ [] ≡ events
+boots_only : (events : List Event) → ReadsLines IsScript boot_text events → event.Boot ∷ [] ≡ events
 boots_only events reads =
     let same = HasLines-same boot_text reads.lines boots.lines reads.has boots.has in
     IsScript-same boots.lines (event.Boot ∷ []) events boots.stands (subst (λ (lines : List (List ℕ)). IsScript lines events) same reads.stands)

@@ -14,7 +14,7 @@ use Rattle.mb_model.specs.declared.order.Act.{Act}
 use Rattle.mb_model.specs.declared.order.Act.TheVariants as act
 use Rattle.mb_model.specs.declared.order.Order.{Order}
 use Rattle.mb_model.specs.Texts.{IsHex}
-use Rattle.mb_model.specs.Lines.{IsLine, IsBeginning, ends_early, Reads, TextFailsAtLine}
+use Rattle.mb_model.specs.Lines.{IsLine, IsBeginning, ends_early, ReadsLines, TextFailsAtLine}
 use Rattle.mb_model.specs.Script.{IsName, SaysEvent, is_skipped, IsScript, with_before, commands_in, drawn_events}
 use Rattle.mb_model.specs.Drafts.{SayAct, AreLoadLines, IsDraft}
 use Rattle.mb_model.specs.Listing.{summary}
@@ -119,7 +119,7 @@ sign_said : SaysEvent (codes "sign 3 1 68656c6c6f") (event.Sign 3 1 (codes "hell
 unfolding digits decode_pairs
 sign_said = (refl, lit≤ tt, lit≤ tt, (codes "68656c6c6f", hex (codes "68656c6c6f") 54 (codes "8656c6c6f") (codes "hello") refl refl, refl))
 
-script : Reads IsScript script_text script_events
+script : ReadsLines IsScript script_text script_events
 script = record {
   lines = script_lines;
   has = record { plain = lines_plain script_lines refl; whole = inl refl };

@@ -14,8 +14,8 @@ use Rattle.mb_model_examples.specs.Device.{full_region, with_regions, after_uses
 use Rattle.mb_model_examples.specs.StepExamples.{Refuses, armed_at, StopsBetween}
 
 -- While layer r runs, an event leads from one state to another.
-abbrev pub Leads : ℕ → State → Event → Reply → State → Type 0
-Leads r before event answer after = Machine (world_at (ratchet r) before) event answer (world_at (ratchet r) after)
+abbrev pub LeadsWorld : ℕ → State → Event → Reply → State → Type 0
+LeadsWorld r before event answer after = Machine (world_at (ratchet r) before) event answer (world_at (ratchet r) after)
 
 -- ---- secrets
 
@@ -27,27 +27,27 @@ with_seal signature =
 -- put: a secret is kept with the configuration number 4
 pub record PutExamples (signature : List ℕ) : Type 0 where
   -- a secret that is replaced keeps its place
-  pub replaced : Leads 2 (alive signature) (event.Put 2 (codes "pin") (codes "99")) reply.Kept
+  pub replaced : LeadsWorld 2 (alive signature) (event.Put 2 (codes "pin") (codes "99")) reply.Kept
       (with_regions (with_secrets (secret (codes "pin") (codes "99") 4 ∷ token ∷ [])) (key_of_three 0) signature)
   -- a new one goes last
-  pub new : Leads 1 (alive signature) (event.Put 2 (codes "seal") []) reply.Kept (with_seal signature)
+  pub new : LeadsWorld 1 (alive signature) (event.Put 2 (codes "seal") []) reply.Kept (with_seal signature)
   -- region 3 has its own
-  pub above : Leads 2 (alive signature) (event.Put 3 (codes "pin") (codes "5")) reply.Kept
+  pub above : LeadsWorld 2 (alive signature) (event.Put 3 (codes "pin") (codes "5")) reply.Kept
       (with_regions secrets_of_two
       (record { secrets = secret (codes "pin") (codes "5") 4 ∷ []; keys = key_one 0 ∷ [] }) signature)
   -- where there are 16, a new one is refused, and one with a name that is there is not
   pub full : Refuses (world_at (ratchet 2) (with_regions full_region full_region signature))
       (event.Put 2 (codes "q") []) 5
-  pub full_replaced : Leads 2 (with_regions full_region full_region signature) (event.Put 3 (codes "c") []) reply.Kept
+  pub full_replaced : LeadsWorld 2 (with_regions full_region full_region signature) (event.Put 3 (codes "c") []) reply.Kept
       (with_regions full_region full_region signature)
 
 pub record GetExamples (signature : List ℕ) : Type 0 where
-  pub found : Leads 2 (alive signature) (event.Get 2 (codes "token")) (reply.Value (codes "abc")) (alive signature)
-  pub absent : Leads 2 (alive signature) (event.Get 2 (codes "tok")) reply.Absent (alive signature)
-  pub of_another_region : Leads 2 (alive signature) (event.Get 3 (codes "pin")) reply.Absent (alive signature)
-  pub dropped : Leads 2 (alive signature) (event.Drop 2 (codes "pin")) reply.Dropped
+  pub found : LeadsWorld 2 (alive signature) (event.Get 2 (codes "token")) (reply.Value (codes "abc")) (alive signature)
+  pub absent : LeadsWorld 2 (alive signature) (event.Get 2 (codes "tok")) reply.Absent (alive signature)
+  pub of_another_region : LeadsWorld 2 (alive signature) (event.Get 3 (codes "pin")) reply.Absent (alive signature)
+  pub dropped : LeadsWorld 2 (alive signature) (event.Drop 2 (codes "pin")) reply.Dropped
       (with_regions (with_secrets (token ∷ [])) (key_of_three 0) signature)
-  pub not_dropped : Leads 2 (alive signature) (event.Drop 2 (codes "pi")) reply.Absent (alive signature)
+  pub not_dropped : LeadsWorld 2 (alive signature) (event.Drop 2 (codes "pi")) reply.Absent (alive signature)
 
 -- ---- statements
 
@@ -58,9 +58,9 @@ stated n message signature =
 
 -- sign: the reply tells the key and the index that was used, and the key has used one more
 pub record SignExamples (message signature : List ℕ) : Type 0 where
-  pub first : Leads 3 (after_uses 0 signature) (event.Sign 3 1 message)
+  pub first : LeadsWorld 3 (after_uses 0 signature) (event.Sign 3 1 message)
       (reply.Signed 1 0 (stated 0 message signature)) (after_uses 1 signature)
-  pub last : Leads 1 (after_uses 31 signature) (event.Sign 3 1 message)
+  pub last : LeadsWorld 1 (after_uses 31 signature) (event.Sign 3 1 message)
       (reply.Signed 1 31 (stated 31 message signature)) (after_uses 32 signature)
   pub spent : Refuses (world_at (ratchet 3) (after_uses 32 signature)) (event.Sign 3 1 message) 7
   -- a key that is not there is refused before one that is spent

@@ -58,15 +58,15 @@ pub record ImageCounterExamples (image : List ℕ) : Type 0 where
   pub right : length image ≡ 1077248 → HasFault image bad_length → ⊥
 
 -- in the inactive area of region 2 the byte 7 is left at an offset
-abbrev pub IsLeft : List ℕ → ℕ → Type 0
-IsLeft bbram offset = slice_index (other bbram 2) offset ≡ 7
+abbrev pub IsLeftOver : List ℕ → ℕ → Type 0
+IsLeftOver bbram offset = slice_index (other bbram 2) offset ≡ 7
 
 -- a memory is not clean
 pub record CleanCounterExamples (bbram : List ℕ) : Type 0 where
   -- that of a dead device has no life byte
   pub alive : life_byte bbram ≡ 0xA5 → Clean bbram None → ⊥
   -- one byte of an old region is left
-  pub left : (offset : ℕ) → IsLeft bbram offset → (state : State) → Clean bbram (Some state) → ⊥
+  pub left : (offset : ℕ) → IsLeftOver bbram offset → (state : State) → Clean bbram (Some state) → ⊥
 
 -- ---- what is acknowledged
 
@@ -92,7 +92,7 @@ pub record AnswerCounterExamples (standing now : Held) : Type 0 where
   -- the phase is another
   pub phase : (world : World) → now.phase ≡ off → world.phase ≡ dead → Shows now world → ⊥
   -- an old region is left in a device that is alive
-  pub left : (offset : ℕ) → life_byte now.memory.bbram ≡ 0xA5 → IsLeft now.memory.bbram offset → HoldsNoOther now → ⊥
+  pub left : (offset : ℕ) → life_byte now.memory.bbram ≡ 0xA5 → IsLeftOver now.memory.bbram offset → HoldsNoOther now → ⊥
   -- the log of a dead device has entries
   pub dead_log : IsBlank now.memory.bbram → ShowsLog now 5 → ⊥
   -- after a stop the memory does not have to be clean, unless the event is a tamper
@@ -103,5 +103,5 @@ pub record AnswerCounterExamples (standing now : Held) : Type 0 where
   -- an event stops, and no power loss was armed
   pub unarmed : standing.armed ≡ false → (given : Event) → MayAnswer standing now given reply.Stopped → ⊥
   -- `boot` is answered, and a byte of an old region is left
-  pub unclean : (offset : ℕ) → now.phase ≡ ratchet 1 → IsLeft now.memory.bbram offset
+  pub unclean : (offset : ℕ) → now.phase ≡ ratchet 1 → IsLeftOver now.memory.bbram offset
       → life_byte now.memory.bbram ≡ 0xA5 → MayAnswer standing now event.Boot reply.Booted → ⊥

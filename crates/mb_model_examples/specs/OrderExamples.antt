@@ -20,11 +20,13 @@ use Rattle.mb_model.specs.declared.entry.Entry.TheVariants.{Birth, Change}
 use Rattle.mb_model.specs.declared.reply.Reply.TheVariants as reply
 use Rattle.mb_model.specs.declared.state.State.{State}
 use Rattle.mb_model.specs.Layers.{equal_trusts, unowned}
-use Rattle.mb_model.specs.Refusals.{wrong_target, wrong_countersignature, log_full, keys_full}
+use Rattle.mb_model.specs.declared.reply.Refusal.TheVariants.{WrongTarget, WrongCountersignature, LogFull, KeysFull}
 use Rattle.mb_model.specs.Regions.{empty_region}
 use Rattle.mb_model.specs.OrderFormat.{order_format}
-use Rattle.mb_model.specs.OrderStep.{view_of, IsSigned, IsCountersigned, Fails, Passes, OrderStep}
-use Rattle.mb_model.specs.OrderStep.{needs_succession, entries_needed, next_key, obeyed}
+use Rattle.mb_model.specs.OrderChecks.{view_of, IsSigned, IsCountersigned, Fails, Passes}
+use Rattle.mb_model.specs.OrderStep.{OrderStep}
+use Rattle.mb_model.specs.OrderChecks.{needs_succession, entries_needed}
+use Rattle.mb_model.specs.OrderEffects.{next_key, obeyed}
 use Rattle.mb_model_examples.specs.RuleExamples.{officer, bare, running, nobody, by_two}
 use Rattle.mb_model_examples.specs.RuleExamples.{by_both, layers_with, at_birth, seven}
 use Rattle.mb_model_examples.specs.Device.{signed_with, seed_of, key_one, with_keys, secrets_of_two, key_of_three}
@@ -71,7 +73,7 @@ pub record RefusedOrders (signature : List ℕ) : Type 0 where
   pub longer : RefusesOrder (alive signature) (order_format.spelling surrender_two ++ 0 ∷ []) 10
   -- the second target does not hold, nor does what would be tried after it
   pub target : RefusesOrder (alive signature) (order_format.spelling (elsewhere surrender_two)) 11
-  pub second_target : Fails (view_of (alive signature)) (elsewhere surrender_two) (wrong_target 1)
+  pub second_target : Fails (view_of (alive signature)) (elsewhere surrender_two) (WrongTarget 1)
   pub target_before_state : RefusesOrder (alive signature) (order_format.spelling (elsewhere establish_two)) 11
   -- layer 2 has an owner, and the signature is wrong too
   pub state_before_signature : RefusesOrder (alive signature) (order_format.spelling establish_two) 12
@@ -89,34 +91,34 @@ pub record LaterRefusals (signature by_owner : List ℕ) : Type 0 where
       → Fails
       (view_of (alive signature))
       (record (load_of 1 by_owner) { countersignatures = empty_by 2 ∷ empty_by 3 ∷ [] })
-      (wrong_countersignature 2)
+      (WrongCountersignature 2)
   -- layer 2 countersigned, and layer 3 did not
   pub second_countersignature : (by : Countersignature) → by.layer ≡ 2
       → IsSigned (view_of (alive signature)) (load_of 1 by_owner)
       → IsCountersigned (view_of (alive signature)) (load_of 1 by_owner) by
       → Fails (view_of (alive signature)) (record (load_of 1 by_owner) { countersignatures = by ∷ empty_by 3 ∷ [] })
-      (wrong_countersignature 3)
+      (WrongCountersignature 3)
   pub keys : IsSigned (view_of (with_eight_keys signature)) (key_for_three by_owner)
-      → Fails (view_of (with_eight_keys signature)) (key_for_three by_owner) keys_full
+      → Fails (view_of (with_eight_keys signature)) (key_for_three by_owner) KeysFull
 
 -- ---- orders that pass
 
 -- where the owner in charge signed the order, it passes, and the answer tells this number and this length
-pub record Obeys (state : State) (order : Order) (number size : ℕ) : Type 0 where
+pub record ObeysOrder (state : State) (order : Order) (number size : ℕ) : Type 0 where
   pub passes : IsSigned (view_of state) order → Passes (view_of state) order
   pub done : (text draw : List ℕ) → Spells order_format text order → Passes (view_of state) order
       → OrderStep state text draw (reply.Done number size) (obeyed state order draw)
 
 pub record ObeyedOrders (signature by_owner : List ℕ) : Type 0 where
-  pub load_three : Obeys (alive signature) (load_of 3 by_owner) 5 7
-  pub load_one : Obeys (alive signature) (load_of 1 by_owner) 5 7
-  pub surrender : Obeys (alive signature) (plain 2 act.Surrender by_owner) 5 7
+  pub load_three : ObeysOrder (alive signature) (load_of 3 by_owner) 5 7
+  pub load_one : ObeysOrder (alive signature) (load_of 1 by_owner) 5 7
+  pub surrender : ObeysOrder (alive signature) (plain 2 act.Surrender by_owner) 5 7
   -- a key is no change: the number stays
-  pub key : Obeys (alive signature) (key_for_three by_owner) 4 7
+  pub key : ObeysOrder (alive signature) (key_for_three by_owner) 4 7
 
 -- What an order leaves: the regions, whether layers 2 and 3 are reliable, and how many indices of the device key are
 -- used.
-pub record Leaves (after : State) (two three : Region) (reliable : Pair) (uses : ℕ) : Type 0 where
+pub record LeavesRegions (after : State) (two three : Region) (reliable : Pair) (uses : ℕ) : Type 0 where
   pub region_two : after.two ≡ two
   pub region_three : after.three ≡ three
   pub layer_two : after.layers.two.reliable ≡ reliable.two
@@ -131,16 +133,16 @@ with_short_lived signature =
 
 pub record LeavingExamples (signature by_owner draw : List ℕ) : Type 0 where
   -- a load of layer 3 leaves region 2, and takes the configuration keys of its own
-  pub load_three : Leaves (obeyed (with_short_lived signature) (load_of 3 by_owner) draw)
+  pub load_three : LeavesRegions (obeyed (with_short_lived signature) (load_of 3 by_owner) draw)
       secrets_of_two (key_of_three 0) by_both 6
   -- a load of layer 2 empties region 3, which trusts what its owner countersigns, and so does not rely on its code
-  pub load_two : Leaves (obeyed (alive signature) (load_of 2 by_owner) draw) secrets_of_two empty_region by_two 6
+  pub load_two : LeavesRegions (obeyed (alive signature) (load_of 2 by_owner) draw) secrets_of_two empty_region by_two 6
   -- a load of layer 1 that nobody countersigned empties both; the next device key has used no index
-  pub load_one : Leaves (obeyed (alive signature) (load_of 1 by_owner) draw) empty_region empty_region nobody 0
-  pub load_one_countersigned : Leaves
+  pub load_one : LeavesRegions (obeyed (alive signature) (load_of 1 by_owner) draw) empty_region empty_region nobody 0
+  pub load_one_countersigned : LeavesRegions
       (obeyed (alive signature) (record (load_of 1 by_owner) { countersignatures = empty_by 2 ∷ empty_by 3 ∷ [] }) draw)
       secrets_of_two (key_of_three 0) by_both 0
-  pub surrender : Leaves (obeyed (alive signature) (plain 2 act.Surrender by_owner) draw)
+  pub surrender : LeavesRegions (obeyed (alive signature) (plain 2 act.Surrender by_owner) draw)
       empty_region empty_region nobody 6
   -- a new key goes last, with the number of keys that were made
   pub key : (obeyed (alive signature) (key_for_three by_owner) draw).three ≡ with_keys (key_one 0
@@ -204,10 +206,10 @@ pub record SuccessionExamples (signature by_owner : List ℕ) : Type 0 where
   pub earlier : needs_succession (view_of (grown key_less_used signature)) (load_of 2 by_owner) ≡ false
   pub needed_two : entries_needed (view_of (grown key_nearly_used signature)) (load_of 2 by_owner) ≡ 2
   pub needed_one : entries_needed (view_of (grown key_nearly_used signature)) (load_of 1 by_owner) ≡ 1
-  pub done_two : Obeys (grown key_nearly_used signature) (load_of 2 by_owner) 32 34
-  pub done_one : Obeys (grown key_nearly_used signature) (load_of 1 by_owner) 32 33
+  pub done_two : ObeysOrder (grown key_nearly_used signature) (load_of 2 by_owner) 32 34
+  pub done_one : ObeysOrder (grown key_nearly_used signature) (load_of 1 by_owner) 32 33
   -- 127 entries leave room for one more
   pub size : length nearly_full ≡ 127
   pub no_room : IsSigned (view_of (grown nearly_full signature)) (load_of 2 by_owner)
-      → Fails (view_of (grown nearly_full signature)) (load_of 2 by_owner) log_full
-  pub room : Obeys (grown nearly_full signature) (load_of 1 by_owner) 127 128
+      → Fails (view_of (grown nearly_full signature)) (load_of 2 by_owner) LogFull
+  pub room : ObeysOrder (grown nearly_full signature) (load_of 1 by_owner) 127 128

@@ -21,11 +21,11 @@ use Rattle.mb_model_examples.specs.RecordValues.{doubted_layer_digits, bare_laye
 use Rattle.mb_model_examples.specs.RecordValues.{bare_layer_digits, birth, birth_digits}
 use Rattle.mb_model_examples.specs.RecordValues.{load_of_one, load_of_one_digits}
 use Rattle.mb_model_examples.specs.RecordValues.{emergency_of_two, emergency_of_two_digits}
-use Rattle.mb_model_examples.specs.RecordValues.{new_key, new_key_digits, succession, succession_digits}
-use Rattle.mb_model_examples.specs.RecordValues.{settled_root, settled_root_digits, busy_root, busy_root_digits}
+use Rattle.mb_model_examples.specs.RecordValues.{new_key_entry, new_key_digits, succession, succession_digits}
+use Rattle.mb_model_examples.specs.RecordValues.{settled_root_value, settled_root_digits, busy_root, busy_root_digits}
 use Rattle.mb_model_examples.specs.RecordValues.{small_root, small_root_digits, region_of_both, region_of_both_digits}
 use Rattle.mb_model_examples.specs.RecordValues.{region_of_a_key, region_of_a_key_digits, area_of_a_key}
-use Rattle.mb_model_examples.specs.RecordValues.{statement, statement_bytes, statement_text_digits, chain, chain_bytes}
+use Rattle.mb_model_examples.specs.RecordValues.{statement, statement_bytes, statement_text_digits, chain_example, chain_bytes}
 use Rattle.mb_model_examples.specs.RecordValues.{stored, stored_bytes}
 use Rattle.mb_model_examples.specs.RecordValues.{noise_digits, officer_file, officer_file_digits, officer_public}
 use Rattle.mb_model_examples.specs.RecordValues.{officer_public_digits, surrender_body, new_key_body, load_three_body}
@@ -62,13 +62,13 @@ pub record EntryRecords : Type 0 where
   pub of_birth : Spells entry_format (bytes_of birth_digits) birth
   pub of_load : Spells entry_format (bytes_of load_of_one_digits) load_of_one
   pub of_emergency : Spells entry_format (bytes_of emergency_of_two_digits) emergency_of_two
-  pub of_new_key : Spells entry_format (bytes_of new_key_digits) new_key
+  pub of_new_key : Spells entry_format (bytes_of new_key_digits) new_key_entry
   pub of_succession : Spells entry_format (bytes_of succession_digits) succession
   pub of_birth_of_version_two : Spells entry_format (bytes_of birth_of_version_two_digits) birth_of_version_two
   pub of_load_of_version_two : Spells entry_format (bytes_of load_of_version_two_digits) load_of_version_two
 
 pub record RootRecords : Type 0 where
-  pub settled : Spells root_format (bytes_of settled_root_digits) settled_root
+  pub settled : Spells root_format (bytes_of settled_root_digits) settled_root_value
   pub busy : Spells root_format (bytes_of busy_root_digits) busy_root
   pub small : Spells root_format (bytes_of small_root_digits) small_root
 
@@ -89,7 +89,7 @@ pub record StatementRecords : Type 0 where
   pub signed : statement_text (replicate 16 0x41) 9 5 (codes "hello") ≡ bytes_of statement_text_digits
 
 pub record ChainRecords : Type 0 where
-  pub spelled : Spells chain_format chain_bytes chain
+  pub spelled : Spells chain_format chain_bytes chain_example
   pub size : length chain_bytes ≡ 7303
   pub first : take 24 chain_bytes ≡ bytes_of (codes "4d4243310002004141414141414141414141414141414100")
   pub hash : sha256 chain_bytes

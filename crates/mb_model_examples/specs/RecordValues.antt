@@ -29,12 +29,12 @@ use Rattle.mb_model.specs.Layers.{equal_trusts, unowned}
 use Rattle.mb_model_examples.specs.RuleExamples.{layers_with, by_two, by_three, by_both}
 
 -- the bytes that hexadecimal digits say
-abbrev decoded : Result (List ℕ) FromHexError → List ℕ
-decoded (Ok bytes) = bytes
-decoded (Err error) = []
+abbrev decoded_digits : Result (List ℕ) FromHexError → List ℕ
+decoded_digits (Ok bytes) = bytes
+decoded_digits (Err error) = []
 
 abbrev pub bytes_of : List ℕ → List ℕ
-bytes_of digits = decoded (decode_of digits)
+bytes_of digits = decoded_digits (decode_of digits)
 
 -- ---- keys
 
@@ -163,8 +163,8 @@ emergency_of_two_digits =
     ++ codes "31313131313131313131313131313131323232323232323232323232323232323232323232323232323232323232323200"
 
 -- position 7, number 5, key number 9
-abbrev pub new_key : Entry
-new_key = NewKey 7 5 9 3 Configuration (key_named 0x47)
+abbrev pub new_key_entry : Entry
+new_key_entry = NewKey 7 5 9 3 Configuration (key_named 0x47)
 
 abbrev pub new_key_digits : List ℕ
 new_key_digits =
@@ -235,8 +235,8 @@ load_of_version_two_digits =
 -- ---- root records
 
 -- nothing is pending
-abbrev pub settled_root : Root
-settled_root =
+abbrev pub settled_root_value : Root
+settled_root_value =
     record { area = 1; serial = replicate 16 0x41; device = seed_named 0x55; uses = 17; pending = None }
 
 abbrev pub settled_root_digits : List ℕ
@@ -331,12 +331,12 @@ statement_bytes = bytes_of (codes "000000050568656c6c6f") ++ replicate 2348 0x63
 abbrev pub statement_text_digits : List ℕ
 statement_text_digits = codes "0441414141414141414141414141414141000000090000000568656c6c6f"
 
-abbrev pub chain : Chain
-chain =
+abbrev pub chain_example : Chain
+chain_example =
     record {
       entries =
           record { entry = birth; signature = replicate 2348 0x61 }
-          ∷ record { entry = new_key; signature = replicate 2348 0x62 }
+          ∷ record { entry = new_key_entry; signature = replicate 2348 0x62 }
           ∷ [];
       statement = Some statement;
     }
@@ -357,7 +357,7 @@ stored =
       codes = record { one = Some (0x0A ∷ []); two = None; three = Some (codes "abc") };
       entries =
           record { entry = birth; signature = Some (replicate 2348 0x61) }
-          ∷ record { entry = new_key; signature = Some (replicate 2348 0x62) }
+          ∷ record { entry = new_key_entry; signature = Some (replicate 2348 0x62) }
           ∷ record { entry = succession; signature = None }
           ∷ [];
     }

@@ -16,11 +16,13 @@ use Rattle.mb_model.specs.declared.event.Event.TheVariants as event
 use Rattle.mb_model.specs.declared.reply.Reply.{Reply}
 use Rattle.mb_model.specs.declared.reply.Reply.TheVariants as reply
 use Rattle.mb_model.specs.declared.state.State.{State}
-use Rattle.mb_model.specs.Refusals.{Refusal, wrong_target, wrong_countersignature}
+use Rattle.mb_model.specs.declared.reply.Refusal.{Refusal}
+use Rattle.mb_model.specs.declared.reply.Refusal.TheVariants.{WrongTarget, WrongCountersignature}
 use Rattle.mb_model.specs.Log.{device_in}
 use Rattle.mb_model.specs.Lives.{Alive}
 use Rattle.mb_model.specs.Regions.{empty_region, KeyAdmitted, RegionKeptRightly}
-use Rattle.mb_model.specs.OrderStep.{view_of, Passes, Fails, OrderStep}
+use Rattle.mb_model.specs.OrderChecks.{view_of, Passes, Fails}
+use Rattle.mb_model.specs.OrderStep.{OrderStep}
 use Rattle.mb_model.specs.Machine.{World, off, ratchet, LosesPower, Step, Run}
 use Rattle.mb_model.specs.Memory.{life_byte}
 use Rattle.mb_model.specs.Board.{Held}
@@ -31,7 +33,7 @@ use Rattle.mb_model_examples.specs.RuleExamples.{officer, nobody, by_two, three_
 use Rattle.mb_model_examples.specs.Device.{signed_with, token, key_one}
 use Rattle.mb_model_examples.specs.Device.{with_secrets, with_keys, with_regions, after_uses}
 use Rattle.mb_model_examples.specs.Device.{world_at, dead_world}
-use Rattle.mb_model_examples.specs.MemoryCounterExamples.{IsLeft}
+use Rattle.mb_model_examples.specs.MemoryCounterExamples.{IsLeftOver}
 
 -- ---- steps
 
@@ -50,9 +52,9 @@ pub record OrderCounterExamples (state next : State) (text draw : List ℕ) : Ty
 -- checks that an order does not fail
 pub record RefusalCounterExamples (state : State) (order : Order) : Type 0 where
   -- a target, and it has none
-  pub no_target : (i : ℕ) → order.targets ≡ [] → Fails (view_of state) order (wrong_target i) → ⊥
+  pub no_target : (i : ℕ) → order.targets ≡ [] → Fails (view_of state) order (WrongTarget i) → ⊥
   -- a countersignature of layer 3, and it has none
-  pub no_countersignature : order.countersignatures ≡ [] → Fails (view_of state) order (wrong_countersignature 3) → ⊥
+  pub no_countersignature : order.countersignatures ≡ [] → Fails (view_of state) order (WrongCountersignature 3) → ⊥
   -- any check, and it passes all
   pub passing : (refusal : Refusal) → Passes (view_of state) order → Fails (view_of state) order refusal → ⊥
 
@@ -96,10 +98,10 @@ pub record ServedCounterExamples (first : Option State) (final : Held) : Type 0 
   -- nothing happened, and power is on
   pub still_on : final.phase ≡ ratchet 1 → IsServed first [] [] final → ⊥
   -- the device booted, and a byte of an old region is left
-  pub unclean : (offset : ℕ) → life_byte final.memory.bbram ≡ 0xA5 → IsLeft final.memory.bbram offset
+  pub unclean : (offset : ℕ) → life_byte final.memory.bbram ≡ 0xA5 → IsLeftOver final.memory.bbram offset
       → IsServed first (event.Boot ∷ []) (booted ∷ []) final → ⊥
   -- and power went off after that
-  pub unclean_off : (offset : ℕ) → life_byte final.memory.bbram ≡ 0xA5 → IsLeft final.memory.bbram offset
+  pub unclean_off : (offset : ℕ) → life_byte final.memory.bbram ≡ 0xA5 → IsLeftOver final.memory.bbram offset
       → IsServed first (event.Boot ∷ event.Off ∷ []) (booted ∷ turned_off ∷ []) final → ⊥
   -- the flash begins with 300, which is no byte
   pub no_byte : get_or final.memory.flash 0 0 ≡ 300 → (events : List Event) (answered : List Answered)

@@ -16,24 +16,25 @@ use Rattle.mb_model.specs.Regions.{empty_region}
 use Rattle.mb_model.specs.SignedTexts.{order_text}
 use Rattle.mb_model.specs.OrderFormat.{order_body}
 use Rattle.mb_model.specs.Merkle.{Verifies}
-use Rattle.mb_model.specs.OrderStep.{OrderStep, obeyed}
+use Rattle.mb_model.specs.OrderEffects.{obeyed}
+use Rattle.mb_model.specs.OrderStep.{OrderStep}
 use Rattle.mb_model_examples.specs.RuleExamples.{officer, running, at_birth}
 use Rattle.mb_model_examples.specs.Device.{signed_with, seed_of}
 use Rattle.mb_model_examples.specs.RecordValues.{bytes_of}
 
 -- a key by its identifier and its root, in digits
-abbrev key_of : List ℕ → List ℕ → PublicKey
-key_of identifier root =
+abbrev signed_key : List ℕ → List ℕ → PublicKey
+signed_key identifier root =
     record { tree = H5; chains = W4; identifier = bytes_of identifier; root = bytes_of root }
 
 abbrev pub owner_one : PublicKey
 owner_one =
-    key_of (codes "028c20423da199b2086baca3700a4bef")
+    signed_key (codes "028c20423da199b2086baca3700a4bef")
     (codes "21c2a633d102f5f5b69c16ef675e8c310801820d9c31df7bcec85287cedeb807")
 
 abbrev pub owner_two : PublicKey
 owner_two =
-    key_of (codes "5c6d009ae4672bd031a5dc7525cbaba8")
+    signed_key (codes "5c6d009ae4672bd031a5dc7525cbaba8")
     (codes "2e56d8e64c6a43bb1c541dc444c381d61f0ad5bca66db1d753e7a3bbdf84873c")
 
 -- the index and a type, the randomizer, the 67 chain values, a type, and the nodes of the path, without the last byte

@@ -11,7 +11,7 @@ use Rattle.mb_model.specs.declared.state.State.{State}
 use Rattle.mb_model.specs.declared.tools.Workload.{Workload}
 use Rattle.mb_model.specs.Memory.{IsImage, IsBlank, selector_of}
 use Rattle.mb_model.specs.Factory.{IsBornWith}
-use Rattle.mb_model.specs.Lines.{HasLines, Reads, TextFailsAtLine}
+use Rattle.mb_model.specs.Lines.{HasLines, ReadsLines, TextFailsAtLine}
 use Rattle.mb_model.specs.Script.{IsScriptEvent, IsScript}
 use Rattle.mb_model.specs.Drafts.{SaysTarget, IsDraft}
 use Rattle.mb_model.specs.OrderLines.{IsOrderLine, IsStatementLine}
@@ -33,11 +33,11 @@ boot_text = codes "boot" ++ 10 ∷ []
 -- a text does not stand for these events, and no script gives these
 pub record ScriptCounterExamples : Type 0 where
   -- a line that says no event
-  pub jump : (events : List Event) → Reads IsScript (codes "boot" ++ 10 ∷ 10 ∷ codes "jump" ++ 10 ∷ []) events → ⊥
+  pub jump : (events : List Event) → ReadsLines IsScript (codes "boot" ++ 10 ∷ 10 ∷ codes "jump" ++ 10 ∷ []) events → ⊥
   -- another event, none, and one more
-  pub other_event : Reads IsScript boot_text (event.Off ∷ []) → ⊥
-  pub left_out : Reads IsScript boot_text [] → ⊥
-  pub added : Reads IsScript boot_text (event.Boot ∷ event.Boot ∷ []) → ⊥
+  pub other_event : ReadsLines IsScript boot_text (event.Off ∷ []) → ⊥
+  pub left_out : ReadsLines IsScript boot_text [] → ⊥
+  pub added : ReadsLines IsScript boot_text (event.Boot ∷ event.Boot ∷ []) → ⊥
   -- a line that is wrong in it
   pub wrong_line : (n : ℕ) → TextFailsAtLine IsScript boot_text n → ⊥
   -- a power loss in no write call, a region of layer 1, a number of more than 32 bits

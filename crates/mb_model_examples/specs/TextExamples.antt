@@ -8,7 +8,7 @@ use Rattle.mb_model.specs.declared.event.Event.TheVariants as event
 use Rattle.mb_model.specs.declared.reply.Reply.TheVariants as reply
 use Rattle.mb_model.specs.declared.reply.Standing.TheVariants as stands
 use Rattle.mb_model.specs.Layers.{equal_trusts, unowned}
-use Rattle.mb_model.specs.Lines.{HasLines, FailsAtLine, Reads, TextFailsAtLine}
+use Rattle.mb_model.specs.Lines.{HasLines, FailsAtLine, ReadsLines, TextFailsAtLine}
 use Rattle.mb_model.specs.Script.{IsScript, drawn_events}
 use Rattle.mb_model.specs.Replies.{reply_line}
 use Rattle.mb_model.specs.Drafts.{IsDraft}
@@ -46,9 +46,9 @@ script_events =
 
 -- what scripts stand for, and where they fail
 pub record ScriptExamples : Type 0 where
-  pub script : Reads IsScript script_text script_events
+  pub script : ReadsLines IsScript script_text script_events
   pub no_script : TextFailsAtLine IsScript (codes "boot" ++ 10 ∷ 10 ∷ codes "jump" ++ 10 ∷ []) 3
-  pub empty : Reads IsScript [] []
+  pub empty : ReadsLines IsScript [] []
 
 -- the draws of two commands
 pub record DrawExamples : Type 0 where

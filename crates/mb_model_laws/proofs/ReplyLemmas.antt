@@ -13,7 +13,12 @@ use Rattle.mb_model.specs.declared.reply.Standing.{Standing}
 use Rattle.mb_model.specs.declared.reply.Standing.TheVariants as stands
 use Rattle.mb_model.specs.Texts.{IsHex}
 use Rattle.mb_model.specs.Lines.{hex_word}
-use Rattle.mb_model.specs.Refusals.{Refusal, powered_off, wrong_phase, zeroised, wrong_layer, region_full, no_such_key, key_spent, bad_text, wrong_target, wrong_state, wrong_signature, wrong_countersignature, log_full, keys_full, refused}
+use Rattle.mb_model.specs.declared.reply.Refusal.{Refusal}
+use Rattle.mb_model.specs.declared.reply.Refusal.TheVariants.{PoweredOff, WrongPhase, Zeroised, WrongLayer}
+use Rattle.mb_model.specs.declared.reply.Refusal.TheVariants.{RegionFull, NoSuchKey, KeySpent, BadText, WrongTarget}
+use Rattle.mb_model.specs.declared.reply.Refusal.TheVariants.{WrongState, WrongSignature, WrongCountersignature}
+use Rattle.mb_model.specs.declared.reply.Refusal.TheVariants.{LogFull, KeysFull}
+use Rattle.mb_model.specs.Refusals.{refused}
 use Rattle.mb_model.specs.Replies.{HasLine, standing_word, refusal_words, reply_line}
 use Rattle.mb_model_laws.specs.TextLaws.{IsInRange}
 use Rattle.mb_model_lemmas.proofs.LineLemmas.{Without, isnt, first_same}
@@ -119,17 +124,17 @@ reply_line-same a b ra rb e = two_replies a b (λ same. omega (arith, same)) e
 -- ---- refusals
 
 pub has_words : (refusal : Refusal) → HasLine (refused refusal)
-has_words powered_off = refl
-has_words wrong_phase = refl
-has_words zeroised = refl
-has_words wrong_layer = refl
-has_words region_full = refl
-has_words no_such_key = refl
-has_words key_spent = refl
-has_words bad_text = refl
-has_words (wrong_target place) = refl
-has_words wrong_state = refl
-has_words wrong_signature = refl
-has_words (wrong_countersignature m) = refl
-has_words log_full = refl
-has_words keys_full = refl
+has_words PoweredOff = refl
+has_words WrongPhase = refl
+has_words Zeroised = refl
+has_words WrongLayer = refl
+has_words RegionFull = refl
+has_words NoSuchKey = refl
+has_words KeySpent = refl
+has_words BadText = refl
+has_words (WrongTarget place) = refl
+has_words WrongState = refl
+has_words WrongSignature = refl
+has_words (WrongCountersignature m) = refl
+has_words LogFull = refl
+has_words KeysFull = refl

@@ -24,5 +24,5 @@ SlotsAreBetween =
     → (header_sector area < code_sector layer slot) × (code_sector layer slot + 8 ≤ log_sector position)
 
 -- the sectors of a log of 128 entries lie within the 256 of the flash
-abbrev pub LogFits : Type 0
-LogFits = (position : ℕ) → position < 128 → log_sector position < 256
+abbrev pub LogSectorsFit : Type 0
+LogSectorsFit = (position : ℕ) → position < 128 → log_sector position < 256

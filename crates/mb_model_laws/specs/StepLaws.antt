@@ -5,7 +5,7 @@ use Rattle.mb_model.specs.declared.event.Answered.{Answered}
 use Rattle.mb_model.specs.declared.reply.Reply.{Reply}
 use Rattle.mb_model.specs.declared.order.Order.{Order}
 use Rattle.mb_model.specs.declared.state.State.{State}
-use Rattle.mb_model.specs.OrderStep.{log_with, ready_for, own_entry, obeyed}
+use Rattle.mb_model.specs.OrderEffects.{log_with, ready_for, own_entry, obeyed}
 use Rattle.mb_model.specs.Machine.{World, Step, Run}
 use Rattle.mb_model.specs.Valid.{Valid}
 

@@ -7,22 +7,23 @@ use Rattle.mb_model.specs.declared.reply.Reply.{Reply}
 use Rattle.mb_model.specs.declared.reply.Reply.TheVariants as reply
 use Rattle.mb_model.specs.declared.order.Order.{Order}
 use Rattle.mb_model.specs.declared.entry.Statement.{Statement}
-use Rattle.mb_model.specs.Refusals.{Refusal, refused}
+use Rattle.mb_model.specs.declared.reply.Refusal.{Refusal}
+use Rattle.mb_model.specs.Refusals.{refused}
 use Rattle.mb_model.specs.Replies.{HasLine, reply_line}
 use Rattle.mb_model.specs.Workload.{generated, Draws, DrawnInOrder}
 use Rattle.mb_model.specs.OrderLines.{IsOrderLine, IsStatementLine}
 use Rattle.mb_model.specs.Texts.{IsHex}
-use Rattle.mb_model.specs.Lines.{HasLines, hex_word, number_limit, FailsAtLine, Reads, TextFailsAtLine}
+use Rattle.mb_model.specs.Lines.{HasLines, hex_word, number_limit, FailsAtLine, ReadsLines, TextFailsAtLine}
 use Rattle.mb_model.specs.Script.{IsScriptEvent, SaysEvent, is_skipped, IsScript, drawn_event, drawn_events, Drawn}
 
 -- A text stands for one value, or one line of it is the first that is wrong: never for two, never both, and there is no
 -- text of which neither is so.
 pub record IsClearText {A : Type 0} (Grammar : List (List ℕ) → A → Type 0) : Type 0 where
-  pub one_value : (text : List ℕ) (a b : A) → Reads Grammar text a → Reads Grammar text b → a ≡ b
+  pub one_value : (text : List ℕ) (a b : A) → ReadsLines Grammar text a → ReadsLines Grammar text b → a ≡ b
   pub one_line : (text : List ℕ) (m n : ℕ) → TextFailsAtLine Grammar text m → TextFailsAtLine Grammar text n → m ≡ n
-  pub never_both : (text : List ℕ) (a : A) (n : ℕ) → Reads Grammar text a → TextFailsAtLine Grammar text n → ⊥
+  pub never_both : (text : List ℕ) (a : A) (n : ℕ) → ReadsLines Grammar text a → TextFailsAtLine Grammar text n → ⊥
   pub never_neither : (text : List ℕ)
-      → ((a : A) → Reads Grammar text a → ⊥) → ((n : ℕ) → TextFailsAtLine Grammar text n → ⊥) → ⊥
+      → ((a : A) → ReadsLines Grammar text a → ⊥) → ((n : ℕ) → TextFailsAtLine Grammar text n → ⊥) → ⊥
 
 -- each text has lines
 abbrev pub SomeLines : Type 0

@@ -10,7 +10,8 @@ use Rattle.mb_model.specs.declared.state.State.{State}
 use Rattle.mb_model.specs.declared.state.View.{View}
 use Rattle.mb_model.specs.Rules.{kind_of, change_of, renews}
 use Rattle.mb_model.specs.Log.{entries_of, number_of, used, made}
-use Rattle.mb_model.specs.OrderStep.{view_of, succeeds, needs_succession, fact_of, names_next, next_key, layers_after, entry_of, succession_entry, device_after, uses_after, succeeded, changed, keyed, ready_for, carried_out, obeyed}
+use Rattle.mb_model.specs.OrderChecks.{view_of, succeeds, needs_succession}
+use Rattle.mb_model.specs.OrderEffects.{fact_of, names_next, next_key, layers_after, entry_of, succession_entry, device_after, uses_after, succeeded, changed, keyed, ready_for, carried_out, obeyed}
 use Rattle.mb_model.specs.Work.{after_succession, ready_by, first_by, bodies_for, bodies_by}
 use Rattle.mb_model_lemmas.proofs.LogLemmas.{number_of-push, used-push, made-push}
 use Rattle.mb_model_lemmas.proofs.ValidLogs.{entries_of-signed}

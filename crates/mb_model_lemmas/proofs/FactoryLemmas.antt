@@ -12,7 +12,7 @@ use Rattle.mb_model.specs.Pieces.{part}
 use Rattle.mb_model.specs.Log.{figures_of, entries_of, last_of, layers_of, device_of, serial_of, used, has_version_two}
 use Rattle.mb_model.specs.Lives.{splits, alive_keys}
 use Rattle.mb_model.specs.Regions.{empty_region}
-use Rattle.mb_model.specs.OrderStep.{signed_by}
+use Rattle.mb_model.specs.OrderEffects.{signed_by}
 use Rattle.mb_model.specs.Memory.{life_byte}
 use Rattle.mb_model.specs.Flash.{public_format, flash_area, BeginsWithRecord, public_of_parts, HoldsPublic, IsFactoryFlash}
 use Rattle.mb_model.specs.Valid.{Follows, EachFollows, IsValidRegion, IsValidState}

@@ -18,7 +18,8 @@ use Rattle.mb_model.specs.Log.{entries_of, made, RuledLog}
 use Rattle.mb_model.specs.Lives.{Alive, MadeKey}
 use Rattle.mb_model.specs.Regions.{with_key}
 use Rattle.mb_model.specs.Signing.{public_of}
-use Rattle.mb_model.specs.OrderStep.{next_key, key_made, cosigned_by, changed, keyed, view_of}
+use Rattle.mb_model.specs.OrderChecks.{view_of}
+use Rattle.mb_model.specs.OrderEffects.{next_key, key_made, cosigned_by, changed, keyed}
 use Rattle.mb_model.specs.Meaning.{fated}
 use Rattle.mb_model.specs.Valid.{as_made, IsValidRegion}
 use Rattle.mb_model.specs.Fates.{change_fate, key_fate}

@@ -21,7 +21,8 @@ use Rattle.mb_model.specs.declared.stored.Root.{Root}
 use Rattle.mb_model.specs.RootFormat.{root_format}
 use Rattle.mb_model.specs.RegionFormat.{region_format, SpellsRegion}
 use Rattle.mb_model.specs.Pieces.{part}
-use Rattle.mb_model.specs.Memory.{IsBlank, slots, area_length, selector_of, life_byte, first_area, second_area, current, HoldsInArea, HoldsRecord}
+use Rattle.mb_model.specs.declared.limits.TheConstants.{AREA_LENGTH}
+use Rattle.mb_model.specs.Memory.{IsBlank, slots, selector_of, life_byte, first_area, second_area, current, HoldsInArea, HoldsRecord}
 use Rattle.mb_model.specs.Flash.{public_format, flash_area, BeginsArea, BeginsWithRecord, with_signature, without_signature, public_of_parts, HoldsPublic}
 use Rattle.mb_model.specs.Meaning.{HasRoot, RootIn, HoldsRegion, Contents, HoldsContents, meant, HasMeaning, is_dead, is_live, StandsFor}
 use Rattle.mb_model.proofs.RecordFormatLaws.{root_exact, region_exact, public_exact}
@@ -61,11 +62,11 @@ IsBytes-part at n memory are = IsBytes-take n (drop at memory) (IsBytes-drop at 
 pub IsBytes-current : (bbram : List ℕ) (slot : ℕ) → IsBytes bbram → IsBytes (current bbram slot)
 unfolding current first_area second_area
 IsBytes-current bbram slot are =
-    let first : List ℕ = part (slots slot).first area_length bbram in
-    let second : List ℕ = part (slots slot).second area_length bbram in
+    let first : List ℕ = part (slots slot).first AREA_LENGTH bbram in
+    let second : List ℕ = part (slots slot).second AREA_LENGTH bbram in
     elim (selector_of bbram slot % 2 == 0) as (λ b. IsBytes (if b then first else second)) [
-      | true ↦ IsBytes-part (slots slot).first area_length bbram are
-      | false ↦ IsBytes-part (slots slot).second area_length bbram are
+      | true ↦ IsBytes-part (slots slot).first AREA_LENGTH bbram are
+      | false ↦ IsBytes-part (slots slot).second AREA_LENGTH bbram are
     ]
 
 pub IsBytes-flash_area : (flash : List ℕ) (n : ℕ) → IsBytes flash → IsBytes (flash_area flash n)

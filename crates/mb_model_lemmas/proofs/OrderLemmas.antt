@@ -13,25 +13,32 @@ use Rattle.mb_model.specs.declared.state.View.{View}
 use Rattle.mb_model.specs.Rules.{IsFirstFailing}
 use Rattle.mb_model.specs.Log.{entries_of, number_of}
 use Rattle.mb_model.specs.OrderFormat.{order_format}
-use Rattle.mb_model.specs.Refusals.{Refusal, powered_off, wrong_phase, zeroised, wrong_layer, region_full, no_such_key, key_spent, bad_text, wrong_target, wrong_state, wrong_signature, wrong_countersignature, log_full, keys_full, refused}
-use Rattle.mb_model.specs.OrderStep.{TargetHoldsIn, TargetsHold, MayBeGiven, IsSigned, IsCountersigned, LogHasRoom, RegionHasRoom, Passes, Fails, obeyed, OrderStep, spells_none, fails_check, is_obeyed, view_of}
+use Rattle.mb_model.specs.declared.reply.Refusal.{Refusal}
+use Rattle.mb_model.specs.declared.reply.Refusal.TheVariants.{PoweredOff, WrongPhase, Zeroised, WrongLayer}
+use Rattle.mb_model.specs.declared.reply.Refusal.TheVariants.{RegionFull, NoSuchKey, KeySpent, BadText, WrongTarget}
+use Rattle.mb_model.specs.declared.reply.Refusal.TheVariants.{WrongState, WrongSignature, WrongCountersignature}
+use Rattle.mb_model.specs.declared.reply.Refusal.TheVariants.{LogFull, KeysFull}
+use Rattle.mb_model.specs.Refusals.{refused}
+use Rattle.mb_model.specs.OrderChecks.{TargetHoldsIn, TargetsHold, MayBeGiven, IsSigned, IsCountersigned, LogHasRoom, RegionHasRoom, Passes, Fails, view_of}
+use Rattle.mb_model.specs.OrderEffects.{obeyed}
+use Rattle.mb_model.specs.OrderStep.{OrderStep, spells_none, fails_check, is_obeyed}
 use Rattle.mb_model.proofs.OrderFormatLaws.{order_exact}
 use Rattle.mb_model_lemmas.proofs.Splits.{not_all, first_fails_or_all, one_first, IsOne, one_more, Lacks, one_lacks, lacks_none}
 
 -- ---- the checks, one after another
 
 abbrev KeysFault : View → Order → Refusal → Type 0
-KeysFault view order = Lacks keys_full (RegionHasRoom view order.layer order.act) (λ refusal. ⊥)
+KeysFault view order = Lacks KeysFull (RegionHasRoom view order.layer order.act) (λ refusal. ⊥)
 
 abbrev RoomFault : View → Order → Refusal → Type 0
-RoomFault view order = Lacks log_full (LogHasRoom view order) (KeysFault view order)
+RoomFault view order = Lacks LogFull (LogHasRoom view order) (KeysFault view order)
 
 abbrev AreCountersigned : View → Order → Type 0
 AreCountersigned view order = All (IsCountersigned view order) order.countersignatures
 
 abbrev BadCountersignature : View → Order → Refusal → Type 0
 BadCountersignature view order refusal =
-    (place : ℕ) × (by : Countersignature) × (refusal ≡ wrong_countersignature by.layer)
+    (place : ℕ) × (by : Countersignature) × (refusal ≡ WrongCountersignature by.layer)
     × IsFirstFailing (IsCountersigned view order) order.countersignatures place by
 
 abbrev CountersignatureFault : View → Order → Refusal → Type 0
@@ -39,14 +46,14 @@ CountersignatureFault view order refusal =
     BadCountersignature view order refusal ⊎ (AreCountersigned view order × RoomFault view order refusal)
 
 abbrev SignatureFault : View → Order → Refusal → Type 0
-SignatureFault view order = Lacks wrong_signature (IsSigned view order) (CountersignatureFault view order)
+SignatureFault view order = Lacks WrongSignature (IsSigned view order) (CountersignatureFault view order)
 
 abbrev StateFault : View → Order → Refusal → Type 0
-StateFault view order = Lacks wrong_state (MayBeGiven view order) (SignatureFault view order)
+StateFault view order = Lacks WrongState (MayBeGiven view order) (SignatureFault view order)
 
 abbrev BadTarget : View → Order → Refusal → Type 0
 BadTarget view order refusal =
-    (place : ℕ) × (target : Target) × (refusal ≡ wrong_target place)
+    (place : ℕ) × (target : Target) × (refusal ≡ WrongTarget place)
     × IsFirstFailing (TargetHoldsIn view) order.targets place target
 
 abbrev OrderFault : View → Order → Refusal → Type 0
@@ -54,13 +61,13 @@ OrderFault view order refusal = BadTarget view order refusal ⊎ (TargetsHold vi
 
 one_room_fault : (view : View) (order : Order) → IsOne (RoomFault view order)
 one_room_fault view order =
-    one_lacks log_full (LogHasRoom view order) (KeysFault view order)
-    (one_lacks keys_full (RegionHasRoom view order.layer order.act) (λ refusal. ⊥) (λ r s x y. absurd x))
+    one_lacks LogFull (LogHasRoom view order) (KeysFault view order)
+    (one_lacks KeysFull (RegionHasRoom view order.layer order.act) (λ refusal. ⊥) (λ r s x y. absurd x))
 
 one_bad_countersignature : (view : View) (order : Order) → IsOne (BadCountersignature view order)
 one_bad_countersignature view order r s x y =
     let first = one_first (IsCountersigned view order) order.countersignatures x.0 y.0 x.1 y.1 x.3 y.3 in
-    x.2 ∙ ap (λ (by : Countersignature). wrong_countersignature by.layer) first.1 ∙ sym y.2
+    x.2 ∙ ap (λ (by : Countersignature). WrongCountersignature by.layer) first.1 ∙ sym y.2
 
 one_countersignature_fault : (view : View) (order : Order) → IsOne (CountersignatureFault view order)
 one_countersignature_fault view order =
@@ -70,13 +77,13 @@ one_countersignature_fault view order =
 
 one_state_fault : (view : View) (order : Order) → IsOne (StateFault view order)
 one_state_fault view order =
-    one_lacks wrong_state (MayBeGiven view order) (SignatureFault view order)
-    (one_lacks wrong_signature (IsSigned view order) (CountersignatureFault view order) (one_countersignature_fault view order))
+    one_lacks WrongState (MayBeGiven view order) (SignatureFault view order)
+    (one_lacks WrongSignature (IsSigned view order) (CountersignatureFault view order) (one_countersignature_fault view order))
 
 one_bad_target : (view : View) (order : Order) → IsOne (BadTarget view order)
 one_bad_target view order r s x y =
     let first = one_first (TargetHoldsIn view) order.targets x.0 y.0 x.1 y.1 x.3 y.3 in
-    x.2 ∙ ap wrong_target first.0 ∙ sym y.2
+    x.2 ∙ ap WrongTarget first.0 ∙ sym y.2
 
 one_order_fault : (view : View) (order : Order) → IsOne (OrderFault view order)
 one_order_fault view order =
@@ -85,21 +92,21 @@ one_order_fault view order =
     (one_bad_target view order) (one_state_fault view order)
 
 shown : (view : View) (order : Order) (refusal : Refusal) → Fails view order refusal → OrderFault view order refusal
-shown view order (wrong_target place) x = inl (place, x.0, refl, x.1)
-shown view order wrong_state x = inr (x.0, inl (refl, x.1))
-shown view order wrong_signature x = inr (x.0, inr (x.1, inl (refl, x.2)))
-shown view order (wrong_countersignature m) x =
-    inr (x.0, inr (x.1, inr (x.2, inl (x.3.0, x.3.1, ap wrong_countersignature (sym x.3.2), x.3.3))))
-shown view order log_full x = inr (x.0, inr (x.1, inr (x.2, inr (x.3, inl (refl, x.4)))))
-shown view order keys_full x = inr (x.0, inr (x.1, inr (x.2, inr (x.3, inr (x.4, inl (refl, x.5))))))
-shown view order bad_text x = absurd x
-shown view order powered_off x = absurd x
-shown view order wrong_phase x = absurd x
-shown view order zeroised x = absurd x
-shown view order wrong_layer x = absurd x
-shown view order region_full x = absurd x
-shown view order no_such_key x = absurd x
-shown view order key_spent x = absurd x
+shown view order (WrongTarget place) x = inl (place, x.0, refl, x.1)
+shown view order WrongState x = inr (x.0, inl (refl, x.1))
+shown view order WrongSignature x = inr (x.0, inr (x.1, inl (refl, x.2)))
+shown view order (WrongCountersignature m) x =
+    inr (x.0, inr (x.1, inr (x.2, inl (x.3.0, x.3.1, ap WrongCountersignature (sym x.3.2), x.3.3))))
+shown view order LogFull x = inr (x.0, inr (x.1, inr (x.2, inr (x.3, inl (refl, x.4)))))
+shown view order KeysFull x = inr (x.0, inr (x.1, inr (x.2, inr (x.3, inr (x.4, inl (refl, x.5))))))
+shown view order BadText x = absurd x
+shown view order PoweredOff x = absurd x
+shown view order WrongPhase x = absurd x
+shown view order Zeroised x = absurd x
+shown view order WrongLayer x = absurd x
+shown view order RegionFull x = absurd x
+shown view order NoSuchKey x = absurd x
+shown view order KeySpent x = absurd x
 
 -- an order fails one check at most
 pub one_failure : (view : View) (order : Order) (a b : Refusal) → Fails view order a → Fails view order b → a ≡ b
@@ -110,14 +117,14 @@ one_failure view order a b x y = one_order_fault view order a b (shown view orde
 no_countersignature_fault : (view : View) (order : Order) (refusal : Refusal) → Passes view order → CountersignatureFault view order refusal → ⊥
 no_countersignature_fault view order refusal passes (inl x) = not_all (IsCountersigned view order) order.countersignatures x.0 x.1 x.3 passes.countersignatures
 no_countersignature_fault view order refusal passes (inr x) =
-    lacks_none log_full (LogHasRoom view order) (KeysFault view order) refusal passes.log
-    (lacks_none keys_full (RegionHasRoom view order.layer order.act) (λ r. ⊥) refusal passes.keys (λ y. y)) x.1
+    lacks_none LogFull (LogHasRoom view order) (KeysFault view order) refusal passes.log
+    (lacks_none KeysFull (RegionHasRoom view order.layer order.act) (λ r. ⊥) refusal passes.keys (λ y. y)) x.1
 
 no_fault : (view : View) (order : Order) (refusal : Refusal) → Passes view order → OrderFault view order refusal → ⊥
 no_fault view order refusal passes (inl x) = not_all (TargetHoldsIn view) order.targets x.0 x.1 x.3 passes.targets
 no_fault view order refusal passes (inr x) =
-    lacks_none wrong_state (MayBeGiven view order) (SignatureFault view order) refusal passes.condition
-    (lacks_none wrong_signature (IsSigned view order) (CountersignatureFault view order) refusal passes.signature
+    lacks_none WrongState (MayBeGiven view order) (SignatureFault view order) refusal passes.condition
+    (lacks_none WrongSignature (IsSigned view order) (CountersignatureFault view order) refusal passes.signature
     (no_countersignature_fault view order refusal passes)) x.1
 
 pub passes_fail_nothing : (view : View) (order : Order) (refusal : Refusal) → Passes view order → Fails view order refusal → ⊥
@@ -135,25 +142,25 @@ module _ (view : View) (order : Order) (fails : Passes view order → ⊥) (none
         log = room;
         keys = keys;
       }) in
-      none keys_full (targets, given, signed, countersigned, room, passes)
+      none KeysFull (targets, given, signed, countersigned, room, passes)
 
   no_full_log : TargetsHold view order → MayBeGiven view order → IsSigned view order → AreCountersigned view order → ⊥
-  no_full_log targets given signed countersigned = none log_full (targets, given, signed, countersigned, no_full_region targets given signed countersigned)
+  no_full_log targets given signed countersigned = none LogFull (targets, given, signed, countersigned, no_full_region targets given signed countersigned)
 
   no_bad_countersignature : TargetsHold view order → MayBeGiven view order → IsSigned view order → ⊥
   no_bad_countersignature targets given signed =
       first_fails_or_all (IsCountersigned view order) order.countersignatures
-      (λ place by first. none (wrong_countersignature by.layer) (targets, given, signed, (place, by, refl, first)))
+      (λ place by first. none (WrongCountersignature by.layer) (targets, given, signed, (place, by, refl, first)))
       (no_full_log targets given signed)
 
   no_bad_signature : TargetsHold view order → MayBeGiven view order → ⊥
-  no_bad_signature targets given = none wrong_signature (targets, given, no_bad_countersignature targets given)
+  no_bad_signature targets given = none WrongSignature (targets, given, no_bad_countersignature targets given)
 
   no_wrong_state : TargetsHold view order → ⊥
-  no_wrong_state targets = none wrong_state (targets, no_bad_signature targets)
+  no_wrong_state targets = none WrongState (targets, no_bad_signature targets)
 
   pub passes_or_fails : ⊥
-  passes_or_fails = first_fails_or_all (TargetHoldsIn view) order.targets (λ place target first. none (wrong_target place) (target, first)) no_wrong_state
+  passes_or_fails = first_fails_or_all (TargetHoldsIn view) order.targets (λ place target first. none (WrongTarget place) (target, first)) no_wrong_state
 
 -- ---- the step
 
@@ -197,7 +204,7 @@ some_order_step state text draw are none =
           (is_obeyed (record { order = some.value; spelled = some.spelled; passes = passes; follows = refl; answered = refl })))
           (λ refusal fails. none (refused refusal) state
           (fails_check (record { order = some.value; spelled = some.spelled; refusal = refusal; fails = fails; answered = refl; stays = refl })))
-      | inr failing ↦ none (refused bad_text) state (spells_none (record {
+      | inr failing ↦ none (refused BadText) state (spells_none (record {
         none = λ order spelled. order_clear.never_both text order failing.offset are spelled failing.fails;
         answered = refl;
         stays = refl;

@@ -4,7 +4,8 @@ use Rattle.mb_model.specs.declared.order.Act.{Act}
 use Rattle.mb_model.specs.declared.order.Act.TheVariants as act
 use Rattle.mb_model.specs.declared.order.Order.{Order}
 use Rattle.mb_model.specs.declared.state.State.{State}
-use Rattle.mb_model.specs.OrderStep.{log_with, changed, keyed, ready_for, carried_out, own_entry, obeyed, entry_of, fact_of, view_of}
+use Rattle.mb_model.specs.OrderChecks.{view_of}
+use Rattle.mb_model.specs.OrderEffects.{log_with, changed, keyed, ready_for, carried_out, own_entry, obeyed, entry_of, fact_of}
 
 carried_appends : (ready : State) (order : Order) (a : Act) (draw : List ℕ) → (carried_out ready order a draw).log ≡ log_with ready (entry_of (view_of ready) (fact_of ready.layers order a) draw)
 unfolding changed keyed

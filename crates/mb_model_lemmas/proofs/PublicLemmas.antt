@@ -16,7 +16,7 @@ use Rattle.mb_model.specs.declared.stored.Pending.{Pending}
 use Rattle.mb_model.specs.declared.stored.Public.{Public}
 use Rattle.mb_model.specs.declared.stored.Root.{Root}
 use Rattle.mb_model.specs.EntryFormat.{entry_format, signed_entry_format}
-use Rattle.mb_model.specs.OrderStep.{signed_by}
+use Rattle.mb_model.specs.OrderEffects.{signed_by}
 use Rattle.mb_model.specs.RootFormat.{outgoing_format, pending_format, root_format}
 use Rattle.mb_model.specs.StoredLog.{signed_for, unsigned_by, outgoing_of}
 use Rattle.mb_model.specs.Flash.{public_entry_format, public_format, with_signature, without_signature}

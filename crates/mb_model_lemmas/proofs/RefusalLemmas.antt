@@ -11,8 +11,11 @@ use Rattle.mb_model.specs.declared.reply.Reply.{Reply}
 use Rattle.mb_model.specs.declared.reply.Reply.TheVariants as reply
 use Rattle.mb_model.specs.declared.state.State.{State}
 use Rattle.mb_model.specs.Layers.{is_runnable}
-use Rattle.mb_model.specs.Refusals.{Refusal, wrong_phase, zeroised, wrong_layer, refused}
-use Rattle.mb_model.specs.OrderStep.{region_of, OrderStep, spells_none, fails_check, is_obeyed}
+use Rattle.mb_model.specs.declared.reply.Refusal.{Refusal}
+use Rattle.mb_model.specs.declared.reply.Refusal.TheVariants.{WrongPhase, Zeroised, WrongLayer}
+use Rattle.mb_model.specs.Refusals.{refused}
+use Rattle.mb_model.specs.Regions.{region_of}
+use Rattle.mb_model.specs.OrderStep.{OrderStep, spells_none, fails_check, is_obeyed}
 use Rattle.mb_model.specs.LayerEvents.{Outcome, on_region, has_name, has_number, value_reply, put_event, get_event, drop_event, sign_with, sign_event}
 use Rattle.mb_model.specs.Machine.{Phase, off, dead, ratchet, World, Told, boot_event, awake, awake_in, status_of, status_event, go_event, region_event, CommandStep, Machine, may_be_cut, Step, answered, lacks_memory, loses_power}
 use Rattle.mb_model_lemmas.specs.RefusalLaws.{Leaves, BringsBytes, IsPhase}
@@ -54,7 +57,7 @@ status_leaves world n next (Err refusal) e = ap (λ (t : Told). t.1) e
 status_leaves world n next (Ok on) e = ap (λ (t : Told). t.1) e
 
 go_either : (world : World) (n : ℕ) (next : World) (past runs : Bool) (r : ℕ) (further : World)
-    → ◌≡◌ {A = Told} (reply.Refused n, next) (if past then (refused wrong_phase, world) else if runs then (reply.At r, further) else (refused wrong_layer, world))
+    → ◌≡◌ {A = Told} (reply.Refused n, next) (if past then (refused WrongPhase, world) else if runs then (reply.At r, further) else (refused WrongLayer, world))
     → next ≡ world
 go_either world n next true runs r further e = ap (λ (t : Told). t.1) e
 go_either world n next false true r further e =
@@ -103,7 +106,7 @@ sign_spares L number message state = sign_with_spares L (find (has_number number
 
 region_spares : (r L : ℕ) (does : State → Outcome) (state : State) → Spares state (does state) → Spares state (on_region r L does state)
 region_spares r L does state spares =
-    either_spares state (nat_lt L r || not (is_runnable state.layers L)) (refused wrong_layer, state) (does state) (λ n e. refl) spares
+    either_spares state (nat_lt L r || not (is_runnable state.layers L)) (refused WrongLayer, state) (does state) (λ n e. refl) spares
 
 -- a device that is awake has the state
 pub awake_state : (phase : Phase) (state : Option State) (on : ℕ × State) → awake phase state ≡ Ok on → state ≡ Some on.1
@@ -189,7 +192,7 @@ sign_own L number message state = sign_with_own L (find (has_number number) (reg
 region_own : (world : World) (L : ℕ) (does : State → Outcome) (on : Result (ℕ × State) Refusal) → ((state : State) → is_own (does state).0 ≡ true) → is_own (region_event world L does on).0 ≡ true
 region_own world L does (Err refusal) own = refl
 region_own world L does (Ok on) own =
-    either_own (nat_lt L on.0 || not (is_runnable on.1.layers L)) (refused wrong_layer, on.1) (does on.1) refl (own on.1)
+    either_own (nat_lt L on.0 || not (is_runnable on.1.layers L)) (refused WrongLayer, on.1) (does on.1) refl (own on.1)
 
 boot_own : (world : World) (phase : Phase) (state : Option State) → is_own (boot_event world phase state).0 ≡ true
 boot_own world off (Some state) = refl
@@ -277,9 +280,9 @@ told_on answer next told e on writes dark = on (sym (ap (λ (t : Told). may_be_c
 
 boot_on : (world : World) (phase : Phase) (state : Option State) → IsOnAfter (boot_event world phase state).0 (boot_event world phase state).1
 boot_on world off (Some state) = λ writes dark. grind (arith, dark)
-boot_on world off None = refuses zeroised (record world { phase = dead })
-boot_on world dead state = refuses zeroised world
-boot_on world (ratchet r) state = refuses wrong_phase world
+boot_on world off None = refuses Zeroised (record world { phase = dead })
+boot_on world dead state = refuses Zeroised world
+boot_on world (ratchet r) state = refuses WrongPhase world
 
 status_on : (world : World) (on : Result (ℕ × State) Refusal) → awake_in world ≡ on → IsOnAfter (status_event world on).0 (status_event world on).1
 status_on world (Err refusal) is = refuses refusal world
@@ -296,15 +299,15 @@ either_on false x y first second = second
 go_on : (world : World) (on : Result (ℕ × State) Refusal) → awake_in world ≡ on → IsOnAfter (go_event world on).0 (go_event world on).1
 go_on world (Err refusal) is = refuses refusal world
 go_on world (Ok on) is =
-    either_on (nat_lt 2 on.0) (refused wrong_phase, world) _ (refuses wrong_phase world)
-    (either_on (is_runnable on.1.layers (on.0 + 1)) (reply.At (on.0 + 1), record world { phase = ratchet (on.0 + 1) }) (refused wrong_layer, world)
-    (quiet (reply.At (on.0 + 1)) (reply.At (on.0 + 1)) (record world { phase = ratchet (on.0 + 1) }) refl refl) (refuses wrong_layer world))
+    either_on (nat_lt 2 on.0) (refused WrongPhase, world) _ (refuses WrongPhase world)
+    (either_on (is_runnable on.1.layers (on.0 + 1)) (reply.At (on.0 + 1), record world { phase = ratchet (on.0 + 1) }) (refused WrongLayer, world)
+    (quiet (reply.At (on.0 + 1)) (reply.At (on.0 + 1)) (record world { phase = ratchet (on.0 + 1) }) refl refl) (refuses WrongLayer world))
 
 command_on : (world : World) (text draw : List ℕ) (on : Result (ℕ × State) Refusal) (answer : Reply) (next : World) → awake_in world ≡ on
     → CommandStep world text draw on answer next → IsOnAfter answer next
 command_on world text draw (Err refusal) answer next is x = quiet answer (refused refusal) next x.0 refl
 command_on world text draw (Ok on) answer next is (inl x) = λ writes dark. awake_is_on world on is (sym (ap (λ (w : World). w.phase) x.1.2) ∙ dark)
-command_on world text draw (Ok on) answer next is (inr x) = quiet answer (refused wrong_phase) next x.1 refl
+command_on world text draw (Ok on) answer next is (inr x) = quiet answer (refused WrongPhase) next x.1 refl
 
 machine_on : (world : World) (given : Event) (answer : Reply) (next : World) → Machine world given answer next → IsOnAfter answer next
 machine_on world event.Boot answer next x = told_on answer next (boot_event world world.phase world.state) x (boot_on world world.phase world.state)
@@ -401,8 +404,8 @@ not_past r e = grind (arith, e)
 go_phase : (world : World) (on : Result (ℕ × State) Refusal) → awake_in world ≡ on → IsPhase world.phase → IsPhase (go_event world on).1.phase
 go_phase world (Err refusal) is holds = holds
 go_phase world (Ok on) is holds =
-    either_phase (nat_lt 2 on.0) (refused wrong_phase, world) _ (λ past. holds)
-    (λ below. either_phase (is_runnable on.1.layers (on.0 + 1)) (reply.At (on.0 + 1), record world { phase = ratchet (on.0 + 1) }) (refused wrong_layer, world)
+    either_phase (nat_lt 2 on.0) (refused WrongPhase, world) _ (λ past. holds)
+    (λ below. either_phase (is_runnable on.1.layers (on.0 + 1)) (reply.At (on.0 + 1), record world { phase = ratchet (on.0 + 1) }) (refused WrongLayer, world)
     (λ runs. (omega arith, not_past on.0 below)) (λ stays. holds))
 
 command_phase : (world : World) (text draw : List ℕ) (on : Result (ℕ × State) Refusal) (answer : Reply) (next : World) → CommandStep world text draw on answer next → next.phase ≡ world.phase
@@ -442,7 +445,7 @@ some_command world text draw (Err refusal) is holds are none = none (refused ref
 some_command world text draw (Ok on) is holds are none =
     elim (first_or_later on.0 (is_awake world.phase world.state on holds is).0) [
       | inl one ↦ some_order_step on.1 text draw are (λ answer state step. none answer (record world { state = Some state }) (inl (one, (state, step, refl))))
-      | inr past ↦ none (refused wrong_phase) world (inr (past, refl, refl))
+      | inr past ↦ none (refused WrongPhase) world (inr (past, refl, refl))
     ]
 
 pub machine_answers : (world : World) (given : Event) → IsPhase world.phase → BringsBytes given → ((answer : Reply) (next : World) → Machine world given answer next → ⊥) → ⊥

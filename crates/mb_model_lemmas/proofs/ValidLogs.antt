@@ -12,7 +12,7 @@ use Rattle.mb_model.specs.Merkle.{Verifies}
 use Rattle.mb_model.specs.Log.{figures_of, entries_of, layers_in, device_in, serial_in, last_of, layers_of, device_of, serial_of, used, StandsAt, Ruled}
 use Rattle.mb_model.specs.Signing.{public_of, signature_of}
 use Rattle.mb_model.specs.SignedTexts.{entry_text, IsSignedBy}
-use Rattle.mb_model.specs.OrderStep.{signed_by, log_with}
+use Rattle.mb_model.specs.OrderEffects.{signed_by, log_with}
 use Rattle.mb_model.specs.Valid.{Follows, EachFollows, AreNamed, IsValidState}
 use Rattle.mb_model_lemmas.specs.RegionLaws.{HasValidRegions}
 use Rattle.mb_model_lemmas.proofs.ValidStates.{valid_is_ruled, entries_of-push}

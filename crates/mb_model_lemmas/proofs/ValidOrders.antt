@@ -22,7 +22,9 @@ use Rattle.mb_model.specs.Layers.{layer_of, is_layer_number}
 use Rattle.mb_model.specs.Rules.{kind_of, change_of, renews, Condition, CanPlace, placed, is_load, may_cosign, kept_regions, admits, after}
 use Rattle.mb_model.specs.Log.{figures_of, entries_of, layers_of, used, has_version_two, Ruled}
 use Rattle.mb_model.specs.Signing.{public_of}
-use Rattle.mb_model.specs.OrderStep.{region_of, IsCountersigned, next_key, succeeded, device_after, uses_after, code_after, codes_after, cosigned_by, named_next, changed, keyed, entry_of, change_fact, view_of}
+use Rattle.mb_model.specs.Regions.{region_of}
+use Rattle.mb_model.specs.OrderChecks.{IsCountersigned, view_of}
+use Rattle.mb_model.specs.OrderEffects.{next_key, succeeded, device_after, uses_after, code_after, codes_after, cosigned_by, named_next, changed, keyed, entry_of, change_fact}
 use Rattle.mb_model.specs.declared.state.Fact.TheVariants as fact
 use Rattle.mb_model.specs.Valid.{IsNamed, AreNamed, IsValidState}
 use Rattle.mb_model_lemmas.specs.RegionLaws.{HasValidRegions}

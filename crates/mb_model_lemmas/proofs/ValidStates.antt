@@ -22,8 +22,11 @@ use Rattle.mb_model.specs.Layers.{layer_of, is_upper, is_runnable, Runnable}
 use Rattle.mb_model.specs.Rules.{kind_of, change_of, renews, Condition, placed, kept_regions, after}
 use Rattle.mb_model.specs.Log.{figures_of, entries_of, layers_of, number_of, made, Ruled, RuledLog}
 use Rattle.mb_model.specs.Regions.{region_after, with_key, KeptRightly}
-use Rattle.mb_model.specs.OrderStep.{region_of, with_region, signed_by, log_with, next_key, cosigned_by, succeeded, changed, keyed, view_of}
-use Rattle.mb_model.specs.Refusals.{wrong_layer, refused}
+use Rattle.mb_model.specs.Regions.{region_of, with_region}
+use Rattle.mb_model.specs.OrderChecks.{view_of}
+use Rattle.mb_model.specs.OrderEffects.{signed_by, log_with, next_key, cosigned_by, succeeded, changed, keyed}
+use Rattle.mb_model.specs.declared.reply.Refusal.TheVariants.{WrongLayer}
+use Rattle.mb_model.specs.Refusals.{refused}
 use Rattle.mb_model.specs.Signing.{public_of}
 use Rattle.mb_model.specs.LayerEvents.{Outcome, has_name, has_number, put_event, get_event, drop_event, sign_with, sign_event}
 use Rattle.mb_model.specs.Valid.{EachFollows, IsValidRegion, IsValidState, Valid}
@@ -86,7 +89,7 @@ where_it_runs : (L : ℕ) (event : State → Outcome) → ((state : State) → R
 where_it_runs L event keeps = λ state ratchet valid. by state valid (nat_lt L ratchet) (is_runnable state.layers L) refl
   where
     by : (state : State) → IsValidState state → (past runs : Bool) → is_runnable state.layers L ≡ runs
-        → IsValidState (if past || not runs then (refused wrong_layer, state) else event state).1
+        → IsValidState (if past || not runs then (refused WrongLayer, state) else event state).1
     by state valid true runs is = valid
     by state valid false false is = valid
     by state valid false true is = keeps state is valid

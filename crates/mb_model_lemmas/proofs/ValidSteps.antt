@@ -23,10 +23,15 @@ use Rattle.mb_model.specs.Layers.{is_runnable}
 use Rattle.mb_model.specs.Rules.{kind_of, change_of, renews, Condition}
 use Rattle.mb_model.specs.Log.{entries_of, used}
 use Rattle.mb_model.specs.Signing.{public_of}
-use Rattle.mb_model.specs.Refusals.{Refusal, wrong_phase, wrong_layer, refused}
+use Rattle.mb_model.specs.declared.reply.Refusal.{Refusal}
+use Rattle.mb_model.specs.declared.reply.Refusal.TheVariants.{WrongPhase, WrongLayer}
+use Rattle.mb_model.specs.Refusals.{refused}
 use Rattle.mb_model.specs.Regions.{empty_region}
 use Rattle.mb_model.specs.declared.region.Region.{Region}
-use Rattle.mb_model.specs.OrderStep.{IsCountersigned, needs_succession, next_key, RegionHasRoom, region_keys, region_of, Passes, succeeded, carried_out, obeyed, OrderStep, spells_none, fails_check, is_obeyed, view_of}
+use Rattle.mb_model.specs.Regions.{region_of}
+use Rattle.mb_model.specs.OrderChecks.{IsCountersigned, needs_succession, RegionHasRoom, region_keys, Passes, view_of}
+use Rattle.mb_model.specs.OrderEffects.{next_key, succeeded, carried_out, obeyed}
+use Rattle.mb_model.specs.OrderStep.{OrderStep, spells_none, fails_check, is_obeyed}
 use Rattle.mb_model.specs.LayerEvents.{Outcome, put_event, get_event, drop_event, sign_event}
 use Rattle.mb_model.specs.Machine.{Phase, off, dead, ratchet, World, Told, boot_event, awake, awake_in, status_event, go_event, region_event, CommandStep, Machine, Step, answered, lacks_memory, loses_power, Run}
 use Rattle.mb_model.specs.Valid.{IsValidState, Valid}
@@ -166,7 +171,7 @@ status_valid world (Err refusal) valid = valid
 status_valid world (Ok on) valid = valid
 
 go_on : (last runs : Bool) (world : World) (r : ℕ) → Valid world.state
-    → Valid (let told : Told = if last then (refused wrong_phase, world) else if runs then (reply.At (r + 1), record world { phase = ratchet (r + 1) }) else (refused wrong_layer, world) in told).1.state
+    → Valid (let told : Told = if last then (refused WrongPhase, world) else if runs then (reply.At (r + 1), record world { phase = ratchet (r + 1) }) else (refused WrongLayer, world) in told).1.state
 go_on true runs world r valid = valid
 go_on false true world r valid = valid
 go_on false false world r valid = valid

@@ -9,8 +9,9 @@ use Rattle.mb_model.specs.declared.reply.Reply.{Reply}
 use Rattle.mb_model.specs.declared.reply.Reply.TheVariants as reply
 use Rattle.mb_model.specs.declared.state.State.{State}
 use Rattle.mb_model.specs.declared.state.View.{View}
-use Rattle.mb_model.specs.Refusals.{Refusal}
-use Rattle.mb_model.specs.OrderStep.{Fails, Passes, OrderStep}
+use Rattle.mb_model.specs.declared.reply.Refusal.{Refusal}
+use Rattle.mb_model.specs.OrderChecks.{Fails, Passes}
+use Rattle.mb_model.specs.OrderStep.{OrderStep}
 use Rattle.mb_model.specs.Machine.{Phase, off, dead, ratchet, World, Machine, Step}
 
 -- the phase is the same, but where a dead device is booted, which is then on

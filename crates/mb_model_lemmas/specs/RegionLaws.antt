@@ -25,7 +25,9 @@ use Rattle.mb_model.specs.Log.{entries_of, is_change, number_of, layers_of, made
 use Rattle.mb_model.specs.Lives.{Alive, alive_keys}
 use Rattle.mb_model.specs.Regions.{region_after, with_key}
 use Rattle.mb_model.specs.Signing.{public_of}
-use Rattle.mb_model.specs.OrderStep.{region_of, with_region, key_made, cosigned_by, succeeded, changed, keyed, view_of}
+use Rattle.mb_model.specs.Regions.{region_of, with_region}
+use Rattle.mb_model.specs.OrderChecks.{view_of}
+use Rattle.mb_model.specs.OrderEffects.{key_made, cosigned_by, succeeded, changed, keyed}
 use Rattle.mb_model.specs.LayerEvents.{Outcome, has_name, with_secret, has_number, with_use, put_event, get_event}
 use Rattle.mb_model.specs.LayerEvents.{drop_event, sign_event, on_region}
 use Rattle.mb_model.specs.Fates.{change_fate, key_fate}

@@ -12,7 +12,8 @@ use Rattle.mb_model.specs.declared.stored.Fate.{Fate}
 use Rattle.mb_model.specs.declared.stored.Outgoing.{Outgoing}
 use Rattle.mb_model.specs.Rules.{kind_of, change_of, renews}
 use Rattle.mb_model.specs.Log.{entries_of, used}
-use Rattle.mb_model.specs.OrderStep.{change_by, view_of, needs_succession, fact_of, names_next, entry_of, succession_entry, ready_for}
+use Rattle.mb_model.specs.OrderChecks.{change_by, view_of, needs_succession}
+use Rattle.mb_model.specs.OrderEffects.{fact_of, names_next, entry_of, succession_entry, ready_for}
 use Rattle.mb_model.specs.Work.{outgoing_by, key_by, region_fate, bodies_by, bodies_for, fate_for}
 use Rattle.mb_model_lemmas.proofs.AdditionLemmas.{view_ready, ready_layers, entries_are}
 use Rattle.mb_model_memory.specs.Commits.{new_entries}

@@ -20,7 +20,8 @@ use Rattle.mb_model.specs.Layers.{is_upper, is_runnable}
 use Rattle.mb_model.specs.Rules.{kind_of, change_of, renews, Condition}
 use Rattle.mb_model.specs.Log.{entries_of, layers_of, used}
 use Rattle.mb_model.specs.OrderFormat.{order_format}
-use Rattle.mb_model.specs.OrderStep.{change_by, needs_succession, Passes, signed_by, log_with, succeeded, device_after, uses_after, key_made, changed, keyed, ready_for, carried_out, obeyed, succession_entry, entry_of, fact_of, view_of}
+use Rattle.mb_model.specs.OrderChecks.{change_by, needs_succession, Passes, view_of}
+use Rattle.mb_model.specs.OrderEffects.{signed_by, log_with, succeeded, device_after, uses_after, key_made, changed, keyed, ready_for, carried_out, obeyed, succession_entry, entry_of, fact_of}
 use Rattle.mb_model.specs.Work.{fate_for, pending_for}
 use Rattle.mb_model_lemmas.proofs.AdditionLemmas.{device_is}
 use Rattle.mb_model_memory.specs.Commits.{new_entries}

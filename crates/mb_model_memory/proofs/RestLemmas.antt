@@ -9,7 +9,7 @@ use Rattle.mb_model.specs.declared.stored.Pending.{Pending}
 use Rattle.mb_model.specs.declared.stored.Root.{Root}
 use Rattle.mb_model.specs.Log.{entries_of, layers_of}
 use Rattle.mb_model.specs.RootFormat.{root_format}
-use Rattle.mb_model.specs.OrderStep.{obeyed}
+use Rattle.mb_model.specs.OrderEffects.{obeyed}
 use Rattle.mb_model.specs.Flash.{HoldsPublic}
 use Rattle.mb_model.specs.Memory.{AreSized, current, HoldsRecord}
 use Rattle.mb_model.specs.StoredLog.{unsigned_by, AreCounted, signed_for, outgoing_of, completed}

@@ -37,7 +37,7 @@ use Rattle.mb_model.specs.RootFormat.{region_key_format, fate_format}
 use Rattle.mb_model.specs.RegionFormat.{is_name, secret_format}
 use Rattle.mb_model.specs.OrderFormat.{differs_in, payload_format, act_by}
 use Rattle.mb_model.specs.Flash.{code_format, codes_format}
-use Rattle.mb_model.specs.OrderStep.{signed_by, code_after, codes_after}
+use Rattle.mb_model.specs.OrderEffects.{signed_by, code_after, codes_after}
 use Rattle.mb_model_lemmas.proofs.SignatureLemmas.{length-signature_of, public_sized, born_key-sized}
 use Rattle.mb_model_lemmas.proofs.RuleLemmas.{layer_with}
 

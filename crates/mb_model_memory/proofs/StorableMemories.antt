@@ -33,7 +33,7 @@ use Rattle.mb_model.specs.EntryFormat.{birth_format, change_format, entry_format
 use Rattle.mb_model.specs.RootFormat.{region_key_format, fate_format, pending_format, root_format}
 use Rattle.mb_model.specs.RegionFormat.{secret_format, secrets_format, keys_format, region_format, SpellsRegion}
 use Rattle.mb_model.specs.Flash.{codes_format, public_format, with_signature, without_signature, public_of_parts}
-use Rattle.mb_model.specs.OrderStep.{signed_by}
+use Rattle.mb_model.specs.OrderEffects.{signed_by}
 use Rattle.mb_model.specs.StoredLog.{signed_for, outgoing_of, completed}
 use Rattle.mb_model.specs.Meaning.{Contents, HoldsContents, fated, fate_of_two, fate_of_three, meant, StandsFor}
 use Rattle.mb_model.specs.Valid.{IsValidState}

@@ -29,7 +29,9 @@ use Rattle.mb_model.specs.EntryFormat.{entry_format, signed_entry_format}
 use Rattle.mb_model.specs.RootFormat.{region_key_format}
 use Rattle.mb_model.specs.OrderFormat.{differs_in, act_by, body_format, order_format}
 use Rattle.mb_model_lemmas.proofs.ValidSteps.{region_keys_are}
-use Rattle.mb_model.specs.OrderStep.{region_of, with_region, change_by, needs_succession, RegionHasRoom, Passes, signed_by, log_with, succeeded, device_after, cosigned_by, named_next, changed, key_made, keyed, ready_for, carried_out, obeyed, succession_entry, entry_of, change_fact, view_of}
+use Rattle.mb_model.specs.Regions.{region_of, with_region}
+use Rattle.mb_model.specs.OrderChecks.{change_by, needs_succession, RegionHasRoom, Passes, view_of}
+use Rattle.mb_model.specs.OrderEffects.{signed_by, log_with, succeeded, device_after, cosigned_by, named_next, changed, key_made, keyed, ready_for, carried_out, obeyed, succession_entry, entry_of, change_fact}
 use Rattle.mb_model.specs.declared.state.Fact.TheVariants as fact
 use Rattle.mb_model_lemmas.proofs.LogLemmas.{number_of-le-length, made-le-length, length-entries_of}
 use Rattle.mb_model_memory.specs.Storable.{IsStorableRegion, IsStorableState}

@@ -17,10 +17,13 @@ use Rattle.mb_model.specs.declared.region.Secret.{Secret}
 use Rattle.mb_model.specs.declared.state.State.{State}
 use Rattle.mb_model.specs.Layers.{is_upper, is_runnable}
 use Rattle.mb_model.specs.Log.{entries_of, number_of}
-use Rattle.mb_model.specs.Refusals.{Refusal, wrong_phase, wrong_layer, refused}
+use Rattle.mb_model.specs.declared.reply.Refusal.{Refusal}
+use Rattle.mb_model.specs.declared.reply.Refusal.TheVariants.{WrongPhase, WrongLayer}
+use Rattle.mb_model.specs.Refusals.{refused}
 use Rattle.mb_model.specs.RootFormat.{region_key_format}
 use Rattle.mb_model.specs.RegionFormat.{is_name_byte, is_name, secret_format}
-use Rattle.mb_model.specs.OrderStep.{region_of, OrderStep, spells_none, fails_check, is_obeyed}
+use Rattle.mb_model.specs.Regions.{region_of}
+use Rattle.mb_model.specs.OrderStep.{OrderStep, spells_none, fails_check, is_obeyed}
 use Rattle.mb_model.specs.LayerEvents.{Outcome, has_name, with_secret, has_number, with_use, put_event, get_event, drop_event, sign_with, sign_event, on_region}
 use Rattle.mb_model.specs.Machine.{Phase, off, dead, ratchet, World, Told, boot_event, awake, awake_in, status_event, go_event, region_event, CommandStep, Machine, Step, answered, lacks_memory, loses_power, Run}
 use Rattle.mb_model.specs.Script.{IsName, FitsMessage, IsScriptEvent}
@@ -43,7 +46,7 @@ KeepsStorable does = (state : State) → IsValidState state → IsStorableState 
 where_it_runs : (r L : ℕ) (does : State → Outcome) (state : State) → KeepsStorable does → IsValidState state → IsStorableState state → IsStorableState (on_region r L does state).1
 where_it_runs r L does state keeps valid is = by (nat_lt L r || not (is_runnable state.layers L))
   where
-    by : (refuses : Bool) → IsStorableState (if refuses then (refused wrong_layer, state) else does state).1
+    by : (refuses : Bool) → IsStorableState (if refuses then (refused WrongLayer, state) else does state).1
     by true = is
     by false = keeps state valid is
 
@@ -221,7 +224,7 @@ status_state world (Err refusal) = refl
 status_state world (Ok on) = refl
 
 go_state : (last runs : Bool) (world : World) (r : ℕ)
-    → (let told : Told = if last then (refused wrong_phase, world) else if runs then (reply.At (r + 1), record world { phase = ratchet (r + 1) }) else (refused wrong_layer, world) in told).1.state ≡ world.state
+    → (let told : Told = if last then (refused WrongPhase, world) else if runs then (reply.At (r + 1), record world { phase = ratchet (r + 1) }) else (refused WrongLayer, world) in told).1.state ≡ world.state
 go_state true runs world r = refl
 go_state false true world r = refl
 go_state false false world r = refl

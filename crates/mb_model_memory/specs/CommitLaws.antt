@@ -12,7 +12,8 @@ use Rattle.mb_model.specs.declared.stored.Root.{Root}
 use Rattle.mb_model.specs.Log.{entries_of, layers_of}
 use Rattle.mb_model.specs.OrderFormat.{order_format}
 use Rattle.mb_model.specs.RootFormat.{root_format}
-use Rattle.mb_model.specs.OrderStep.{Passes, obeyed, view_of}
+use Rattle.mb_model.specs.OrderChecks.{Passes, view_of}
+use Rattle.mb_model.specs.OrderEffects.{obeyed}
 use Rattle.mb_model_memory.specs.Commits.{new_entries}
 use Rattle.mb_model.specs.Valid.{IsValidState}
 use Rattle.mb_model.specs.Memory.{AreSized, current, HoldsRecord}

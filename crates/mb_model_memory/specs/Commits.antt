@@ -4,7 +4,7 @@ use Rattle.std.specs.Prelude.{◌≡◌, ℕ, List, [], Some}
 use Rattle.mb_model.specs.declared.order.Order.{Order}
 use Rattle.mb_model.specs.declared.state.State.{State}
 use Rattle.mb_model.specs.declared.stored.Root.{Root}
-use Rattle.mb_model.specs.OrderStep.{obeyed}
+use Rattle.mb_model.specs.OrderEffects.{obeyed}
 use Rattle.mb_model.specs.declared.entry.Entry.{Entry}
 use Rattle.mb_model.specs.Work.{bodies_for, pending_for}
 use Rattle.mb_model.specs.Meaning.{Contents, fated, fate_of_two, fate_of_three}

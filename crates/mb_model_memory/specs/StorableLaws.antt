@@ -14,7 +14,8 @@ use Rattle.mb_model.specs.KeyFormat.{public_key_format}
 use Rattle.mb_model.specs.OrderFormat.{order_format}
 use Rattle.mb_model.specs.RootFormat.{root_format}
 use Rattle.mb_model.specs.Flash.{public_format, public_of_parts}
-use Rattle.mb_model.specs.OrderStep.{Passes, obeyed, view_of}
+use Rattle.mb_model.specs.OrderChecks.{Passes, view_of}
+use Rattle.mb_model.specs.OrderEffects.{obeyed}
 use Rattle.mb_model_memory.specs.Commits.{new_entries}
 use Rattle.mb_model.specs.Machine.{World, Step, Run}
 use Rattle.mb_model.specs.Valid.{IsValidState, Valid}

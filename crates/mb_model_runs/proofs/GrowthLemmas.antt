@@ -11,7 +11,8 @@ use Rattle.mb_model.specs.declared.order.Order.{Order}
 use Rattle.mb_model.specs.declared.state.State.{State}
 use Rattle.mb_model.specs.Log.{entries_of, used}
 use Rattle.mb_model.specs.Signing.{public_of}
-use Rattle.mb_model.specs.OrderStep.{needs_succession, signed_by, log_with, next_key, succeeded, ready_for, obeyed, entry_of, fact_of, view_of}
+use Rattle.mb_model.specs.OrderChecks.{needs_succession, view_of}
+use Rattle.mb_model.specs.OrderEffects.{signed_by, log_with, next_key, succeeded, ready_for, obeyed, entry_of, fact_of}
 use Rattle.mb_model.specs.Machine.{World, Run}
 use Rattle.mb_model_lemmas.proofs.OwnEntries.{appends_own}
 use Rattle.mb_model.specs.Runs.{BeginsWith, LogGoesOn, worlds_of}

@@ -13,8 +13,12 @@ use Rattle.mb_model.specs.declared.reply.Reply.{Reply}
 use Rattle.mb_model.specs.declared.reply.Reply.TheVariants as reply
 use Rattle.mb_model.specs.declared.state.State.{State}
 use Rattle.mb_model.specs.Layers.{is_runnable}
-use Rattle.mb_model.specs.Refusals.{Refusal, wrong_phase, wrong_layer, refused}
-use Rattle.mb_model.specs.OrderStep.{region_of, with_region, obeyed, OrderStep, spells_none, fails_check, is_obeyed}
+use Rattle.mb_model.specs.declared.reply.Refusal.{Refusal}
+use Rattle.mb_model.specs.declared.reply.Refusal.TheVariants.{WrongPhase, WrongLayer}
+use Rattle.mb_model.specs.Refusals.{refused}
+use Rattle.mb_model.specs.Regions.{region_of, with_region}
+use Rattle.mb_model.specs.OrderEffects.{obeyed}
+use Rattle.mb_model.specs.OrderStep.{OrderStep, spells_none, fails_check, is_obeyed}
 use Rattle.mb_model.specs.LayerEvents.{Outcome, on_region, has_name, has_number, with_use, put_event, get_event, drop_event, sign_with, sign_event}
 use Rattle.mb_model.specs.Machine.{Phase, off, dead, ratchet, World, Told, boot_event, awake_in, status_event, go_event, region_event, CommandStep, Machine, Step, answered, lacks_memory, loses_power, Run}
 use Rattle.mb_model_lemmas.proofs.RefusalLemmas.{awake_state}
@@ -71,7 +75,7 @@ module _ (R : Option State → Option State → Type 0) (kept : IsKept R) where
   region_kept world L does (Err refusal) is each = kept.same world.state
   region_kept world L does (Ok on) is each =
       let after : Outcome = on_region on.0 L does on.1 in
-      let from : R (Some on.1) (Some after.1) = either_kept on.1 (nat_lt L on.0 || not (is_runnable on.1.layers L)) (refused wrong_layer, on.1) (does on.1) (kept.same (Some on.1)) (each on.1) in
+      let from : R (Some on.1) (Some after.1) = either_kept on.1 (nat_lt L on.0 || not (is_runnable on.1.layers L)) (refused WrongLayer, on.1) (does on.1) (kept.same (Some on.1)) (each on.1) in
       subst (λ (o : Option State). R o (Some after.1)) (sym (awake_state world.phase world.state on is)) from
 
   order_kept : (state : State) (text draw : List ℕ) (answer : Reply) (next : State) → OrderStep state text draw answer next → R (Some state) (Some next)
@@ -109,8 +113,8 @@ module _ (R : Option State → Option State → Type 0) (kept : IsKept R) where
   go_kept : (world : World) (on : Result (ℕ × State) Refusal) → R world.state (go_event world on).1.state
   go_kept world (Err refusal) = kept.same world.state
   go_kept world (Ok on) =
-      either_told world (nat_lt 2 on.0) (refused wrong_phase, world) _ (kept.same world.state)
-      (either_told world (is_runnable on.1.layers (on.0 + 1)) (reply.At (on.0 + 1), record world { phase = ratchet (on.0 + 1) }) (refused wrong_layer, world)
+      either_told world (nat_lt 2 on.0) (refused WrongPhase, world) _ (kept.same world.state)
+      (either_told world (is_runnable on.1.layers (on.0 + 1)) (reply.At (on.0 + 1), record world { phase = ratchet (on.0 + 1) }) (refused WrongLayer, world)
       (kept.same world.state) (kept.same world.state))
 
   told_kept : (world : World) (answer : Reply) (next : World) (told : Told) → ◌≡◌ {A = Told} (answer, next) told → R world.state told.1.state → R world.state next.state

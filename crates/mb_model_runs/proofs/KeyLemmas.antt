@@ -16,7 +16,7 @@ use Rattle.mb_model.specs.Log.{entries_of, keys_in, made, RuledLog}
 use Rattle.mb_model.specs.Lives.{Alive}
 use Rattle.mb_model.specs.Regions.{empty_region}
 use Rattle.mb_model.specs.Signing.{public_of}
-use Rattle.mb_model.specs.OrderStep.{region_of}
+use Rattle.mb_model.specs.Regions.{region_of}
 use Rattle.mb_model.specs.Valid.{IsValidState}
 use Rattle.mb_model_lemmas.proofs.Splits.{two_splits}
 use Rattle.mb_model_lemmas.proofs.FateLemmas.{keys_increase}

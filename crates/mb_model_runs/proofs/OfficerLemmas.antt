@@ -12,9 +12,11 @@ use Rattle.mb_model.specs.Merkle.{Verifies}
 use Rattle.mb_model.specs.Layers.{layer_of}
 use Rattle.mb_model.specs.Rules.{authority}
 use Rattle.mb_model.specs.OrderFormat.{order_format, order_body}
-use Rattle.mb_model.specs.OrderStep.{change_by, IsSigned, IsCountersigned, obeyed, OrderStep, is_obeyed, view_of}
+use Rattle.mb_model.specs.OrderChecks.{change_by, IsSigned, IsCountersigned, view_of}
+use Rattle.mb_model.specs.OrderEffects.{obeyed}
+use Rattle.mb_model.specs.OrderStep.{OrderStep, is_obeyed}
 use Rattle.mb_model.specs.Log.{entries_of, number_of}
-use Rattle.mb_model.specs.Refusals.{Refusal}
+use Rattle.mb_model.specs.declared.reply.Refusal.{Refusal}
 use Rattle.mb_model.specs.Machine.{Phase, ratchet, World, awake, awake_in, CommandStep, Machine}
 use Rattle.mb_model.specs.declared.event.Event.TheVariants as event
 use Rattle.mb_model.specs.declared.reply.Reply.{Reply}

@@ -10,8 +10,11 @@ use Rattle.mb_model.specs.declared.reply.Reply.{Reply}
 use Rattle.mb_model.specs.declared.reply.Reply.TheVariants as reply
 use Rattle.mb_model.specs.declared.state.State.{State}
 use Rattle.mb_model.specs.Layers.{is_runnable}
-use Rattle.mb_model.specs.Refusals.{Refusal, wrong_layer, key_spent, refused}
-use Rattle.mb_model.specs.OrderStep.{region_of, OrderStep, spells_none, fails_check, is_obeyed}
+use Rattle.mb_model.specs.declared.reply.Refusal.{Refusal}
+use Rattle.mb_model.specs.declared.reply.Refusal.TheVariants.{WrongLayer, KeySpent}
+use Rattle.mb_model.specs.Refusals.{refused}
+use Rattle.mb_model.specs.Regions.{region_of}
+use Rattle.mb_model.specs.OrderStep.{OrderStep, spells_none, fails_check, is_obeyed}
 use Rattle.mb_model.specs.LayerEvents.{Outcome, on_region, has_name, has_number, value_reply, put_event, get_event, drop_event, statement_of, sign_with, sign_event}
 use Rattle.mb_model.specs.Listing.{is_signed}
 use Rattle.mb_model.specs.ChainFormat.{statement_format}
@@ -75,7 +78,7 @@ sign_with_signs : (L : ℕ) (found : Option RegionKey) (number : ℕ) (message :
 sign_with_signs L None number message state n index statement is = λ e. absurd (grind (arith, e))
 sign_with_signs L (Some key) number message state n index statement is =
     let stated : List ℕ = statement_format.spelling (statement_of state key message) in
-    either_signs state L number message n index statement (nat_le 32 key.uses) (refused key_spent, state) (reply.Signed key.number key.uses stated, with_one_use state L key.number)
+    either_signs state L number message n index statement (nat_le 32 key.uses) (refused KeySpent, state) (reply.Signed key.number key.uses stated, with_one_use state L key.number)
     (λ spent e. absurd (grind (arith, e)))
     (λ fresh e.
     let parts = signed_parts key.number n key.uses index stated statement e in (
@@ -99,7 +102,7 @@ sign_signs L number message state n index statement =
 on_region_signs : (r L number : ℕ) (message : List ℕ) (state : State) (n index : ℕ) (statement : List ℕ)
     → Signs state L number message n index statement (on_region r L (sign_event L number message) state)
 on_region_signs r L number message state n index statement =
-    either_signs state L number message n index statement (nat_lt L r || not (is_runnable state.layers L)) (refused wrong_layer, state) (sign_event L number message state)
+    either_signs state L number message n index statement (nat_lt L r || not (is_runnable state.layers L)) (refused WrongLayer, state) (sign_event L number message state)
     (λ past e. absurd (grind (arith, e)))
     (λ here. sign_signs L number message state n index statement)
 
@@ -161,7 +164,7 @@ region_unsigned : (world : World) (L : ℕ) (does : State → Outcome) (on : Res
     → is_signed (region_event world L does on).0 ≡ false
 region_unsigned world L does (Err refusal) each = refl
 region_unsigned world L does (Ok on) each =
-    either_unsigned (nat_lt L on.0 || not (is_runnable on.1.layers L)) (refused wrong_layer, on.1) (does on.1) refl (each on.1)
+    either_unsigned (nat_lt L on.0 || not (is_runnable on.1.layers L)) (refused WrongLayer, on.1) (does on.1) refl (each on.1)
 
 order_unsigned : (state : State) (text draw : List ℕ) (answer : Reply) (next : State) → OrderStep state text draw answer next → is_signed answer ≡ false
 order_unsigned state text draw answer next (spells_none p) = ap is_signed p.answered

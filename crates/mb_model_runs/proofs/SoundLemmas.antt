@@ -10,7 +10,7 @@ use Rattle.mb_model.specs.Layers.{is_upper}
 use Rattle.mb_model.specs.Log.{entries_of}
 use Rattle.mb_model.specs.Lives.{configuration}
 use Rattle.mb_model.specs.Signing.{public_of}
-use Rattle.mb_model.specs.OrderStep.{region_of}
+use Rattle.mb_model.specs.Regions.{region_of}
 use Rattle.mb_model.specs.Machine.{World, Run}
 use Rattle.mb_model.specs.Valid.{IsValidRegion, Valid, IsValidState}
 use Rattle.mb_model.specs.Runs.{worlds_of, HoldsLivingKeys, IsSoundWorld, IsSoundRun}

@@ -23,7 +23,9 @@ use Rattle.mb_model.specs.Rules.{admits}
 use Rattle.mb_model.specs.Log.{entries_of, made}
 use Rattle.mb_model.specs.Regions.{empty_region, is_epoch, without_configuration_keys, region_after, with_key}
 use Rattle.mb_model.specs.Signing.{public_of}
-use Rattle.mb_model.specs.OrderStep.{region_of, needs_succession, log_with, next_key, cosigned_by, succeeded, key_made, changed, keyed, carried_out, obeyed, entry_of, change_fact, view_of}
+use Rattle.mb_model.specs.Regions.{region_of}
+use Rattle.mb_model.specs.OrderChecks.{needs_succession, view_of}
+use Rattle.mb_model.specs.OrderEffects.{log_with, next_key, cosigned_by, succeeded, key_made, changed, keyed, carried_out, obeyed, entry_of, change_fact}
 use Rattle.mb_model.specs.declared.state.Fact.TheVariants as fact
 use Rattle.mb_model.specs.LayerEvents.{has_number, with_use}
 use Rattle.mb_model.specs.Machine.{World, Step, Run}

@@ -30,7 +30,7 @@ use Rattle.mb_model.specs.ChainFormat.{statement_format, chain_format}
 use Rattle.mb_model.specs.Script.{IsScriptEvent}
 use Rattle.mb_model.proofs.EntryFormatLaws.{statement_exact, chain_exact}
 use Rattle.mb_model.specs.SignedTexts.{statement_text}
-use Rattle.mb_model.specs.OrderStep.{region_of}
+use Rattle.mb_model.specs.Regions.{region_of}
 use Rattle.mb_model.specs.LayerEvents.{statement_of}
 use Rattle.mb_model.specs.Machine.{World, Step, Run}
 use Rattle.mb_model.specs.Valid.{IsValidState, Valid}
@@ -47,7 +47,7 @@ use Rattle.mb_model_lemmas.proofs.AttachLemmas.{stated_allowed}
 use Rattle.mb_model_memory.specs.Storable.{IsStorableState, Storable}
 use Rattle.mb_model_memory.proofs.StorableChains.{bare_allowed, statement_of-allowed}
 use Rattle.mb_model_memory.proofs.StorableSteps.{step_keeps_storable, run_keeps_storable}
-use Rattle.mb_model_runs.specs.StatementLaws.{IsStatedIn, entry_of}
+use Rattle.mb_model_runs.specs.StatementLaws.{IsStatedIn, key_entry_of}
 use Rattle.mb_model_runs.proofs.GrowthLemmas.{logs_grow}
 use Rattle.mb_model_runs.proofs.BirthLemmas.{log_is_good, key_of-split}
 use Rattle.mb_model_runs.proofs.KeyLemmas.{key_lives}
@@ -251,13 +251,13 @@ module _ (maker : PublicKey) (state : State) (L : ℕ) (key : RegionKey) (messag
   is_living : Alive (entries_of state.log ++ entries_of cut) key.number L key.kind (public_of key.seed)
   is_living = alive_on (entries_of state.log) cut key.number L key.kind (public_of key.seed) quiet (key_lives state L key valid within)
 
-  is_named : key_of (entries_of state.log ++ entries_of cut) key.number ≡ Some (entry_of L key)
+  is_named : key_of (entries_of state.log ++ entries_of cut) key.number ≡ Some (key_entry_of L key)
   is_named =
       let alive = is_living in
       ap (λ (es : List Entry). key_of es key.number) alive.split
       ∙ key_of-split alive.before alive.position alive.number key.number L key.kind (public_of key.seed) alive.later (subst RuledLog alive.split ruled)
 
-  is_current : IsCurrent (entries_of state.log ++ entries_of cut) key.number (entry_of L key) (statement_of state key message)
+  is_current : IsCurrent (entries_of state.log ++ entries_of cut) key.number (key_entry_of L key) (statement_of state key message)
   unfolding statement_of
   is_current =
       let n : ℕ = number_of (entries_of state.log) in
@@ -269,16 +269,16 @@ module _ (maker : PublicKey) (state : State) (L : ℕ) (key : RegionKey) (messag
         signed = stated_by (serial_of (entries_of state.log ++ entries_of cut)) state.serial (λ serial. Verifies (public_of key.seed) (statement_text serial key.number n message) (signature_of key.seed key.uses text))
             (serial_on (entries_of state.log) cut quiet ∙ valid.serial) verifies;
         number = omega (arith, total, none);
-        alive = living_is_flagged (entries_of state.log ++ entries_of cut) key.number (entry_of L key) is_living;
+        alive = living_is_flagged (entries_of state.log ++ entries_of cut) key.number (key_entry_of L key) is_living;
       }
 
-  is_right : AreGood maker (state.log ++ cut) → IsRight maker (state.log ++ cut) key.number (entry_of L key) (statement_of state key message)
+  is_right : AreGood maker (state.log ++ cut) → IsRight maker (state.log ++ cut) key.number (key_entry_of L key) (statement_of state key message)
   is_right good =
       let same : entries_of state.log ++ entries_of cut ≡ entries_of (state.log ++ cut) = sym (map-append (λ (s : SignedEntry). s.entry) state.log cut) in
       record {
         good = good;
-        named = subst (λ (es : List Entry). key_of es key.number ≡ Some (entry_of L key)) same is_named;
-        current = subst (λ (es : List Entry). IsCurrent es key.number (entry_of L key) (statement_of state key message)) same is_current;
+        named = subst (λ (es : List Entry). key_of es key.number ≡ Some (key_entry_of L key)) same is_named;
+        current = subst (λ (es : List Entry). IsCurrent es key.number (key_entry_of L key) (statement_of state key message)) same is_current;
       }
 
 -- ---- the cut
@@ -304,7 +304,7 @@ some_signed log some none = some (ap entries_of none)
 
 right_later : (maker : PublicKey) (state later : State) (L : ℕ) (key : RegionKey) (message : List ℕ) → IsValidState state → IsValidState later → BeginsWith later.log state.log
     → Contains (region_of state L).keys key → key.uses < 32 → IsBornOf maker later.log
-    → IsRight maker (cut_at (statement_of state key message).number later.log) key.number (entry_of L key) (statement_of state key message)
+    → IsRight maker (cut_at (statement_of state key message).number later.log) key.number (key_entry_of L key) (statement_of state key message)
 right_later maker state later L key message valid valid_later begins within few born =
     let past : List SignedEntry = state.log in
     let more : List SignedEntry = begins.0 in
@@ -322,13 +322,13 @@ right_later maker state later L key message valid valid_later begins within few 
     let right = is_right maker state L key message valid within few cut quiet fronts good in
     let at : cut_at (statement_of state key message).number later.log ≡ past ++ cut =
     ap (λ (m : ℕ). cut_at m later.log) (number_stated state key message) ∙ ap (cut_at n) begins.1 ∙ cut_is past more (some_signed past some) (valid_is_ruled state valid) in
-    subst (λ (es : List SignedEntry). IsRight maker es key.number (entry_of L key) (statement_of state key message)) (sym at) right
+    subst (λ (es : List SignedEntry). IsRight maker es key.number (key_entry_of L key) (statement_of state key message)) (sym at) right
 
 pub statement_accepted : (maker : PublicKey) (world : World) (answered : List Answered) (next : World) (state later : State) (L : ℕ) (key : RegionKey) (message bytes : List ℕ)
     → Valid world.state → world.state ≡ Some state → Contains (region_of state L).keys key → key.uses < 32
     → Run world answered next → next.state ≡ Some later → IsBornOf maker later.log
     → Spells chain_format bytes (stated_chain later.log (statement_of state key message))
-    → Accepts maker bytes key.number (report_of (stated_chain later.log (statement_of state key message)) key.number (entry_of L key))
+    → Accepts maker bytes key.number (report_of (stated_chain later.log (statement_of state key message)) key.number (key_entry_of L key))
 statement_accepted maker world answered next state later L key message bytes valid was within few run is born spelled =
     let here : IsValidState state = subst Valid was valid in
     let there : IsValidState later = subst Valid is (run_valid world answered next valid run) in
@@ -340,7 +340,7 @@ statement_accepted maker world answered next state later L key message bytes val
       chain = stated_chain later.log (statement_of state key message);
       spelled = spelled;
       good = right.good;
-      made = entry_of L key;
+      made = key_entry_of L key;
       named = right.named;
       current = right.current;
       report_is = refl;
@@ -372,9 +372,9 @@ accepted_there maker world given n index bytes mid answered next script scripts 
       spelled = record { allowed = said_allowed; whole = it.signs.statement_is };
       chain = chain_format.spelling (stated_chain later.log said);
       attached = attached;
-      report = report_of (stated_chain later.log said) n (entry_of it.L key);
+      report = report_of (stated_chain later.log said) n (key_entry_of it.L key);
       accepted =
-          subst (λ (m : ℕ). Accepts maker (chain_format.spelling (stated_chain later.log said)) m (report_of (stated_chain later.log said) m (entry_of it.L key))) it.signs.number_is
+          subst (λ (m : ℕ). Accepts maker (chain_format.spelling (stated_chain later.log said)) m (report_of (stated_chain later.log said) m (key_entry_of it.L key))) it.signs.number_is
           (statement_accepted maker world (this ∷ answered) next it.state later it.L key it.message (chain_format.spelling (stated_chain later.log said)) valid it.was it.signs.within
           it.signs.few whole is born attached);
     }

@@ -13,8 +13,9 @@ use Rattle.mb_model.specs.Layers.{layer_of}
 use Rattle.mb_model.specs.Rules.{authority}
 use Rattle.mb_model.specs.Log.{entries_of, number_of}
 use Rattle.mb_model.specs.OrderFormat.{order_format, order_body}
-use Rattle.mb_model.specs.OrderStep.{view_of, change_by, TargetsHold, MayBeGiven, IsSigned, IsCountersigned}
-use Rattle.mb_model.specs.OrderStep.{LogHasRoom, RegionHasRoom, obeyed}
+use Rattle.mb_model.specs.OrderChecks.{view_of, change_by, TargetsHold, MayBeGiven, IsSigned, IsCountersigned}
+use Rattle.mb_model.specs.OrderChecks.{LogHasRoom, RegionHasRoom}
+use Rattle.mb_model.specs.OrderEffects.{obeyed}
 use Rattle.mb_model.specs.Machine.{ratchet, World, Machine}
 use Rattle.mb_model.specs.SignedTexts.{order_text, countersigned_text}
 use Rattle.mb_model.specs.SignedOrders.{signed_order, countersigned_order}

@@ -14,7 +14,7 @@ use Rattle.mb_model.specs.Log.{entries_of}
 use Rattle.mb_model.specs.Script.{IsScriptEvent}
 use Rattle.mb_model.specs.Signing.{public_of}
 use Rattle.mb_model.specs.ChainFormat.{statement_format, chain_format}
-use Rattle.mb_model.specs.OrderStep.{region_of}
+use Rattle.mb_model.specs.Regions.{region_of}
 use Rattle.mb_model.specs.LayerEvents.{statement_of}
 use Rattle.mb_model.specs.Machine.{World, Step, Run}
 use Rattle.mb_model.specs.Valid.{Valid}
@@ -50,8 +50,8 @@ StatementsAreOfKeys =
 -- ---- the chain with a statement
 
 -- what the log tells of a key of layer L
-abbrev pub entry_of : ℕ → RegionKey → KeyEntry
-entry_of L key = record { layer = L; kind = key.kind; key = public_of key.seed }
+abbrev pub key_entry_of : ℕ → RegionKey → KeyEntry
+key_entry_of L key = record { layer = L; kind = key.kind; key = public_of key.seed }
 
 -- What a key that is there and has an index left states, attached to the log of the state then, or of a later live one
 -- of a run, is accepted for the key, where the maker signed the device's birth.
@@ -63,7 +63,7 @@ StatementsAreAccepted =
     → Run world answered next → next.state ≡ Some later → IsBornOf maker later.log
     → Spells chain_format bytes (stated_chain later.log (statement_of state key message))
     → Accepts maker bytes key.number
-    (report_of (stated_chain later.log (statement_of state key message)) key.number (entry_of L key))
+    (report_of (stated_chain later.log (statement_of state key message)) key.number (key_entry_of L key))
 
 -- The statement by which an event was answered, in a valid state that can be stored, is accepted with the log of each
 -- later live state of a run. The events are those of a script.

@@ -16,7 +16,7 @@ use Rattle.mb_model.specs.RootFormat.{root_format}
 use Rattle.mb_model.specs.Flash.{public_format, public_of_parts}
 use Rattle.mb_model.specs.Signing.{public_of, signature_of}
 use Rattle.mb_model.specs.SignedTexts.{entry_text}
-use Rattle.mb_model.specs.OrderStep.{signed_by}
+use Rattle.mb_model.specs.OrderEffects.{signed_by}
 use Rattle.mb_bytes.specs.Puts.{Puts, Writes}
 use Rattle.mb_model.specs.Factory.{serial_from, first_key, layers_at_birth, birth_entry, codes_at_birth, state_at_birth, IsFactoryImage}
 use Rattle.mb_model.proofs.FormatBounds.{public_short}

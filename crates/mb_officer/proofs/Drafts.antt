@@ -15,7 +15,7 @@ use Rattle.mb_model.specs.declared.order.Act.TheVariants as act
 use Rattle.mb_model.specs.declared.order.Target.{Target}
 use Rattle.mb_model.specs.declared.order.Order.{Order}
 use Rattle.mb_model.specs.Key.{key_bytes}
-use Rattle.mb_model.specs.Lines.{HasLines, spaced, IsBeginning, bad_line, ends_early, Reads, TextFailsAtLine}
+use Rattle.mb_model.specs.Lines.{HasLines, spaced, IsBeginning, bad_line, ends_early, ReadsLines, TextFailsAtLine}
 use Rattle.mb_model.specs.Drafts.{SaysTarget, SayAct, IsDraft}
 use Rattle.hex.specs.Hex.{decode_pairs}
 use Rattle.mb_model.specs.Texts.{IsHex}
@@ -28,7 +28,7 @@ use Rattle.mb_officer.specs.declared.draft.Said.{Said}
 use Rattle.mb_officer.specs.declared.draft.Said.TheVariants as said
 use Rattle.mb_words.proofs.NextLines.{with_line}
 use Rattle.mb_words.specs.Words.{SplitsLine}
-use Rattle.mb_officer.specs.Drafting.{load_act, ordered_by, heading_line, drafted, IsSound, SaysTargets, SaysCode, SaysLoad, SaysOwner, SaysRest, Follows}
+use Rattle.mb_officer.specs.Drafting.{load_act, ordered_by, heading_line, drafted, IsSoundDraft, SaysTargets, SaysCode, SaysLoad, SaysOwner, SaysRest, LineFollows}
 use Rattle.mb_officer.proofs.Lines.{says_only_act, establish_load, from_owner, from_version}
 use Rattle.mb_officer.proofs.Headings.{from_targets}
 
@@ -160,7 +160,7 @@ ends_heading (kind.NewKey key) layer targets room = record {
   says = new_key_finished key layer targets room;
 }
 
-ends : (s : Said) (targets : List Target) → IsSound s targets → Ends s targets
+ends : (s : Said) (targets : List Target) → IsSoundDraft s targets → Ends s targets
 ends said.Nothing targets none = record {
   more = heading_line kind.Surrender 2 ∷ [];
   order = drafted 2 [] act.Surrender;
@@ -191,7 +191,7 @@ pub record HasRead (text rest : List ℕ) (number : ℕ) (s : Said) (targets : L
   pub before : List (List ℕ)
   pub counted : number ≡ length before + 1
   pub lines : (remaining : List (List ℕ)) → HasLines rest remaining → HasLines text (before ++ remaining)
-  pub sound : IsSound s targets
+  pub sound : IsSoundDraft s targets
   pub on : (more : List (List ℕ)) (order : Order) → SaysRest s targets more order → IsDraft (before ++ more) order
   pub only : (more : List (List ℕ)) (order : Order) → IsDraft (before ++ more) order → SaysRest s targets more order
 
@@ -199,7 +199,7 @@ longer : (before : List (List ℕ)) (line : List ℕ) (more : List (List ℕ)) �
 longer before line more = append_assoc before (line ∷ []) more
 
 pub HasRead-step : (text rest line later : List ℕ) (number next_number : ℕ) (s next : Said) (targets after : List Target) → HasRead text rest number s targets
-    → SplitsLine rest line later → 0 < length rest → Follows s targets line next after → next_number ≡ number + 1 → HasRead text later next_number next after
+    → SplitsLine rest line later → 0 < length rest → LineFollows s targets line next after → next_number ≡ number + 1 → HasRead text later next_number next after
 HasRead-step text rest line later number next_number s next targets after read splits some follows counts = record {
   before = read.before ++ line ∷ [];
   counted = omega (arith, counts, read.counted, length-append read.before (line ∷ []));
@@ -246,7 +246,7 @@ all_read text rest number s targets read none =
     (read.lines [] (subst (λ (x : List ℕ). HasLines x []) (sym none) HasLines-nil))
 
 pub HasRead-end : (text rest : List ℕ) (number : ℕ) (s : Said) (targets : List Target) (order : Order) → HasRead text rest number s targets → rest ≡ []
-    → SaysRest s targets [] order → Reads IsDraft text order
+    → SaysRest s targets [] order → ReadsLines IsDraft text order
 HasRead-end text rest number s targets order read none says = record {
   lines = read.before;
   has = all_read text rest number s targets read none;

@@ -31,7 +31,7 @@ use Rattle.mb_officer.specs.declared.draft.Said.{Said}
 use Rattle.mb_officer.specs.declared.draft.Said.TheVariants as said
 use Rattle.mb_officer.proofs.Headings.{from_targets, first_is, to_targets, heading_same}
 use Rattle.mb_words.specs.Words.{FindsSome}
-use Rattle.mb_officer.specs.Drafting.{load_act, ordered_by, order_kind, IsHeading, drafted, IsSound, SaysTargets, SaysLoad, SaysOwner, SaysRest, Follows, TellsNext, AddsTarget, IsFirst}
+use Rattle.mb_officer.specs.Drafting.{load_act, ordered_by, order_kind, IsHeading, drafted, IsSoundDraft, SaysTargets, SaysLoad, SaysOwner, SaysRest, LineFollows, TellsNext, AddsTarget, IsFirst}
 
 -- ---- targets
 
@@ -103,9 +103,9 @@ less_target k layer targets line t more order is (target_next other says rest ro
 less_target k layer targets line t more order is (act_next says of_kind made) =
     absurd (act_begins (line ∷ more) order.act says (target_begins line t is))
 
-pub Follows-target : (k : Kind) (layer : ℕ) (targets after : List Target) (line : List ℕ) (t : Target) → IsSound (said.Heading k layer) targets
+pub Follows-target : (k : Kind) (layer : ℕ) (targets after : List Target) (line : List ℕ) (t : Target) → IsSoundDraft (said.Heading k layer) targets
     → SaysTarget line t → after ≡ targets ++ t ∷ [] → length targets ≢ 8
-    → Follows (said.Heading k layer) targets line (said.Heading k layer) after
+    → LineFollows (said.Heading k layer) targets line (said.Heading k layer) after
 Follows-target k layer targets after line t sound is longer room =
     let count = ap length longer ∙ length-append targets (t ∷ []) in
     record {
@@ -126,7 +126,7 @@ pub full_none : (k : Kind) (layer : ℕ) (targets : List Target) (line : List �
 full_none k layer targets line t is full more order says = full_turn k layer targets line t more order is full (turn k layer targets line more order says)
 
 pub Follows-heading : (k : Kind) (layer : ℕ) (targets : List Target) (line : List ℕ) → targets ≡ [] → IsHeading line k layer
-    → Follows said.Nothing targets line (said.Heading k layer) targets
+    → LineFollows said.Nothing targets line (said.Heading k layer) targets
 Follows-heading k layer targets line none is = record {
   sound = (is.0, omega (arith, ap length none));
   on = λ more order says. from_targets k layer line more order is (subst (λ (x : List Target). SaysTargets k layer x more order) none says);
@@ -258,11 +258,11 @@ to_owner layer targets line owner more order sized owned (owner_first other of_k
 to_owner layer targets line owner more order sized owned (version_first l version of_kind fits spelled rest) = absurd (establish_load l of_kind)
 
 Follows-owner : (k : Kind) (layer n : ℕ) (targets : List Target) (line : List ℕ) (owner : PublicKey) → ((t : Target) → SaysTarget line t → ⊥)
-    → IsSound (said.Heading k layer) targets → k ≡ kind.Establish → n ≡ layer → IsSized owner → EndsInHex line (codes "owner" ∷ []) (key_bytes owner)
-    → Follows (said.Heading k layer) targets line (said.Owner n owner) targets
+    → IsSoundDraft (said.Heading k layer) targets → k ≡ kind.Establish → n ≡ layer → IsSized owner → EndsInHex line (codes "owner" ∷ []) (key_bytes owner)
+    → LineFollows (said.Heading k layer) targets line (said.Owner n owner) targets
 Follows-owner k layer n targets line owner none sound is_kind same sized owned =
-    subst (λ (x : ℕ). Follows (said.Heading k layer) targets line (said.Owner x owner) targets) (sym same)
-    (subst (λ (x : Kind). Follows (said.Heading x layer) targets line (said.Owner layer owner) targets) (sym is_kind)
+    subst (λ (x : ℕ). LineFollows (said.Heading k layer) targets line (said.Owner x owner) targets) (sym same)
+    (subst (λ (x : Kind). LineFollows (said.Heading x layer) targets line (said.Owner layer owner) targets) (sym is_kind)
     (record {
       sound = (subst (λ (x : Kind). MayBeFor (order_kind x) layer) is_kind sound.0, sound.1, sized);
       on = λ more order says. from_owner layer targets line owner more order sound.1 sized owned says;
@@ -293,11 +293,11 @@ to_version l layer targets line version more order fits spelled (version_first j
     subst (λ (x : ℕ). SaysLoad l layer x targets more order) same (subst (λ (x : Loading). SaysLoad x layer number targets more order) loads rest)
 
 Follows-version : (k : Kind) (layer : ℕ) (l : Loading) (n : ℕ) (targets : List Target) (line : List ℕ) (version : ℕ) → ((t : Target) → SaysTarget line t → ⊥)
-    → IsSound (said.Heading k layer) targets → k ≡ kind.Load l → n ≡ layer → version ≤ number_limit → line ≡ spaced (codes "version" ∷ decimal version ∷ [])
-    → Follows (said.Heading k layer) targets line (said.Version l n version) targets
+    → IsSoundDraft (said.Heading k layer) targets → k ≡ kind.Load l → n ≡ layer → version ≤ number_limit → line ≡ spaced (codes "version" ∷ decimal version ∷ [])
+    → LineFollows (said.Heading k layer) targets line (said.Version l n version) targets
 Follows-version k layer l n targets line version none sound is_kind same fits spelled =
-    subst (λ (x : ℕ). Follows (said.Heading k layer) targets line (said.Version l x version) targets) (sym same)
-    (subst (λ (x : Kind). Follows (said.Heading x layer) targets line (said.Version l layer version) targets) (sym is_kind)
+    subst (λ (x : ℕ). LineFollows (said.Heading k layer) targets line (said.Version l x version) targets) (sym same)
+    (subst (λ (x : Kind). LineFollows (said.Heading x layer) targets line (said.Version l layer version) targets) (sym is_kind)
     (record {
       sound = (subst (λ (x : Kind). MayBeFor (order_kind x) layer) is_kind sound.0, sound.1, fits);
       on = λ more order says. from_version l layer targets line version more order sound.1 fits spelled says;
@@ -307,10 +307,10 @@ Follows-version k layer l n targets line version none sound is_kind same fits sp
 -- ---- trust and code
 
 pub Follows-code : (l : Loading) (layer version : ℕ) (trust : Trusts) (targets : List Target) (line code : List ℕ) (a : Act)
-    → IsSound (said.Trust l layer version trust) targets → length code ≤ 32768 → EndsInHex line (codes "code" ∷ []) code → a ≡ load_act l version trust code
-    → Follows (said.Trust l layer version trust) targets line (said.All layer a) targets
+    → IsSoundDraft (said.Trust l layer version trust) targets → length code ≤ 32768 → EndsInHex line (codes "code" ∷ []) code → a ≡ load_act l version trust code
+    → LineFollows (said.Trust l layer version trust) targets line (said.All layer a) targets
 Follows-code l layer version trust targets line code a sound fits coded is =
-    subst (λ (x : Act). Follows (said.Trust l layer version trust) targets line (said.All layer x) targets) (sym is)
+    subst (λ (x : Act). LineFollows (said.Trust l layer version trust) targets line (said.All layer x) targets) (sym is)
     (record {
       sound = sound.1;
       on = λ more order says. record { line = line; code = code; coded = coded; fits = fits; spelled = ap (λ (x : List (List ℕ)). line ∷ x) says.0; made = says.1 };
@@ -326,7 +326,7 @@ pub all_none : (layer : ℕ) (a : Act) (targets : List Target) (line : List ℕ)
 all_none layer a targets line more order says = cons_none line more (sym says.0)
 
 pub Follows-first : (k : Kind) (layer : ℕ) (targets : List Target) (line : List ℕ) (s : Said) → ((t : Target) → SaysTarget line t → ⊥)
-    → IsSound (said.Heading k layer) targets → IsFirst k layer line s → Follows (said.Heading k layer) targets line s targets
+    → IsSoundDraft (said.Heading k layer) targets → IsFirst k layer line s → LineFollows (said.Heading k layer) targets line s targets
 Follows-first k layer targets line said.Nothing none sound is = absurd is
 Follows-first k layer targets line (said.Heading j n) none sound is = absurd is
 Follows-first k layer targets line (said.Owner n owner) none sound is = Follows-owner k layer n targets line owner none sound is.0 is.1 is.2 is.3
@@ -336,8 +336,8 @@ Follows-first k layer targets line (said.All n a) none sound is = absurd is
 
 -- ---- one line more, by what was read before
 
-pub sound_at : (s t : Said) (targets : List Target) → s ≡ t → IsSound s targets → IsSound t targets
-sound_at s t targets e sound = subst (λ (x : Said). IsSound x targets) e sound
+pub sound_at : (s t : Said) (targets : List Target) → s ≡ t → IsSoundDraft s targets → IsSoundDraft t targets
+sound_at s t targets e sound = subst (λ (x : Said). IsSoundDraft x targets) e sound
 
 pub rest_at : (s t : Said) (targets : List Target) (lines : List (List ℕ)) (order : Order) → s ≡ t → SaysRest s targets lines order → SaysRest t targets lines order
 rest_at s t targets lines order e says = subst (λ (x : Said). SaysRest x targets lines order) e says
@@ -348,21 +348,21 @@ tells s t targets a b line r q said_is result_is targets_is told =
     (subst (λ (x : Result Said NotSaid). TellsNext t targets line x a) (sym result_is)
     (subst (λ (x : List Target). TellsNext t targets line q x) (sym targets_is) told))
 
-pub add_tells : (k : Kind) (layer : ℕ) (targets after : List Target) (line : List ℕ) (t : Target) (r : Result Said NotSaid) → IsSound (said.Heading k layer) targets
+pub add_tells : (k : Kind) (layer : ℕ) (targets after : List Target) (line : List ℕ) (t : Target) (r : Result Said NotSaid) → IsSoundDraft (said.Heading k layer) targets
     → SaysTarget line t → AddsTarget k layer targets t r after → TellsNext (said.Heading k layer) targets line r after
 add_tells k layer targets after line t (Ok next) sound is adds =
-    subst (λ (x : Said). Follows (said.Heading k layer) targets line x after) (sym adds.0) (Follows-target k layer targets after line t sound is adds.1 adds.2)
+    subst (λ (x : Said). LineFollows (said.Heading k layer) targets line x after) (sym adds.0) (Follows-target k layer targets after line t sound is adds.1 adds.2)
 add_tells k layer targets after line t (Err why.Form) sound is adds = full_none k layer targets line t is adds
 add_tells k layer targets after line t (Err why.NoMemory) sound is adds = tt
 
 first_found : (k : Kind) (layer : ℕ) (targets : List Target) (line : List ℕ) (r : Option Said) → ((t : Target) → SaysTarget line t → ⊥)
-    → IsSound (said.Heading k layer) targets → FindsSome (IsFirst k layer line) r → TellsNext (said.Heading k layer) targets line (ok_or r why.Form) targets
+    → IsSoundDraft (said.Heading k layer) targets → FindsSome (IsFirst k layer line) r → TellsNext (said.Heading k layer) targets line (ok_or r why.Form) targets
 first_found k layer targets line (Some s) none sound is = Follows-first k layer targets line s none sound is
 first_found k layer targets line None none sound nothing = first_none k layer targets line none nothing
 
 -- the first line after the targets, where it is none of a target
 pub first_tells : (k : Kind) (layer : ℕ) (targets : List Target) (line : List ℕ) (r : Option Said) (told : Result Said NotSaid) → ((t : Target) → SaysTarget line t → ⊥)
-    → IsSound (said.Heading k layer) targets → FindsSome (IsFirst k layer line) r → told ≡ ok_or r why.Form → TellsNext (said.Heading k layer) targets line told targets
+    → IsSoundDraft (said.Heading k layer) targets → FindsSome (IsFirst k layer line) r → told ≡ ok_or r why.Form → TellsNext (said.Heading k layer) targets line told targets
 first_tells k layer targets line r told none sound found is =
     subst (λ (x : Result Said NotSaid). TellsNext (said.Heading k layer) targets line x targets) (sym is) (first_found k layer targets line r none sound found)
 

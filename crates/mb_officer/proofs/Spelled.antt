@@ -12,7 +12,7 @@ use Rattle.mb_model.specs.declared.order.Order.{Order}
 use Rattle.mb_model.specs.Layers.{is_layer_number}
 use Rattle.mb_model.specs.Drafts.{SaysTarget, SayAct, IsDraft}
 use Rattle.mb_model.specs.Rules.{kind_of}
-use Rattle.mb_model.specs.Lines.{Reads}
+use Rattle.mb_model.specs.Lines.{ReadsLines}
 use Rattle.mb_model.specs.KeyFormat.{public_key_format}
 use Rattle.mb_model.proofs.OrderFormatLaws.{form_listed, given_allowed}
 use Rattle.mb_model.specs.LayerFormat.{trust_format}
@@ -67,5 +67,5 @@ IsDraft-spelled lines order is = (
 )
 
 -- an order that is read from a draft has a spelling
-pub drafts_are_spelled : (text : List ℕ) (order : Order) → Reads IsDraft text order → order_format.Allowed order
+pub drafts_are_spelled : (text : List ℕ) (order : Order) → ReadsLines IsDraft text order → order_format.Allowed order
 drafts_are_spelled text order reads = IsDraft-spelled reads.lines order reads.stands

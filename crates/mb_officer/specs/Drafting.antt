@@ -13,7 +13,7 @@ use Rattle.mb_model.specs.declared.order.Target.{Target}
 use Rattle.mb_model.specs.declared.order.Order.{Order}
 use Rattle.mb_model.specs.Key.{key_bytes, IsSized}
 use Rattle.mb_model.specs.Rules.{MayBeFor}
-use Rattle.mb_model.specs.Lines.{spaced, number_limit, Reads, TextFailsAtLine}
+use Rattle.mb_model.specs.Lines.{spaced, number_limit, ReadsLines, TextFailsAtLine}
 use Rattle.mb_model.specs.Script.{EndsInHex}
 use Rattle.mb_model.specs.Drafts.{kind_word, trust_word, SaysTarget, SaysTrusts, SayAct, IsDraft}
 use Rattle.mb_words.specs.declared.said.NotSaid.{NotSaid}
@@ -32,7 +32,7 @@ use Rattle.mb_officer.specs.declared.draft.Said.TheVariants as said
 -- The text is the draft of this order, or this line of it is the first that is wrong; of a failed allocation nothing is
 -- said.
 abbrev pub ReadsDraft : List ℕ → Result Order DraftEnd → Type 0
-ReadsDraft text (Ok order) = Reads IsDraft text order
+ReadsDraft text (Ok order) = ReadsLines IsDraft text order
 ReadsDraft text (Err (end.BadLine line)) = TextFailsAtLine IsDraft text line
 ReadsDraft text (Err end.NoMemory) = Unit {0}
 
@@ -86,15 +86,15 @@ abbrev pub drafted : ℕ → List Target → Act → Order
 drafted layer targets a = record { layer = layer; targets = targets; act = a; signature = []; countersignatures = [] }
 
 -- what was read is allowed
-abbrev pub IsSound : Said → List Target → Type 0
-IsSound said.Nothing targets = targets ≡ []
-IsSound (said.Heading k layer) targets = MayBeFor (order_kind k) layer × (length targets ≤ 8)
-IsSound (said.Owner layer owner) targets = MayBeFor orders.Establish layer × (length targets ≤ 8) × IsSized owner
-IsSound (said.Version l layer version) targets =
+abbrev pub IsSoundDraft : Said → List Target → Type 0
+IsSoundDraft said.Nothing targets = targets ≡ []
+IsSoundDraft (said.Heading k layer) targets = MayBeFor (order_kind k) layer × (length targets ≤ 8)
+IsSoundDraft (said.Owner layer owner) targets = MayBeFor orders.Establish layer × (length targets ≤ 8) × IsSized owner
+IsSoundDraft (said.Version l layer version) targets =
     MayBeFor (order_kind (kind.Load l)) layer × (length targets ≤ 8) × (version ≤ number_limit)
-IsSound (said.Trust l layer version trust) targets =
+IsSoundDraft (said.Trust l layer version trust) targets =
     MayBeFor (order_kind (kind.Load l)) layer × (length targets ≤ 8) × (version ≤ number_limit)
-IsSound (said.All layer a) targets = length targets ≤ 8
+IsSoundDraft (said.All layer a) targets = length targets ≤ 8
 
 -- the lines after the first line and some targets
 pub record SaysTargets
@@ -170,13 +170,13 @@ SaysRest (said.All layer a) targets lines order = (lines ≡ []) × (order ≡ d
 -- ---- one line more
 
 -- with this line, what was read before becomes this: the same lines complete both
-pub record Follows
+pub record LineFollows
     (before : Said)
     (targets : List Target)
     (line : List ℕ)
     (next : Said)
     (after : List Target) : Type 0 where
-  pub sound : IsSound next after
+  pub sound : IsSoundDraft next after
   pub on : (more : List (List ℕ)) (order : Order)
       → SaysRest next after more order → SaysRest before targets (line ∷ more) order
   pub only : (more : List (List ℕ)) (order : Order)
@@ -184,7 +184,7 @@ pub record Follows
 
 -- what a line leads to, or that no draft goes on with it
 abbrev pub TellsNext : Said → List Target → List ℕ → Result Said NotSaid → List Target → Type 0
-TellsNext before targets line (Ok next) after = Follows before targets line next after
+TellsNext before targets line (Ok next) after = LineFollows before targets line next after
 TellsNext before targets line (Err why.Form) after =
     (more : List (List ℕ)) (order : Order) → SaysRest before targets (line ∷ more) order → ⊥
 TellsNext before targets line (Err why.NoMemory) after = Unit {0}

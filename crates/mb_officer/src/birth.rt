@@ -8,7 +8,7 @@ ghost use Rattle.mb_model.specs.EntryFormat.{entry_format};
 ghost use Rattle.mb_model.specs.RootFormat.{root_format};
 ghost use Rattle.mb_model.specs.Flash.{public_format, public_of_parts};
 ghost use Rattle.mb_model.specs.Signing.{public_of};
-ghost use Rattle.mb_model.specs.OrderStep.{signed_by};
+ghost use Rattle.mb_model.specs.OrderEffects.{signed_by};
 ghost use Rattle.mb_model.specs.SignedOrders.{used_once};
 ghost use Rattle.mb_model.specs.Meaning.{IsWellFormed};
 ghost use Rattle.mb_model.specs.Factory.{serial_from, first_key, layers_at_birth, codes_at_birth, state_at_birth, IsFactoryImage};

@@ -7,7 +7,7 @@ ghost use Rattle.mb_model.specs.Rules.{MayBeFor};
 ghost use Rattle.mb_model.specs.Drafts.{kind_word};
 ghost use Rattle.mb_model.specs.OrderFormat.{order_format};
 ghost use Rattle.mb_words.specs.Words.{FindsSome};
-ghost use Rattle.mb_officer.specs.Drafting.{IsHeading, load_act, drafted, IsSound, SaysRest, TellsNext, AddsTarget, IsFirst, ReadsDraft};
+ghost use Rattle.mb_officer.specs.Drafting.{IsHeading, load_act, drafted, IsSoundDraft, SaysRest, TellsNext, AddsTarget, IsFirst, ReadsDraft};
 
 use crate::words::{
     read_code, read_layer, read_owner, read_target, read_trusts, read_version, split_layer,
@@ -117,7 +117,7 @@ pub fn read_draft(alloc: Global, text: &[u8]) -> Result<Order, DraftEnd>
 
 /// The order, where nothing is left to be said.
 fn finish(alloc: Global, said: Said, targets: Targets) -> Option<Order>
-    requires { IsSound said targets }
+    requires { IsSoundDraft said targets }
     ensures { FindsSome (SaysRest said targets []) result }
 {
     match said {
@@ -150,7 +150,7 @@ fn unsigned(alloc: Global, layer: u8, targets: Targets, act: Act) -> Order
 
 /// What the lines say with one more.
 fn read_line(alloc: Global, said: Said, targets: &mut Targets, line: &[u8]) -> Result<Said, NotSaid>
-    requires { IsSound said targets.old }
+    requires { IsSoundDraft said targets.old }
     ensures { TellsNext said targets.old line.now result targets.new }
 {
     match said {
@@ -186,7 +186,7 @@ fn read_line(alloc: Global, said: Said, targets: &mut Targets, line: &[u8]) -> R
 
 /// All of an establish, where the line says the trusts.
 fn end_establish(layer: u8, owner: PublicKey, line: &[u8]) -> Result<Said, NotSaid>
-    ensures { (targets : List Target) → IsSound (Said.Owner layer owner) targets → TellsNext (Said.Owner layer owner) targets line.now result targets }
+    ensures { (targets : List Target) → IsSoundDraft (Said.Owner layer owner) targets → TellsNext (Said.Owner layer owner) targets line.now result targets }
 {
     match read_trusts(line) {
         Some(trust) => Ok(Said::All {
@@ -199,7 +199,7 @@ fn end_establish(layer: u8, owner: PublicKey, line: &[u8]) -> Result<Said, NotSa
 
 /// A load with its trusts, where the line says them.
 fn trust_load(loading: Loading, layer: u8, version: u32, line: &[u8]) -> Result<Said, NotSaid>
-    ensures { (targets : List Target) → IsSound (Said.Version loading layer version) targets → TellsNext (Said.Version loading layer version) targets line.now result targets }
+    ensures { (targets : List Target) → IsSoundDraft (Said.Version loading layer version) targets → TellsNext (Said.Version loading layer version) targets line.now result targets }
 {
     match read_trusts(line) {
         Some(trust) => Ok(Said::Trust {

@@ -6,7 +6,7 @@ use Rattle.mb_model.specs.declared.state.View.{View}
 use Rattle.mb_model.specs.declared.state.Fact.{Fact}
 use Rattle.mb_model.specs.declared.state.Bodies.{Bodies}
 use Rattle.mb_model.specs.declared.stored.Fate.{Fate}
-use Rattle.mb_model.specs.OrderStep.{fact_of, layers_after}
+use Rattle.mb_model.specs.OrderEffects.{fact_of, layers_after}
 use Rattle.mb_model.specs.Work.{bodies_by, region_fate}
 use Rattle.mb_orders.specs.Judging.{plan_by}
 

@@ -7,9 +7,11 @@ use Rattle.mb_model.specs.declared.state.View.{View}
 use Rattle.mb_model.specs.Layers.{layer_of}
 use Rattle.mb_model.specs.Rules.{authority}
 use Rattle.mb_model.specs.SignedTexts.{order_text, countersigned_text, IsSignedBy}
-use Rattle.mb_model.specs.Refusals.{Refusal, wrong_target, wrong_state, wrong_signature, wrong_countersignature}
-use Rattle.mb_model.specs.Refusals.{log_full, keys_full}
-use Rattle.mb_model.specs.OrderStep.{change_by, fact_of, layers_after, Passes, Fails}
+use Rattle.mb_model.specs.declared.reply.Refusal.{Refusal}
+use Rattle.mb_model.specs.declared.reply.Refusal.TheVariants.{WrongTarget, WrongState, WrongSignature}
+use Rattle.mb_model.specs.declared.reply.Refusal.TheVariants.{WrongCountersignature, LogFull, KeysFull}
+use Rattle.mb_model.specs.OrderChecks.{change_by, Passes, Fails}
+use Rattle.mb_model.specs.OrderEffects.{fact_of, layers_after}
 use Rattle.mb_model.specs.Work.{bodies_by, region_fate}
 use Rattle.mb_orders.specs.declared.end.JudgeEnd.{JudgeEnd}
 use Rattle.mb_orders.specs.declared.end.JudgeEnd.TheVariants as end
@@ -27,12 +29,12 @@ IsCountersignedOver layers body by =
 
 -- the refusal that an end tells: want of memory tells none
 abbrev pub refusal_of : JudgeEnd → Option Refusal
-refusal_of (end.Target i) = Some (wrong_target i)
-refusal_of end.State = Some wrong_state
-refusal_of end.Signature = Some wrong_signature
-refusal_of (end.Countersignature m) = Some (wrong_countersignature m)
-refusal_of end.LogFull = Some log_full
-refusal_of end.KeysFull = Some keys_full
+refusal_of (end.Target i) = Some (WrongTarget i)
+refusal_of end.State = Some WrongState
+refusal_of end.Signature = Some WrongSignature
+refusal_of (end.Countersignature m) = Some (WrongCountersignature m)
+refusal_of end.LogFull = Some LogFull
+refusal_of end.KeysFull = Some KeysFull
 refusal_of end.NoMemory = None
 
 -- the order is refused for this, if for anything

@@ -2,7 +2,8 @@
 
 ghost use Rattle.std.specs.Prelude.{◌≡◌, ◌+◌, ◌≤◌, ◌==◌, IfOk, OnErr};
 ghost use Rattle.std.specs.List.{list_any};
-ghost use Rattle.mb_model.specs.OrderStep.{cosigned_by, LogHasRoom, change_fact, fact_of, layers_after};
+ghost use Rattle.mb_model.specs.OrderChecks.{LogHasRoom};
+ghost use Rattle.mb_model.specs.OrderEffects.{cosigned_by, change_fact, fact_of, layers_after};
 ghost use Rattle.mb_model.specs.Fates.{change_fate};
 ghost use Rattle.mb_model.specs.Work.{region_fate};
 ghost use Rattle.mb_orders.specs.Judging.{plan_by};

@@ -11,7 +11,7 @@ use Rattle.mb_model.specs.RegionFormat.{SpellsRegion}
 use Rattle.mb_model.specs.Meaning.{HoldsRegion}
 use Rattle.mb_layout.specs.declared.usage.NotUsed.{NotUsed}
 use Rattle.mb_layout.specs.declared.usage.NotUsed.TheVariants.{NoKey, Spent}
-use Rattle.mb_layout.specs.Edits.{CanBeStored, used, UseOf}
+use Rattle.mb_layout.specs.Edits.{CanBeStored, region_with_use, UseOf}
 use Rattle.mb_model_memory.proofs.StorableMemories.{spelled_storable}
 use Rattle.mb_model_memory.proofs.StorableRecords.{region_record}
 use Rattle.mb_model_memory.proofs.StorableSteps.{use_region}
@@ -27,9 +27,9 @@ use Rattle.mb_outbound.specs.Using.{IsUsable, FindsUse}
 abbrev AreOrdered : Region → Type 0
 AreOrdered region = AllPairs (λ a b. a.number < b.number) region.keys
 
-use_stored : (bytes : List ℕ) (region : Region) (number : ℕ) (key : RegionKey) → AreOrdered region → SpellsRegion bytes region → HasUse region number key → CanBeStored (used number region)
+use_stored : (bytes : List ℕ) (region : Region) (number : ℕ) (key : RegionKey) → AreOrdered region → SpellsRegion bytes region → HasUse region number key → CanBeStored (region_with_use number region)
 use_stored bytes region number key up stands has =
-    can_be_stored (used number region) (region_record (used number region) (use_region number key region up (spelled_storable bytes region stands) has.found has.left))
+    can_be_stored (region_with_use number region) (region_record (region_with_use number region) (use_region number key region up (spelled_storable bytes region stands) has.found has.left))
 
 pub finds_use : (bytes new : List ℕ) (region : Region) (number : ℕ) (result : Result RegionKey NotUsed) → AreOrdered region → SpellsRegion bytes region → UseOf region number result new → FindsUse region number result new
 finds_use bytes new region number (Ok key) up stands outcome =
@@ -47,11 +47,11 @@ pub some_held : {area : List ℕ} → HoldsOrdered area → HoldsSomeRegion area
 some_held held = record { region = held.region; holds = held.holds }
 
 pub use_short : (region : Region) (number : ℕ) (bytes : List ℕ) (result : Result RegionKey NotUsed) → FindsUse region number result bytes → OnOk result (length bytes ≤ 4094)
-use_short region number bytes (Ok key) outcome = record_short bytes (used number region) outcome.stands
+use_short region number bytes (Ok key) outcome = record_short bytes (region_with_use number region) outcome.stands
 use_short region number bytes (Err refused) outcome = tt
 
 pub use_room : (bytes new : List ℕ) (region : Region) (number old_room new_room : ℕ) (result : Result RegionKey NotUsed) → AreOrdered region → SpellsRegion bytes region → UseOf region number result new
-    → (CanBeStored (used number region) → old_room ≤ new_room) → OnErr result (old_room ≤ new_room) → old_room ≤ new_room
+    → (CanBeStored (region_with_use number region) → old_room ≤ new_room) → OnErr result (old_room ≤ new_room) → old_room ≤ new_room
 use_room bytes new region number old_room new_room (Ok key) up stands outcome kept refused = kept (use_stored bytes region number key up stands (record { found = outcome.found; left = outcome.left }))
 use_room bytes new region number old_room new_room (Err end) up stands outcome kept refused = refused
 
@@ -69,18 +69,18 @@ either_then slot region before between after first second = inr (replaces_then s
 
 -- ---- what is bound
 
-pub use_stands : (area bytes : List ℕ) (number : ℕ) (found : RegionKey) → ((region : Region) → HoldsRegion area region → IsUsable region number found bytes) → (region : Region) → HoldsRegion area region → SpellsRegion bytes (used number region)
+pub use_stands : (area bytes : List ℕ) (number : ℕ) (found : RegionKey) → ((region : Region) → HoldsRegion area region → IsUsable region number found bytes) → (region : Region) → HoldsRegion area region → SpellsRegion bytes (region_with_use number region)
 use_stands area bytes number found usable region has = (usable region has).stands
 
 pub stores_use : (slot number : ℕ) (before after : Memory) (bytes : List ℕ) (found : RegionKey) → IsRegionSlot slot → ((region : Region) → HoldsRegion (current before.bbram slot) region → IsUsable region number found bytes)
     → ((region : Region) → SpellsRegion bytes region → ReplacesRegion slot region before after) → StoresUse slot number before after
 stores_use slot number before after bytes found which usable done =
-    record { stored = edited_holds slot (used number) before after bytes which (use_stands (current before.bbram slot) bytes number found usable) done }
+    record { stored = edited_holds slot (region_with_use number) before after bytes which (use_stands (current before.bbram slot) bytes number found usable) done }
 
 pub keeps_or_stores : (slot number : ℕ) (before after : Memory) (bytes : List ℕ) (found : RegionKey) → IsRegionSlot slot → ((region : Region) → HoldsRegion (current before.bbram slot) region → IsUsable region number found bytes)
     → ((region : Region) → SpellsRegion bytes region → KeepsOrReplaces slot region before after) → KeepsOrStoresUse slot number before after
 keeps_or_stores slot number before after bytes found which usable done =
-    edited_either slot (used number) before after bytes which (use_stands (current before.bbram slot) bytes number found usable) done
+    edited_either slot (region_with_use number) before after bytes which (use_stands (current before.bbram slot) bytes number found usable) done
 
 -- ---- at the place of the slot
 
@@ -97,8 +97,8 @@ refused_as region number bytes same outcome = subst (λ (e : NotUsed). FindsUse 
 
 pub means_used : (slot number : ℕ) (before after : Memory) → IsRegionSlot slot → IsLoaded after → HasNoFate slot before → StoresUse slot number before after
     → (state : State) → Means before state → Means after (state_used slot number state)
-means_used slot number before after which sized none stores = edited_stands slot (used number) before after which sized none stores.stored
+means_used slot number before after which sized none stores = edited_stands slot (region_with_use number) before after which sized none stores.stored
 
 pub means_kept_or_used : (slot number : ℕ) (before after : Memory) → IsRegionSlot slot → IsLoaded after → HasNoFate slot before → KeepsOrStoresUse slot number before after
     → (state : State) → Means before state → Means after state ⊎ Means after (state_used slot number state)
-means_kept_or_used slot number before after which sized none either = edited_or_kept slot (used number) before after which sized none either
+means_kept_or_used slot number before after which sized none either = edited_or_kept slot (region_with_use number) before after which sized none either

@@ -7,10 +7,10 @@ use Rattle.mb_model.specs.declared.region.RegionKey.{RegionKey}
 use Rattle.mb_model.specs.declared.state.State.{State}
 use Rattle.mb_model.specs.Board.{Memory, Meter}
 use Rattle.mb_model.specs.LayerEvents.{has_number}
-use Rattle.mb_model.specs.OrderStep.{region_of, with_region}
+use Rattle.mb_model.specs.Regions.{region_of, with_region}
 use Rattle.mb_model.specs.Meaning.{HoldsRegion, Contents}
 use Rattle.mb_model_memory.specs.Holding.{Holds, region_in_slot, with_region_in}
-use Rattle.mb_layout.specs.Edits.{used, IsSpent}
+use Rattle.mb_layout.specs.Edits.{region_with_use, IsSpent}
 use Rattle.mb_outbound.specs.declared.binding.BindEnd.{BindEnd}
 use Rattle.mb_outbound.specs.declared.binding.BindEnd.TheVariants.{NoKey, Spent, Stopped}
 
@@ -47,15 +47,15 @@ power_in (Err (Spent state)) = Ok tt
 power_in (Err (Stopped off)) = Err tt
 
 -- where the key is missing or spent, nothing was written
-abbrev pub IsUnwritten : {A S : Type 0} → Result A (BindEnd S) → Memory → Memory → Meter → Meter → Type 0
-IsUnwritten (Ok bound) before after old new = Unit {0}
-IsUnwritten (Err (NoKey state)) before after old new = (after ≡ before) × (new ≡ old)
-IsUnwritten (Err (Spent state)) before after old new = (after ≡ before) × (new ≡ old)
-IsUnwritten (Err (Stopped off)) before after old new = Unit {0}
+abbrev pub StaysUnbound : {A S : Type 0} → Result A (BindEnd S) → Memory → Memory → Meter → Meter → Type 0
+StaysUnbound (Ok bound) before after old new = Unit {0}
+StaysUnbound (Err (NoKey state)) before after old new = (after ≡ before) × (new ≡ old)
+StaysUnbound (Err (Spent state)) before after old new = (after ≡ before) × (new ≡ old)
+StaysUnbound (Err (Stopped off)) before after old new = Unit {0}
 
 -- the contents with one more use of the key in the region of this slot
 abbrev pub used_in : ℕ → ℕ → Contents → Contents
-used_in slot number contents = with_region_in slot (used number (region_in_slot slot contents)) contents
+used_in slot number contents = with_region_in slot (region_with_use number (region_in_slot slot contents)) contents
 
 -- whatever the memory held, it holds with one more use of the key
 pub record StoresUse (slot number : ℕ) (before after : Memory) : Type 0 where
@@ -68,4 +68,4 @@ KeepsOrStoresUse slot number before after =
 
 -- the state with one more use of the key in the region of this layer
 abbrev pub state_used : ℕ → ℕ → State → State
-state_used L number state = with_region state L (used number (region_of state L))
+state_used L number state = with_region state L (region_with_use number (region_of state L))

@@ -6,13 +6,13 @@ use Rattle.mb_model.specs.LayerEvents.{has_number}
 use Rattle.mb_model.specs.RegionFormat.{SpellsRegion}
 use Rattle.mb_layout.specs.declared.usage.NotUsed.{NotUsed}
 use Rattle.mb_layout.specs.declared.usage.NotUsed.TheVariants.{NoKey, Spent}
-use Rattle.mb_layout.specs.Edits.{used, IsSpent}
+use Rattle.mb_layout.specs.Edits.{region_with_use, IsSpent}
 use Rattle.mb_outbound.specs.Binding.{HasUse}
 
 -- the key has an index left, and the bytes stand for the region with one more use of it
 pub record IsUsable (region : Region) (number : ℕ) (key : RegionKey) (bytes : List ℕ) : Type 0 where
   pub has_use : HasUse region number key
-  pub stands : SpellsRegion bytes (used number region)
+  pub stands : SpellsRegion bytes (region_with_use number region)
 
 -- what looking for the use of a key comes to
 abbrev pub FindsUse : Region → ℕ → Result RegionKey NotUsed → List ℕ → Type 0

@@ -11,7 +11,7 @@ ghost use Rattle.mb_model_memory.specs.Holding.{Means};
 ghost use Rattle.mb_model_memory.specs.InForce.{AgreeBesides};
 ghost use Rattle.mb_slot.specs.Slots.{CanUse, IsSameBut};
 ghost use Rattle.mb_region.specs.Regions.{HasNoFate, ReplacesRegion, KeepsOrReplaces};
-ghost use Rattle.mb_outbound.specs.Binding.{HoldsOrdered, BindOf, power_in, IsUnwritten, StoresUse, KeepsOrStoresUse, state_used};
+ghost use Rattle.mb_outbound.specs.Binding.{HoldsOrdered, BindOf, power_in, StaysUnbound, StoresUse, KeepsOrStoresUse, state_used};
 ghost use Rattle.mb_outbound.specs.Using.{FindsUse};
 
 use mb_board::Board;
@@ -99,7 +99,7 @@ pub fn bind<S: Reaches<L>, L: Named, B: Board>(
     ensures means_either { HasNoFate L.place (B.seen b.old).memory → (state : State) → Means (B.seen b.old).memory state
         → Means (B.seen b.new).memory state ⊎ Means (B.seen b.new).memory (state_used L.place key state) }
     ensures blank { OnOk result (IsBlank (other (B.seen b.new).memory.bbram L.place)) }
-    ensures unwritten { IsUnwritten result (B.seen b.old).memory (B.seen b.new).memory (B.seen b.old).meter (B.seen b.new).meter }
+    ensures unwritten { StaysUnbound result (B.seen b.old).memory (B.seen b.new).memory (B.seen b.old).meter (B.seen b.new).meter }
     ensures besides { AgreeBesides L.place (B.seen b.old).memory.bbram (B.seen b.new).memory.bbram }
     ensures rest { IsSameBut L.place (B.seen b.old).memory.bbram (B.seen b.new).memory.bbram }
     ensures flash { (B.seen b.new).memory.flash ≡ (B.seen b.old).memory.flash }

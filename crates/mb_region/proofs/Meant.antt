@@ -7,7 +7,7 @@ use Rattle.mb_model.specs.declared.stored.Fate.{Fate}
 use Rattle.mb_model.specs.declared.stored.Fate.TheVariants.{Keep}
 use Rattle.mb_model.specs.Board.{Memory, IsLoaded}
 use Rattle.mb_model.specs.Meaning.{Contents, meant, fated, fate_of_two, fate_of_three}
-use Rattle.mb_model.specs.OrderStep.{region_of, with_region}
+use Rattle.mb_model.specs.Regions.{region_of, with_region}
 use Rattle.mb_model.specs.StoredLog.{HasIndex}
 use Rattle.mb_model_lemmas.proofs.FateLemmas.{kept_as_before}
 use Rattle.mb_model_memory.specs.Holding.{Holds, Means, region_in_slot, with_region_in, fate_in_slot}

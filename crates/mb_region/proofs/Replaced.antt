@@ -14,7 +14,7 @@ use Rattle.mb_model.proofs.FormatBounds.{region_short}
 use Rattle.mb_model_lemmas.proofs.MeaningLemmas.{one_region}
 use Rattle.mb_model_lemmas.proofs.FateLemmas.{kept_as_before}
 use Rattle.mb_layout.specs.Edits.{CanBeStored, IsFated}
-use Rattle.mb_layout.specs.Found.{Finds}
+use Rattle.mb_layout.specs.Found.{FindsBy}
 use Rattle.mb_layout.proofs.Areas.{one_held}
 use Rattle.mb_model.specs.declared.stored.Root.{Root}
 use Rattle.mb_model_memory.specs.Holding.{Holds, Means, region_in_slot, with_region_in, fate_in_slot, KeepsContents}
@@ -151,8 +151,8 @@ fate_keeps_meaning slot place fate before after state same which sized is either
 pub bytes_read : {read known : List ℕ} → read ≡ known → IsBytes known → IsBytes read
 bytes_read same are = subst IsBytes (sym same) are
 
-pub finds_none : {area : List ℕ} {found : Option Region} → found ≡ None → Finds (λ (region : Region). region) (HoldsRegion area) found → (region : Region) → HoldsRegion area region → ⊥
-finds_none {area} {found} same finds = subst (Finds (λ (region : Region). region) (HoldsRegion area)) same finds
+pub finds_none : {area : List ℕ} {found : Option Region} → found ≡ None → FindsBy (λ (region : Region). region) (HoldsRegion area) found → (region : Region) → HoldsRegion area region → ⊥
+finds_none {area} {found} same finds = subst (FindsBy (λ (region : Region). region) (HoldsRegion area)) same finds
 
-pub finds_some : {area : List ℕ} {found : Option Region} {region : Region} → found ≡ Some region → Finds (λ (it : Region). it) (HoldsRegion area) found → HoldsRegion area region
-finds_some {area} {found} {region} same finds = subst (Finds (λ (it : Region). it) (HoldsRegion area)) same finds
+pub finds_some : {area : List ℕ} {found : Option Region} {region : Region} → found ≡ Some region → FindsBy (λ (it : Region). it) (HoldsRegion area) found → HoldsRegion area region
+finds_some {area} {found} {region} same finds = subst (FindsBy (λ (it : Region). it) (HoldsRegion area)) same finds

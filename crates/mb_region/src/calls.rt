@@ -7,7 +7,7 @@ ghost use Rattle.mb_model.specs.declared.stored.Fate.TheVariants.{Keep};
 ghost use Rattle.mb_model.specs.Memory.{IsBlank, current, other};
 ghost use Rattle.mb_model.specs.Meaning.{HoldsRegion};
 ghost use Rattle.mb_model.specs.RegionFormat.{SpellsRegion};
-ghost use Rattle.mb_model.specs.OrderStep.{with_region};
+ghost use Rattle.mb_model.specs.Regions.{with_region};
 ghost use Rattle.mb_board.specs.Calls.{IsUp, Ran};
 ghost use Rattle.mb_model_memory.specs.Holding.{Means, KeepsContents};
 ghost use Rattle.mb_model_memory.specs.InForce.{AgreeBesides};

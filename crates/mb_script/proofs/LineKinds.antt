@@ -11,7 +11,7 @@ use Rattle.mb_model.specs.Lines.{spaced, number_limit}
 use Rattle.mb_model.specs.Script.{tear_of, IsName, FitsMessage, IsCutLine, SaysEvent}
 use Rattle.mb_model_lemmas.proofs.LineLemmas.{Without, first_same, first_none}
 use Rattle.mb_model_lemmas.proofs.EventLemmas.{letters, letters_of, says_letters}
-use Rattle.mb_script.specs.Reading.{HasNumberFirst, HasRegionFirst, SaysSecret, SaysTail, kept, none, IsFill}
+use Rattle.mb_script.specs.Reading.{HasNumberFirst, HasRegionFirst, SaysSecret, SaysTail, kept_some, none, IsFill}
 use Rattle.mb_script.proofs.Parts.{Without-from_test}
 
 -- a line that begins as lines of another kind do
@@ -104,7 +104,7 @@ cut_rest rest count tear says =
       | inl words ↦
           let tail = codes "keep " ++ decimal tear.keep ++ 32 ∷ (codes "fill " ++ says.fill_word) in
           let line = subst (λ (x : List (List ℕ)). codes "cut " ++ rest ≡ spaced (codes "cut" ∷ decimal count ∷ x ++ codes "fill" ∷ says.fill_word ∷ [])) words says.spelled in
-          (tail, append_cancel_left (codes "cut ") rest (decimal count ++ 32 ∷ tail) line, kept says.allowed.torn.keep refl)
+          (tail, append_cancel_left (codes "cut ") rest (decimal count ++ 32 ∷ tail) line, kept_some says.allowed.torn.keep refl)
       | inr left_out ↦
           let tail = codes "fill " ++ says.fill_word in
           let line = subst (λ (x : List (List ℕ)). codes "cut " ++ rest ≡ spaced (codes "cut" ∷ decimal count ∷ x ++ codes "fill" ∷ says.fill_word ∷ [])) left_out.0 says.spelled in
@@ -129,7 +129,7 @@ cut_says rest e says = absurd (other_kind (codes "cut " ++ rest) e (λ same. ome
 
 cut_line : (rest tail word fill : List ℕ) (count keep : ℕ) (tear : Tear) → HasNumberFirst 100000 rest count tail → 1 ≤ count → SaysTail tail keep word → IsFill word fill
     → tear ≡ tear_of keep fill → tear.keep ≡ keep → IsCutLine (codes "cut " ++ rest) count tear
-cut_line rest tail word fill count keep tear first least (kept most whole) fills made same = record {
+cut_line rest tail word fill count keep tear first least (kept_some most whole) fills made same = record {
   kept_words = codes "keep" ∷ decimal keep ∷ [];
   fill_word = word;
   fill = fill;

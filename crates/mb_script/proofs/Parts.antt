@@ -16,7 +16,7 @@ use Rattle.mb_model.specs.Script.{IsName, tear_of}
 use Rattle.mb_model_lemmas.proofs.LineLemmas.{Without, isnt, cons_same, first_same, first_none}
 use Rattle.mb_model_lemmas.proofs.WordLemmas.{number_front, decimal_spaceless, upper_fits, name_spaceless}
 use Rattle.mb_words.specs.Words.{IsSplit}
-use Rattle.mb_script.specs.Reading.{HasNumberFirst, HasRegionFirst, HasNameFirst, SaysSecret, SaysTail, kept, none, IsFill}
+use Rattle.mb_script.specs.Reading.{HasNumberFirst, HasRegionFirst, HasNameFirst, SaysSecret, SaysTail, kept_some, none, IsFill}
 
 -- ---- bytes without a byte
 
@@ -73,12 +73,12 @@ name_same text m n a b ha hb =
 -- ---- what stands after the count of a cut
 
 pub tail_same : (tail a b : List ℕ) (j k : ℕ) → SaysTail tail j a → SaysTail tail k b → (j ≡ k) × (a ≡ b)
-tail_same tail a b j k (kept mj ea) (kept mk eb) =
+tail_same tail a b j k (kept_some mj ea) (kept_some mk eb) =
     let remaining = append_cancel_left (codes "keep ") _ _ (sym ea ∙ eb) in
     let parts = number_front j k (codes "fill " ++ a) (codes "fill " ++ b) (omega (arith, mj)) (omega (arith, mk)) remaining in
     (parts.0, append_cancel_left (codes "fill ") a b parts.1)
-tail_same tail a b j k (kept mj ea) (none zb eb) = absurd (omega (arith, (cons_same 107 102 _ _ (sym ea ∙ eb)).0))
-tail_same tail a b j k (none za ea) (kept mk eb) = absurd (omega (arith, (cons_same 102 107 _ _ (sym ea ∙ eb)).0))
+tail_same tail a b j k (kept_some mj ea) (none zb eb) = absurd (omega (arith, (cons_same 107 102 _ _ (sym ea ∙ eb)).0))
+tail_same tail a b j k (none za ea) (kept_some mk eb) = absurd (omega (arith, (cons_same 102 107 _ _ (sym ea ∙ eb)).0))
 tail_same tail a b j k (none za ea) (none zb eb) = (za ∙ sym zb, append_cancel_left (codes "fill ") a b (sym ea ∙ eb))
 
 -- ---- bytes that fill
@@ -154,7 +154,7 @@ sign_word text m n j k rest v w has number first within =
 -- a tail that begins with a count of kept bytes, and does not go on with the word for what fills
 pub tail_none : (text remaining rest : List ℕ) (keep : ℕ) → ((word : List ℕ) → text ≢ codes "fill " ++ word) → text ≡ codes "keep " ++ remaining
     → HasNumberFirst 1048576 remaining keep rest → ((word : List ℕ) → rest ≢ codes "fill " ++ word) → (n : ℕ) (word : List ℕ) → SaysTail text n word → ⊥
-tail_none text remaining rest keep first second number third n word (kept most whole) =
+tail_none text remaining rest keep first second number third n word (kept_some most whole) =
     let same = append_cancel_left (codes "keep ") remaining (decimal n ++ 32 ∷ (codes "fill " ++ word)) (sym second ∙ whole) in
     third word (number_same 1048576 remaining keep n rest (codes "fill " ++ word) (omega arith) number (record { within = most; whole = same })).1
 tail_none text remaining rest keep first second number third n word (none zero whole) = first word whole

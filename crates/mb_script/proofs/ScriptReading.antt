@@ -5,7 +5,7 @@ use Rattle.std.specs.List.{AllZip}
 use Rattle.std.proofs.lemmas.List.{append-nil}
 use Rattle.std.proofs.lemmas.List.Elements.{filter-append}
 use Rattle.mb_model.specs.declared.event.Event.{Event}
-use Rattle.mb_model.specs.Lines.{HasLines, IsBeginning, FailsAtLine, Reads, TextFailsAtLine}
+use Rattle.mb_model.specs.Lines.{HasLines, IsBeginning, FailsAtLine, ReadsLines, TextFailsAtLine}
 use Rattle.mb_model.specs.Script.{SaysEvent, is_skipped, IsScript}
 use Rattle.mb_model_lemmas.proofs.LineLemmas.{HasLines-nil, HasLines-always, IsBeginning-all, bad_after}
 use Rattle.mb_model_lemmas.proofs.EventLemmas.{too_many_events, counts}
@@ -20,7 +20,7 @@ pub record IsReadTo (text rest : List ℕ) (events : List Event) (number : ℕ) 
   pub count : number ≡ length before
   pub less : number + length rest ≤ length text
 
-pub all_read : (text rest : List ℕ) (events : List Event) (number : ℕ) → IsReadTo text rest events number → rest ≡ [] → Reads IsScript text events
+pub all_read : (text rest : List ℕ) (events : List Event) (number : ℕ) → IsReadTo text rest events number → rest ≡ [] → ReadsLines IsScript text events
 all_read text rest events number is none = record {
   lines = is.before ++ [];
   has = is.forward [] (subst (λ (x : List ℕ). HasLines x []) (sym none) HasLines-nil);

@@ -4,7 +4,7 @@ use Rattle.std.specs.Fmt.{decimal}
 use Rattle.mb_model.specs.declared.event.Event.{Event}
 use Rattle.mb_model.specs.Layers.{is_upper}
 use Rattle.mb_model.specs.Texts.{IsHex}
-use Rattle.mb_model.specs.Lines.{Reads, TextFailsAtLine}
+use Rattle.mb_model.specs.Lines.{ReadsLines, TextFailsAtLine}
 use Rattle.mb_model.specs.Script.{IsName, IsScript}
 use Rattle.mb_script.specs.declared.script.ScriptEnd.{ScriptEnd}
 use Rattle.mb_script.specs.declared.script.ScriptEnd.TheVariants as end
@@ -14,7 +14,7 @@ use Rattle.mb_script.specs.declared.script.ScriptEnd.TheVariants as end
 -- The text stands for these events, or this line of it is the first that is wrong. Nothing is said of a failed
 -- allocation.
 abbrev pub ReadsScript : List ℕ → Result (List Event) ScriptEnd → Type 0
-ReadsScript text (Ok events) = Reads IsScript text events
+ReadsScript text (Ok events) = ReadsLines IsScript text events
 ReadsScript text (Err (end.BadLine line)) = TextFailsAtLine IsScript text line
 ReadsScript text (Err end.NoMemory) = Unit {0}
 
@@ -50,5 +50,5 @@ pub record SaysSecret (text : List ℕ) (region : ℕ) (name : List ℕ) : Type 
 -- What stands after the count of a cut: how many bytes are kept, where that is said, and the word of the bytes that
 -- fill.
 pub data SaysTail (text : List ℕ) (keep : ℕ) (word : List ℕ) : Type 0 where
-  kept : keep ≤ 1048576 → text ≡ codes "keep " ++ decimal keep ++ 32 ∷ (codes "fill " ++ word) → SaysTail text keep word
+  kept_some : keep ≤ 1048576 → text ≡ codes "keep " ++ decimal keep ++ 32 ∷ (codes "fill " ++ word) → SaysTail text keep word
   none : keep ≡ 0 → text ≡ codes "fill " ++ word → SaysTail text keep word

@@ -4,12 +4,13 @@ use Rattle.std.proofs.lemmas.Bool.{cases_order}
 use mathlib.Core.Bool.{not-not}
 use Rattle.mb_model.specs.Pieces.{part}
 use Rattle.mb_model.specs.Board.{Memory, IsLoaded, put}
-use Rattle.mb_model.specs.Memory.{slots, area_length, life_byte, spare, selector_of, first_area, second_area, current, other}
+use Rattle.mb_model.specs.declared.limits.TheConstants.{AREA_LENGTH}
+use Rattle.mb_model.specs.Memory.{slots, life_byte, spare, selector_of, first_area, second_area, current, other}
 use Rattle.mb_model.proofs.Places.{part-put}
 use Rattle.mb_board.specs.Reach.{Reached, selector as in_selector, first_area as in_first, second_area as in_second}
 use Rattle.mb_board.specs.Calls.{Torn}
 use Rattle.mb_model_memory.specs.InForce.{AgreeBesides}
-use Rattle.mb_slot.specs.Slots.{is_first_in_force, offset_of, current_offset, other_offset, IsOutside, IsSameOutside, IsSameBut, IsSameButOther, IsAreaAt, AreExchanged}
+use Rattle.mb_slot.specs.Slots.{is_first_in_force, area_offset, current_offset, other_offset, IsOutside, IsSameOutside, IsSameBut, IsSameButOther, IsAreaAt, AreExchanged}
 use Rattle.mb_slot.proofs.Ranges.{get_or-put_byte, put_same, torn_same, part_same, apart_same}
 
 -- ---- where a slot stands
@@ -27,19 +28,19 @@ stands_at (suc (suc (suc zero))) least most = record { selector = refl; first = 
 stands_at (suc (suc (suc (suc n)))) least most = absurd (omega arith)
 
 -- an area is one of the two
-pub in_area : (level slot : ℕ) (is_first : Bool) → 1 ≤ slot → slot ≤ 3 → level ≤ slot → Reached level (offset_of slot is_first) 4096
+pub in_area : (level slot : ℕ) (is_first : Bool) → 1 ≤ slot → slot ≤ 3 → level ≤ slot → Reached level (area_offset slot is_first) 4096
 in_area level slot true least most reached = in_first slot (record { least = least; most = most; reached = reached }) (omega arith) (omega arith)
 in_area level slot false least most reached = in_second slot (record { least = least; most = most; reached = reached }) (omega arith) (omega arith)
 
-pub area_within : (slot : ℕ) (is_first : Bool) → 1 ≤ slot → slot ≤ 3 → offset_of slot is_first + 4096 ≤ 28672
+pub area_within : (slot : ℕ) (is_first : Bool) → 1 ≤ slot → slot ≤ 3 → area_offset slot is_first + 4096 ≤ 28672
 area_within slot true least most = let at = stands_at slot least most in omega arith
 area_within slot false least most = let at = stands_at slot least most in omega arith
 
-pub after_selectors : (slot : ℕ) (is_first : Bool) → 1 ≤ slot → slot ≤ 3 → 4096 ≤ offset_of slot is_first
+pub after_selectors : (slot : ℕ) (is_first : Bool) → 1 ≤ slot → slot ≤ 3 → 4096 ≤ area_offset slot is_first
 after_selectors slot true least most = let at = stands_at slot least most in omega arith
 after_selectors slot false least most = let at = stands_at slot least most in omega arith
 
-halves_apart : (slot : ℕ) (is_first : Bool) → 1 ≤ slot → slot ≤ 3 → (offset_of slot is_first + 4096 ≤ offset_of slot (not is_first)) ⊎ (offset_of slot (not is_first) + 4096 ≤ offset_of slot is_first)
+halves_apart : (slot : ℕ) (is_first : Bool) → 1 ≤ slot → slot ≤ 3 → (area_offset slot is_first + 4096 ≤ area_offset slot (not is_first)) ⊎ (area_offset slot (not is_first) + 4096 ≤ area_offset slot is_first)
 halves_apart slot true least most = let at = stands_at slot least most in inl (omega arith)
 halves_apart slot false least most = let at = stands_at slot least most in inr (omega arith)
 
@@ -48,31 +49,31 @@ pub record LiesIn (slot at : ℕ) : Type 0 where
   pub from : 8192 * slot ≤ at + 4096
   pub to : at ≤ 8192 * slot
 
-lies_in : (slot : ℕ) (is_first : Bool) → 1 ≤ slot → slot ≤ 3 → LiesIn slot (offset_of slot is_first)
+lies_in : (slot : ℕ) (is_first : Bool) → 1 ≤ slot → slot ≤ 3 → LiesIn slot (area_offset slot is_first)
 lies_in slot true least most = let at = stands_at slot least most in record { from = omega arith; to = omega arith }
 lies_in slot false least most = let at = stands_at slot least most in record { from = omega arith; to = omega arith }
 
 -- ---- the areas as parts
 
-picked : (is_first : Bool) (slot : ℕ) (bbram : List ℕ) → (if is_first then part (slots slot).first area_length bbram else part (slots slot).second area_length bbram) ≡ part (offset_of slot is_first) area_length bbram
+picked : (is_first : Bool) (slot : ℕ) (bbram : List ℕ) → (if is_first then part (slots slot).first AREA_LENGTH bbram else part (slots slot).second AREA_LENGTH bbram) ≡ part (area_offset slot is_first) AREA_LENGTH bbram
 picked true slot bbram = refl
 picked false slot bbram = refl
 
-picked_not : (is_first : Bool) (slot : ℕ) (bbram : List ℕ) → (if is_first then part (slots slot).second area_length bbram else part (slots slot).first area_length bbram) ≡ part (offset_of slot (not is_first)) area_length bbram
+picked_not : (is_first : Bool) (slot : ℕ) (bbram : List ℕ) → (if is_first then part (slots slot).second AREA_LENGTH bbram else part (slots slot).first AREA_LENGTH bbram) ≡ part (area_offset slot (not is_first)) AREA_LENGTH bbram
 picked_not true slot bbram = refl
 picked_not false slot bbram = refl
 
-pub current_is : (bbram : List ℕ) (slot : ℕ) → current bbram slot ≡ part (current_offset bbram slot) area_length bbram
+pub current_is : (bbram : List ℕ) (slot : ℕ) → current bbram slot ≡ part (current_offset bbram slot) AREA_LENGTH bbram
 unfolding current first_area second_area
 current_is bbram slot = picked (is_first_in_force bbram slot) slot bbram
 
-pub other_is : (bbram : List ℕ) (slot : ℕ) → other bbram slot ≡ part (other_offset bbram slot) area_length bbram
+pub other_is : (bbram : List ℕ) (slot : ℕ) → other bbram slot ≡ part (other_offset bbram slot) AREA_LENGTH bbram
 unfolding other first_area second_area
 other_is bbram slot = picked_not (is_first_in_force bbram slot) slot bbram
 
 -- ---- after the area that is not in force was written
 
-selector_below : (slot : ℕ) (is_first : Bool) → 1 ≤ slot → slot ≤ 3 → (slots slot).selector < offset_of slot is_first
+selector_below : (slot : ℕ) (is_first : Bool) → 1 ≤ slot → slot ≤ 3 → (slots slot).selector < area_offset slot is_first
 selector_below slot is_first least most = let at = stands_at slot least most in omega (arith, after_selectors slot is_first least most)
 
 selector_kept : (slot : ℕ) (before after : List ℕ) → 1 ≤ slot → slot ≤ 3 → IsSameButOther slot before after → selector_of after slot ≡ selector_of before slot
@@ -87,8 +88,8 @@ current_kept slot before after least most sized same =
     let force : Bool = is_first_in_force before slot in
     let kept : is_first_in_force after slot ≡ force = first_kept slot before after (selector_kept slot before after least most same) in
     current_is after slot
-    ∙ ap (λ (b : Bool). part (offset_of slot b) 4096 after) kept
-    ∙ apart_same (offset_of slot force) 4096 (offset_of slot (not force)) 4096 before after same (omega (arith, area_within slot force least most)) (halves_apart slot force least most)
+    ∙ ap (λ (b : Bool). part (area_offset slot b) 4096 after) kept
+    ∙ apart_same (area_offset slot force) 4096 (area_offset slot (not force)) 4096 before after same (omega (arith, area_within slot force least most)) (halves_apart slot force least most)
     ∙ sym (current_is before slot)
 
 pub other_written : (slot : ℕ) (before after bytes : List ℕ) → 1 ≤ slot → slot ≤ 3 → length before ≡ 28672 → length bytes ≡ 4096 → IsSameButOther slot before after
@@ -97,9 +98,9 @@ other_written slot before after bytes least most sized count same whole =
     let force : Bool = is_first_in_force before slot in
     let kept : is_first_in_force after slot ≡ force = first_kept slot before after (selector_kept slot before after least most same) in
     other_is after slot
-    ∙ ap (λ (b : Bool). part (offset_of slot (not b)) 4096 after) kept
-    ∙ ap (part (offset_of slot (not force)) 4096) whole
-    ∙ part-put (offset_of slot (not force)) 4096 bytes before (sym count) (omega (arith, area_within slot (not force) least most))
+    ∙ ap (λ (b : Bool). part (area_offset slot (not b)) 4096 after) kept
+    ∙ ap (part (area_offset slot (not force)) 4096) whole
+    ∙ part-put (area_offset slot (not force)) 4096 bytes before (sym count) (omega (arith, area_within slot (not force) least most))
 
 -- both memories keep their lengths where a part of one was written
 pub sized_still : (at n : ℕ) (before after : Memory) → IsLoaded before → at + n ≤ 28672 → Torn at n before.bbram after.bbram → after.flash ≡ before.flash → IsLoaded after
@@ -110,7 +111,7 @@ sized_still at n before after loaded within torn same = record {
 
 -- ---- what stays of the other slots
 
-outside_of : (slot : ℕ) (is_first : Bool) (offset : ℕ) → IsOutside (slots slot).first area_length offset → IsOutside (slots slot).second area_length offset → IsOutside (offset_of slot is_first) 4096 offset
+outside_of : (slot : ℕ) (is_first : Bool) (offset : ℕ) → IsOutside (slots slot).first AREA_LENGTH offset → IsOutside (slots slot).second AREA_LENGTH offset → IsOutside (area_offset slot is_first) 4096 offset
 outside_of slot true offset first second = first
 outside_of slot false offset first second = second
 
@@ -153,7 +154,7 @@ apart_from_slot slot from n before after least most sized same past within (inr 
     part_same from n before after same.sized (omega arith) (λ offset more under. same.bytes offset (λ e. omega (arith, e)) (inr (omega arith)) (inr (omega arith)))
 
 area_apart : (slot m : ℕ) (this : Bool) → 1 ≤ slot → slot ≤ 3 → 1 ≤ m → m ≤ 3 → (m ≡ slot) ⊎ ((m < slot) ⊎ (slot < m)) → m ≢ slot
-    → (offset_of m this + 4096 ≤ (slots slot).first) ⊎ ((slots slot).second + 4096 ≤ offset_of m this)
+    → (area_offset m this + 4096 ≤ (slots slot).first) ⊎ ((slots slot).second + 4096 ≤ area_offset m this)
 area_apart slot m this least most m_least m_most (inl same) apart = absurd (apart same)
 area_apart slot m this least most m_least m_most (inr (inl below)) apart =
     let at = stands_at slot least most in
@@ -166,9 +167,9 @@ area_apart slot m this least most m_least m_most (inr (inr above)) apart =
 
 -- either area of another slot is the same
 area_kept : (slot m : ℕ) (this : Bool) (before after : List ℕ) → 1 ≤ slot → slot ≤ 3 → 1 ≤ m → m ≤ 3 → m ≢ slot → length before ≡ 28672 → IsSameBut slot before after
-    → part (offset_of m this) 4096 after ≡ part (offset_of m this) 4096 before
+    → part (area_offset m this) 4096 after ≡ part (area_offset m this) 4096 before
 area_kept slot m this before after least most m_least m_most apart sized same =
-    apart_from_slot slot (offset_of m this) 4096 before after least most sized same (omega (arith, after_selectors m this m_least m_most)) (area_within m this m_least m_most)
+    apart_from_slot slot (area_offset m this) 4096 before after least most sized same (omega (arith, after_selectors m this m_least m_most)) (area_within m this m_least m_most)
     (area_apart slot m this least most m_least m_most (cases_order m slot) apart)
 
 other_selector : (slot m : ℕ) (before after : List ℕ) → 1 ≤ slot → slot ≤ 3 → 1 ≤ m → m ≤ 3 → m ≢ slot → IsSameBut slot before after → selector_of after m ≡ selector_of before m
@@ -180,14 +181,14 @@ other_selector slot m before after least most m_least m_most apart same =
 pub other_current : (slot m : ℕ) (before after : List ℕ) → 1 ≤ slot → slot ≤ 3 → 1 ≤ m → m ≤ 3 → m ≢ slot → length before ≡ 28672 → IsSameBut slot before after → current after m ≡ current before m
 other_current slot m before after least most m_least m_most apart sized same =
     current_is after m
-    ∙ ap (λ (b : Bool). part (offset_of m b) 4096 after) (first_kept m before after (other_selector slot m before after least most m_least m_most apart same))
+    ∙ ap (λ (b : Bool). part (area_offset m b) 4096 after) (first_kept m before after (other_selector slot m before after least most m_least m_most apart same))
     ∙ area_kept slot m (is_first_in_force before m) before after least most m_least m_most apart sized same
     ∙ sym (current_is before m)
 
 pub other_other : (slot m : ℕ) (before after : List ℕ) → 1 ≤ slot → slot ≤ 3 → 1 ≤ m → m ≤ 3 → m ≢ slot → length before ≡ 28672 → IsSameBut slot before after → other after m ≡ other before m
 other_other slot m before after least most m_least m_most apart sized same =
     other_is after m
-    ∙ ap (λ (b : Bool). part (offset_of m (not b)) 4096 after) (first_kept m before after (other_selector slot m before after least most m_least m_most apart same))
+    ∙ ap (λ (b : Bool). part (area_offset m (not b)) 4096 after) (first_kept m before after (other_selector slot m before after least most m_least m_most apart same))
     ∙ area_kept slot m (not (is_first_in_force before m)) before after least most m_least m_most apart sized same
     ∙ sym (other_is before m)
 
@@ -212,11 +213,11 @@ agree_besides slot before after least most sized same = record {
 
 -- ---- after the selector was written
 
-half_kept : (slot : ℕ) (this : Bool) (before after : List ℕ) → 1 ≤ slot → slot ≤ 3 → length before ≡ 28672 → IsSameOutside slot 1 before after → part (offset_of slot this) 4096 after ≡ part (offset_of slot this) 4096 before
+half_kept : (slot : ℕ) (this : Bool) (before after : List ℕ) → 1 ≤ slot → slot ≤ 3 → length before ≡ 28672 → IsSameOutside slot 1 before after → part (area_offset slot this) 4096 after ≡ part (area_offset slot this) 4096 before
 half_kept slot this before after least most sized same =
-    apart_same (offset_of slot this) 4096 slot 1 before after same (omega (arith, area_within slot this least most)) (inr (omega (arith, after_selectors slot this least most)))
+    apart_same (area_offset slot this) 4096 slot 1 before after same (omega (arith, area_within slot this least most)) (inr (omega (arith, after_selectors slot this least most)))
 
-either_half : (slot : ℕ) (was is : Bool) (bbram : List ℕ) → (part (offset_of slot is) 4096 bbram ≡ part (offset_of slot was) 4096 bbram) ⊎ (part (offset_of slot is) 4096 bbram ≡ part (offset_of slot (not was)) 4096 bbram)
+either_half : (slot : ℕ) (was is : Bool) (bbram : List ℕ) → (part (area_offset slot is) 4096 bbram ≡ part (area_offset slot was) 4096 bbram) ⊎ (part (area_offset slot is) 4096 bbram ≡ part (area_offset slot (not was)) 4096 bbram)
 either_half slot true true bbram = inl refl
 either_half slot false false bbram = inl refl
 either_half slot true false bbram = inr refl
@@ -232,7 +233,7 @@ pub either_in_force : (slot : ℕ) (before after : List ℕ) → 1 ≤ slot → 
 either_in_force slot before after least most sized same =
     let was : Bool = is_first_in_force before slot in
     let is : Bool = is_first_in_force after slot in
-    rw (current_is before slot, other_is before slot) (either_moved (part (offset_of slot was) 4096 before) (part (offset_of slot (not was)) 4096 before) (part (offset_of slot is) 4096 before) (current after slot)
+    rw (current_is before slot, other_is before slot) (either_moved (part (area_offset slot was) 4096 before) (part (area_offset slot (not was)) 4096 before) (part (area_offset slot is) 4096 before) (current after slot)
     (either_half slot was is before)
     (current_is after slot ∙ half_kept slot is before after least most sized same))
 
@@ -252,13 +253,13 @@ exchanged slot byte before after least most sized parity whole =
     record {
       in_force =
           current_is after slot
-          ∙ ap (λ (b : Bool). part (offset_of slot b) 4096 after) is
+          ∙ ap (λ (b : Bool). part (area_offset slot b) 4096 after) is
           ∙ half_kept slot (not was) before after least most sized same
           ∙ sym (other_is before slot);
       not_in_force =
           other_is after slot
-          ∙ ap (λ (b : Bool). part (offset_of slot (not b)) 4096 after) is
-          ∙ ap (λ (b : Bool). part (offset_of slot b) 4096 after) (not-not was)
+          ∙ ap (λ (b : Bool). part (area_offset slot (not b)) 4096 after) is
+          ∙ ap (λ (b : Bool). part (area_offset slot b) 4096 after) (not-not was)
           ∙ half_kept slot was before after least most sized same
           ∙ sym (current_is before slot);
     }
@@ -270,9 +271,9 @@ selector_reached level slot least most reached =
     let at = stands_at slot least most in
     in_selector slot (record { least = least; most = most; reached = reached }) (sym at.selector) refl
 
-pub area_is_at : (level slot at : ℕ) (is_first known : Bool) → 1 ≤ slot → slot ≤ 3 → level ≤ slot → known ≡ is_first → at ≡ offset_of slot known → IsAreaAt level (offset_of slot is_first) at
+pub area_is_at : (level slot at : ℕ) (is_first known : Bool) → 1 ≤ slot → slot ≤ 3 → level ≤ slot → known ≡ is_first → at ≡ area_offset slot known → IsAreaAt level (area_offset slot is_first) at
 area_is_at level slot at is_first known least most reached same at_is =
-    let whole : at ≡ offset_of slot is_first = at_is ∙ ap (offset_of slot) same in
+    let whole : at ≡ area_offset slot is_first = at_is ∙ ap (area_offset slot) same in
     record {
       same = whole;
       within = omega (arith, area_within slot is_first least most);

@@ -2,7 +2,8 @@
 -- another?
 use Rattle.std.specs.Prelude.{◌≡◌, ◌≢◌, ℕ, ◌+◌, ◌<◌, ◌≤◌, ◌%◌, ◌==◌, ◌⊎◌, List, length, slice_index}
 use Rattle.std.specs.Prelude.{Bool, true, not, if◌then◌else◌}
-use Rattle.mb_model.specs.Memory.{slots, area_length, selector_of, current, other}
+use Rattle.mb_model.specs.declared.limits.TheConstants.{AREA_LENGTH}
+use Rattle.mb_model.specs.Memory.{slots, selector_of, current, other}
 use Rattle.mb_board.specs.Reach.{Reached}
 use Rattle.mb_model.specs.Board.{IsLoaded}
 use Rattle.mb_board.specs.Calls.{Seen}
@@ -22,15 +23,15 @@ abbrev pub is_first_in_force : List ℕ → ℕ → Bool
 is_first_in_force bbram slot = selector_of bbram slot % 2 == 0
 
 -- the offset of the first area of a slot, or of its second
-abbrev pub offset_of : ℕ → Bool → ℕ
-offset_of slot is_first = if is_first then (slots slot).first else (slots slot).second
+abbrev pub area_offset : ℕ → Bool → ℕ
+area_offset slot is_first = if is_first then (slots slot).first else (slots slot).second
 
 -- the offset of the area in force, and that of the other
 abbrev pub current_offset : List ℕ → ℕ → ℕ
-current_offset bbram slot = offset_of slot (is_first_in_force bbram slot)
+current_offset bbram slot = area_offset slot (is_first_in_force bbram slot)
 
 abbrev pub other_offset : List ℕ → ℕ → ℕ
-other_offset bbram slot = offset_of slot (not (is_first_in_force bbram slot))
+other_offset bbram slot = area_offset slot (not (is_first_in_force bbram slot))
 
 -- this is the offset wanted, and an area stands there that the level reaches
 pub record IsAreaAt (level wanted at : ℕ) : Type 0 where
@@ -57,9 +58,9 @@ pub record IsSameOutside (at n : ℕ) (before after : List ℕ) : Type 0 where
 -- they are the same but for the selector and the areas of a slot
 pub record IsSameBut (slot : ℕ) (before after : List ℕ) : Type 0 where
   pub sized : length after ≡ length before
-  pub bytes : (offset : ℕ) → offset ≢ (slots slot).selector → IsOutside (slots slot).first area_length offset
-      → IsOutside (slots slot).second area_length offset → slice_index after offset ≡ slice_index before offset
+  pub bytes : (offset : ℕ) → offset ≢ (slots slot).selector → IsOutside (slots slot).first AREA_LENGTH offset
+      → IsOutside (slots slot).second AREA_LENGTH offset → slice_index after offset ≡ slice_index before offset
 
 -- they are the same but for the area of a slot that is not in force
 abbrev pub IsSameButOther : ℕ → List ℕ → List ℕ → Type 0
-IsSameButOther slot before after = IsSameOutside (other_offset before slot) area_length before after
+IsSameButOther slot before after = IsSameOutside (other_offset before slot) AREA_LENGTH before after

@@ -4,7 +4,7 @@ ghost use Rattle.std.specs.Prelude.{◌≡◌, ◌≢◌, ℕ, ◌≤◌, ◌%�
 ghost use Rattle.mb_model.specs.Memory.{IsBlank, current, other};
 ghost use Rattle.mb_board.specs.Calls.{Ran};
 ghost use Rattle.mb_model_memory.specs.InForce.{AgreeBesides};
-ghost use Rattle.mb_slot.specs.Slots.{CanUse, is_first_in_force, offset_of, current_offset, other_offset, IsAreaAt, AreExchanged, IsSameBut, IsSameButOther};
+ghost use Rattle.mb_slot.specs.Slots.{CanUse, is_first_in_force, area_offset, current_offset, other_offset, IsAreaAt, AreExchanged, IsSameBut, IsSameButOther};
 
 use mb_board::{Board, Stopped};
 
@@ -22,7 +22,7 @@ fn is_first_in_force<B: Board>(b: &B, slot: u16) -> bool
 fn offset_of(slot: u16, is_first: bool) -> u16
     requires least { 1 ≤ slot }
     requires most { slot ≤ 3 }
-    ensures { result ≡ offset_of slot is_first }
+    ensures { result ≡ area_offset slot is_first }
 {
     if is_first {
         8192 * slot - 4096
@@ -36,7 +36,7 @@ fn current_at<B: Board>(b: &B, slot: u16) -> u16
     requires { CanUse (B.seen b.now) slot }
     ensures { IsAreaAt (B.seen b.now).level (current_offset (B.seen b.now).memory.bbram slot) result }
 {
-    offset_of(slot, is_first_in_force(b, slot))
+    area_offset(slot, is_first_in_force(b, slot))
 }
 
 /// The offset of the area that is not in force in the slot.
@@ -44,7 +44,7 @@ fn other_at<B: Board>(b: &B, slot: u16) -> u16
     requires { CanUse (B.seen b.now) slot }
     ensures { IsAreaAt (B.seen b.now).level (other_offset (B.seen b.now).memory.bbram slot) result }
 {
-    offset_of(slot, !is_first_in_force(b, slot))
+    area_offset(slot, !is_first_in_force(b, slot))
 }
 
 /// Replaces the area that is not in force by these 4,096 bytes.

@@ -6,14 +6,14 @@ use Rattle.mb_model.specs.Meaning.{StandsFor, IsWellFormed}
 use Rattle.mb_model_lemmas.proofs.FaultLemmas.{image_parts}
 use Rattle.mb_model_memory.proofs.CommitLemmas.{live_contents}
 use Rattle.mb_boot.specs.Booting.{StandsForValid, KeepsState}
-use Rattle.mb_test_cuts.specs.Staged.{IsLive, HoldsImage, IsReady}
+use Rattle.mb_test_cuts.specs.Staged.{IsLiveImage, HoldsImage, IsReadyForCalls}
 
-pub live_length : (image : List ℕ) → IsLive image → length image ≡ 1077248
+pub live_length : (image : List ℕ) → IsLiveImage image → length image ≡ 1077248
 live_length image live =
     let formed : IsWellFormed image (Some live.state) = live.well_formed in
     omega (arith, ap length formed.image_is.0, length-append formed.flash formed.bbram, formed.image_is.1.flash, formed.image_is.1.bbram)
 
-stands_here : (image : List ℕ) (memory : Memory) (live : IsLive image) → IsLoaded memory → image_of memory ≡ image
+stands_here : (image : List ℕ) (memory : Memory) (live : IsLiveImage image) → IsLoaded memory → image_of memory ≡ image
     → StandsFor memory.flash memory.bbram (Some live.state)
 stands_here image memory live loaded same =
     let formed : IsWellFormed image (Some live.state) = live.well_formed in
@@ -21,7 +21,7 @@ stands_here image memory live loaded same =
     subst (λ (bbram : List ℕ). StandsFor memory.flash bbram (Some live.state)) parts.1
     (subst (λ (flash : List ℕ). StandsFor flash formed.bbram (Some live.state)) parts.0 formed.stands)
 
-pub ready : (image : List ℕ) (power : Bool) (memory : Memory) → IsLive image → HoldsImage image power memory → IsReady memory
+pub ready : (image : List ℕ) (power : Bool) (memory : Memory) → IsLiveImage image → HoldsImage image power memory → IsReadyForCalls memory
 ready image power memory live holds =
     let stands = stands_here image memory live holds.loaded holds.same in
     let contents = live_contents memory.flash memory.bbram live.state stands in
@@ -36,5 +36,5 @@ ready image power memory live holds =
 pub still_loaded : (before after : Memory) → StandsForValid before → KeepsState before after → IsLoaded after
 still_loaded before after stands keeps = (keeps.kept stands.state stands.stands).sized
 
-pub is_live : (image : List ℕ) (state : State) → IsWellFormed image (Some state) → IsLive image
+pub is_live : (image : List ℕ) (state : State) → IsWellFormed image (Some state) → IsLiveImage image
 is_live image state formed = record { state = state; well_formed = formed }

@@ -8,7 +8,7 @@ use Rattle.mb_region.specs.Regions.{HoldsSomeRegion}
 use Rattle.mb_boot.specs.Booting.{StandsForValid}
 
 -- an image stands for a live state that a device can have
-pub record IsLive (image : List ℕ) : Type 0 where
+pub record IsLiveImage (image : List ℕ) : Type 0 where
   pub state : State
   pub well_formed : IsWellFormed image (Some state)
 
@@ -19,7 +19,7 @@ pub record HoldsImage (image : List ℕ) (power : Bool) (memory : Memory) : Type
   pub same : image_of memory ≡ image
 
 -- a memory has what the calls require
-pub record IsReady (memory : Memory) : Type 0 where
+pub record IsReadyForCalls (memory : Memory) : Type 0 where
   pub loaded : IsLoaded memory
   pub stands : StandsForValid memory
   pub two : HoldsSomeRegion (current memory.bbram 2)

@@ -1,9 +1,9 @@
 -- What carries out a command, step by step, whichever command it is.
 use Rattle.std.proofs.Common.{◌≡◌, ℕ, true, false, List, ◌++◌, codes, Result, Ok, Err, refl, subst, inl, inr}
 use Rattle.mb_model.specs.declared.event.Answered.{Answered}
-use Rattle.mb_model.specs.Outside.{Outside, read_once, Writes, FailsToWrite, Prints, FailsToPrint}
+use Rattle.mb_model.specs.Outside.{Outside, read_once, WritesFile, FailsToWrite, Prints, FailsToPrint}
 use Rattle.mb_model.specs.Board.{Held}
-use Rattle.mb_model.specs.Commands.{Input, Output, Command, read, find, either, serve, write, print, refuse, lack, Past, SaysLine, Stops, WantsMemory, too_long, faulty, not_read, no_room, printed, not_printed, CommandEnds, input_line, role_word, place_words}
+use Rattle.mb_model.specs.Commands.{Input, Output, Command, read, find, either_command, serve, write, print, refuse, lack, Past, SaysLine, Stops, WantsMemory, too_long, faulty, not_read, no_room, printed, not_printed, CommandEnds, input_line, role_word, place_words}
 use Rattle.mb_top.specs.declared.end.End.{End}
 use Rattle.mb_top.specs.declared.end.End.TheVariants as end
 use Rattle.mb_top.specs.Ending.{end_line, end_status, ended_at, CarriesOutRest, HasInput, StopsAt}
@@ -54,13 +54,13 @@ read_on input rest past answered final before mid now value (Err why) has carrie
 -- ---- a choice
 
 pub goes_first : (If : Type 0) (first second : Command) (past : Past) (answered : List Answered) (final : Held) (before now : Outside) (result : Result (Unit {0}) End)
-    → If → CarriesOutRest first past answered final before result now → CarriesOutRest (either If first second) past answered final before result now
+    → If → CarriesOutRest first past answered final before result now → CarriesOutRest (either_command If first second) past answered final before result now
 unfolding CarriesOutRest CommandEnds
 goes_first If first second past answered final before now (Ok u) holds ends = inl (holds, ends)
 goes_first If first second past answered final before now (Err why) holds carried = λ after says. inl (holds, carried after says)
 
 pub goes_second : (If : Type 0) (first second : Command) (past : Past) (answered : List Answered) (final : Held) (before now : Outside) (result : Result (Unit {0}) End)
-    → (If → ⊥) → CarriesOutRest second past answered final before result now → CarriesOutRest (either If first second) past answered final before result now
+    → (If → ⊥) → CarriesOutRest second past answered final before result now → CarriesOutRest (either_command If first second) past answered final before result now
 unfolding CarriesOutRest CommandEnds
 goes_second If first second past answered final before now (Ok u) never ends = inr (inl (never, ends))
 goes_second If first second past answered final before now (Err why) never carried = λ after says. inr (inl (never, carried after says))
@@ -89,7 +89,7 @@ memory_here output rest past answered final before none same = λ after says.
     inr (inr (wanted past answered final before after none same says))
 
 pub memory_chosen : (If : Type 0) (first second : Command) (past : Past) (answered : List Answered) (final : Held) (before : Outside)
-    → past.wrote ≡ false → answered ≡ past.answered → CarriesOutRest (either If first second) past answered final before (Err end.NoMemory) before
+    → past.wrote ≡ false → answered ≡ past.answered → CarriesOutRest (either_command If first second) past answered final before (Err end.NoMemory) before
 unfolding CarriesOutRest CommandEnds
 memory_chosen If first second past answered final before none same = λ after says.
     inr (inr (wanted past answered final before after none same says))
@@ -124,7 +124,7 @@ serve_goes IsServed rest past answered final before now (Err why) served carried
 -- ---- outputs and the text
 
 pub write_goes : (output : Output) (rest : Command) (past : Past) (answered : List Answered) (final : Held) (before mid now : Outside) (result : Result (Unit {0}) End)
-    → Writes output.name output.bytes before mid → CarriesOutRest rest (record past { wrote = true }) answered final mid result now
+    → WritesFile output.name output.bytes before mid → CarriesOutRest rest (record past { wrote = true }) answered final mid result now
     → CarriesOutRest (write output rest) past answered final before result now
 unfolding CarriesOutRest CommandEnds
 write_goes output rest past answered final before mid now (Ok u) writes ends = inr (inl (mid, writes, ends))

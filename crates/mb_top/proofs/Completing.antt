@@ -4,7 +4,7 @@ use Rattle.std.proofs.Common.{nat_lt}
 use Rattle.std.proofs.lemmas.Bool.{ltb-false}
 use Rattle.mb_model.specs.declared.role.Place.{Place}
 use Rattle.mb_model.specs.Outside.{Outside, HasRisen, raised, count_limit, by_fault, by_absence}
-use Rattle.mb_model.specs.Commands.{Input, Command, read, find, either, serve, write, print, refuse, lack, Past, Ended, SaysLine, InputEnds, too_long, faulty, not_read, no_room, printed, not_printed, CommandEnds, IsFaultless, HasInputsFor, ComesToRefusal, onward, role_word}
+use Rattle.mb_model.specs.Commands.{Input, Command, read, find, either_command, serve, write, print, refuse, lack, Past, Ended, SaysLine, InputEnds, too_long, faulty, not_read, no_room, printed, not_printed, CommandEnds, IsFaultless, HasInputsFor, ComesToRefusal, onward, role_word}
 
 -- ---- counts of faults
 
@@ -76,11 +76,11 @@ command_completes (find Is rest) past e files told has well (inl ends) =
     completes_as (rest ends.0) (find Is rest) files files e.status (λ refused. (ends.0, ends.1, refused))
     (command_completes (rest ends.0) past e files told (has ends.0 ends.1) well ends.2)
 command_completes (find Is rest) past e files told has well (inr wants) = inr (inl wants.stops.status_is)
-command_completes (either If first second) past e files told has well (inl ends) =
-    completes_as first (either If first second) files files e.status (λ refused. inl (ends.0, refused)) (command_completes first past e files told (has.0 ends.0) well ends.1)
-command_completes (either If first second) past e files told has well (inr (inl ends)) =
-    completes_as second (either If first second) files files e.status (λ refused. inr (ends.0, refused)) (command_completes second past e files told (has.1 ends.0) well ends.1)
-command_completes (either If first second) past e files told has well (inr (inr wants)) = inr (inl wants.stops.status_is)
+command_completes (either_command If first second) past e files told has well (inl ends) =
+    completes_as first (either_command If first second) files files e.status (λ refused. inl (ends.0, refused)) (command_completes first past e files told (has.0 ends.0) well ends.1)
+command_completes (either_command If first second) past e files told has well (inr (inl ends)) =
+    completes_as second (either_command If first second) files files e.status (λ refused. inr (ends.0, refused)) (command_completes second past e files told (has.1 ends.0) well ends.1)
+command_completes (either_command If first second) past e files told has well (inr (inr wants)) = inr (inl wants.stops.status_is)
 command_completes (serve IsServed rest) past e files told has well (inl ends) =
     completes_as (rest e.answered e.final) (serve IsServed rest) files files e.status (λ refused. (e.answered, e.final, ends.0, refused))
     (command_completes (rest e.answered e.final) (record past { answered = e.answered }) e files told (has e.answered e.final ends.0) well ends.1)

@@ -12,7 +12,7 @@ use Rattle.mb_model.specs.Signing.{public_of}
 use Rattle.mb_model.specs.Factory.{state_at_birth}
 use Rattle.mb_model.specs.Workload.{key_of_officer, IsWorkload}
 use Rattle.mb_model.specs.Meaning.{IsWellFormed}
-use Rattle.mb_model.specs.Lines.{Reads, TextFailsAtLine, text_of}
+use Rattle.mb_model.specs.Lines.{ReadsLines, TextFailsAtLine, text_of}
 use Rattle.mb_model.specs.Script.{IsScript, IsShortNoise, commands_in}
 use Rattle.mb_model.specs.Listing.{summary}
 use Rattle.mb_model.specs.Outside.{Outside}
@@ -33,17 +33,17 @@ use Rattle.mb_top.proofs.OutputLemmas.{all_written, stops_carried}
 
 -- ---- the script is read, and its noise is enough
 
-pub no_bad_line : (text : List ℕ) (events : List Event) (line : ℕ) → Reads IsScript text events → TextFailsAtLine IsScript text line → ⊥
+pub no_bad_line : (text : List ℕ) (events : List Event) (line : ℕ) → ReadsLines IsScript text events → TextFailsAtLine IsScript text line → ⊥
 no_bad_line text events line reads fails =
     let same = HasLines-same text reads.lines fails.lines reads.has fails.has in
     FailsAtLine-none IsScript fails.lines events line (subst (λ (l : List (List ℕ)). IsScript l events) same reads.stands) fails.fails
 
-pub one_script : (text : List ℕ) (a b : List Event) → Reads IsScript text a → Reads IsScript text b → a ≡ b
+pub one_script : (text : List ℕ) (a b : List Event) → ReadsLines IsScript text a → ReadsLines IsScript text b → a ≡ b
 one_script text a b one other =
     let same = HasLines-same text one.lines other.lines one.has other.has in
     IsScript-same other.lines a b (subst (λ (l : List (List ℕ)). IsScript l a) same one.stands) other.stands
 
-pub no_short_noise : (text noise : List ℕ) (undrawn read : List Event) → Reads IsScript text undrawn → 32 * commands_in undrawn ≤ length noise → Reads IsScript text read → IsShortNoise read noise → ⊥
+pub no_short_noise : (text noise : List ℕ) (undrawn read : List Event) → ReadsLines IsScript text undrawn → 32 * commands_in undrawn ≤ length noise → ReadsLines IsScript text read → IsShortNoise read noise → ⊥
 no_short_noise text noise undrawn read is enough was short =
     let same = one_script text read undrawn was is in
     omega (arith, subst (λ (e : List Event). length noise < 32 * commands_in e) same short, enough)

@@ -2,7 +2,7 @@
 use Rattle.std.proofs.Common.{◌≡◌, List, [], ◌∷◌, map, true, Result, Ok, Err, refl, sym, subst, inl, inr}
 use Rattle.std.specs.Prelude.{IfErr}
 use Rattle.mb_model.specs.declared.event.Answered.{Answered}
-use Rattle.mb_model.specs.Outside.{Outside, Writes, FailsToWrite}
+use Rattle.mb_model.specs.Outside.{Outside, WritesFile, FailsToWrite}
 use Rattle.mb_model.specs.Board.{Held}
 use Rattle.mb_model.specs.Commands.{Output as Written, Command, write, Past}
 use Rattle.mb_top.specs.declared.output.Output.{Output}
@@ -22,7 +22,7 @@ one_stops outputs rest output before now why is ends fails =
 
 -- one that comes later is not
 pub later_stop : (outputs rest : List Output) (output : Output) (before mid now : Outside) (result : Result (Unit {0}) End) → outputs ≡ output ∷ rest
-    → Writes output.name.now output.bytes.now before mid → IfErr result (λ why. StopsWriting (map output_of rest) mid why now)
+    → WritesFile output.name.now output.bytes.now before mid → IfErr result (λ why. StopsWriting (map output_of rest) mid why now)
     → IfErr result (λ why. StopsWriting (map output_of outputs) before why now)
 later_stop outputs rest output before mid now (Ok u) is written stops = stops
 later_stop outputs rest output before mid now (Err why) is written stops =

@@ -98,7 +98,7 @@ pub record HasInput {A : Type 0} (input : Input A) (before now : Outside) (value
   pub now_is : now ≡ read_once before
 
 -- the input was read and is at fault
-pub record HasFault {A : Type 0} (input : Input A) (before now : Outside) (role : Role) (place : Place) : Type 0 where
+pub record HasInputFault {A : Type 0} (input : Input A) (before now : Outside) (role : Role) (place : Place) : Type 0 where
   pub role_is : role ≡ input.role
   pub bytes : List ℕ
   pub read : HasRead before input.name bytes
@@ -115,5 +115,5 @@ ReadStops role name before now _ = ⊥
 
 -- a command stops at an input
 abbrev pub StopsAt : {A : Type 0} → Input A → Outside → Outside → End → Type 0
-StopsAt input before now (end.Faulty role place) = HasFault input before now role place
+StopsAt input before now (end.Faulty role place) = HasInputFault input before now role place
 StopsAt input before now other = ReadStops input.role input.name before now other

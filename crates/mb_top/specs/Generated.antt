@@ -3,7 +3,7 @@ use Rattle.std.specs.Prelude.{List, [], ◌∷◌}
 use Rattle.mb_model.specs.declared.event.Event.{Event}
 use Rattle.mb_model.specs.declared.role.Role.TheVariants as role
 use Rattle.mb_model.specs.declared.tools.Workload.{Workload}
-use Rattle.mb_model.specs.Lines.{Reads}
+use Rattle.mb_model.specs.Lines.{ReadsLines}
 use Rattle.mb_model.specs.Script.{IsScript, Drawn}
 use Rattle.mb_model.specs.Commands.{Output}
 use Rattle.mb_model.specs.GenerateCommand.{GenerateNames}
@@ -11,7 +11,7 @@ use Rattle.mb_model.specs.GenerateCommand.{GenerateNames}
 -- the events are those of the script, with the draws that the noise gives them
 pub record HasEvents (files : Workload) (events : List Event) : Type 0 where
   pub undrawn : List Event
-  pub script : Reads IsScript files.script undrawn
+  pub script : ReadsLines IsScript files.script undrawn
   pub noise : Drawn undrawn files.noise events
 
 abbrev pub workload_outputs : GenerateNames → Workload → List Output

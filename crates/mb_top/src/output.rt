@@ -1,7 +1,7 @@
 //! The outputs of a command, written one after another, and the text that is printed after them.
 
 ghost use Rattle.std.specs.Prelude.{◌≡◌, map, IfErr, OnOk};
-ghost use Rattle.mb_model.specs.Outside.{Writes, FailsToWrite};
+ghost use Rattle.mb_model.specs.Outside.{WritesFile, FailsToWrite};
 ghost use Rattle.mb_model.specs.Commands.{print, SaysLine};
 ghost use Rattle.mb_top.specs.Ending.{CarriesOutAfter, end_line, end_status};
 ghost use Rattle.mb_top.specs.Outputs.{output_of, writes, WritesAll, StopsWriting};
@@ -49,7 +49,7 @@ pub fn stop<H: Host>(host: &mut H, end: End) -> u8
 
 /// Writes an output.
 fn write_output<H: Host>(host: &mut H, output: &Output<'_, '_>) -> Result<(), End>
-    ensures ok { OnOk result (Writes output.now.name.now output.now.bytes.now (H.outside host.old) (H.outside host.new)) }
+    ensures ok { OnOk result (WritesFile output.now.name.now output.now.bytes.now (H.outside host.old) (H.outside host.new)) }
     ensures err { IfErr result (λ why. (why ≡ End.NotWritten output.now.role) × FailsToWrite output.now.name.now (H.outside host.old) (H.outside host.new)) }
 {
     match host.write(output.name, output.bytes) {

@@ -2,7 +2,7 @@
 
 ghost use Rattle.mb_model.specs.Acceptance.{accepting};
 ghost use Rattle.mb_model.specs.VerifyCommand.{verify, verify_under, tell_verdict};
-ghost use Rattle.mb_verifier.specs.Ends.{refusal_of};
+ghost use Rattle.mb_verifier.specs.Ends.{chain_refusal_of};
 ghost use Rattle.mb_top.specs.Words.{verify_files};
 ghost use Rattle.mb_top.specs.Ending.{CarriesOut};
 ghost use Rattle.mb_top.specs.Chains.{TellsRefusal};
@@ -52,7 +52,7 @@ fn print_report<H: Host>(alloc: Global, key: u32, report: &Report, host: &mut H)
 
 /// How a command ends whose chain is not accepted.
 pub fn end_of(why: ChainRefusal) -> End
-    ensures { TellsRefusal (refusal_of why) result }
+    ensures { TellsRefusal (chain_refusal_of why) result }
 {
     let (code, place) = match why {
         ChainRefusal::Form { at } => (20, Some(at)),

@@ -24,7 +24,7 @@ use Rattle.mb_verifier.proofs.Stating.{born_is, alive_is}
 use Rattle.mb_model.proofs.EntryFormatLaws.{chain_exact}
 use Rattle.mb_model_lemmas.proofs.ChainLemmas.{accepted_is_ruled}
 use Rattle.mb_verifier.specs.declared.refusal.ChainRefusal as why
-use Rattle.mb_verifier.specs.Ends.{refusal_of}
+use Rattle.mb_verifier.specs.Ends.{chain_refusal_of}
 use Rattle.mb_verifier.specs.Checked.{HasBadEntry}
 
 -- ---- the entries of a chain
@@ -62,10 +62,10 @@ of_some : {X : Type 0} (P : X → Type 0) (o : Option X) → IfSome o P → (x :
 of_some P o holds x is = subst (λ p. IfSome p P) is holds
 
 -- each refusal that an answer names is one of the chain
-pub each_refused : {T : Type 0} (P : ChainRefusal → Type 0) (result : Result T why.ChainRefusal) → IfErr result (λ e. IfSome (refusal_of e) P)
-    → IfErr result (λ e. (refusal : ChainRefusal) → refusal_of e ≡ Some refusal → P refusal)
+pub each_refused : {T : Type 0} (P : ChainRefusal → Type 0) (result : Result T why.ChainRefusal) → IfErr result (λ e. IfSome (chain_refusal_of e) P)
+    → IfErr result (λ e. (refusal : ChainRefusal) → chain_refusal_of e ≡ Some refusal → P refusal)
 each_refused P (Ok x) holds = holds
-each_refused P (Err e) holds = λ refusal is. of_some P (refusal_of e) holds refusal is
+each_refused P (Err e) holds = λ refusal is. of_some P (chain_refusal_of e) holds refusal is
 
 -- ---- acceptance
 

@@ -7,7 +7,7 @@ ghost use Rattle.mb_model.specs.Log.{entries_of, RuledLog};
 ghost use Rattle.mb_model.specs.Acceptance.{Accepts, IsRefused, message_of};
 ghost use Rattle.mb_model.specs.Acceptance as acceptance;
 ghost use Rattle.mb_format.specs.Format.{Spells};
-ghost use Rattle.mb_verifier.specs.Ends.{refusal_of};
+ghost use Rattle.mb_verifier.specs.Ends.{chain_refusal_of};
 
 use crate::entries::judge;
 use crate::refusal::ChainRefusal;
@@ -28,7 +28,7 @@ pub fn verify(
 ) -> Result<Report, ChainRefusal>
     requires { length chain.now ≤ 4194304 }
     ensures accepted { IfOk result (Accepts root.now chain.now key) }
-    ensures refused { IfErr result (λ why. (refusal : acceptance.ChainRefusal) → refusal_of why ≡ Some refusal → IsRefused root.now chain.now key refusal) }
+    ensures refused { IfErr result (λ why. (refusal : acceptance.ChainRefusal) → chain_refusal_of why ≡ Some refusal → IsRefused root.now chain.now key refusal) }
     ensures ruled { IfOk result (λ report. (whole : Chain) → Spells chain_format chain.now whole → RuledLog (entries_of whole.entries)) }
 {
     match read_chain(alloc, chain) {
@@ -47,7 +47,7 @@ fn report_on(
 ) -> Result<Report, ChainRefusal>
     requires { chain_format.Allowed chain }
     ensures accepted { (bytes : List ℕ) → Spells chain_format bytes chain → IfOk result (Accepts root.now bytes key) }
-    ensures refused { (bytes : List ℕ) → Spells chain_format bytes chain → IfErr result (λ why. IfSome (refusal_of why) (IsRefused root.now bytes key)) }
+    ensures refused { (bytes : List ℕ) → Spells chain_format bytes chain → IfErr result (λ why. IfSome (chain_refusal_of why) (IsRefused root.now bytes key)) }
 {
     let log = chain.entries.as_slice();
     let judged = judge(alloc, root, log, key)?;

@@ -6,7 +6,7 @@ ghost use Rattle.mb_model.specs.Log.{figures_of, entries_of};
 ghost use Rattle.mb_model.specs.Acceptance.{in_charge, IsCertified, IsGood, AreGood};
 ghost use Rattle.mb_log.specs.KeyLife.{IsLifeOf};
 ghost use Rattle.mb_verifier.specs.Checked.{IsBadEntry, HasBadEntry};
-ghost use Rattle.mb_verifier.specs.Ends.{refusal_of};
+ghost use Rattle.mb_verifier.specs.Ends.{chain_refusal_of};
 
 use crate::refusal::ChainRefusal;
 use mb_cert::{certifies, leaf_number};
@@ -36,7 +36,7 @@ pub(crate) fn judge(
     ensures good { IfOk result (λ judged. AreGood maker.now log.now) }
     ensures figures { IfOk result (λ judged. judged.figures ≡ figures_of (entries_of log.now)) }
     ensures life { IfOk result (λ judged. IsLifeOf (entries_of log.now) key judged.life) }
-    ensures refused { IfErr result (λ why. IfSome (refusal_of why) (HasBadEntry maker.now log.now)) }
+    ensures refused { IfErr result (λ why. IfSome (chain_refusal_of why) (HasBadEntry maker.now log.now)) }
 {
     let mut figures = no_figures();
     let mut life = Life::begin(alloc, key);
@@ -57,7 +57,7 @@ fn check(
 ) -> Result<(), ChainRefusal>
     requires { entry_format.Allowed signed.now.entry }
     ensures good { OnOk result (IsGood maker.now figures.now signed.now) }
-    ensures refused { IfErr result (λ why. IfSome (refusal_of why) (IsBadEntry maker.now figures.now signed.now)) }
+    ensures refused { IfErr result (λ why. IfSome (chain_refusal_of why) (IsBadEntry maker.now figures.now signed.now)) }
 {
     let entry = figures.length;
     if !is_certified(alloc, maker, figures, signed)? {

@@ -7,7 +7,7 @@ ghost use Rattle.mb_model.specs.SignedTexts.{statement_text};
 ghost use Rattle.mb_model.specs.Acceptance.{IsStated, IsCurrent};
 ghost use Rattle.mb_log.specs.KeyLife.{as_entry, IsLifeOf};
 ghost use Rattle.mb_verifier.specs.Checked.{IsBadStatement};
-ghost use Rattle.mb_verifier.specs.Ends.{refusal_of};
+ghost use Rattle.mb_verifier.specs.Ends.{chain_refusal_of};
 
 use crate::entries::Judged;
 use crate::refusal::ChainRefusal;
@@ -30,7 +30,7 @@ pub(crate) fn check_statement(
     requires life { IsLifeOf (entries_of log.now) judged.now.life.number judged.now.life }
     requires born { judged.now.life.born ≡ Some born.now }
     ensures current { OnOk result (IsCurrent (entries_of log.now) judged.now.life.number (as_entry born.now) statement.now) }
-    ensures refused { IfErr result (λ why. IfSome (refusal_of why) (IsBadStatement (entries_of log.now) judged.now.life.number (as_entry born.now) statement.now)) }
+    ensures refused { IfErr result (λ why. IfSome (chain_refusal_of why) (IsBadStatement (entries_of log.now) judged.now.life.number (as_entry born.now) statement.now)) }
 {
     if !is_stated(log, judged.life.number, &born.key, statement) {
         return Err(ChainRefusal::StatementSignature);

@@ -1,7 +1,7 @@
 //! A device that comes up, stopped at each of its writes.
 
 ghost use Rattle.std.specs.Prelude.{◌≤◌};
-ghost use Rattle.mb_test_cuts.specs.Staged.{IsLive};
+ghost use Rattle.mb_test_cuts.specs.Staged.{IsLiveImage};
 
 use super::calls::{After, Call, stopped};
 use super::images::{BORN, ENTRY, Left, NEW_KEY, RENEWAL, SUCCESSION, device_of};
@@ -56,7 +56,7 @@ fn is_up(after: &After, like: &State) -> bool {
 
 /// The device comes up with its memory clean, and has this state.
 fn comes_up(rt: &impl Abort, alloc: Global, image: &[u8], like: &State) -> Result<(), Fail>
-    requires { IsLive image.now }
+    requires { IsLiveImage image.now }
 {
     let after = stopped(alloc, image, Call::Boot, MANY, 0)?;
     assert!(rt; is_up(&after, like));
@@ -72,7 +72,7 @@ fn fails_coming_up(
     count: u32,
     fill: u8,
 ) -> Result<bool, Fail>
-    requires live { IsLive device.now.image.items }
+    requires live { IsLiveImage device.now.image.items }
     requires least { 1 ≤ count }
     requires most { count ≤ 100000 }
 {
@@ -91,7 +91,7 @@ pub fn comes_up_at_last(
     device: &Device,
     fill: u8,
 ) -> Result<u32, Fail>
-    requires { IsLive device.now.image.items }
+    requires { IsLiveImage device.now.image.items }
 {
     for count in 1..MANY {
         if !fails_coming_up(rt, alloc, device, count, fill)? {
@@ -108,7 +108,7 @@ fn expect_writes(
     fill: u8,
     writes: u32,
 ) -> Result<(), Fail>
-    requires { IsLive device.now.image.items }
+    requires { IsLiveImage device.now.image.items }
 {
     let found = comes_up_at_last(rt, alloc, device, fill)?;
     assert_eq!(rt; found, writes);

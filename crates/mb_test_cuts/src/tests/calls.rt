@@ -7,7 +7,7 @@ ghost use Rattle.mb_model.specs.RootFormat.{root_format};
 ghost use Rattle.mb_model_memory.specs.Storable.{HasRegionRecord};
 ghost use Rattle.mb_region.specs.Regions.{HoldsSomeRegion};
 ghost use Rattle.mb_boot.specs.Booting.{StandsForValid};
-ghost use Rattle.mb_test_cuts.specs.Staged.{IsLive, IsReady};
+ghost use Rattle.mb_test_cuts.specs.Staged.{IsLiveImage, IsReadyForCalls};
 
 use super::board::{armed_board, wake};
 use super::states::{Device, is_clean, read};
@@ -166,7 +166,7 @@ fn make<L: Ledger>(
     hashes: &mut HashCount<L>,
 ) -> Result<bool, Fail>
     requires off { board.old.power ≡ false }
-    requires ready { IsReady board.old.memory }
+    requires ready { IsReadyForCalls board.old.memory }
     ensures { IsLoaded board.new.memory }
 {
     match call {
@@ -189,7 +189,7 @@ fn make_on<L: Ledger>(
     fill: u8,
     hashes: &mut HashCount<L>,
 ) -> Result<bool, Fail>
-    requires live { IsLive image.old }
+    requires live { IsLiveImage image.old }
     requires least { 1 ≤ count }
     requires most { count ≤ 100000 }
 {
@@ -211,10 +211,10 @@ fn stopped_counted<L: Ledger>(
     requires name { blank.name ≡ L.name }
     requires parts { blank.parts ≡ L.parts }
     requires some { 0 < blank.parts }
-    requires live { IsLive image.now }
+    requires live { IsLiveImage image.now }
     requires least { 1 ≤ count }
     requires most { count ≤ 100000 }
-    ensures { IfOk result (λ after. IsLive after.device.value.image.items) }
+    ensures { IfOk result (λ after. IsLiveImage after.device.value.image.items) }
 {
     let mut hashes = HashCount::<L>::begin(alloc, blank);
     let mut image = Vec::from_slice(alloc, image)?;
@@ -230,10 +230,10 @@ fn stopped_counted<L: Ledger>(
 
 /// What a call leaves of an image, in whose write of this number power fails, so that all bytes of it are `fill`.
 pub fn stopped(alloc: Global, image: &[u8], call: Call, count: u32, fill: u8) -> Result<After, Fail>
-    requires live { IsLive image.now }
+    requires live { IsLiveImage image.now }
     requires least { 1 ≤ count }
     requires most { count ≤ 100000 }
-    ensures { IfOk result (λ after. IsLive after.device.value.image.items) }
+    ensures { IfOk result (λ after. IsLiveImage after.device.value.image.items) }
 {
     stopped_counted::<Brand>(alloc, image, call, count, fill, Blank::new(1))
 }

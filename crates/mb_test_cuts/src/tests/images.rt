@@ -1,7 +1,7 @@
 //! Images as orders leave them, and that of a new device, written by another program.
 
 ghost use Rattle.std.specs.Prelude.{◌≡◌, ◌<◌, IfOk};
-ghost use Rattle.mb_test_cuts.specs.Staged.{IsLive};
+ghost use Rattle.mb_test_cuts.specs.Staged.{IsLiveImage};
 
 use super::states::{Device, read};
 use hex::FromHex;
@@ -508,7 +508,7 @@ fn device_counted<L: Ledger>(
     requires name { blank.name ≡ L.name }
     requires parts { blank.parts ≡ L.parts }
     requires some { 0 < blank.parts }
-    ensures { IfOk result (λ device. IsLive device.value.image.items) }
+    ensures { IfOk result (λ device. IsLiveImage device.value.image.items) }
 {
     let mut hashes = HashCount::<L>::begin(alloc, blank);
     let mut image = image_of(alloc, left, &mut hashes)?;
@@ -520,7 +520,7 @@ fn device_counted<L: Ledger>(
 
 /// The device that an order left; its flash may have another such record in its second area.
 pub fn device_of(alloc: Global, left: &Left, is_copied: bool) -> Result<Box<Device>, Fail>
-    ensures { IfOk result (λ device. IsLive device.value.image.items) }
+    ensures { IfOk result (λ device. IsLiveImage device.value.image.items) }
 {
     device_counted::<Brand>(alloc, left, is_copied, Blank::new(1))
 }

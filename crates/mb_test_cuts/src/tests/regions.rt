@@ -1,7 +1,7 @@
 //! Calls that replace a region, and a boot, stopped at each of their writes, and so the boots that follow each.
 
 ghost use Rattle.std.specs.Prelude.{◌≤◌, IfOk};
-ghost use Rattle.mb_test_cuts.specs.Staged.{IsLive};
+ghost use Rattle.mb_test_cuts.specs.Staged.{IsLiveImage};
 
 use super::boots::{FILLS, MANY, comes_up_at_last};
 use super::calls::{After, Call, region_of, stopped};
@@ -58,7 +58,7 @@ struct Wanted {
 
 /// The device that is to make the call: what an order left, or one that has done that.
 fn before(alloc: Global, call: Call) -> Result<Box<Device>, Fail>
-    ensures { IfOk result (λ device. IsLive device.value.image.items) }
+    ensures { IfOk result (λ device. IsLiveImage device.value.image.items) }
 {
     let left = device_of(alloc, &ENTRY, false)?;
     match call {
@@ -68,7 +68,7 @@ fn before(alloc: Global, call: Call) -> Result<Box<Device>, Fail>
 }
 
 fn wanted_of(alloc: Global, row: &Row) -> Result<Wanted, Fail>
-    ensures { IfOk result (λ wanted. IsLive wanted.before.value.image.items) }
+    ensures { IfOk result (λ wanted. IsLiveImage wanted.before.value.image.items) }
 {
     Ok(Wanted {
         before: before(alloc, row.call)?,
@@ -99,7 +99,7 @@ fn fails_in(
     count: u32,
     fill: u8,
 ) -> Result<bool, Fail>
-    requires live { IsLive wanted.now.before.value.image.items }
+    requires live { IsLiveImage wanted.now.before.value.image.items }
     requires least { 1 ≤ count }
     requires most { count ≤ 100000 }
 {
@@ -117,7 +117,7 @@ fn ends_at(
     wanted: &Wanted,
     fill: u8,
 ) -> Result<u32, Fail>
-    requires { IsLive wanted.now.before.value.image.items }
+    requires { IsLiveImage wanted.now.before.value.image.items }
 {
     for count in 1..MANY {
         if !fails_in(rt, alloc, call, wanted, count, fill)? {
@@ -134,7 +134,7 @@ fn expect_writes(
     wanted: &Wanted,
     fill: u8,
 ) -> Result<(), Fail>
-    requires { IsLive wanted.now.before.value.image.items }
+    requires { IsLiveImage wanted.now.before.value.image.items }
 {
     let found = ends_at(rt, alloc, row.call, wanted, fill)?;
     assert_eq!(rt; found, row.writes);

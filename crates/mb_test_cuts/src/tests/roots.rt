@@ -1,7 +1,7 @@
 //! A root that is put in force, where the selector held zero.
 
 ghost use Rattle.std.specs.Prelude.{◌≤◌};
-ghost use Rattle.mb_test_cuts.specs.Staged.{IsLive};
+ghost use Rattle.mb_test_cuts.specs.Staged.{IsLiveImage};
 
 use super::boots::comes_up_at_last;
 use super::calls::{Call, stopped};
@@ -36,7 +36,7 @@ fn expect_torn(
     fill: u8,
     is_put: bool,
 ) -> Result<(), Fail>
-    requires live { IsLive device.now.image.items }
+    requires live { IsLiveImage device.now.image.items }
     requires least { 1 ≤ count }
     requires most { count ≤ 100000 }
 {

@@ -1,7 +1,7 @@
 //! For which state an image stands, whether it is that of another, and whether the image is clean.
 
 ghost use Rattle.std.specs.Prelude.{◌≡◌, ◌≤◌, length, IfOk};
-ghost use Rattle.mb_test_cuts.specs.Staged.{IsLive};
+ghost use Rattle.mb_test_cuts.specs.Staged.{IsLiveImage};
 
 use mb_image::stand_for;
 use mb_layout::root_in;
@@ -25,7 +25,7 @@ pub fn read<L: Ledger>(
     image: Vec<u8>,
     hashes: &mut HashCount<L>,
 ) -> Result<Box<Device>, Fail>
-    ensures { IfOk result (λ device. IsLive device.value.image.items) }
+    ensures { IfOk result (λ device. IsLiveImage device.value.image.items) }
 {
     match stand_for(alloc, &image, hashes) {
         Ok(Some(state)) => Ok(Box::new(alloc, Device { image, state })?),

@@ -3,16 +3,16 @@ use Rattle.std.specs.Prelude.{Some}
 use Rattle.std.specs.Int.{w16}
 use Rattle.mb_format.specs.Combinators.{between}
 use Rattle.mb_model.specs.EntryFormat.{signed_entry_format}
-use Rattle.mb_cert.specs.Parts.{log_format}
+use Rattle.mb_cert.specs.Parts.{chain_entries_format}
 use Rattle.mb_bytes.proofs.Reading.{led_ok, reading_goes_on, reading_ends, list_fails_at}
 use Rattle.mb_cert.proofs.chain.entries_at.Goals as goal
 
 pub returns : goal.returns
-unfolding log_format
+unfolding chain_entries_format
 returns c = led_ok c.in_ok-count.ensures.reads (reading_ends c.loop-i-test.false c.loop-i.invariant)
 
 pub returns-in_err-signed_entry_at : goal.returns-in_err-signed_entry_at
-unfolding log_format
+unfolding chain_entries_format
 returns-in_err-signed_entry_at c =
     let p = err_from_is_err_and c.from_residual-in_err-signed_entry_at.result c.from_residual-in_err-signed_entry_at.ensures.1 in
     let at = c.in_err-signed_entry_at.field-0.0.at in

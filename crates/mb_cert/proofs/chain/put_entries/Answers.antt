@@ -1,10 +1,10 @@
 use Rattle.std.proofs.lemmas.Result.{err_from_is_err_and}
-use Rattle.mb_cert.specs.Parts.{log_format}
+use Rattle.mb_cert.specs.Parts.{chain_entries_format}
 use Rattle.mb_bytes.proofs.Putting.{puts_then, puts_stop_later, item_at, writing_goes_on, writing_stops, writing_ends}
 use Rattle.mb_cert.proofs.chain.put_entries.Goals as goal
 
 pub returns-in_err-put_signed_entry : goal.returns-in_err-put_signed_entry
-unfolding log_format
+unfolding chain_entries_format
 returns-in_err-put_signed_entry c =
     let p = err_from_is_err_and c.from_residual-in_err-put_signed_entry.result c.from_residual-in_err-put_signed_entry.ensures.1 in
     let lt = c.loop-signed-test.true in
@@ -16,5 +16,5 @@ loop-signed-preserved c =
     writing_goes_on _ lt (item_at c.args.entries.now c.loop-signed.signed-index _ lt) c.loop-signed.invariant c.in_ok-put_signed_entry.ensures
 
 pub returns : goal.returns
-unfolding log_format
+unfolding chain_entries_format
 returns c = puts_then c.in_ok-put_u16.ensures.puts (writing_ends c.loop-signed-test.false c.loop-signed.invariant)

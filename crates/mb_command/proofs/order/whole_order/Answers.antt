@@ -2,14 +2,14 @@ use Rattle.std.proofs.Common.{ap, ◌∙◌, length, arith}
 use Rattle.std.proofs.lemmas.Result.{err_from_is_err_and}
 use Rattle.mb_bytes.proofs.Exactly.{whole_read, whole_left, whole_failed_at}
 use Rattle.mb_model.proofs.OrderFormatLaws.{order_exact}
-use Rattle.mb_command.specs.Ends.{text_at}
+use Rattle.mb_command.specs.Ends.{order_text_at}
 use Rattle.mb_command.proofs.order.whole_order.Goals as goal
 
 pub returns-in_err-order : goal.returns-in_err-order
 returns-in_err-order c =
     let p = err_from_is_err_and c.from_residual.result c.from_residual.ensures.1 in
     let start = c.new-cursor.ensures in
-    rw (p.1, p.2) (whole_failed_at c.new-cursor.result _ c.args.bytes.now order_exact start.all start.first (text_at c.in_err-order.field-0.0) c.in_err-order.ensures)
+    rw (p.1, p.2) (whole_failed_at c.new-cursor.result _ c.args.bytes.now order_exact start.all start.first (order_text_at c.in_err-order.field-0.0) c.in_err-order.ensures)
 
 pub returns-then-left-gt0 : goal.returns-then-left-gt0
 returns-then-left-gt0 c =

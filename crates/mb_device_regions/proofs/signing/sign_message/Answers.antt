@@ -1,4 +1,4 @@
-use Rattle.mb_model.specs.OrderStep.{region_of}
+use Rattle.mb_model.specs.Regions.{region_of}
 use Rattle.mb_device_regions.proofs.Readied.{region_held}
 use Rattle.mb_device_regions.proofs.Signed.{held_ordered, no_key_told, spent_told, signed_told, signed_cut}
 use Rattle.mb_device_regions.proofs.signing.sign_message.Goals as goal

@@ -1,5 +1,5 @@
 use Rattle.std.proofs.Common.{◌++◌, Option, map, sym, ap, ◌∙◌}
-use Rattle.mb_model.specs.OrderStep.{signed_by}
+use Rattle.mb_model.specs.OrderEffects.{signed_by}
 use Rattle.mb_model.specs.declared.stored.Outgoing.{Outgoing}
 use Rattle.mb_model.specs.StoredLog.{signed_for, completed}
 use Rattle.mb_image.proofs.complete.completed.Goals as goal

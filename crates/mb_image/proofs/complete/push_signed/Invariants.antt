@@ -1,5 +1,5 @@
 use Rattle.std.proofs.Common.{◌≡◌, ◌≤◌, ◌+◌, ◌*◌, ◌++◌, map, take}
-use Rattle.mb_model.specs.OrderStep.{signed_by}
+use Rattle.mb_model.specs.OrderEffects.{signed_by}
 use Rattle.mb_image.proofs.complete.push_signed.Given as goal
 
 abbrev pub invariant-loop-entry : goal.invariant-loop-entry

@@ -1,6 +1,6 @@
 use Rattle.std.proofs.Common.{sym, ap, ◌∙◌, find, arith}
 use Rattle.mb_model.specs.LayerEvents.{has_number, with_use}
-use Rattle.mb_layout.specs.Edits.{used}
+use Rattle.mb_layout.specs.Edits.{region_with_use}
 use Rattle.mb_layout.proofs.RegionParts.{uses_fit}
 use Rattle.mb_layout.proofs.usage.use_in_record.Goals as goal
 
@@ -21,7 +21,7 @@ returns-clause-used c = λ region h. (
     record {
       found = ap (find (has_number c.args.number)) (sym (c.as_slice.ensures.keys ∙ stands.keys)) ∙ sym c.in-Some-key_of.ensures;
       left = omega arith;
-      stored = λ can. c.store.ensures.stored (used c.args.number region) (record {
+      stored = λ can. c.store.ensures.stored (region_with_use c.args.number region) (record {
         secrets = stands.secrets;
         least = stands.least;
         keys = c.used_keys.ensures fit ∙ ap (with_use c.args.number) same;
@@ -33,7 +33,7 @@ returns-clause-capacity c = λ region h can. (
     let stands = c.in-Some.ensures region h in
     let same = c.as_slice-2.ensures.keys ∙ stands.keys in
     let fit = rw (← same) at (uses_fit region h) in
-    let more = c.store.ensures.capacity (used c.args.number region) (record {
+    let more = c.store.ensures.capacity (region_with_use c.args.number region) (record {
       secrets = stands.secrets;
       least = stands.least;
       keys = c.used_keys.ensures fit ∙ ap (with_use c.args.number) same;

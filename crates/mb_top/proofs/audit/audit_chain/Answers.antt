@@ -1,6 +1,6 @@
 use Rattle.std.proofs.Common.{arith}
 use Rattle.mb_format.specs.Format.{IsBytes}
-use Rattle.mb_verifier.specs.Ends.{refusal_of}
+use Rattle.mb_verifier.specs.Ends.{chain_refusal_of}
 use Rattle.mb_top.specs.Words.{audit_files}
 use Rattle.mb_top.proofs.ChainLemmas.{audit_accepted, audit_refused}
 use Rattle.mb_top.proofs.audit.audit_chain.Goals as goal
@@ -15,5 +15,5 @@ returns-in-Ok g c =
 pub returns-in-Err : goal.returns-in-Err
 returns-in-Err g c =
     let are : IsBytes c.args.chain.now = λ i. omega (arith, c.type_inv.chain i) in
-    audit_refused (audit_files c.args.names.now) c.args.state.now c.args.root.now c.args.chain.now (refusal_of c.in-Err.why) c.end_of.result (g.H.Host.outside c.args.host.now)
+    audit_refused (audit_files c.args.names.now) c.args.state.now c.args.root.now c.args.chain.now (chain_refusal_of c.in-Err.why) c.end_of.result (g.H.Host.outside c.args.host.now)
     are c.requires.valid c.in-Err.ensures.refused c.end_of.ensures

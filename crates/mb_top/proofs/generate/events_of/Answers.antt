@@ -1,5 +1,5 @@
 use Rattle.std.proofs.Common.{◌≤◌, Err, length, sym, ap, ◌∙◌, subst}
-use Rattle.mb_model.specs.Lines.{Reads, TextFailsAtLine}
+use Rattle.mb_model.specs.Lines.{ReadsLines, TextFailsAtLine}
 use Rattle.mb_model.specs.Script.{IsScript, IsShortNoise}
 use Rattle.mb_script.specs.Reading.{ReadsScript}
 use Rattle.mb_model_lemmas.proofs.ScriptLemmas.{IsScript-events}
@@ -16,7 +16,7 @@ unreachable-requires c =
 
 pub unreachable-requires-in-Err : goal.unreachable-requires-in-Err
 unreachable-requires-in-Err c =
-    let read : Reads IsScript c.args.files.now.script c.in-Ok.events = subst (λ t. Reads IsScript t c.in-Ok.events) c.as_slice.ensures c.in-Ok.ensures in
+    let read : ReadsLines IsScript c.args.files.now.script c.in-Ok.events = subst (λ t. ReadsLines IsScript t c.in-Ok.events) c.as_slice.ensures c.in-Ok.ensures in
     let short : IsShortNoise c.in-Ok.events c.args.files.now.noise = subst (λ n. IsShortNoise c.in-Ok.events n) c.as_slice-2.ensures c.in-Err.ensures.0 in
     no_short_noise c.args.files.now.script c.args.files.now.noise c.requires.undrawn c.in-Ok.events c.requires.script c.requires.noise read short
 

@@ -4,7 +4,7 @@ use Rattle.mb_model.specs.Inputs.{chain_bytes_input}
 use Rattle.mb_model.specs.Acceptance.{Accepts, IsRefused}
 use Rattle.mb_model.specs.VerifyCommand.{verify_chain}
 use Rattle.mb_model.specs.Commands.{at_first}
-use Rattle.mb_verifier.specs.Ends.{refusal_of}
+use Rattle.mb_verifier.specs.Ends.{chain_refusal_of}
 use Rattle.mb_top.specs.Words.{verify_files}
 use Rattle.mb_top.proofs.CommandLemmas.{input_carried_out, read_on}
 use Rattle.mb_top.proofs.ChainLemmas.{IfReason, chain_accepted, chain_refused}
@@ -31,7 +31,7 @@ returns g c = λ final.
     let outside = g.H.Host.outside in
     let names = verify_files c.args.names.now in
     let bytes = c.in_ok-chain.chain.items in
-    let refused = subst (λ (b : List ℕ). IfReason (refusal_of c.in-Err.why) (IsRefused c.args.root.now b names.key)) c.deref.ensures.value c.in-Err.ensures.refused in
+    let refused = subst (λ (b : List ℕ). IfReason (chain_refusal_of c.in-Err.why) (IsRefused c.args.root.now b names.key)) c.deref.ensures.value c.in-Err.ensures.refused in
     read_on (chain_bytes_input names.chain) (verify_chain names c.args.root.now) at_first _ final (outside c.args.host.now) (outside c.read_chain_bytes.new.host) (outside c.read_chain_bytes.new.host) bytes
     _ c.in_ok-chain.ensures.read
-    (chain_refused names c.args.root.now bytes (refusal_of c.in-Err.why) c.end_of.result (outside c.read_chain_bytes.new.host) refused c.end_of.ensures final)
+    (chain_refused names c.args.root.now bytes (chain_refusal_of c.in-Err.why) c.end_of.result (outside c.read_chain_bytes.new.host) refused c.end_of.ensures final)

@@ -5,7 +5,7 @@ use Rattle.mb_model.specs.Log.{entries_of}
 use Rattle.mb_model.specs.Acceptance.{IfStatement, IsCurrent, IsRefused}
 use Rattle.mb_log.specs.KeyLife.{as_entry}
 use Rattle.mb_verifier.specs.Checked.{HasBadEntry}
-use Rattle.mb_verifier.specs.Ends.{refusal_of}
+use Rattle.mb_verifier.specs.Ends.{chain_refusal_of}
 use Rattle.mb_verifier.proofs.Judging.{if_some_weaker}
 use Rattle.mb_verifier.proofs.Verdicts.{entries_spelled, entries_few, entry_refuses, with_statement, without_statement, accepted}
 use Rattle.mb_verifier.proofs.chain.report_on.Goals as goal
@@ -21,7 +21,7 @@ pub returns-in_err-judged-clause-refused : goal.returns-in_err-judged-clause-ref
 returns-in_err-judged-clause-refused c = λ bytes spelled.
     let maker = c.args.root.now in
     let p = err_from_is_err_and c.from_residual.result c.from_residual.ensures.1 in
-    rw (p.1, p.2) (if_some_weaker _ (IsRefused maker bytes c.args.key) (refusal_of c.in_err-judged.field-0.0)
+    rw (p.1, p.2) (if_some_weaker _ (IsRefused maker bytes c.args.key) (chain_refusal_of c.in_err-judged.field-0.0)
     (λ why has. entry_refuses maker bytes c.args.key c.args.chain spelled why (subst (λ (log : List SignedEntry). HasBadEntry maker log why) c.as_slice-log.ensures has))
     c.in_err-judged.ensures.refused)
 

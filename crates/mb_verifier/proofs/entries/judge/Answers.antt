@@ -1,7 +1,7 @@
 use Rattle.std.proofs.lemmas.Result.{err_from_is_err_and}
 use Rattle.mb_log.proofs.Fronts.{figures_go_on}
 use Rattle.mb_verifier.specs.Checked.{HasBadEntry}
-use Rattle.mb_verifier.specs.Ends.{refusal_of}
+use Rattle.mb_verifier.specs.Ends.{chain_refusal_of}
 use Rattle.mb_model_lemmas.proofs.ChainLemmas.{AreGood-nil}
 use Rattle.mb_verifier.proofs.Judging.{AreGood-more, bad_entry, life_next, if_some_weaker}
 use Rattle.mb_verifier.proofs.entries.judge.Goals as goal
@@ -15,7 +15,7 @@ returns-in_err-check-clause-refused c =
     let log = c.args.log.now in
     let i = c.loop-signed.signed-index in
     let p = err_from_is_err_and c.from_residual.result c.from_residual.ensures.1 in
-    rw (p.1, p.2) (if_some_weaker _ (HasBadEntry maker log) (refusal_of c.in_err-check.field-0.0)
+    rw (p.1, p.2) (if_some_weaker _ (HasBadEntry maker log) (chain_refusal_of c.in_err-check.field-0.0)
     (λ why bad. bad_entry maker log i _ c.loop-signed.figures why c.loop-signed-test.true c.loop-signed.invariant.figures c.loop-signed.invariant.good bad)
     c.in_err-check.ensures.refused)
 

@@ -2,7 +2,7 @@ use Rattle.std.proofs.Common.{◌*◌, ap, ◌∙◌}
 use Rattle.mb_model.specs.Board.{put, erased}
 use Rattle.mb_model.proofs.Places.{length-erased}
 use Rattle.mb_board.specs.Cuts.{torn_by}
-use Rattle.mb_board.specs.Shown.{Contents, Shown}
+use Rattle.mb_board.specs.Shown.{BankContents, BoardShown}
 use Rattle.mb_board.proofs.Fillings.{length-torn_by}
 use Rattle.mb_board.proofs.sim.SimBoardBoard.flash_erase.Goals as goal
 
@@ -11,8 +11,8 @@ returns-in-Ok-clause-torn c = record {
   written = erased 4096;
   sized = length-erased 4096;
   whole =
-      ap (λ (bank : Contents). bank.bytes) c.erase.ensures
-      ∙ ap (λ (board : Shown). put (4096 * c.args.sector) (erased 4096) board.memory.flash) c.self.view_is;
+      ap (λ (bank : BankContents). bank.bytes) c.erase.ensures
+      ∙ ap (λ (board : BoardShown). put (4096 * c.args.sector) (erased 4096) board.memory.flash) c.self.view_is;
 }
 
 abbrev pub returns-in-Err-clause-torn : goal.returns-in-Err-clause-torn
@@ -20,6 +20,6 @@ returns-in-Err-clause-torn c = record {
   written = torn_by c.in-Err.tear (erased 4096);
   sized = length-torn_by c.in-Err.tear (erased 4096) ∙ length-erased 4096;
   whole =
-      ap (λ (bank : Contents). bank.bytes) c.erase_torn.ensures
-      ∙ ap (λ (board : Shown). put (4096 * c.args.sector) (torn_by c.in-Err.tear (erased 4096)) board.memory.flash) c.self.view_is;
+      ap (λ (bank : BankContents). bank.bytes) c.erase_torn.ensures
+      ∙ ap (λ (board : BoardShown). put (4096 * c.args.sector) (torn_by c.in-Err.tear (erased 4096)) board.memory.flash) c.self.view_is;
 }

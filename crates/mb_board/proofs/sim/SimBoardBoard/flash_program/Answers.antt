@@ -1,7 +1,7 @@
 use Rattle.std.proofs.Common.{ap, refl, ◌∙◌}
 use Rattle.mb_model.specs.Board.{put}
 use Rattle.mb_board.specs.Cuts.{torn_by}
-use Rattle.mb_board.specs.Shown.{Contents, Shown}
+use Rattle.mb_board.specs.Shown.{BankContents, BoardShown}
 use Rattle.mb_board.proofs.Fillings.{length-torn_by}
 use Rattle.mb_board.proofs.sim.SimBoardBoard.flash_program.Goals as goal
 
@@ -10,8 +10,8 @@ returns-in-Ok-clause-torn c = record {
   written = c.args.bytes.now;
   sized = refl;
   whole =
-      ap (λ (bank : Contents). bank.bytes) c.write.ensures
-      ∙ ap (λ (board : Shown). put c.args.at c.args.bytes.now board.memory.flash) c.self.view_is;
+      ap (λ (bank : BankContents). bank.bytes) c.write.ensures
+      ∙ ap (λ (board : BoardShown). put c.args.at c.args.bytes.now board.memory.flash) c.self.view_is;
 }
 
 abbrev pub returns-in-Err-clause-torn : goal.returns-in-Err-clause-torn
@@ -19,6 +19,6 @@ returns-in-Err-clause-torn c = record {
   written = torn_by c.in-Err.tear c.args.bytes.now;
   sized = length-torn_by c.in-Err.tear c.args.bytes.now;
   whole =
-      ap (λ (bank : Contents). bank.bytes) c.write_torn.ensures
-      ∙ ap (λ (board : Shown). put c.args.at (torn_by c.in-Err.tear c.args.bytes.now) board.memory.flash) c.self.view_is;
+      ap (λ (bank : BankContents). bank.bytes) c.write_torn.ensures
+      ∙ ap (λ (board : BoardShown). put c.args.at (torn_by c.in-Err.tear c.args.bytes.now) board.memory.flash) c.self.view_is;
 }

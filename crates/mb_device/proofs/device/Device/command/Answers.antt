@@ -1,6 +1,6 @@
 use Rattle.std.proofs.Common.{arith}
 use Rattle.mb_model.specs.declared.event.Event.TheVariants as event
-use Rattle.mb_model.specs.Refusals.{powered_off, zeroised, wrong_phase}
+use Rattle.mb_model.specs.declared.reply.Refusal.TheVariants.{PoweredOff, WrongPhase, Zeroised}
 use Rattle.mb_device.specs.declared.device.Device.TheVariants as device
 use Rattle.mb_device.proofs.Worlds.{awake_off, awake_dead, awake_at, command_refused, command_past}
 use Rattle.mb_device.proofs.Steps.{refuses_as}
@@ -8,20 +8,20 @@ use Rattle.mb_device.proofs.device.Device.command.Goals as goal
 
 pub returns-in-Off-clause-steps : goal.returns-in-Off-clause-steps
 returns-in-Off-clause-steps g c = λ world sound.
-    refuses_as c.args.self (device.Off c.in-Off.off) _ world (event.Command c.args.text.now c.args.draw.now) c.reply.result powered_off c.in-Off.is c.reply.ensures sound
-    (λ fits. command_refused world _ _ powered_off (awake_off world fits))
+    refuses_as c.args.self (device.Off c.in-Off.off) _ world (event.Command c.args.text.now c.args.draw.now) c.reply.result PoweredOff c.in-Off.is c.reply.ensures sound
+    (λ fits. command_refused world _ _ PoweredOff (awake_off world fits))
 
 pub returns-in-Dead-clause-steps : goal.returns-in-Dead-clause-steps
 returns-in-Dead-clause-steps g c = λ world sound.
-    refuses_as c.args.self (device.Dead c.in-Dead.dead) _ world (event.Command c.args.text.now c.args.draw.now) c.reply-in-Dead.result zeroised c.in-Dead.is c.reply-in-Dead.ensures sound
-    (λ fits. command_refused world _ _ zeroised (awake_dead world fits))
+    refuses_as c.args.self (device.Dead c.in-Dead.dead) _ world (event.Command c.args.text.now c.args.draw.now) c.reply-in-Dead.result Zeroised c.in-Dead.is c.reply-in-Dead.ensures sound
+    (λ fits. command_refused world _ _ Zeroised (awake_dead world fits))
 
 pub returns-in-Two-clause-steps : goal.returns-in-Two-clause-steps
 returns-in-Two-clause-steps g c = λ world sound.
-    refuses_as c.args.self (device.Two c.in-Two.up c.in-Two.running) _ world (event.Command c.args.text.now c.args.draw.now) c.reply-in-Two.result wrong_phase c.in-Two.is c.reply-in-Two.ensures sound
+    refuses_as c.args.self (device.Two c.in-Two.up c.in-Two.running) _ world (event.Command c.args.text.now c.args.draw.now) c.reply-in-Two.result WrongPhase c.in-Two.is c.reply-in-Two.ensures sound
     (λ fits. command_past world _ _ 2 fits.state (omega arith) (awake_at world 2 fits.state fits.phase fits.live))
 
 pub returns-in-Three-clause-steps : goal.returns-in-Three-clause-steps
 returns-in-Three-clause-steps g c = λ world sound.
-    refuses_as c.args.self (device.Three c.in-Three.up c.in-Three.running) _ world (event.Command c.args.text.now c.args.draw.now) c.reply-in-Three.result wrong_phase c.in-Three.is c.reply-in-Three.ensures sound
+    refuses_as c.args.self (device.Three c.in-Three.up c.in-Three.running) _ world (event.Command c.args.text.now c.args.draw.now) c.reply-in-Three.result WrongPhase c.in-Three.is c.reply-in-Three.ensures sound
     (λ fits. command_past world _ _ 3 fits.state (omega arith) (awake_at world 3 fits.state fits.phase fits.live))

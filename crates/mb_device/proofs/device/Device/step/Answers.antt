@@ -4,7 +4,7 @@ use Rattle.mb_model.specs.declared.event.Event.TheVariants as event
 use Rattle.mb_model.specs.declared.reply.Reply.TheVariants as reply
 use Rattle.mb_model.specs.Board.{Held}
 use Rattle.mb_board.specs.Calls.{held_by}
-use Rattle.mb_device.specs.Sound.{IsSound, taken, Steps}
+use Rattle.mb_device.specs.Sound.{IsSoundDevice, taken, Steps}
 use Rattle.mb_device.proofs.Steps.{stays}
 use Rattle.mb_device.proofs.Taken.{goes_off, is_tampered, is_armed, off_same}
 use Rattle.mb_device.proofs.Uses.{unmetered}
@@ -34,7 +34,7 @@ returns-in-Cut-clause-steps g c = λ before world sound same.
 pub returns-in-Status-clause-steps : goal.returns-in-Status-clause-steps
 returns-in-Status-clause-steps g c = λ before world sound same.
     let at : (held_by (g.B.Board.seen c.args.b.now).memory (g.B.Board.seen c.args.b.now).power (g.B.Board.seen c.args.b.now).level (g.B.Board.seen c.args.b.now).meter) ≡ before = subst (λ (e : Event). (held_by (g.B.Board.seen c.args.b.now).memory (g.B.Board.seen c.args.b.now).power (g.B.Board.seen c.args.b.now).level (g.B.Board.seen c.args.b.now).meter) ≡ taken e before) c.in-Status.is same in
-    let own : IsSound c.args.self (held_by (g.B.Board.seen c.args.b.now).memory (g.B.Board.seen c.args.b.now).power (g.B.Board.seen c.args.b.now).level (g.B.Board.seen c.args.b.now).meter) world = subst (λ (h : Held). IsSound c.args.self h world) (sym at) sound in
+    let own : IsSoundDevice c.args.self (held_by (g.B.Board.seen c.args.b.now).memory (g.B.Board.seen c.args.b.now).power (g.B.Board.seen c.args.b.now).level (g.B.Board.seen c.args.b.now).meter) world = subst (λ (h : Held). IsSoundDevice c.args.self h world) (sym at) sound in
     subst (λ (e : Event). Steps world e c.status-reply.result c.args.self (held_by (g.B.Board.seen c.args.b.now).memory (g.B.Board.seen c.args.b.now).power (g.B.Board.seen c.args.b.now).level (g.B.Board.seen c.args.b.now).meter)) (sym c.in-Status.is)
     (stays c.args.self c.args.self (held_by (g.B.Board.seen c.args.b.now).memory (g.B.Board.seen c.args.b.now).power (g.B.Board.seen c.args.b.now).level (g.B.Board.seen c.args.b.now).meter) world event.Status c.status-reply.result (c.status-reply.ensures.told world sound.fits sound.valid) own own.fits)
 

@@ -1,13 +1,13 @@
 use Rattle.std.proofs.Common.{length, ap, ◌∙◌, arith}
 use Rattle.mb_model.specs.Board.{Memory}
-use Rattle.mb_board.specs.Reach.{first_area}
+use Rattle.mb_board.specs.Reach.{in_first_area}
 use Rattle.mb_board.proofs.TornLemmas.{torn_length}
 use Rattle.mb_test_rules.proofs.tests.boards.call.Goals as goal
 
 pub bbram_write-requires-clause-reached : goal.bbram_write-requires-clause-reached
 bbram_write-requires-clause-reached c =
     rw c.requires.level
-    (first_area 1 record { least = omega arith; most = omega arith; reached = omega arith } (omega arith) (omega arith))
+    (in_first_area 1 record { least = omega arith; most = omega arith; reached = omega arith } (omega arith) (omega arith))
 
 pub returns-in-Erase-clause-loaded : goal.returns-in-Erase-clause-loaded
 returns-in-Erase-clause-loaded c = record {

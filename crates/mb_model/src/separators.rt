@@ -1,0 +1,37 @@
+//! Domain separators: the first bytes of what is hashed or signed, which keep the uses of one hash or key apart.
+
+/// What the owner in charge signs of an order begins with this byte.
+pub const ORDER_TEXT: u8 = 0x01;
+
+/// What the owner of a higher layer signs of an order begins with this byte.
+pub const COUNTERSIGNED_TEXT: u8 = 0x02;
+
+/// What a device key, or the maker's key, signs of a log entry begins with this byte.
+pub const ENTRY_TEXT: u8 = 0x03;
+
+/// What a key of a region signs begins with this byte.
+pub const STATEMENT_TEXT: u8 = 0x04;
+
+/// What is hashed for the secret SEED of a device's key begins with this byte.
+pub const KEY_SECRET: u8 = 0x10;
+
+/// What is hashed for the identifier I of a device's key begins with this byte.
+pub const KEY_IDENTIFIER: u8 = 0x11;
+
+/// What is hashed for the secret SEED of an officer's key begins with this byte.
+pub const OFFICER_SECRET: u8 = 0x12;
+
+/// What is hashed for the identifier I of an officer's key begins with this byte.
+pub const OFFICER_IDENTIFIER: u8 = 0x13;
+
+/// D_PBLC: these bytes stand in what is hashed for a one-time public key (RFC 8554, section 7.1).
+pub const ONE_TIME_KEY_MARK: [u8; 2] = [0x80, 0x80];
+
+/// D_MESG: these bytes stand in what is hashed of a message (RFC 8554, section 7.1).
+pub const MESSAGE_MARK: [u8; 2] = [0x81, 0x81];
+
+/// D_LEAF: these bytes stand in what is hashed for a leaf of a tree (RFC 8554, section 7.1).
+pub const LEAF_MARK: [u8; 2] = [0x82, 0x82];
+
+/// D_INTR: these bytes stand in what is hashed for an inner node of a tree (RFC 8554, section 7.1).
+pub const INNER_MARK: [u8; 2] = [0x83, 0x83];
