@@ -178,7 +178,7 @@ fn spoil(memory: &mut Vec<u8>, at: usize, count: usize, tear: &Tear)
     ensures { memory.new.items ≡ put at (torn_by tear.now (part at count memory.old.items)) memory.old.items }
 {
     let kept = count.min(tear.keep as usize);
-    store_filling(memory, at + just_kept, count - just_kept, tear);
+    store_filling(memory, at + kept, count - kept, tear);
 }
 
 /// Stores `count` bytes of the filling of a tear from `at` on.

@@ -49,6 +49,6 @@ pub fn use_in_record(bytes: &[u8], number: u32, out: &mut Vec<u8>) -> Result<Reg
         least: stored.least,
         keys: used_keys(stored.keys.as_slice(), number),
     };
-    store(&region_with_use, out);
+    store(&used, out);
     Ok(key)
 }

@@ -36,7 +36,7 @@ fn current_at<B: Board>(b: &B, slot: u16) -> u16
     requires { CanUse (B.seen b.now) slot }
     ensures { IsAreaAt (B.seen b.now).level (current_offset (B.seen b.now).memory.bbram slot) result }
 {
-    area_offset(slot, is_first_in_force(b, slot))
+    offset_of(slot, is_first_in_force(b, slot))
 }
 
 /// The offset of the area that is not in force in the slot.
@@ -44,7 +44,7 @@ fn other_at<B: Board>(b: &B, slot: u16) -> u16
     requires { CanUse (B.seen b.now) slot }
     ensures { IsAreaAt (B.seen b.now).level (other_offset (B.seen b.now).memory.bbram slot) result }
 {
-    area_offset(slot, !is_first_in_force(b, slot))
+    offset_of(slot, !is_first_in_force(b, slot))
 }
 
 /// Replaces the area that is not in force by these 4,096 bytes.
