@@ -2,6 +2,7 @@
 use Rattle.std.specs.Prelude.{ℕ, ◌-◌, ◌/◌, ◌%◌, ◌^◌, ◌≤◌, List, ◌∷◌, ◌++◌, take}
 use Rattle.std.specs.Int.{w8, w64, to_be_bytes}
 use Rattle.sha2.specs.Sha256.{sha256}
+use Rattle.mb_model.specs.declared.separators.TheConstants.{LEVEL_SECRET, LEVEL_IDENTIFIER, MAKER_SECRET}
 use Rattle.mb_model.specs.declared.key.KeySeed.{KeySeed}
 use Rattle.mb_model.specs.Key.{key_bytes}
 use Rattle.mb_model.specs.Signing.{public_of}
@@ -16,13 +17,13 @@ pub record IsMaker (maker : Maker) : Type 0 where
 
 -- a new maker, derived from 32 bytes of noise
 unfoldable pub new_maker : List ℕ → ℕ → Maker
-new_maker noise levels = record { levels = levels; seed = sha256 (0x16 ∷ noise); next = 0 }
+new_maker noise levels = record { levels = levels; seed = sha256 (MAKER_SECRET ∷ noise); next = 0 }
 
 -- the key of a level and a prefix
 unfoldable pub level_key : List ℕ → ℕ → ℕ → KeySeed
 level_key seed level prefix = record {
-  identifier = take 16 (sha256 (0x15 ∷ seed ++ to_be_bytes w8 level ++ to_be_bytes w64 prefix));
-  seed = sha256 (0x14 ∷ seed ++ to_be_bytes w8 level ++ to_be_bytes w64 prefix);
+  identifier = take 16 (sha256 (LEVEL_IDENTIFIER ∷ seed ++ to_be_bytes w8 level ++ to_be_bytes w64 prefix));
+  seed = sha256 (LEVEL_SECRET ∷ seed ++ to_be_bytes w8 level ++ to_be_bytes w64 prefix);
 }
 
 -- A number has a digit to the base 32 for each level. At a level it uses the key whose prefix is the digits of the

@@ -24,6 +24,15 @@ pub const OFFICER_SECRET: u8 = 0x12;
 /// What is hashed for the identifier I of an officer's key begins with this byte.
 pub const OFFICER_IDENTIFIER: u8 = 0x13;
 
+/// What is hashed for the secret SEED of a key of a maker's level begins with this byte.
+pub const LEVEL_SECRET: u8 = 0x14;
+
+/// What is hashed for the identifier I of a key of a maker's level begins with this byte.
+pub const LEVEL_IDENTIFIER: u8 = 0x15;
+
+/// What is hashed for the seed of a maker of HSS signatures begins with this byte.
+pub const MAKER_SECRET: u8 = 0x16;
+
 /// D_PBLC: these bytes stand in what is hashed for a one-time public key (RFC 8554, section 7.1).
 pub const ONE_TIME_KEY_MARK: [u8; 2] = [0x80, 0x80];
 
