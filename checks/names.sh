@@ -1,11 +1,11 @@
 #!/usr/bin/env bash
-# One name for one thing: no two files of the model's specs/ may define the same name, be it a function, a record, a data
-# type or a constructor; the fields of records do not count. Prints a line for each name that two define, with the
-# files, and nothing where there is none.
+# One name for one thing: no two files of definitions, of whatever crates, may define the same name, be it a function, a
+# record, a data type or a constructor; the fields of records do not count. Prints a line for each name that two define,
+# with the files, and nothing where there is none.
 set -u
 cd "$(dirname "$0")/.." || exit 2
 
-python3 -B - crates/mb_model/specs <<'PYTHON'
+python3 -B - <<'PYTHON'
 import pathlib
 import sys
 
@@ -13,9 +13,9 @@ sys.path.insert(0, "checks")
 from definitions import names_of
 
 files = {}
-for path in sorted(pathlib.Path(sys.argv[1]).glob("*.antt")):
+for path in sorted(pathlib.Path("crates").glob("*/specs/*.antt")):
     for name in names_of(path.read_text()):
-        files.setdefault(name, []).append(path.stem)
+        files.setdefault(name, []).append(f"{path.parts[1]}/{path.stem}")
 doubles = {name: where for name, where in files.items() if len(where) > 1}
 for name in sorted(doubles):
     print(f"{name}: {', '.join(doubles[name])}")

@@ -203,7 +203,8 @@ Does seen it next values machine outcome = ⊥
 pub data AppStep (seen : Surroundings) (machine : AppState) (outcome : StepOutcome) : Type 0 where
   unknown : ((it : Instruction) (next : ℕ) → Stands seen.code machine.place it next → ⊥)
       → outcome ≡ traps trap.NoInstruction → AppStep seen machine outcome
-  lacks_operands : (it : Instruction) (next : ℕ) → Stands seen.code machine.place it next → length machine.stack < takes it
+  lacks_operands : (it : Instruction) (next : ℕ) → Stands seen.code machine.place it next
+      → length machine.stack < takes it
       → outcome ≡ traps trap.TooFewValues → AppStep seen machine outcome
   overflows : (it : Instruction) (next : ℕ) → Stands seen.code machine.place it next → takes it ≤ length machine.stack
       → takes it + 256 < length machine.stack + leaves it → outcome ≡ traps trap.TooManyValues

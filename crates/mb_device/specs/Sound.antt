@@ -76,4 +76,5 @@ pub record Steps (world : World) (event : Event) (answer : Reply) (device : Devi
 
 -- so it does from each world that the board can have held
 abbrev pub StepsFrom : Device → Held → Event → (Device × Reply) → Held → Type 0
-StepsFrom before old event told now = (world : World) → IsSoundDevice before old world → Steps world event told.1 told.0 now
+StepsFrom before old event told now =
+    (world : World) → IsSoundDevice before old world → Steps world event told.1 told.0 now

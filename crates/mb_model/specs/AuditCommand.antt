@@ -50,7 +50,9 @@ pub record IsAudited
 -- the lists are compared, or the chain is refused
 abbrev pub compare : State → ℕ → Verdict → Command
 compare state n (accepting report) =
-    either_command (report.lives ≡ own_lives state report.entries n) (print (ended (codes "agrees"))) (refuse (codes "differs"))
+    either_command (report.lives ≡ own_lives state report.entries n)
+    (print (ended (codes "agrees")))
+    (refuse (codes "differs"))
 compare state n (refusing why) = refuse (refused_line why)
 
 -- a dead device has no log, whatever the chain is

@@ -2,7 +2,8 @@
 use Rattle.std.specs.Prelude.{ℕ, List, ◌∷◌, ◌++◌, take}
 use Rattle.std.specs.Int.{w32, to_be_bytes}
 use Rattle.sha2.specs.Sha256.{sha256}
-use Rattle.mb_model.specs.declared.separators.TheConstants.{KEY_IDENTIFIER, KEY_SECRET, OFFICER_IDENTIFIER, OFFICER_SECRET}
+use Rattle.mb_model.specs.declared.separators.TheConstants.{KEY_IDENTIFIER, KEY_SECRET, OFFICER_IDENTIFIER}
+use Rattle.mb_model.specs.declared.separators.TheConstants.{OFFICER_SECRET}
 use Rattle.mb_model.specs.declared.key.KeySeed.{KeySeed}
 
 -- the key with the number n of a device, made of an event's draw of 32 bytes and the device's serial

@@ -21,7 +21,8 @@ is_name bytes = list_all is_name_byte bytes
 
 -- a secret: its name and its value, each after its length, and the configuration number at which it was put
 unfoldable pub secret_format : Format Secret
-secret_format = as_record (pair (sized_that is_name (between w8 1 NAME_LIMIT)) (pair (sized (between w8 0 VALUE_LIMIT)) (number w32)))
+secret_format = as_record
+    (pair (sized_that is_name (between w8 1 NAME_LIMIT)) (pair (sized (between w8 0 VALUE_LIMIT)) (number w32)))
     (λ (name, (value, born)). record { name = name; value = value; born = born })
     (λ secret. (secret.name, (secret.value, secret.born)))
 

@@ -4,7 +4,8 @@ use Rattle.std.specs.Prelude.{◌≡◌, ℕ, ◌*◌, ◌-◌, ◌<◌, ◌≤�
 use Rattle.std.specs.Prelude.{length, map, replicate, codes, All, filter, count_by, IsTrue}
 use Rattle.std.specs.List.{AllZip}
 use Rattle.std.specs.Fmt.{decimal}
-use Rattle.mb_model.specs.declared.limits.TheConstants.{NAME_LIMIT, MESSAGE_LIMIT, FILL_LIMIT, FLASH_LENGTH, CUT_LIMIT, DRAW_LENGTH, EVENT_LIMIT}
+use Rattle.mb_model.specs.declared.limits.TheConstants.{NAME_LIMIT, MESSAGE_LIMIT, FILL_LIMIT, FLASH_LENGTH}
+use Rattle.mb_model.specs.declared.limits.TheConstants.{CUT_LIMIT, DRAW_LENGTH, EVENT_LIMIT}
 use Rattle.mb_model.specs.declared.event.Event.{Event}
 use Rattle.mb_model.specs.declared.event.Event.TheVariants as event
 use Rattle.mb_model.specs.declared.event.Tear.{Tear}
@@ -28,7 +29,11 @@ FitsMessage bytes = length bytes ≤ MESSAGE_LIMIT
 -- The tear that keeps so many bytes and fills with these, at most 16. They stand first in its field of 16 bytes, and
 -- zeros after them.
 abbrev pub tear_of : ℕ → List ℕ → Tear
-tear_of keep fill = record { keep = keep; fill = fill ++ replicate (FILL_LIMIT - length fill) 0; fill_length = length fill }
+tear_of keep fill = record {
+  keep = keep;
+  fill = fill ++ replicate (FILL_LIMIT - length fill) 0;
+  fill_length = length fill;
+}
 
 -- a tear keeps at most the length of the flash, and fills with 1 to 16 bytes
 pub record IsTear (tear : Tear) (fill : List ℕ) : Type 0 where
@@ -134,7 +139,8 @@ commands_in events = count_by is_command events
 
 -- the event with its draw: the i-th command, from 0, has the bytes 32 i to 32 i + 31 of the noise
 abbrev pub drawn_event : List ℕ → List Event → Event → Event
-drawn_event noise before (event.Command text draw) = event.Command text (part (DRAW_LENGTH * commands_in before) DRAW_LENGTH noise)
+drawn_event noise before (event.Command text draw) =
+    event.Command text (part (DRAW_LENGTH * commands_in before) DRAW_LENGTH noise)
 drawn_event noise before other = other
 
 -- the events with their draws

@@ -38,7 +38,8 @@ pub record PutExamples (signature : List ℕ) : Type 0 where
   -- where there are 16, a new one is refused, and one with a name that is there is not
   pub full : Refuses (world_at (ratchet 2) (with_regions full_region full_region signature))
       (event.Put 2 (codes "q") []) 5
-  pub full_replaced : LeadsWorld 2 (with_regions full_region full_region signature) (event.Put 3 (codes "c") []) reply.Kept
+  pub full_replaced : LeadsWorld 2 (with_regions full_region full_region signature) (event.Put 3 (codes "c") [])
+      reply.Kept
       (with_regions full_region full_region signature)
 
 pub record GetExamples (signature : List ℕ) : Type 0 where

@@ -92,7 +92,8 @@ pub record AnswerCounterExamples (standing now : Held) : Type 0 where
   -- the phase is another
   pub phase : (world : World) → now.phase ≡ off → world.phase ≡ dead → Shows now world → ⊥
   -- an old region is left in a device that is alive
-  pub left : (offset : ℕ) → life_byte now.memory.bbram ≡ 0xA5 → IsLeftOver now.memory.bbram offset → HoldsNoOther now → ⊥
+  pub left : (offset : ℕ) → life_byte now.memory.bbram ≡ 0xA5 → IsLeftOver now.memory.bbram offset
+      → HoldsNoOther now → ⊥
   -- the log of a dead device has entries
   pub dead_log : IsBlank now.memory.bbram → ShowsLog now 5 → ⊥
   -- after a stop the memory does not have to be clean, unless the event is a tamper

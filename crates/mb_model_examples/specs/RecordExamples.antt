@@ -25,7 +25,8 @@ use Rattle.mb_model_examples.specs.RecordValues.{new_key_entry, new_key_digits, 
 use Rattle.mb_model_examples.specs.RecordValues.{settled_root_value, settled_root_digits, busy_root, busy_root_digits}
 use Rattle.mb_model_examples.specs.RecordValues.{small_root, small_root_digits, region_of_both, region_of_both_digits}
 use Rattle.mb_model_examples.specs.RecordValues.{region_of_a_key, region_of_a_key_digits, area_of_a_key}
-use Rattle.mb_model_examples.specs.RecordValues.{statement, statement_bytes, statement_text_digits, chain_example, chain_bytes}
+use Rattle.mb_model_examples.specs.RecordValues.{statement, statement_bytes, statement_text_digits}
+use Rattle.mb_model_examples.specs.RecordValues.{chain_example, chain_bytes}
 use Rattle.mb_model_examples.specs.RecordValues.{stored, stored_bytes}
 use Rattle.mb_model_examples.specs.RecordValues.{noise_digits, officer_file, officer_file_digits, officer_public}
 use Rattle.mb_model_examples.specs.RecordValues.{officer_public_digits, surrender_body, new_key_body, load_three_body}

@@ -54,8 +54,8 @@ loaded_with n trust code =
 abbrev doubted : ℕ → Trust → Layer
 doubted n trust = record (running n trust) { reliable = false }
 
-abbrev newborn : Layers
-newborn = record { one = running 1 Always; two = unowned; three = unowned }
+abbrev newborn_layers : Layers
+newborn_layers = record { one = running 1 Always; two = unowned; three = unowned }
 
 abbrev established : Layers
 established = record { one = running 1 Always; two = bare 2 Never; three = unowned }
@@ -103,50 +103,50 @@ pub record AdmissionExamples : Type 0 where
 
 -- when an order may be given
 pub record ConditionExamples : Type 0 where
-  pub establish : condition newborn (Some Establish) 2 ≡ true
+  pub establish : condition newborn_layers (Some Establish) 2 ≡ true
   pub establish_owned : condition established (Some Establish) 2 ≡ false
-  pub establish_over_unowned : condition newborn (Some Establish) 3 ≡ false
-  pub establish_one : condition newborn (Some Establish) 1 ≡ false
+  pub establish_over_unowned : condition newborn_layers (Some Establish) 3 ≡ false
+  pub establish_one : condition newborn_layers (Some Establish) 1 ≡ false
   pub surrender : condition established (Some Surrender) 2 ≡ true
-  pub surrender_unowned : condition newborn (Some Surrender) 2 ≡ false
-  pub surrender_one : condition newborn (Some Surrender) 1 ≡ false
-  pub load_one : condition newborn (Some Load) 1 ≡ true
+  pub surrender_unowned : condition newborn_layers (Some Surrender) 2 ≡ false
+  pub surrender_one : condition newborn_layers (Some Surrender) 1 ≡ false
+  pub load_one : condition newborn_layers (Some Load) 1 ≡ true
   pub load_unreliable : condition established (Some Load) 2 ≡ false
   pub emergency : condition established (Some Emergency) 2 ≡ true
-  pub emergency_unowned : condition newborn (Some Emergency) 2 ≡ false
-  pub emergency_one : condition newborn (Some Emergency) 1 ≡ false
+  pub emergency_unowned : condition newborn_layers (Some Emergency) 2 ≡ false
+  pub emergency_one : condition newborn_layers (Some Emergency) 1 ≡ false
   pub new_key : condition (all_run Never) None 3 ≡ true
   pub new_key_unreliable : condition established None 2 ≡ false
-  pub new_key_one : condition newborn None 1 ≡ false
+  pub new_key_one : condition newborn_layers None 1 ≡ false
   -- layer 3 is reliable, and may not run over layer 2, which is not
   pub new_key_not_runnable : condition (record (all_run Never) { two = doubted 2 Never }) None 3 ≡ false
 
 -- who has to sign
 pub record AuthorityExamples : Type 0 where
-  pub establish : authority newborn (Some Establish) 2 ≡ Some (officer 1)
+  pub establish : authority newborn_layers (Some Establish) 2 ≡ Some (officer 1)
   pub surrender : authority established (Some Surrender) 2 ≡ Some (officer 2)
   pub load : authority (all_run Never) (Some Load) 3 ≡ Some (officer 3)
   pub emergency : authority (all_run Never) (Some Emergency) 3 ≡ Some (officer 2)
   pub new_key : authority (all_run Never) None 3 ≡ Some (officer 3)
   -- nobody may give an order over an unowned layer
-  pub over_unowned : authority newborn (Some Emergency) 3 ≡ None
+  pub over_unowned : authority newborn_layers (Some Emergency) 3 ≡ None
 
 -- which targets hold of a device with this serial, whose log is its birth
 pub record TargetExamples (serial : List ℕ) : Type 0 where
-  pub same_serial : TargetHolds serial newborn 1 (target.Serial serial)
-  pub length : TargetHolds serial newborn 1 (target.Length 1)
-  pub other_length : TargetHolds serial newborn 1 (target.Length 7) → ⊥
-  pub owner : TargetHolds serial newborn 1 (target.Owner 1 (sha256 (key_bytes (officer 1))))
-  pub unowned_layer : (hash : List ℕ) → TargetHolds serial newborn 1 (target.Owner 2 hash) → ⊥
-  pub code : TargetHolds serial newborn 1 (target.Code 1 (replicate 32 1))
-  pub no_code : (hash : List ℕ) → TargetHolds serial newborn 1 (target.Code 2 hash) → ⊥
+  pub same_serial : TargetHolds serial newborn_layers 1 (target.Serial serial)
+  pub length : TargetHolds serial newborn_layers 1 (target.Length 1)
+  pub other_length : TargetHolds serial newborn_layers 1 (target.Length 7) → ⊥
+  pub owner : TargetHolds serial newborn_layers 1 (target.Owner 1 (sha256 (key_bytes (officer 1))))
+  pub unowned_layer : (hash : List ℕ) → TargetHolds serial newborn_layers 1 (target.Owner 2 hash) → ⊥
+  pub code : TargetHolds serial newborn_layers 1 (target.Code 1 (replicate 32 1))
+  pub no_code : (hash : List ℕ) → TargetHolds serial newborn_layers 1 (target.Code 2 hash) → ⊥
 
 -- how layers stand, as a device tells it
 pub record StandingExamples : Type 0 where
   pub one : standing (record (all_run Never) { two = doubted 2 Never }) 1 ≡ stands.Runnable
   pub two : standing (record (all_run Never) { two = doubted 2 Never }) 2 ≡ stands.Unreliable
   pub three : standing (record (all_run Never) { two = doubted 2 Never }) 3 ≡ stands.Reliable
-  pub unowned_layer : standing newborn 2 ≡ stands.Unowned
+  pub unowned_layer : standing newborn_layers 2 ≡ stands.Unowned
 
 -- a load of version 7
 abbrev pub seven : Trust → List ℕ → Payload
@@ -154,7 +154,8 @@ seven trust code = record { version = 7; trust = equal_trusts trust; code = code
 
 -- what each kind of change leaves
 pub record AfterExamples : Type 0 where
-  pub establish : after newborn Establish 2 nobody (placed unowned (act.Establish (officer 2) (equal_trusts Never)))
+  pub establish : after newborn_layers Establish 2 nobody (placed unowned (act.Establish (officer 2)
+      (equal_trusts Never)))
       ≡ established
   -- layer 3 keeps its owner and its code, and is reliable no more
   pub surrender : after (all_run Always) Surrender 2 nobody (placed (running 2 Always) act.Surrender)

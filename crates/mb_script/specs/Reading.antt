@@ -50,5 +50,6 @@ pub record SaysSecret (text : List ℕ) (region : ℕ) (name : List ℕ) : Type 
 -- What stands after the count of a cut: how many bytes are kept, where that is said, and the word of the bytes that
 -- fill.
 pub data SaysTail (text : List ℕ) (keep : ℕ) (word : List ℕ) : Type 0 where
-  kept_some : keep ≤ 1048576 → text ≡ codes "keep " ++ decimal keep ++ 32 ∷ (codes "fill " ++ word) → SaysTail text keep word
+  kept_some : keep ≤ 1048576 → text ≡ codes "keep " ++ decimal keep ++ 32 ∷ (codes "fill " ++ word)
+      → SaysTail text keep word
   none : keep ≡ 0 → text ≡ codes "fill " ++ word → SaysTail text keep word

@@ -98,7 +98,8 @@ pub record HasInput {A : Type 0} (input : Input A) (before now : Outside) (value
   pub now_is : now ≡ read_once before
 
 -- the input was read and is at fault
-pub record HasInputFault {A : Type 0} (input : Input A) (before now : Outside) (role : Role) (place : Place) : Type 0 where
+pub record HasInputFault
+    {A : Type 0} (input : Input A) (before now : Outside) (role : Role) (place : Place) : Type 0 where
   pub role_is : role ≡ input.role
   pub bytes : List ℕ
   pub read : HasRead before input.name bytes
