@@ -273,6 +273,10 @@ def follow(source, world, step):
         source.compare(f"file {words[0]}", world.content(words[0]), None)
     elif kind == "Step::Ends":
         compare_end(source, world, *words)
+    elif kind == "Step::Serves":
+        script, noise, lines = words
+        world.writes("script", script)
+        compare_end(source, world, f"run image script {noise}", 0, lines)
 
 
 def compare_end(source, world, words, status, lines):

@@ -58,6 +58,9 @@ enum Step {
     /// The words end with this status and print these lines, of which one that ends in `*` stands for all that begin so, and
     /// one that is `**` for all that follow. A space separates words; one may be empty.
     Ends(&'static str, u8, &'static str),
+    /// The image is served a script of these parts, with the noise of this name, which ends with status 0 and prints these
+    /// lines.
+    Serves(&'static [Part], &'static str, &'static str),
     /// The file of this name has these bytes, in hexadecimal.
     Holds(&'static str, &'static str),
     /// The bytes of the file of this name have this hash.
@@ -144,6 +147,7 @@ fn go_through(
 fn take(rt: &(impl Abort + AllocGlobal), host: &mut MemoryHost, step: &Step) -> Result<(), Fail> {
     match step {
         Step::Ends(words, status, lines) => ends(rt, host, words, *status, lines),
+        Step::Serves(script, noise, lines) => serve(rt, host, script, noise, lines),
         Step::Holds(name, bytes) => file_is(rt, host, name, bytes),
         Step::HasHash(name, hash) => hash_is(rt, file_of(host, name)?, hash),
         Step::IsOrder(name, hash) => order_is(rt, file_of(host, name)?, hash),
@@ -374,6 +378,19 @@ fn ends(
     assert_eq!(rt; ended, status, "{words}");
     prints(rt, host, seen, lines);
     Ok(())
+}
+
+/// Serves the image a script of these parts, which ends with status 0 and prints these lines.
+fn serve(
+    rt: &(impl Abort + AllocGlobal),
+    host: &mut MemoryHost,
+    script: &[Part],
+    noise: &str,
+    lines: &str,
+) -> Result<(), Fail> {
+    write(rt.alloc(), host, "script", script)?;
+    let words = format!(in rt.alloc(); "run image script {noise}")?;
+    ends(rt, host, &words, 0, lines)
 }
 
 /// These lines were printed after so many bytes.

@@ -202,8 +202,7 @@ const ORDERS_OF_A_LIFE: &[Step] = &[
 /// Both upper layers have owners and code, and layer 3 has a key that has signed nothing.
 const LAYERS_ARE_GIVEN: &[Step] = &[
     Step::Writes("image", &[Part::File("fresh")]),
-    Step::Writes(
-        "script",
+    Step::Serves(
         &[
             Part::Text("boot\n"),
             Part::File("order1"),
@@ -212,22 +211,19 @@ const LAYERS_ARE_GIVEN: &[Step] = &[
             Part::File("order4"),
             Part::Text("off\n"),
         ],
-    ),
-    Step::Ends(
-        "run image script noise",
-        0,
+        "noise",
         "booted\ndone 1 2\ndone 2 3\ndone 3 4\ndone 4 5\noff\n",
     ),
     Step::Writes("keyless", &[Part::File("image")]),
-    Step::Writes(
-        "script",
+    Step::Serves(
         &[
             Part::Text("boot\n"),
             Part::File("order5"),
             Part::Text("off\n"),
         ],
+        "noise",
+        "booted\ndone 4 6\noff\n",
     ),
-    Step::Ends("run image script noise", 0, "booted\ndone 4 6\noff\n"),
     Step::Writes("keyed", &[Part::File("image")]),
 ];
 

@@ -14,8 +14,7 @@ const A_NEW_DEVICE: &[Step] = &[Step::Writes("image", &[Part::File("fresh")])];
 
 /// The life of a device whose layers are loaded again while they keep their secrets.
 const A_WHOLE_LIFE: &[Step] = &[
-    Step::Writes(
-        "script",
+    Step::Serves(
         &[
             Part::Text("boot\n"),
             Part::File("order1"),
@@ -30,10 +29,7 @@ const A_WHOLE_LIFE: &[Step] = &[
             Part::File("order7"),
             Part::Text("get 2 pin\nget 3 token\nstatus\noff\n"),
         ],
-    ),
-    Step::Ends(
-        "run image script draws",
-        0,
+        "draws",
         "booted\ndone 1 2\ndone 2 3\ndone 3 4\ndone 4 5\ndone 4 6\nat 2\nkept\nat 3\nkept\n\
         signed 1 0 000000040568656c6c6f0000000000000003027b799c6e*\noff\nbooted\ndone 5 7\ndone 6 8\n\
         value 31323334\nvalue 00ff\n\
@@ -227,18 +223,14 @@ const A_KEY_OF_A_CONFIGURATION: &[Step] = &[
     Step::Ends("sign officer2 draft9 order9", 0, "index 3\n"),
     Step::Ends("sign officer2 draft8 order8", 0, "index 4\n"),
     Step::Writes("image", &[Part::File("keyless")]),
-    Step::Writes(
-        "script",
+    Step::Serves(
         &[
             Part::Text("boot\n"),
             Part::File("order9"),
             Part::File("order7"),
             Part::Text("off\n"),
         ],
-    ),
-    Step::Ends(
-        "run image script noise",
-        0,
+        "noise",
         "booted\ndone 4 6\ndone 5 7\noff\n",
     ),
     Step::Ends("chain image chain", 0, "entries 7\n"),
@@ -249,17 +241,13 @@ const A_KEY_OF_A_CONFIGURATION: &[Step] = &[
         layer 2 68cd35f6dc5234d9a7e9df889d48ec8302912dee6f7c9fe17efeffa7bf970b63 \
         ba7816bf8f01cfea414140de5dae2223b00361a396177a9cb410ff61f20015ad 1 reliable countersigned\n",
     ),
-    Step::Writes(
-        "script",
+    Step::Serves(
         &[
             Part::Text("boot\n"),
             Part::File("order8"),
             Part::Text("sign 2 1 -\noff\n"),
         ],
-    ),
-    Step::Ends(
-        "run image script noise",
-        0,
+        "noise",
         "booted\ndone 6 8\nrefused 6 key\noff\n",
     ),
     Step::Ends("chain image chain", 0, "entries 8\n"),

@@ -6,30 +6,22 @@ use std::test::Fail;
 
 /// Secrets are put and a message is signed. What runs goes on across loads that are countersigned.
 const A_LIFE: &[Step] = &[
-    Step::Writes(
-        "script",
+    Step::Serves(
         &[Part::Text(
             "boot\ngo\nput 2 pin 31323334\ngo\nput 3 token 00ff\nsign 3 1 68656c6c6f\noff\n",
         )],
-    ),
-    Step::Ends(
-        "run image script nothing",
-        0,
+        "nothing",
         "booted\nat 2\nkept\nat 3\nkept\nsigned 1 0 000000040568656c6c6f0000000000000003*\noff\n",
     ),
     Step::Writes("lived", &[Part::File("image")]),
-    Step::Writes(
-        "script",
+    Step::Serves(
         &[
             Part::Text("boot\n"),
             Part::File("order6"),
             Part::File("order7"),
             Part::Text("get 2 pin\nget 3 token\nstatus\noff\n"),
         ],
-    ),
-    Step::Ends(
-        "run image script noise",
-        0,
+        "noise",
         "booted\ndone 5 7\ndone 6 8\nvalue 31323334\nvalue 00ff\n\
         status c10b471ceff881272aa5ed819fd9a0e0 6 8 runnable runnable runnable\noff\n",
     ),
@@ -42,8 +34,7 @@ const LAYER_THREE_AGREES: &[Step] = &[
     Step::Ends("sign officer1 draft12 rescue", 0, "index 3\n"),
     Step::Ends("countersign alone 3 rescue rescue", 0, "index 2\n"),
     Step::Writes("image", &[Part::File("lived")]),
-    Step::Writes(
-        "script",
+    Step::Serves(
         &[
             Part::Text("boot\n"),
             Part::File("alone6"),
@@ -51,10 +42,7 @@ const LAYER_THREE_AGREES: &[Step] = &[
             Part::File("rescue"),
             Part::Text("get 3 token\nget 2 pin\n"),
         ],
-    ),
-    Step::Ends(
-        "run image script noise",
-        0,
+        "noise",
         "booted\ndone 5 7\n\
         status c10b471ceff881272aa5ed819fd9a0e0 5 7 runnable unreliable reliable\nrefused 4 layer\n\
         done 6 8\nvalue 00ff\nabsent\n",
@@ -66,17 +54,13 @@ const A_COUNTERSIGNATURE_IS_WRONG: &[Step] = &[
     Step::Ends("countersign officer1 2 load wrong", 0, "index 4\n"),
     Step::Ends("countersign alone 3 wrong wrong", 0, "index 3\n"),
     Step::Writes("image", &[Part::File("lived")]),
-    Step::Writes(
-        "script",
+    Step::Serves(
         &[
             Part::Text("boot\n"),
             Part::File("wrong"),
             Part::Text("off\n"),
         ],
-    ),
-    Step::Ends(
-        "run image script noise",
-        0,
+        "noise",
         "booted\nrefused 14 countersignature\noff\n",
     ),
     Step::Matches("image", "lived"),
@@ -88,8 +72,7 @@ const ANOTHER_OWNER: &[Step] = &[
     Step::Ends("sign officer1 draft11 establish", 0, "index 5\n"),
     Step::Ends("sign officer4 draft4 emergency", 0, "index 0\n"),
     Step::Writes("image", &[Part::File("loaded")]),
-    Step::Writes(
-        "script",
+    Step::Serves(
         &[
             Part::Text("boot\n"),
             Part::File("surrender"),
@@ -102,10 +85,7 @@ const ANOTHER_OWNER: &[Step] = &[
             Part::File("rescue"),
             Part::Text("get 2 pin\nget 3 token\n"),
         ],
-    ),
-    Step::Ends(
-        "run image script noise",
-        0,
+        "noise",
         "booted\ndone 7 9\n\
         status c10b471ceff881272aa5ed819fd9a0e0 7 9 runnable unowned unreliable\nrefused 12 state\n\
         done 8 10\nrefused 13 signature\ndone 9 11\n\
@@ -117,28 +97,20 @@ const ANOTHER_OWNER: &[Step] = &[
 /// A life in which no layer has a key.
 const A_LIFE_WITHOUT_KEYS: &[Step] = &[
     Step::Writes("image", &[Part::File("keyless")]),
-    Step::Writes(
-        "script",
+    Step::Serves(
         &[Part::Text("boot\ngo\nput 2 pin 31323334\ngo\nput 3 token 00ff\noff\n")],
-    ),
-    Step::Ends(
-        "run image script nothing",
-        0,
+        "nothing",
         "booted\nat 2\nkept\nat 3\nkept\noff\n",
     ),
     Step::Writes("secret", &[Part::File("image")]),
-    Step::Writes(
-        "script",
+    Step::Serves(
         &[
             Part::Text("boot\n"),
             Part::File("order6"),
             Part::File("order7"),
             Part::Text("get 2 pin\nget 3 token\nstatus\noff\n"),
         ],
-    ),
-    Step::Ends(
-        "run image script noise",
-        0,
+        "noise",
         "booted\ndone 5 6\ndone 6 7\nvalue 31323334\nvalue 00ff\n\
         status c10b471ceff881272aa5ed819fd9a0e0 6 7 runnable runnable runnable\noff\n",
     ),
@@ -174,8 +146,7 @@ const A_LOAD_IS_CUT: &[Step] = &[
 /// What layers keep: a layer reaches what is its own or a layer's above it, and no region holds more than 16 secrets.
 const SECRETS_ARE_KEPT: &[Step] = &[
     Step::Writes("image", &[Part::File("keyed")]),
-    Step::Writes(
-        "script",
+    Step::Serves(
         &[Part::Text(
             "boot\nput 2 pin -\nget 2 pin\nput 2 pin 030a11181f262d343b424950575e656c737a81888f969da4abb2b9c0c7ced5dce3eaf1f8ff060d141b222930373e454c\
             535a61686f767d848b9299a0a7aeb5bcc3cad1d8dfe6edf4fb020910171e252c333a41484f565d646b727980878e959c\
@@ -184,10 +155,7 @@ const SECRETS_ARE_KEPT: &[Step] = &[
             put 3 g 07\nput 3 h 08\nput 3 i 09\nput 3 j 0a\nput 3 k 0b\nput 3 l 0c\nput 3 m 0d\nput 3 n 0e\n\
             put 3 o 0f\nput 3 p 10\nput 3 g 77\nput 3 q 11\ndrop 3 c\nput 3 q 11\nget 3 g\nget 3 q\ndrop 3 c\n",
         )],
-    ),
-    Step::Ends(
-        "run image script nothing",
-        0,
+        "nothing",
         "booted\nkept\nvalue -\nkept\nvalue 030a11181f262d343b424950575e656c737a81888f969da4abb2b9c0c7ced5dce3eaf1f8ff060d141b222930373e454c\
         535a61686f767d848b9299a0a7aeb5bcc3cad1d8dfe6edf4fb020910171e252c333a41484f565d646b727980878e959c\
         a3aab1b8bfc6cdd4dbe2e9f0f7fe050c131a21282f363d444b525960676e757c\n\
@@ -199,8 +167,7 @@ const SECRETS_ARE_KEPT: &[Step] = &[
 /// A key signs 32 times, each time with the next index, and a key that is not there never.
 const A_KEY_IS_SPENT: &[Step] = &[
     Step::Writes("image", &[Part::File("keyed")]),
-    Step::Writes(
-        "script",
+    Step::Serves(
         &[Part::Text(
             "boot\n\
             sign 3 1 -\nsign 3 1 -\nsign 3 1 -\nsign 3 1 -\nsign 3 1 -\nsign 3 1 -\nsign 3 1 -\nsign 3 1 -\n\
@@ -209,10 +176,7 @@ const A_KEY_IS_SPENT: &[Step] = &[
             sign 3 1 -\nsign 3 1 -\nsign 3 1 -\nsign 3 1 -\nsign 3 1 -\nsign 3 1 -\nsign 3 1 -\nsign 3 1 -\n\
             sign 3 1 -\nsign 3 9 -\n",
         )],
-    ),
-    Step::Ends(
-        "run image script nothing",
-        0,
+        "nothing",
         "booted\n\
         signed 1 0 *\nsigned 1 1 *\nsigned 1 2 *\nsigned 1 3 *\nsigned 1 4 *\nsigned 1 5 *\n\
         signed 1 6 *\nsigned 1 7 *\nsigned 1 8 *\nsigned 1 9 *\nsigned 1 10 *\nsigned 1 11 *\n\
@@ -227,13 +191,9 @@ const A_KEY_IS_SPENT: &[Step] = &[
 /// Power is lost at the first write of a signature, and at each: no index is used twice.
 const INDICES_ARE_USED_ONCE: &[Step] = &[
     Step::Writes("image", &[Part::File("keyed")]),
-    Step::Writes(
-        "script",
+    Step::Serves(
         &[Part::Text("boot\ncut 1 fill 00\nsign 3 1 -\nboot\nsign 3 1 -\n")],
-    ),
-    Step::Ends(
-        "run image script nothing",
-        0,
+        "nothing",
         "booted\narmed\nstopped\nbooted\nsigned 1 0 *\n",
     ),
     Step::IsCut(&Cut {
@@ -253,8 +213,7 @@ const A_KEY_ENDS: &[Step] = &[
     Step::Ends("sign officer2 draft9 order9", 0, "index 3\n"),
     Step::Ends("sign officer2 draft8 order8", 0, "index 4\n"),
     Step::Writes("image", &[Part::File("keyless")]),
-    Step::Writes(
-        "script",
+    Step::Serves(
         &[
             Part::Text("boot\n"),
             Part::File("order9"),
@@ -263,10 +222,7 @@ const A_KEY_ENDS: &[Step] = &[
             Part::File("order8"),
             Part::Text("sign 2 1 -\n"),
         ],
-    ),
-    Step::Ends(
-        "run image script noise",
-        0,
+        "noise",
         "booted\ndone 4 6\ndone 5 7\nsigned 1 0 *\ndone 6 8\nrefused 6 key\n",
     ),
 ];
@@ -274,8 +230,7 @@ const A_KEY_ENDS: &[Step] = &[
 /// A region holds eight keys.
 const KEYS_ARE_FULL: &[Step] = &[
     Step::Writes("image", &[Part::File("keyless")]),
-    Step::Writes(
-        "script",
+    Step::Serves(
         &[
             Part::Text("boot\n"),
             Part::File("order5"),
@@ -288,10 +243,7 @@ const KEYS_ARE_FULL: &[Step] = &[
             Part::File("order5"),
             Part::File("order5"),
         ],
-    ),
-    Step::Ends(
-        "run image script noise",
-        0,
+        "noise",
         "booted\ndone 4 6\ndone 4 7\ndone 4 8\ndone 4 9\ndone 4 10\ndone 4 11\ndone 4 12\ndone 4 13\n\
         refused 16 keys full\n",
     ),

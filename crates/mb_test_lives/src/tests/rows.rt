@@ -10,51 +10,39 @@ const THE_FIRST_ORDER: &[Step] = &[
     Step::Writes("image", &[Part::File("fresh")]),
     Step::Ends("run image nothing nothing", 0, ""),
     Step::Matches("image", "fresh"),
-    Step::Writes(
-        "script",
+    Step::Serves(
         &[Part::Text("command 00\nboot\ncommand 00\ncommand -\n")],
-    ),
-    Step::Ends(
-        "run image script noise",
-        0,
+        "noise",
         "refused 1 off\nbooted\nrefused 10 text\nrefused 10 text\n",
     ),
-    Step::Writes(
-        "script",
+    Step::Serves(
         &[
             Part::Text("boot\n"),
             Part::Without("order1", 3),
             Part::Text("\noff\n"),
         ],
-    ),
-    Step::Ends(
-        "run image script noise",
-        0,
+        "noise",
         "booted\nrefused 10 text\noff\n",
     ),
-    Step::Writes(
-        "script",
+    Step::Serves(
         &[
             Part::Text("boot\n"),
             Part::Without("order1", 5),
             Part::Text("bb00\noff\n"),
         ],
-    ),
-    Step::Ends(
-        "run image script noise",
-        0,
+        "noise",
         "booted\nrefused 13 signature\noff\n",
     ),
     Step::Matches("image", "fresh"),
-    Step::Writes(
-        "script",
+    Step::Serves(
         &[
             Part::Text("boot\n"),
             Part::File("order1"),
             Part::Text("off\n"),
         ],
+        "noise",
+        "booted\ndone 1 2\noff\n",
     ),
-    Step::Ends("run image script noise", 0, "booted\ndone 1 2\noff\n"),
     Step::Writes("owned", &[Part::File("image")]),
     Step::Ends(
         "run image script noise",
@@ -116,18 +104,14 @@ const NEW: &str =
 /// Power is lost before an order counts, and then the order is given again.
 const POWER_IS_LOST_EARLY: &[Step] = &[
     Step::Writes("image", &[Part::File("owned")]),
-    Step::Writes(
-        "script",
+    Step::Serves(
         &[
             Part::Text("boot\ncut 1 fill ff\n"),
             Part::File("order3"),
             Part::Text("boot\nstatus\n"),
             Part::File("order3"),
         ],
-    ),
-    Step::Ends(
-        "run image script noise",
-        0,
+        "noise",
         "booted\narmed\nstopped\nbooted\n\
         status c10b471ceff881272aa5ed819fd9a0e0 1 2 runnable unreliable unowned\ndone 2 3\n",
     ),
@@ -136,51 +120,47 @@ const POWER_IS_LOST_EARLY: &[Step] = &[
 /// Power is lost in the write by which an order counts: the byte that is left decides.
 const A_SELECTOR_IS_TORN: &[Step] = &[
     Step::Writes("image", &[Part::File("fresh")]),
-    Step::Writes(
-        "script",
+    Step::Serves(
         &[
             Part::Text("boot\ncut 4 fill 00\n"),
             Part::File("order1"),
             Part::Text("boot\nstatus\n"),
         ],
+        "noise",
+        OLD,
     ),
-    Step::Ends("run image script noise", 0, OLD),
     Step::Writes("image", &[Part::File("fresh")]),
-    Step::Writes(
-        "script",
+    Step::Serves(
         &[
             Part::Text("boot\ncut 4 fill 7e\n"),
             Part::File("order1"),
             Part::Text("boot\nstatus\n"),
         ],
+        "noise",
+        OLD,
     ),
-    Step::Ends("run image script noise", 0, OLD),
     Step::Writes("image", &[Part::File("fresh")]),
-    Step::Writes(
-        "script",
+    Step::Serves(
         &[
             Part::Text("boot\ncut 4 fill 01\n"),
             Part::File("order1"),
             Part::Text("boot\nstatus\n"),
         ],
+        "noise",
+        NEW,
     ),
-    Step::Ends("run image script noise", 0, NEW),
 ];
 
 /// Power is lost after an order counts, and again while the device settles.
 const POWER_IS_LOST_LATE: &[Step] = &[
     Step::Writes("image", &[Part::File("fresh")]),
-    Step::Writes(
-        "script",
+    Step::Serves(
         &[
             Part::Text("boot\ncut 5 fill 00\n"),
             Part::File("order1"),
             Part::Text("cut 1 fill 00\nboot\nboot\nstatus\noff\n"),
         ],
-    ),
-    Step::Ends(
-        "run image script noise",
-        0,
+        "noise",
         "booted\narmed\nstopped\narmed\nstopped\nbooted\n\
         status c10b471ceff881272aa5ed819fd9a0e0 1 2 runnable unreliable unowned\noff\n",
     ),
@@ -190,31 +170,23 @@ const POWER_IS_LOST_LATE: &[Step] = &[
 /// The case is opened while an order has signatures left to be made.
 const THE_CASE_IS_OPENED: &[Step] = &[
     Step::Writes("image", &[Part::File("fresh")]),
-    Step::Writes(
-        "script",
+    Step::Serves(
         &[
             Part::Text("boot\ncut 5 fill 00\n"),
             Part::File("order1"),
             Part::Text("tamper\nboot\nstatus\noff\nstatus\n"),
         ],
-    ),
-    Step::Ends(
-        "run image script noise",
-        0,
+        "noise",
         "booted\narmed\nstopped\ntampered\nrefused 3 zeroised\nrefused 3 zeroised\noff\nrefused 1 off\n",
     ),
     Step::EndsInZeros("image", BBRAM_LENGTH),
-    Step::Writes(
-        "script",
+    Step::Serves(
         &[
             Part::Text("boot\n"),
             Part::File("order1"),
             Part::Text("off\n"),
         ],
-    ),
-    Step::Ends(
-        "run image script noise",
-        0,
+        "noise",
         "refused 3 zeroised\nrefused 3 zeroised\noff\n",
     ),
 ];

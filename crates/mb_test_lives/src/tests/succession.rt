@@ -7,15 +7,15 @@ use std::test::Fail;
 /// Layer 2 has its owner.
 const OWNED: &[Step] = &[
     Step::Writes("image", &[Part::File("fresh")]),
-    Step::Writes(
-        "script",
+    Step::Serves(
         &[
             Part::Text("boot\n"),
             Part::File("order1"),
             Part::Text("off\n"),
         ],
+        "noise",
+        "booted\ndone 1 2\noff\n",
     ),
-    Step::Ends("run image script noise", 0, "booted\ndone 1 2\noff\n"),
     Step::Writes("owned", &[Part::File("image")]),
 ];
 
@@ -40,8 +40,7 @@ const KEYS_SUCCEED: &[Step] = &[
         ],
     ),
     Step::Writes("image", &[Part::File("owned")]),
-    Step::Writes(
-        "script",
+    Step::Serves(
         &[
             Part::Text("boot\n"),
             Part::File("order3"),
@@ -57,10 +56,7 @@ const KEYS_SUCCEED: &[Step] = &[
             Part::File("order8"),
             Part::Text("off\n"),
         ],
-    ),
-    Step::Ends(
-        "run image script noise",
-        0,
+        "noise",
         "booted\ndone 2 3\n\
         done 3 4\ndone 4 5\ndone 5 6\ndone 6 7\ndone 7 8\ndone 8 9\ndone 9 10\ndone 10 11\n\
         done 11 12\ndone 12 13\ndone 13 14\ndone 14 15\ndone 15 16\ndone 16 17\ndone 17 18\ndone 18 19\n\
@@ -68,8 +64,11 @@ const KEYS_SUCCEED: &[Step] = &[
         done 27 28\ndone 28 29\ndone 29 30\ndone 30 31\noff\n",
     ),
     Step::Writes("unspent", &[Part::File("image")]),
-    Step::Writes("script", &[Part::Text("boot\n"), Part::File("order8")]),
-    Step::Ends("run image script noise", 0, "booted\ndone 31 32\n"),
+    Step::Serves(
+        &[Part::Text("boot\n"), Part::File("order8")],
+        "noise",
+        "booted\ndone 31 32\n",
+    ),
     Step::Writes("used", &[Part::File("image")]),
     Step::Ends("run image script noise", 0, "booted\ndone 32 34\n"),
     Step::Writes("script", &[Part::Text("boot\n"), Part::File("load")]),
@@ -80,8 +79,7 @@ const KEYS_SUCCEED: &[Step] = &[
 const THE_LOG_IS_FULL: &[Step] = &[
     Step::Ends("countersign officer2 2 load agreed", 0, "index 1\n"),
     Step::Writes("image", &[Part::File("unspent")]),
-    Step::Writes(
-        "script",
+    Step::Serves(
         &[
             Part::Text("boot\n"),
             Part::File("agreed"),
@@ -103,10 +101,7 @@ const THE_LOG_IS_FULL: &[Step] = &[
             Part::File("agreed"),
             Part::Text("off\n"),
         ],
-    ),
-    Step::Ends(
-        "run image script noise",
-        0,
+        "noise",
         "booted\n\
         done 31 32\ndone 32 33\ndone 33 34\ndone 34 35\ndone 35 36\ndone 36 37\ndone 37 38\ndone 38 39\n\
         done 39 40\ndone 40 41\ndone 41 42\ndone 42 43\ndone 43 44\ndone 44 45\ndone 45 46\ndone 46 47\n\

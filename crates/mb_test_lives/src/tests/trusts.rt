@@ -67,8 +67,7 @@ const A_LIFE: &[Step] = &[
         ),
     }),
     Step::Writes("image", &[Part::File("fresh")]),
-    Step::Writes(
-        "script",
+    Step::Serves(
         &[
             Part::Text("boot\n"),
             Part::File("order1"),
@@ -84,10 +83,7 @@ const A_LIFE: &[Step] = &[
             Part::File("order7"),
             Part::Text("get 2 pin\nget 3 token\nstatus\noff\n"),
         ],
-    ),
-    Step::Ends(
-        "run image script draws",
-        0,
+        "draws",
         "booted\ndone 1 2\ndone 2 3\ndone 3 4\ndone 4 5\ndone 4 6\nat 2\nkept\nat 3\nkept\n\
         signed 1 0 000000040568656c6c6f0000000000000003027b799c6e*\noff\nbooted\ndone 5 7\nvalue 00ff\n\
         done 6 8\nvalue 31323334\nrefused 4 layer\n\
