@@ -29,6 +29,7 @@ pub mod FactoryLemmas
 pub mod ChainLemmas
 pub mod AttachLemmas
 pub mod OrderLemmas
+pub mod ReplyTests
 pub mod RefusalLemmas
 pub mod AuditLemmas
 pub mod ScriptLemmas

@@ -6,7 +6,6 @@ use Rattle.mb_format.specs.Format.{IsBytes}
 use Rattle.mb_model.specs.declared.event.Event.{Event}
 use Rattle.mb_model.specs.declared.event.Event.TheVariants as event
 use Rattle.mb_model.specs.declared.region.RegionKey.{RegionKey}
-use Rattle.mb_model.specs.declared.region.Secret.{Secret}
 use Rattle.mb_model.specs.declared.reply.Reply.{Reply}
 use Rattle.mb_model.specs.declared.reply.Reply.TheVariants as reply
 use Rattle.mb_model.specs.declared.state.State.{State}
@@ -15,10 +14,10 @@ use Rattle.mb_model.specs.declared.reply.Refusal.{Refusal}
 use Rattle.mb_model.specs.declared.reply.Refusal.TheVariants.{WrongPhase, Zeroised, WrongLayer}
 use Rattle.mb_model.specs.Refusals.{refused}
 use Rattle.mb_model.specs.Regions.{region_of}
-use Rattle.mb_model.specs.OrderStep.{OrderStep, spells_none, fails_check, is_obeyed}
-use Rattle.mb_model.specs.LayerEvents.{Outcome, on_region, has_name, has_number, value_reply, put_event, get_event, drop_event, sign_with, sign_event}
-use Rattle.mb_model.specs.Machine.{Phase, off, dead, ratchet, World, Told, boot_event, awake, awake_in, status_of, status_event, go_event, region_event, CommandStep, Machine, may_be_cut, Step, answered, lacks_memory, loses_power}
+use Rattle.mb_model.specs.LayerEvents.{Outcome, on_region, has_name, has_number, put_event, get_event, drop_event, sign_with, sign_event}
+use Rattle.mb_model.specs.Machine.{Phase, off, dead, ratchet, World, Told, boot_event, awake, awake_in, status_event, go_event, region_event, CommandStep, Machine, may_be_cut, Step, answered, lacks_memory, loses_power}
 use Rattle.mb_model_lemmas.specs.RefusalLaws.{Leaves, BringsBytes, IsPhase}
+use Rattle.mb_model_lemmas.proofs.ReplyTests.{HasValue, either_has, boot_has, status_has, go_has, region_has, put_has, get_has, drop_has, command_has}
 use Rattle.mb_model_lemmas.proofs.OrderLemmas.{one_order_step, some_order_step, refused_order_leaves}
 
 -- ---- refusals
@@ -160,85 +159,45 @@ is_own reply.NoMemory = false
 is_own reply.Stopped = false
 is_own other = true
 
-either_own : (b : Bool) (x y : Outcome) → is_own x.0 ≡ true → is_own y.0 ≡ true → is_own (if b then x else y).0 ≡ true
-either_own true x y first second = first
-either_own false x y first second = second
-
-put_own : (L : ℕ) (name value : List ℕ) (state : State) → is_own (put_event L name value state).0 ≡ true
-unfolding put_event
-put_own L name value state =
-    either_own (not (list_any (has_name name) (region_of state L).secrets) && nat_le 16 (length (region_of state L).secrets)) _ _ refl refl
-
-value_own : (secret : Option Secret) → is_own (value_reply secret) ≡ true
-value_own None = refl
-value_own (Some secret) = refl
-
-get_own : (L : ℕ) (name : List ℕ) (state : State) → is_own (get_event L name state).0 ≡ true
-unfolding get_event
-get_own L name state = value_own (find (has_name name) (region_of state L).secrets)
-
-drop_own : (L : ℕ) (name : List ℕ) (state : State) → is_own (drop_event L name state).0 ≡ true
-unfolding drop_event
-drop_own L name state = either_own (list_any (has_name name) (region_of state L).secrets) _ _ refl refl
+own_replies : HasValue is_own true
+own_replies = record {
+  booted = refl;
+  off = refl;
+  tampered = refl;
+  armed = refl;
+  at = λ layer. refl;
+  done = λ number size. refl;
+  kept = refl;
+  dropped = refl;
+  secret = λ bytes. refl;
+  absent = refl;
+  status = λ serial number size one two three. refl;
+  refused = λ number. refl;
+}
 
 sign_with_own : (L : ℕ) (key : Option RegionKey) (message : List ℕ) (state : State) → is_own (sign_with L key message state).0 ≡ true
 sign_with_own L None message state = refl
-sign_with_own L (Some key) message state = either_own (nat_le 32 key.uses) _ _ refl refl
+sign_with_own L (Some key) message state = either_has (λ (outcome : Outcome). is_own outcome.0) true (nat_le 32 key.uses) _ _ refl refl
 
 sign_own : (L number : ℕ) (message : List ℕ) (state : State) → is_own (sign_event L number message state).0 ≡ true
 unfolding sign_event
 sign_own L number message state = sign_with_own L (find (has_number number) (region_of state L).keys) message state
 
-region_own : (world : World) (L : ℕ) (does : State → Outcome) (on : Result (ℕ × State) Refusal) → ((state : State) → is_own (does state).0 ≡ true) → is_own (region_event world L does on).0 ≡ true
-region_own world L does (Err refusal) own = refl
-region_own world L does (Ok on) own =
-    either_own (nat_lt L on.0 || not (is_runnable on.1.layers L)) (refused WrongLayer, on.1) (does on.1) refl (own on.1)
-
-boot_own : (world : World) (phase : Phase) (state : Option State) → is_own (boot_event world phase state).0 ≡ true
-boot_own world off (Some state) = refl
-boot_own world off None = refl
-boot_own world dead state = refl
-boot_own world (ratchet r) state = refl
-
-status_own : (world : World) (on : Result (ℕ × State) Refusal) → is_own (status_event world on).0 ≡ true
-unfolding status_of
-status_own world (Err refusal) = refl
-status_own world (Ok on) = refl
-
-either_told : (b : Bool) (x y : Told) → is_own x.0 ≡ true → is_own y.0 ≡ true → is_own (if b then x else y).0 ≡ true
-either_told true x y first second = first
-either_told false x y first second = second
-
-go_own : (world : World) (on : Result (ℕ × State) Refusal) → is_own (go_event world on).0 ≡ true
-go_own world (Err refusal) = refl
-go_own world (Ok on) =
-    either_told (nat_lt 2 on.0) _ _ refl (either_told (is_runnable on.1.layers (on.0 + 1)) _ _ refl refl)
-
-order_own : (state : State) (text draw : List ℕ) (answer : Reply) (next : State) → OrderStep state text draw answer next → is_own answer ≡ true
-order_own state text draw answer next (spells_none p) = ap is_own p.answered
-order_own state text draw answer next (fails_check p) = ap is_own p.answered
-order_own state text draw answer next (is_obeyed p) = ap is_own p.answered
-
-command_own : (world : World) (text draw : List ℕ) (on : Result (ℕ × State) Refusal) (answer : Reply) (next : World) → CommandStep world text draw on answer next → is_own answer ≡ true
-command_own world text draw (Err refusal) answer next x = ap is_own x.0
-command_own world text draw (Ok on) answer next (inl x) = order_own on.1 text draw answer x.1.0 x.1.1
-command_own world text draw (Ok on) answer next (inr x) = ap is_own x.1
-
 told_own : (answer : Reply) (next : World) (told : Told) → ◌≡◌ {A = Told} (answer, next) told → is_own told.0 ≡ true → is_own answer ≡ true
 told_own answer next told e own = ap (λ (t : Told). is_own t.0) e ∙ own
 
 machine_own : (world : World) (given : Event) (answer : Reply) (next : World) → Machine world given answer next → is_own answer ≡ true
-machine_own world event.Boot answer next x = told_own answer next (boot_event world world.phase world.state) x (boot_own world world.phase world.state)
+machine_own world event.Boot answer next x = told_own answer next (boot_event world world.phase world.state) x (boot_has is_own true own_replies world world.phase world.state)
 machine_own world event.Off answer next x = ap is_own x.0
 machine_own world event.Tamper answer next x = ap is_own x.0
 machine_own world (event.Cut count tear) answer next x = ap is_own x.0
-machine_own world event.Status answer next x = told_own answer next (status_event world (awake_in world)) x (status_own world (awake_in world))
-machine_own world (event.Command text draw) answer next x = command_own world text draw (awake_in world) answer next x
-machine_own world event.Go answer next x = told_own answer next (go_event world (awake_in world)) x (go_own world (awake_in world))
-machine_own world (event.Put L name value) answer next x = told_own answer next (region_event world L (put_event L name value) (awake_in world)) x (region_own world L (put_event L name value) (awake_in world) (put_own L name value))
-machine_own world (event.Get L name) answer next x = told_own answer next (region_event world L (get_event L name) (awake_in world)) x (region_own world L (get_event L name) (awake_in world) (get_own L name))
-machine_own world (event.Drop L name) answer next x = told_own answer next (region_event world L (drop_event L name) (awake_in world)) x (region_own world L (drop_event L name) (awake_in world) (drop_own L name))
-machine_own world (event.Sign L key message) answer next x = told_own answer next (region_event world L (sign_event L key message) (awake_in world)) x (region_own world L (sign_event L key message) (awake_in world) (sign_own L key message))
+machine_own world event.Status answer next x = told_own answer next (status_event world (awake_in world)) x (status_has is_own true own_replies world (awake_in world))
+machine_own world (event.Command text draw) answer next x = command_has is_own true own_replies world text draw (awake_in world) answer next x
+machine_own world event.Go answer next x = told_own answer next (go_event world (awake_in world)) x (go_has is_own true own_replies world (awake_in world))
+machine_own world (event.Put L name value) answer next x = told_own answer next (region_event world L (put_event L name value) (awake_in world)) x (region_has is_own true own_replies world L (put_event L name value) (awake_in world) (put_has is_own true own_replies L name value))
+machine_own world (event.Get L name) answer next x = told_own answer next (region_event world L (get_event L name) (awake_in world)) x (region_has is_own true own_replies world L (get_event L name) (awake_in world) (get_has is_own true own_replies L name))
+machine_own world (event.Drop L name) answer next x = told_own answer next (region_event world L (drop_event L name) (awake_in world)) x (region_has is_own true own_replies world L (drop_event L name) (awake_in world) (drop_has is_own true own_replies L name))
+machine_own world (event.Sign L key message) answer next x = told_own answer next (region_event world L (sign_event L key message) (awake_in world)) x (region_has is_own true own_replies world L (sign_event L key message) (awake_in world) (sign_own L key message))
 
 not_own : (answer other : Reply) → is_own other ≡ false → is_own answer ≡ true → answer ≡ other → ⊥
 not_own answer other foreign own same =

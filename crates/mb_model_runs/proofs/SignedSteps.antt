@@ -1,11 +1,9 @@
 -- What a step comes to that is answered by a statement: a key of a region has signed it.
-use Rattle.std.proofs.Common.{◌≡◌, ◌<◌, ℕ, ◌+◌, List, [], ◌∷◌, inl, inr, length, Option, None, Some, Bool, true, false, refl, sym, ap, ◌∙◌, arith}
-use Rattle.std.specs.Prelude.{Result, Ok, Err, not, nat_lt, nat_le, ◌&&◌, ◌||◌, find, if◌then◌else◌, Contains, suc, cond}
-use Rattle.std.specs.List.{list_any}
+use Rattle.std.proofs.Common.{◌≡◌, ◌<◌, ℕ, List, [], ◌∷◌, Option, None, Some, Bool, true, false, refl, sym, ap, ◌∙◌, arith}
+use Rattle.std.specs.Prelude.{Result, Ok, Err, not, nat_lt, nat_le, ◌||◌, find, if◌then◌else◌, Contains, suc, cond}
 use Rattle.mb_model.specs.declared.event.Event.{Event}
 use Rattle.mb_model.specs.declared.event.Event.TheVariants as event
 use Rattle.mb_model.specs.declared.region.RegionKey.{RegionKey}
-use Rattle.mb_model.specs.declared.region.Secret.{Secret}
 use Rattle.mb_model.specs.declared.reply.Reply.{Reply}
 use Rattle.mb_model.specs.declared.reply.Reply.TheVariants as reply
 use Rattle.mb_model.specs.declared.state.State.{State}
@@ -14,12 +12,12 @@ use Rattle.mb_model.specs.declared.reply.Refusal.{Refusal}
 use Rattle.mb_model.specs.declared.reply.Refusal.TheVariants.{WrongLayer, KeySpent}
 use Rattle.mb_model.specs.Refusals.{refused}
 use Rattle.mb_model.specs.Regions.{region_of}
-use Rattle.mb_model.specs.OrderStep.{OrderStep, spells_none, fails_check, is_obeyed}
-use Rattle.mb_model.specs.LayerEvents.{Outcome, on_region, has_name, has_number, value_reply, put_event, get_event, drop_event, statement_of, sign_with, sign_event}
+use Rattle.mb_model.specs.LayerEvents.{Outcome, on_region, has_number, put_event, get_event, drop_event, statement_of, sign_with, sign_event}
 use Rattle.mb_model.specs.Listing.{is_signed}
 use Rattle.mb_model.specs.ChainFormat.{statement_format}
-use Rattle.mb_model.specs.Machine.{Phase, off, dead, ratchet, World, Told, boot_event, awake_in, status_of, status_event, go_event, region_event, CommandStep, Machine, Step, answered, lacks_memory, loses_power}
+use Rattle.mb_model.specs.Machine.{World, Told, awake_in, region_event, Machine, Step, answered, lacks_memory, loses_power}
 use Rattle.mb_model_lemmas.proofs.RefusalLemmas.{awake_state}
+use Rattle.mb_model_lemmas.proofs.ReplyTests.{HasValue, boot_has, status_has, go_has, region_has, put_has, get_has, drop_has, command_has}
 use Rattle.mb_model_memory.proofs.StorableSteps.{found_number}
 use Rattle.mb_model_runs.proofs.KeptByRuns.{with_one_use}
 
@@ -119,62 +117,21 @@ not_signed n index statement other unsigned e =
     let clash : true ≡ false = ap is_signed e ∙ unsigned in
     grind (arith, clash)
 
-boot_unsigned : (world : World) (phase : Phase) (state : Option State) → is_signed (boot_event world phase state).0 ≡ false
-boot_unsigned world off (Some state) = refl
-boot_unsigned world off None = refl
-boot_unsigned world dead state = refl
-boot_unsigned world (ratchet r) state = refl
-
-status_unsigned : (world : World) (on : Result (ℕ × State) Refusal) → is_signed (status_event world on).0 ≡ false
-unfolding status_of
-status_unsigned world (Err refusal) = refl
-status_unsigned world (Ok on) = refl
-
-either_told : (b : Bool) (x y : Told) → is_signed x.0 ≡ false → is_signed y.0 ≡ false → is_signed (if b then x else y).0 ≡ false
-either_told true x y first second = first
-either_told false x y first second = second
-
-go_unsigned : (world : World) (on : Result (ℕ × State) Refusal) → is_signed (go_event world on).0 ≡ false
-go_unsigned world (Err refusal) = refl
-go_unsigned world (Ok on) =
-    either_told (nat_lt 2 on.0) _ _ refl (either_told (is_runnable on.1.layers (on.0 + 1)) _ _ refl refl)
-
-either_unsigned : (b : Bool) (x y : Outcome) → is_signed x.0 ≡ false → is_signed y.0 ≡ false → is_signed (if b then x else y).0 ≡ false
-either_unsigned true x y first second = first
-either_unsigned false x y first second = second
-
-put_unsigned : (L : ℕ) (name value : List ℕ) (state : State) → is_signed (put_event L name value state).0 ≡ false
-unfolding put_event
-put_unsigned L name value state =
-    either_unsigned (not (list_any (has_name name) (region_of state L).secrets) && nat_le 16 (length (region_of state L).secrets)) _ _ refl refl
-
-value_unsigned : (secret : Option Secret) → is_signed (value_reply secret) ≡ false
-value_unsigned None = refl
-value_unsigned (Some secret) = refl
-
-get_unsigned : (L : ℕ) (name : List ℕ) (state : State) → is_signed (get_event L name state).0 ≡ false
-unfolding get_event
-get_unsigned L name state = value_unsigned (find (has_name name) (region_of state L).secrets)
-
-drop_unsigned : (L : ℕ) (name : List ℕ) (state : State) → is_signed (drop_event L name state).0 ≡ false
-unfolding drop_event
-drop_unsigned L name state = either_unsigned (list_any (has_name name) (region_of state L).secrets) _ _ refl refl
-
-region_unsigned : (world : World) (L : ℕ) (does : State → Outcome) (on : Result (ℕ × State) Refusal) → ((state : State) → is_signed (does state).0 ≡ false)
-    → is_signed (region_event world L does on).0 ≡ false
-region_unsigned world L does (Err refusal) each = refl
-region_unsigned world L does (Ok on) each =
-    either_unsigned (nat_lt L on.0 || not (is_runnable on.1.layers L)) (refused WrongLayer, on.1) (does on.1) refl (each on.1)
-
-order_unsigned : (state : State) (text draw : List ℕ) (answer : Reply) (next : State) → OrderStep state text draw answer next → is_signed answer ≡ false
-order_unsigned state text draw answer next (spells_none p) = ap is_signed p.answered
-order_unsigned state text draw answer next (fails_check p) = ap is_signed p.answered
-order_unsigned state text draw answer next (is_obeyed p) = ap is_signed p.answered
-
-command_unsigned : (world : World) (text draw : List ℕ) (on : Result (ℕ × State) Refusal) (answer : Reply) (next : World) → CommandStep world text draw on answer next → is_signed answer ≡ false
-command_unsigned world text draw (Err refusal) answer next x = ap is_signed x.0
-command_unsigned world text draw (Ok on) answer next (inl x) = order_unsigned on.1 text draw answer x.1.0 x.1.1
-command_unsigned world text draw (Ok on) answer next (inr x) = ap is_signed x.1
+no_statements : HasValue is_signed false
+no_statements = record {
+  booted = refl;
+  off = refl;
+  tampered = refl;
+  armed = refl;
+  at = λ layer. refl;
+  done = λ number size. refl;
+  kept = refl;
+  dropped = refl;
+  secret = λ bytes. refl;
+  absent = refl;
+  status = λ serial number size one two three. refl;
+  refused = λ number. refl;
+}
 
 -- ---- the step
 
@@ -198,20 +155,20 @@ region_signs world L number message (Ok on) n index statement next is e =
 
 machine_signs : (world : World) (given : Event) (n index : ℕ) (statement : List ℕ) (next : World) → Machine world given (reply.Signed n index statement) next
     → StepSigns world given n index statement next
-machine_signs world event.Boot n index statement next x = absurd (not_told n index statement next _ (boot_unsigned world world.phase world.state) x)
+machine_signs world event.Boot n index statement next x = absurd (not_told n index statement next _ (boot_has is_signed false no_statements world world.phase world.state) x)
 machine_signs world event.Off n index statement next x = absurd (not_signed n index statement reply.Off refl x.0)
 machine_signs world event.Tamper n index statement next x = absurd (not_signed n index statement reply.Tampered refl x.0)
 machine_signs world (event.Cut count tear) n index statement next x = absurd (not_signed n index statement reply.Armed refl x.0)
-machine_signs world event.Status n index statement next x = absurd (not_told n index statement next _ (status_unsigned world (awake_in world)) x)
+machine_signs world event.Status n index statement next x = absurd (not_told n index statement next _ (status_has is_signed false no_statements world (awake_in world)) x)
 machine_signs world (event.Command text draw) n index statement next x =
-    absurd (not_signed n index statement (reply.Signed n index statement) (command_unsigned world text draw (awake_in world) (reply.Signed n index statement) next x) refl)
-machine_signs world event.Go n index statement next x = absurd (not_told n index statement next _ (go_unsigned world (awake_in world)) x)
+    absurd (not_signed n index statement (reply.Signed n index statement) (command_has is_signed false no_statements world text draw (awake_in world) (reply.Signed n index statement) next x) refl)
+machine_signs world event.Go n index statement next x = absurd (not_told n index statement next _ (go_has is_signed false no_statements world (awake_in world)) x)
 machine_signs world (event.Put L name value) n index statement next x =
-    absurd (not_told n index statement next _ (region_unsigned world L (put_event L name value) (awake_in world) (put_unsigned L name value)) x)
+    absurd (not_told n index statement next _ (region_has is_signed false no_statements world L (put_event L name value) (awake_in world) (put_has is_signed false no_statements L name value)) x)
 machine_signs world (event.Get L name) n index statement next x =
-    absurd (not_told n index statement next _ (region_unsigned world L (get_event L name) (awake_in world) (get_unsigned L name)) x)
+    absurd (not_told n index statement next _ (region_has is_signed false no_statements world L (get_event L name) (awake_in world) (get_has is_signed false no_statements L name)) x)
 machine_signs world (event.Drop L name) n index statement next x =
-    absurd (not_told n index statement next _ (region_unsigned world L (drop_event L name) (awake_in world) (drop_unsigned L name)) x)
+    absurd (not_told n index statement next _ (region_has is_signed false no_statements world L (drop_event L name) (awake_in world) (drop_has is_signed false no_statements L name)) x)
 machine_signs world (event.Sign L key message) n index statement next x = region_signs world L key message (awake_in world) n index statement next refl x
 
 pub step_signs : (world : World) (given : Event) (n index : ℕ) (statement : List ℕ) (next : World) → Step world given (reply.Signed n index statement) next
