@@ -7,7 +7,7 @@ use std::process::Abort;
 /// Whether the key that is made from the noise has this file, and is read from it again.
 fn has_file(noise: &[u8; 32], file: &[u8; 56]) -> bool {
     let key = make_key(noise);
-    key.next == 0 && write_keyfile(&key) == *file && read_keyfile(file) == Ok(key)
+    key.next.number() == 0 && write_keyfile(&key) == *file && read_keyfile(file) == Ok(key)
 }
 
 /// The key that is made from the noise has this file, and is read from it again.

@@ -43,7 +43,6 @@ fn countersigner() -> Option<Keyfile>
 
 /// Signs the order, on a count of its own.
 fn signed(alloc: Global, k: &mut Keyfile, order: &mut Order) -> Result<u32, SignEnd>
-    requires next { k.old.next ≤ 32 }
     requires spelled { order_format.Allowed order.old }
     ensures spelled { OnOk result (order_format.Allowed order.new) }
     ensures unchanged { OnErr result ((k.new ≡ k.old) × (order.new ≡ order.old)) }
@@ -57,7 +56,6 @@ fn signed_counted<L: Ledger>(
     order: &mut Order,
     blank: Blank,
 ) -> Result<u32, SignEnd>
-    requires next { k.old.next ≤ 32 }
     requires spelled { order_format.Allowed order.old }
     requires name { blank.name ≡ L.name }
     requires parts { blank.parts ≡ L.parts }
@@ -75,7 +73,6 @@ fn countersigned(
     layer: u8,
     order: &mut Order,
 ) -> Result<u32, SignEnd>
-    requires next { k.old.next ≤ 32 }
     requires spelled { order_format.Allowed order.old }
     requires layer { IsTrue (is_upper layer) }
     ensures spelled { OnOk result (order_format.Allowed order.new) }
@@ -90,7 +87,6 @@ fn countersigned_counted<L: Ledger>(
     order: &mut Order,
     blank: Blank,
 ) -> Result<u32, SignEnd>
-    requires next { k.old.next ≤ 32 }
     requires spelled { order_format.Allowed order.old }
     requires layer { IsTrue (is_upper layer) }
     requires name { blank.name ≡ L.name }
@@ -167,7 +163,7 @@ pub fn is_signed(alloc: Global, order: &mut Order) -> bool
 {
     match signer() {
         Some(mut key) => match signed(alloc, &mut key, order) {
-            Ok(index) => index == 0 && key.next == 1,
+            Ok(index) => index == 0 && key.next.number() == 1,
             Err(_) => false,
         },
         None => false,
