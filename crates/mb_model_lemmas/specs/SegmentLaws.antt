@@ -1,0 +1,101 @@
+-- Laws of a flash in segments. Does it hold one list of codes and one log, and does a flash that is written from nothing
+-- hold what was written?
+use Rattle.std.specs.Prelude.{◌≡◌, ◌<◌, ◌≤◌, ℕ, List, [], length, All, IfSome, Option, None, Some}
+use Rattle.mb_format.specs.Format.{IsBytes}
+use Rattle.mb_model.specs.declared.limits.TheConstants.{CODE_LIMIT, ENTRY_LIMIT, FLASH_LENGTH}
+use Rattle.mb_model.specs.declared.entry.Entry.{Entry}
+use Rattle.mb_model.specs.declared.entry.SignedEntry.{SignedEntry}
+use Rattle.mb_model.specs.declared.state.Codes.{Codes}
+use Rattle.mb_model.specs.declared.stored.Root.{Root}
+use Rattle.mb_model.specs.declared.stored.Slot.{Slot}
+use Rattle.mb_model.specs.declared.stored.Header.{Header}
+use Rattle.mb_model.specs.EntryFormat.{entry_format, signed_entry_format}
+use Rattle.mb_model.specs.Sectors.{log_sector}
+use Rattle.mb_model.specs.Segments.{sector, HoldsHeader, HoldsCode, HoldsEntry, HoldsLog, AreBytesOf, HoldsSegments}
+use Rattle.mb_model.specs.WrittenFlash.{written_flash}
+
+-- ---- one value
+
+-- a header area of a flash of bytes holds one header
+abbrev pub AreasHoldOneHeader : Type 0
+AreasHoldOneHeader =
+    (flash : List ℕ) (area : ℕ) (header other : Header) → IsBytes flash → HoldsHeader flash area header
+    → HoldsHeader flash area other → header ≡ other
+
+-- for a root, a flash of bytes holds one list of codes and one list of entries, signed and unsigned
+abbrev pub SegmentsHoldOne : Type 0
+SegmentsHoldOne =
+    (flash : List ℕ) (root : Root) (codes other_codes : Codes) (signed other_signed : List SignedEntry)
+    (unsigned other_unsigned : List Entry) → IsBytes flash → HoldsSegments flash root codes signed unsigned
+    → HoldsSegments flash root other_codes other_signed other_unsigned
+    → (codes ≡ other_codes) × (signed ≡ other_signed) × (unsigned ≡ other_unsigned)
+
+-- this sector of the log holds no entry
+abbrev pub HoldsNoEntry : List ℕ → ℕ → Type 0
+HoldsNoEntry flash position = (signed : SignedEntry) → HoldsEntry (sector flash (log_sector position)) signed → ⊥
+
+-- where the one header of an area counts a sector of the log that holds no entry, the flash holds nothing for a root that
+-- names this area
+abbrev pub BadLogSectorsHoldNothing : Type 0
+BadLogSectorsHoldNothing =
+    (flash : List ℕ) (root : Root) (header : Header) (position : ℕ)
+    → ((any : Header) → HoldsHeader flash root.area any → any ≡ header) → position < header.signed
+    → HoldsNoEntry flash position → (codes : Codes) (signed : List SignedEntry) (unsigned : List Entry)
+    → HoldsSegments flash root codes signed unsigned → ⊥
+
+-- ---- what a flash holds has a spelling
+
+-- the numbers of a header name slots that there are, and a log that there can be
+pub record IsSmallHeader (header : Header) : Type 0 where
+  pub one : header.one.which ≤ 2
+  pub two : header.two.which ≤ 2
+  pub three : header.three.which ≤ 2
+  pub least : 1 ≤ header.signed
+  pub most : header.signed ≤ ENTRY_LIMIT
+
+-- so it is with each header in its area
+abbrev pub HeldHeadersAreSmall : Type 0
+HeldHeadersAreSmall = (flash : List ℕ) (area : ℕ) (header : Header) → HoldsHeader flash area header → IsSmallHeader header
+
+-- each entry of a log in its sectors has a spelling
+abbrev pub HeldLogsAreAllowed : Type 0
+HeldLogsAreAllowed =
+    (flash : List ℕ) (log : List SignedEntry) → HoldsLog flash log → All signed_entry_format.Allowed log
+
+-- so has each entry that the texts of a header spell
+abbrev pub HeldTextsAreAllowed : Type 0
+HeldTextsAreAllowed =
+    (first second : Option (List ℕ)) (unsigned : List Entry) → AreBytesOf first second unsigned
+    → All entry_format.Allowed unsigned
+
+-- code in a slot fits it
+abbrev pub HeldCodesAreShort : Type 0
+HeldCodesAreShort =
+    (flash : List ℕ) (layer : ℕ) (slot : Slot) (code : List ℕ) → HoldsCode flash layer slot (Some code)
+    → length code ≤ CODE_LIMIT
+
+-- ---- a flash that is written from nothing
+
+-- each code fits its slot
+pub record CodesFitSlots (codes : Codes) : Type 0 where
+  pub one : IfSome codes.one (λ code. length code ≤ CODE_LIMIT)
+  pub two : IfSome codes.two (λ code. length code ≤ CODE_LIMIT)
+  pub three : IfSome codes.three (λ code. length code ≤ CODE_LIMIT)
+
+-- a log of 1 to 128 entries that have spellings
+pub record LogFitsSectors (log : List SignedEntry) : Type 0 where
+  pub some : 1 ≤ length log
+  pub few : length log ≤ ENTRY_LIMIT
+  pub allowed : All signed_entry_format.Allowed log
+
+-- a written flash is as long as a flash
+abbrev pub WrittenFlashIsWhole : Type 0
+WrittenFlashIsWhole =
+    (codes : Codes) (log : List SignedEntry) → CodesFitSlots codes → LogFitsSectors log
+    → length (written_flash codes log) ≡ FLASH_LENGTH
+
+-- it holds its codes and its log for a root that names area 0 and has no pending work
+abbrev pub WrittenFlashHolds : Type 0
+WrittenFlashHolds =
+    (codes : Codes) (log : List SignedEntry) (root : Root) → CodesFitSlots codes → LogFitsSectors log → root.area ≡ 0
+    → root.pending ≡ None → HoldsSegments (written_flash codes log) root codes log []
