@@ -1,7 +1,7 @@
 -- What stands in a flash in segments can be spelled, and what was written there stands.
-use Rattle.std.proofs.Common.{◌≡◌, ◌≤◌, ◌<◌, ℕ, ◌+◌, ◌*◌, List, [], ◌∷◌, ◌++◌, inl, inr, length, take, drop, Option, None, Some, sym, ap, subst, ◌∙◌, arith, length-append}
+use Rattle.std.proofs.Common.{◌≡◌, ◌≤◌, ℕ, ◌+◌, ◌*◌, List, [], ◌∷◌, ◌++◌, inl, inr, length, take, drop, Option, None, Some, sym, ap, subst, ◌∙◌, arith, length-append}
 use Rattle.std.specs.Prelude.{All}
-use Rattle.std.proofs.lemmas.List.{length-take, take-take, take-append-drop, length-drop, length-take-le}
+use Rattle.std.proofs.lemmas.List.{length-take, take-take, take-append-drop}
 use Rattle.std.proofs.lemmas.List.Elements.{All-nil, All-cons}
 use Rattle.std.proofs.Math.Seq.{append_snoc}
 use Rattle.mb_format.specs.Format.{Format, Spells}
@@ -12,10 +12,9 @@ use Rattle.mb_model.specs.declared.stored.Header.{Header}
 use Rattle.mb_model.specs.EntryFormat.{entry_format, signed_entry_format}
 use Rattle.mb_model.specs.Pieces.{part}
 use Rattle.mb_model.specs.HeaderFormat.{slot_format, header_format, log_format}
-use Rattle.mb_model.specs.Sectors.{header_sector, code_sector, log_sector, BeginsAs}
+use Rattle.mb_model.specs.Sectors.{code_sector, log_sector, BeginsAs}
 use Rattle.mb_model.specs.Segments.{sector, code_slot, HoldsHeader, HoldsCode, HoldsEntry, HoldsLog, AreBytesOf}
-use Rattle.mb_model.proofs.FormatBounds.{header_short, log_short}
-use Rattle.mb_model_lemmas.specs.SegmentLaws.{IsSmallHeader}
+use Rattle.mb_model_lemmas.specs.SegmentLaws.{IsSmallHeader, SpellsLog}
 use Rattle.mb_model_lemmas.proofs.LogLemmas.{split_push}
 use Rattle.mb_model_lemmas.proofs.Splits.{All-from_splits}
 
@@ -63,36 +62,34 @@ code_short flash layer slot code holds =
 
 -- ---- what was written stands
 
--- a sector begins with a value, where its first bytes spell it
-pub begins_from : {A : Type 0} (format : Format A) (flash bytes : List ℕ) (n : ℕ) (a : A) → Spells format bytes a → length bytes ≤ 4096 → 4096 * n + 4096 ≤ length flash
-    → part (4096 * n) (length bytes) flash ≡ bytes → BeginsAs format (sector flash n) a
+-- bytes begin with a value, where their first ones spell it
+pub begins_with : {A : Type 0} (format : Format A) (bytes front : List ℕ) (a : A) → Spells format front a → take (length front) bytes ≡ front → BeginsAs format bytes a
+begins_with format bytes front a spells stands = record {
+  after = length front;
+  spelled = record {
+    allowed = spells.allowed;
+    here = sym (take-append-drop (length front) bytes) ∙ ap (λ (xs : List ℕ). xs ++ drop (length front) bytes) (stands ∙ spells.whole);
+    ends = omega (arith, ap length spells.whole);
+    within = omega (arith, ap length stands, length-take (length front) bytes);
+  };
+}
+
+-- a sector begins with what stands where it does
+pub front_of_sector : (flash front : List ℕ) (n : ℕ) → length front ≤ 4096 → part (4096 * n) (length front) flash ≡ front → take (length front) (sector flash n) ≡ front
 unfolding sector
-begins_from format flash bytes n a spells short within stands =
-    let whole : List ℕ = take 4096 (drop (4096 * n) flash) in
-    let front : take (length bytes) whole ≡ bytes = take-take (length bytes) 4096 (drop (4096 * n) flash) short ∙ stands in
-    record {
-      after = length bytes;
-      spelled = record {
-        allowed = spells.allowed;
-        here = sym (take-append-drop (length bytes) whole) ∙ ap (λ (xs : List ℕ). xs ++ drop (length bytes) whole) (front ∙ spells.whole);
-        ends = omega (arith, ap length spells.whole);
-        within = omega (arith, short, within, length-take-le 4096 (drop (4096 * n) flash) (omega (arith, length-drop (4096 * n) flash, within)));
-      };
-    }
+front_of_sector flash front n short stands = take-take (length front) 4096 (drop (4096 * n) flash) short ∙ stands
 
--- a header stands in its area
-pub header_from : (flash bytes : List ℕ) (area : ℕ) (header : Header) → area ≤ 1 → length flash ≡ 1048576 → Spells header_format bytes header
-    → part (4096 * header_sector area) (length bytes) flash ≡ bytes → HoldsHeader flash area header
-header_from flash bytes area header low sized spells stands =
-    begins_from header_format flash bytes (header_sector area) header spells (omega (arith, header_short.short _ spells.allowed, ap length spells.whole)) (omega (arith, low, sized)) stands
+-- and so does a slot
+pub front_of_slot : (flash front : List ℕ) (layer slot : ℕ) → length front ≤ 32768 → part (4096 * code_sector layer slot) (length front) flash ≡ front → take (length front) (code_slot flash layer slot) ≡ front
+unfolding code_slot
+front_of_slot flash front layer slot short stands = take-take (length front) 32768 (drop (4096 * code_sector layer slot) flash) short ∙ stands
 
--- an entry stands in its sector
-pub entry_from : (flash bytes text : List ℕ) (position : ℕ) (signed : SignedEntry) → position < 128 → length flash ≡ 1048576 → Spells log_format bytes (text, signed.signature) → Spells entry_format text signed.entry
-    → part (4096 * log_sector position) (length bytes) flash ≡ bytes → HoldsEntry (sector flash (log_sector position)) signed
-entry_from flash bytes text position signed few sized spells entry stands = record {
-  text = text;
-  begins = begins_from log_format flash bytes (log_sector position) (text, signed.signature) spells (omega (arith, log_short.short _ spells.allowed, ap length spells.whole)) (omega (arith, few, sized)) stands;
-  spelled = entry;
+-- a sector that begins with these bytes holds the entry
+pub holds_entry : (bytes front : List ℕ) (signed : SignedEntry) → SpellsLog front signed → take (length front) bytes ≡ front → HoldsEntry bytes signed
+holds_entry bytes front signed spells stands = record {
+  text = spells.text;
+  begins = begins_with log_format bytes front (spells.text, signed.signature) spells.whole stands;
+  spelled = spells.entry;
 }
 
 -- ---- logs

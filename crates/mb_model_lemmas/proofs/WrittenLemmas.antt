@@ -1,5 +1,5 @@
 -- A flash in segments that is written from nothing holds its codes and its log.
-use Rattle.std.proofs.Common.{◌≡◌, ◌≤◌, ℕ, ◌+◌, ◌*◌, ◌-◌, List, [], ◌∷◌, ◌++◌, length, take, drop, Option, None, Some, refl, sym, ap, subst, ◌∙◌, arith, append_assoc, length-append}
+use Rattle.std.proofs.Common.{◌≡◌, ◌≤◌, ℕ, ◌*◌, ◌-◌, List, [], ◌∷◌, ◌++◌, length, take, drop, Option, None, Some, refl, sym, ap, subst, ◌∙◌, arith, append_assoc, length-append}
 use Rattle.std.specs.Prelude.{All, IfSome}
 use Rattle.std.proofs.lemmas.List.{take-take}
 use Rattle.std.proofs.lemmas.List.Elements.{All-head, All-tail, All-take, All-drop}
@@ -15,13 +15,13 @@ use Rattle.mb_model.specs.EntryFormat.{entry_format, signed_entry_format}
 use Rattle.mb_model.specs.HeaderFormat.{code_length_format, slot_format, entry_bytes_format, unsigned_format, header_format, log_format}
 use Rattle.mb_model.specs.Pieces.{part}
 use Rattle.mb_model.specs.Sectors.{code_sector, log_sector}
-use Rattle.mb_model.specs.Segments.{code_slot, HoldsHeader, HoldsCode, HoldsLog, HoldsSegments}
+use Rattle.mb_model.specs.Segments.{sector, code_slot, HoldsHeader, HoldsCode, HoldsLog, HoldsSegments}
 use Rattle.mb_model.specs.StoredLog.{AreCounted}
 use Rattle.mb_model.specs.WrittenFlash.{in_sectors, first_slot, slots_with, entry_in_log, sectors_of, first_header, written_flash}
 use Rattle.mb_model.proofs.FormatBounds.{entry_short, header_short, log_short}
 use Rattle.mb_model.proofs.Places.{length-erased}
 use Rattle.mb_model_lemmas.specs.SegmentLaws.{CodesFitSlots, LogFitsSectors}
-use Rattle.mb_model_lemmas.proofs.HeldSegments.{header_from, entry_from}
+use Rattle.mb_model_lemmas.proofs.HeldSegments.{begins_with, front_of_sector, holds_entry}
 use Rattle.mb_model_lemmas.proofs.PublicLemmas.{entry_from_signed}
 
 -- ---- pieces
@@ -104,8 +104,8 @@ length-sectors (signed ∷ log) are =
     omega (arith, length-append (in_sectors 1 (entry_in_log signed)) (sectors_of log), one, length-sectors log (All-tail signed_entry_format.Allowed signed log are))
 
 -- each entry stands in its sector
-log_in : (log : List SignedEntry) (pre post flash : List ℕ) → All signed_entry_format.Allowed log → length flash ≡ 1048576 → length log ≤ 128 → flash ≡ pre ++ (sectors_of log ++ post) → length pre ≡ 262144 → HoldsLog flash log
-log_in log pre post flash are sized few whole size = record {
+log_in : (log : List SignedEntry) (pre post flash : List ℕ) → All signed_entry_format.Allowed log → flash ≡ pre ++ (sectors_of log ++ post) → length pre ≡ 262144 → HoldsLog flash log
+log_in log pre post flash are whole size = record {
   each = λ before signed rest split. (
       let both : All signed_entry_format.Allowed (before ++ signed ∷ rest) = subst (All signed_entry_format.Allowed) split are in
       let own : signed_entry_format.Allowed signed = All-head signed_entry_format.Allowed signed rest (All-back signed_entry_format.Allowed before (signed ∷ rest) both) in
@@ -123,9 +123,8 @@ log_in log pre post flash are sized few whole size = record {
       in
       let at : length start ≡ 4096 * log_sector (length before) =
       omega (arith, length-append pre (sectors_of before), length-sectors before front, size) in
-      let place : length before + 1 ≤ 128 = omega (arith, few, ap length split, length-append before (signed ∷ rest)) in
-      entry_from flash text (entry_format.spelling signed.entry) (length before) signed (omega (arith, place)) sized (entry_spells signed own) (record { allowed = entry_from_signed signed own; whole = refl })
-      (stands_at start text (erased (4096 * 1 - length text) ++ (after ++ post)) flash (4096 * log_sector (length before)) pieces at));
+      holds_entry (sector flash (log_sector (length before))) text signed (record { text = entry_format.spelling signed.entry; whole = entry_spells signed own; entry = record { allowed = entry_from_signed signed own; whole = refl } })
+      (front_of_sector flash text (log_sector (length before)) (omega (arith, entry_fits signed own)) (stands_at start text (erased (4096 * 1 - length text) ++ (after ++ post)) flash (4096 * log_sector (length before)) pieces at)));
 }
 
 -- ---- the header
@@ -195,7 +194,6 @@ module _ (codes : Codes) (log : List SignedEntry) (fit : CodesFitSlots codes) (f
       let L : List ℕ = in_sectors 128 (sectors_of log) in
       let Z : List ℕ = in_sectors 64 [] in
       let flash : List ℕ = written_flash codes log in
-      let sized : length flash ≡ 1048576 = length-written in
       let long_h : length H ≡ 8192 = length-in_sectors 2 header (omega (arith, short_header)) in
       let long_a : length A ≡ 65536 = length-slots codes.one fit.one in
       let long_b : length B ≡ 65536 = length-slots codes.two fit.two in
@@ -216,8 +214,8 @@ module _ (codes : Codes) (log : List SignedEntry) (fit : CodesFitSlots codes) (f
       let size_c : length (((H ++ A) ++ B) ++ C) ≡ 204800 = omega (arith, length-append ((H ++ A) ++ B) C, size_b, long_c) in
       let size_e : length front ≡ 262144 = omega (arith, length-append (((H ++ A) ++ B) ++ C) E, size_c, long_e) in
       let begins : HoldsHeader flash 0 (first_header codes log) =
-      header_from flash header 0 (first_header codes log) (omega arith) sized (record { allowed = first_allowed codes log fit fits; whole = refl })
-      (stands_at [] header (erased (4096 * 2 - length header) ++ after) flash 0 at_header refl)
+      begins_with header_format (sector flash 0) header (first_header codes log) (record { allowed = first_allowed codes log fit fits; whole = refl })
+      (front_of_sector flash header 0 (omega (arith, short_header)) (stands_at [] header (erased (4096 * 2 - length header) ++ after) flash 0 at_header refl))
       in
       record {
         header = first_header codes log;
@@ -226,7 +224,7 @@ module _ (codes : Codes) (log : List SignedEntry) (fit : CodesFitSlots codes) (f
         two = code_in 2 codes.two (H ++ A) (C ++ (E ++ (L ++ Z))) flash fit.two at_b size_a;
         three = code_in 3 codes.three ((H ++ A) ++ B) (E ++ (L ++ Z)) flash fit.three at_c size_b;
         count = refl;
-        log = log_in log front rest flash fits.allowed sized fits.few at_log size_e;
+        log = log_in log front rest flash fits.allowed at_log size_e;
         unsigned_are = tt;
         counted = subst (λ p. AreCounted p []) (sym none) (record { counted = refl; can_sign = tt });
       }

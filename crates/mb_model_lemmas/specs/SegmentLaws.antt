@@ -1,7 +1,7 @@
 -- Laws of a flash in segments. Does it hold one list of codes and one log, and does a flash that is written from nothing
 -- hold what was written?
-use Rattle.std.specs.Prelude.{◌≡◌, ◌<◌, ◌≤◌, ℕ, List, [], length, All, IfSome, Option, None, Some}
-use Rattle.mb_format.specs.Format.{IsBytes}
+use Rattle.std.specs.Prelude.{◌≡◌, ◌<◌, ◌≤◌, ℕ, List, [], length, take, All, IfSome, Option, None, Some}
+use Rattle.mb_format.specs.Format.{IsBytes, Spells}
 use Rattle.mb_model.specs.declared.limits.TheConstants.{CODE_LIMIT, ENTRY_LIMIT, FLASH_LENGTH}
 use Rattle.mb_model.specs.declared.entry.Entry.{Entry}
 use Rattle.mb_model.specs.declared.entry.SignedEntry.{SignedEntry}
@@ -10,6 +10,7 @@ use Rattle.mb_model.specs.declared.stored.Root.{Root}
 use Rattle.mb_model.specs.declared.stored.Slot.{Slot}
 use Rattle.mb_model.specs.declared.stored.Header.{Header}
 use Rattle.mb_model.specs.EntryFormat.{entry_format, signed_entry_format}
+use Rattle.mb_model.specs.HeaderFormat.{log_format}
 use Rattle.mb_model.specs.Sectors.{log_sector}
 use Rattle.mb_model.specs.Segments.{sector, HoldsHeader, HoldsCode, HoldsEntry, HoldsLog, AreBytesOf, HoldsSegments}
 use Rattle.mb_model.specs.WrittenFlash.{written_flash}
@@ -21,6 +22,10 @@ abbrev pub AreasHoldOneHeader : Type 0
 AreasHoldOneHeader =
     (flash : List ℕ) (area : ℕ) (header other : Header) → IsBytes flash → HoldsHeader flash area header
     → HoldsHeader flash area other → header ≡ other
+
+-- an area holds this header and no other
+abbrev pub IsOnlyHeader : List ℕ → ℕ → Header → Type 0
+IsOnlyHeader flash area header = (any : Header) → HoldsHeader flash area any → any ≡ header
 
 -- for a root, a flash of bytes holds one list of codes and one list of entries, signed and unsigned
 abbrev pub SegmentsHoldOne : Type 0
@@ -34,13 +39,12 @@ SegmentsHoldOne =
 abbrev pub HoldsNoEntry : List ℕ → ℕ → Type 0
 HoldsNoEntry flash position = (signed : SignedEntry) → HoldsEntry (sector flash (log_sector position)) signed → ⊥
 
--- where the one header of an area counts a sector of the log that holds no entry, the flash holds nothing for a root that
--- names this area
+-- If the only header of an area counts a sector of the log that holds no entry, the flash holds nothing for a root that
+-- names this area.
 abbrev pub BadLogSectorsHoldNothing : Type 0
 BadLogSectorsHoldNothing =
-    (flash : List ℕ) (root : Root) (header : Header) (position : ℕ)
-    → ((any : Header) → HoldsHeader flash root.area any → any ≡ header) → position < header.signed
-    → HoldsNoEntry flash position → (codes : Codes) (signed : List SignedEntry) (unsigned : List Entry)
+    (flash : List ℕ) (root : Root) (header : Header) (position : ℕ) → IsOnlyHeader flash root.area header
+    → position < header.signed → HoldsNoEntry flash position → (codes : Codes) (signed : List SignedEntry) (unsigned : List Entry)
     → HoldsSegments flash root codes signed unsigned → ⊥
 
 -- ---- what a flash holds has a spelling
@@ -73,6 +77,20 @@ abbrev pub HeldCodesAreShort : Type 0
 HeldCodesAreShort =
     (flash : List ℕ) (layer : ℕ) (slot : Slot) (code : List ℕ) → HoldsCode flash layer slot (Some code)
     → length code ≤ CODE_LIMIT
+
+-- ---- what is written is held
+
+-- These bytes are the text of an entry, and the signature of that entry, as a sector of the log begins with them.
+pub record SpellsLog (bytes : List ℕ) (signed : SignedEntry) : Type 0 where
+  pub text : List ℕ
+  pub whole : Spells log_format bytes (text, signed.signature)
+  pub entry : Spells entry_format text signed.entry
+
+-- bytes that begin with such bytes hold the entry
+abbrev pub WrittenEntriesAreHeld : Type 0
+WrittenEntriesAreHeld =
+    (bytes front : List ℕ) (signed : SignedEntry) → SpellsLog front signed → take (length front) bytes ≡ front
+    → HoldsEntry bytes signed
 
 -- ---- a flash that is written from nothing
 
