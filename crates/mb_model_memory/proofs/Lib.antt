@@ -9,3 +9,5 @@ pub mod StorableMemories
 pub mod StorableRecords
 pub mod HoldingLemmas
 pub mod StorableChains
+pub mod FlashFrames
+pub mod FlashWrites
