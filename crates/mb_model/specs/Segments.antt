@@ -1,5 +1,5 @@
--- What a flash in segments holds: the code of each layer, the signed entries of the log, and those not signed yet. What
--- of a device may anyone read?
+-- What a flash in segments holds: the code of each layer, the signed entries of the log, and those not signed yet.
+-- What of a device may anyone read?
 use Rattle.std.specs.Prelude.{◌≡◌, ◌≢◌, ℕ, ◌*◌, List, [], ◌∷◌, ◌++◌, length, take, Option, None, Some}
 use Rattle.mb_format.specs.Format.{Spells}
 use Rattle.mb_model.specs.declared.limits.TheConstants.{SECTOR_LENGTH, CODE_LIMIT}
@@ -58,8 +58,8 @@ AreBytesOf first second entries = ⊥
 
 -- ---- what all of it holds
 
--- The header of the area that the root names counts: its slots hold the codes, the log's sectors below its count hold the
--- signed entries, and its texts spell the unsigned ones, as many as the root says.
+-- The header of the area that the root names counts: its slots hold the codes, the log's sectors below its count hold
+-- the signed entries, and its texts spell the unsigned ones, as many as the root says.
 pub record HoldsSegments
     (flash : List ℕ) (root : Root) (codes : Codes) (signed : List SignedEntry) (unsigned : List Entry) : Type 0 where
   pub header : Header
