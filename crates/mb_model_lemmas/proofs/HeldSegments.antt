@@ -1,7 +1,8 @@
 -- What stands in a flash in segments can be spelled, and what was written there stands.
-use Rattle.std.proofs.Common.{◌≡◌, ◌≤◌, ℕ, ◌+◌, ◌*◌, List, [], ◌∷◌, ◌++◌, inl, inr, length, take, drop, Option, None, Some, sym, ap, subst, ◌∙◌, arith, length-append}
-use Rattle.std.specs.Prelude.{All}
+use Rattle.std.proofs.Common.{refl, ◌≡◌, ◌≤◌, ℕ, ◌+◌, ◌*◌, List, [], ◌∷◌, ◌++◌, inl, inr, length, take, drop, Option, None, Some, sym, ap, subst, ◌∙◌, arith, length-append, Bool, true, false, ◌-◌}
+use Rattle.std.specs.Prelude.{All, IfSome, nat_le, if◌then◌else◌}
 use Rattle.std.proofs.lemmas.List.{length-take, take-take, take-append-drop}
+use Rattle.std.proofs.lemmas.Bool.{leb-true}
 use Rattle.std.proofs.lemmas.List.Elements.{All-nil, All-cons}
 use Rattle.std.proofs.Math.Seq.{append_snoc}
 use Rattle.mb_format.specs.Format.{Format, Spells}
@@ -11,10 +12,10 @@ use Rattle.mb_model.specs.declared.stored.Slot.{Slot}
 use Rattle.mb_model.specs.declared.stored.Header.{Header}
 use Rattle.mb_model.specs.EntryFormat.{entry_format, signed_entry_format}
 use Rattle.mb_model.specs.Pieces.{part}
-use Rattle.mb_model.specs.HeaderFormat.{slot_format, header_format, log_format}
+use Rattle.mb_model.specs.HeaderFormat.{slot_format, most_unsigned, unsigned_format, header_format, log_format}
 use Rattle.mb_model.specs.Sectors.{code_sector, log_sector, BeginsAs}
 use Rattle.mb_model.specs.Segments.{sector, code_slot, HoldsHeader, HoldsCode, HoldsEntry, HoldsLog, AreBytesOf}
-use Rattle.mb_model_lemmas.specs.SegmentLaws.{IsSmallHeader, SpellsLog}
+use Rattle.mb_model_lemmas.specs.SegmentLaws.{IsSmallHeader, HeldSegmentsFit, SpellsLog}
 use Rattle.mb_model_lemmas.proofs.LogLemmas.{split_push}
 use Rattle.mb_model_lemmas.proofs.Splits.{All-from_splits}
 
@@ -59,6 +60,46 @@ unfolding code_slot
 code_short flash layer slot code holds =
     let whole : List ℕ = take 32768 (drop (4096 * code_sector layer slot.which) flash) in
     omega (arith, ap length holds.1, length-take slot.length whole, length-take 32768 (drop (4096 * code_sector layer slot.which) flash))
+
+code_fits : (flash : List ℕ) (layer : ℕ) (slot : Slot) (code : Option (List ℕ)) → HoldsCode flash layer slot code → IfSome code (λ bytes. length bytes ≤ 32768)
+code_fits flash layer slot None holds = tt
+code_fits flash layer slot (Some code) holds = code_short flash layer slot code holds
+
+room_by : (b : Bool) (signed : ℕ) → nat_le (signed + 2) 128 ≡ b → signed ≤ 128 → signed + (if b then 2 else 128 - signed) ≤ 128
+room_by true signed e few = omega (arith, leb-true (signed + 2) 128 e)
+room_by false signed e few = omega (arith, few)
+
+pub room_for_unsigned : (signed : ℕ) → signed ≤ 128 → signed + most_unsigned signed ≤ 128
+room_for_unsigned signed few = room_by (nat_le (signed + 2) 128) signed refl few
+
+texts_few : (signed : ℕ) (first second : Option (List ℕ)) (unsigned : List Entry) → (unsigned_format signed).Allowed (first, second) → AreBytesOf first second unsigned → length unsigned ≤ most_unsigned signed
+unfolding unsigned_format
+texts_few signed None None [] is are = omega arith
+texts_few signed None None (u ∷ us) is are = absurd are
+texts_few signed None (Some second) us is are = absurd are
+texts_few signed (Some first) None [] is are = absurd are
+texts_few signed (Some first) None (u ∷ []) is are = is.0.1
+texts_few signed (Some first) None (u ∷ v ∷ us) is are = absurd are
+texts_few signed (Some first) (Some second) [] is are = absurd are
+texts_few signed (Some first) (Some second) (u ∷ []) is are = absurd are
+texts_few signed (Some first) (Some second) (u ∷ v ∷ []) is are = is.0.1
+texts_few signed (Some first) (Some second) (u ∷ v ∷ w ∷ us) is are = absurd are
+
+header_texts : (header : Header) → header_format.Allowed header → (unsigned_format header.signed).Allowed (header.first, header.second)
+unfolding header_format
+header_texts header is = is.1.1.1.1.1
+
+pub segments_fit : HeldSegmentsFit
+segments_fit flash root codes signed unsigned holds =
+    let header : Header = holds.header in
+    let is : IsSmallHeader header = small_held flash root.area header holds.begins in
+    let few : length unsigned ≤ most_unsigned header.signed = texts_few header.signed header.first header.second unsigned (header_texts header holds.begins.spelled.allowed) holds.unsigned_are in
+    record {
+      codes_fit = record { one = code_fits flash 1 header.one codes.one holds.one; two = code_fits flash 2 header.two codes.two holds.two; three = code_fits flash 3 header.three codes.three holds.three };
+      log_fits = record { some = omega (arith, holds.count, is.least); few = omega (arith, holds.count, is.most); allowed = log_allowed flash signed holds.log };
+      unsigned_allowed = texts_allowed header.first header.second unsigned holds.unsigned_are;
+      together = omega (arith, few, holds.count, room_for_unsigned header.signed is.most);
+    }
 
 -- ---- what was written stands
 

@@ -20,7 +20,7 @@ use Rattle.mb_model.specs.StoredLog.{AreCounted}
 use Rattle.mb_model.specs.WrittenFlash.{in_sectors, first_slot, slots_with, entry_in_log, sectors_of, first_header, written_flash}
 use Rattle.mb_model.proofs.FormatBounds.{entry_short, header_short, log_short}
 use Rattle.mb_model.proofs.Places.{length-erased}
-use Rattle.mb_model_lemmas.specs.SegmentLaws.{CodesFitSlots, LogFitsSectors}
+use Rattle.mb_model_lemmas.specs.SegmentLaws.{CodesFitSlots, LogFitsSectors, EntriesFitTheirSectors}
 use Rattle.mb_model_lemmas.proofs.HeldSegments.{begins_with, front_of_sector, holds_entry}
 use Rattle.mb_model_lemmas.proofs.PublicLemmas.{entry_from_signed}
 
@@ -76,16 +76,20 @@ code_in layer (Some code) pre post flash fits whole size =
 
 -- ---- the log
 
-entry_some : (entry : Entry) → 1 ≤ length (entry_format.spelling entry)
+pub entry_some : (entry : Entry) → 1 ≤ length (entry_format.spelling entry)
 unfolding entry_format number_bytes
 entry_some entry = omega arith
 
-entry_spells : (signed : SignedEntry) → signed_entry_format.Allowed signed → Spells log_format (entry_in_log signed) (entry_format.spelling signed.entry, signed.signature)
+pub entry_spells : (signed : SignedEntry) → signed_entry_format.Allowed signed → Spells log_format (entry_in_log signed) (entry_format.spelling signed.entry, signed.signature)
 unfolding log_format entry_bytes_format signed_entry_format
 entry_spells signed is = record { allowed = (((omega (arith, entry_some signed.entry), omega (arith, entry_short.short signed.entry is.0)), refl), is.1); whole = refl }
 
-entry_fits : (signed : SignedEntry) → signed_entry_format.Allowed signed → length (entry_in_log signed) ≤ 2750
+pub entry_fits : (signed : SignedEntry) → signed_entry_format.Allowed signed → length (entry_in_log signed) ≤ 2750
 entry_fits signed is = log_short.short _ (entry_spells signed is).allowed
+
+pub entry_has_bytes : EntriesFitTheirSectors
+entry_has_bytes signed is =
+    (record { text = entry_format.spelling signed.entry; whole = entry_spells signed is; entry = record { allowed = entry_from_signed signed is; whole = refl } }, omega (arith, entry_fits signed is))
 
 -- the sectors of a log: those before an entry, its own, and those after it
 sectors_split : (before : List SignedEntry) (signed : SignedEntry) (rest : List SignedEntry) → sectors_of (before ++ signed ∷ rest) ≡ sectors_of before ++ (in_sectors 1 (entry_in_log signed) ++ sectors_of rest)
@@ -123,7 +127,7 @@ log_in log pre post flash are whole size = record {
       in
       let at : length start ≡ 4096 * log_sector (length before) =
       omega (arith, length-append pre (sectors_of before), length-sectors before front, size) in
-      holds_entry (sector flash (log_sector (length before))) text signed (record { text = entry_format.spelling signed.entry; whole = entry_spells signed own; entry = record { allowed = entry_from_signed signed own; whole = refl } })
+      holds_entry (sector flash (log_sector (length before))) text signed (entry_has_bytes signed own).0
       (front_of_sector flash text (log_sector (length before)) (omega (arith, entry_fits signed own)) (stands_at start text (erased (4096 * 1 - length text) ++ (after ++ post)) flash (4096 * log_sector (length before)) pieces at)));
 }
 
@@ -134,7 +138,7 @@ unfolding slot_format code_length_format
 slot_allowed None fits = ((omega arith, omega arith), (omega arith, omega arith))
 slot_allowed (Some code) fits = ((omega arith, omega arith), (omega arith, fits))
 
-none_unsigned : (signed : ℕ) → (unsigned_format signed).Allowed (None, None)
+pub none_unsigned : (signed : ℕ) → (unsigned_format signed).Allowed (None, None)
 unfolding unsigned_format items
 none_unsigned signed = ((omega arith, omega arith), refl)
 
