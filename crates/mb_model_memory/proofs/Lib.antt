@@ -11,3 +11,4 @@ pub mod HoldingLemmas
 pub mod StorableChains
 pub mod FlashFrames
 pub mod FlashWrites
+pub mod FlashHeaders

@@ -1,5 +1,7 @@
--- Which bytes of a flash in segments count for a header area. What may be written elsewhere, and codes and entries stay?
-use Rattle.std.specs.Prelude.{◌≡◌, ◌≢◌, ℕ, ◌+◌, ◌*◌, ◌<◌, ◌≤◌, ◌⊎◌, ◌==◌, List, length, take, slice_index, if◌then◌else◌}
+-- Which bytes of a flash in segments count for a header area. What may be written elsewhere, while codes and entries
+-- stay?
+use Rattle.std.specs.Prelude.{◌≡◌, ◌≢◌, ℕ, ◌+◌, ◌*◌, ◌<◌, ◌≤◌, ◌⊎◌, ◌==◌, if◌then◌else◌}
+use Rattle.std.specs.Prelude.{List, length, take, slice_index}
 use Rattle.mb_model.specs.declared.limits.TheConstants.{SECTOR_LENGTH}
 use Rattle.mb_model.specs.declared.stored.Root.{Root}
 use Rattle.mb_model.specs.declared.stored.Slot.{Slot}
@@ -20,8 +22,8 @@ pub record AgreeInSlots (flash other : List ℕ) (header : Header) : Type 0 wher
   pub slots : (layer : ℕ) → 1 ≤ layer → layer ≤ 3 → (slot_in header layer).which ≢ 0
       → code_slot other layer (slot_in header layer).which ≡ code_slot flash layer (slot_in header layer).which
 
--- Two flashes have the same bytes wherever these count for a header area: in the area itself, in the slots that its header
--- names, and in the sectors of the log below its count.
+-- Two flashes have the same bytes wherever these count for a header area: in the area itself, in the slots that its
+-- header names, and in the sectors of the log below its count.
 pub record AgreeForArea (flash other : List ℕ) (area : ℕ) : Type 0 where
   pub header : sector other (header_sector area) ≡ sector flash (header_sector area)
   pub slots : (header : Header) → HoldsHeader flash area header → AgreeInSlots flash other header

@@ -1,17 +1,21 @@
 -- Laws of writes to a flash in segments. Does what it held stay, whole or torn as the write may be, and does what an
 -- order and its settling write hold?
-use Rattle.std.specs.Prelude.{◌≡◌, ℕ, ◌+◌, ◌-◌, ◌<◌, ◌≤◌, List, [], ◌∷◌, ◌++◌, length, Option, None}
+use Rattle.std.specs.Prelude.{◌≡◌, ℕ, ◌+◌, ◌-◌, ◌<◌, ◌≤◌, List, [], ◌∷◌, ◌++◌, length, All, IfSome, Option, None}
 use Rattle.mb_format.specs.Format.{Spells}
-use Rattle.mb_model.specs.declared.limits.TheConstants.{FLASH_LENGTH, ENTRY_LIMIT}
+use Rattle.mb_model.specs.declared.limits.TheConstants.{FLASH_LENGTH, CODE_LIMIT, ENTRY_LIMIT}
 use Rattle.mb_model.specs.declared.entry.Entry.{Entry}
 use Rattle.mb_model.specs.declared.entry.SignedEntry.{SignedEntry}
 use Rattle.mb_model.specs.declared.order.Act.{Act}
+use Rattle.mb_model.specs.declared.order.Order.{Order}
 use Rattle.mb_model.specs.declared.state.Codes.{Codes}
 use Rattle.mb_model.specs.declared.stored.Root.{Root}
+use Rattle.mb_model.specs.declared.stored.Header.{Header}
 use Rattle.mb_model.specs.Board.{Memory}
-use Rattle.mb_model.specs.HeaderFormat.{header_format}
+use Rattle.mb_model.specs.EntryFormat.{entry_format}
+use Rattle.mb_model.specs.HeaderFormat.{first_text, second_text, unsigned_format, header_format}
 use Rattle.mb_model.specs.Meaning.{RootIn}
 use Rattle.mb_model.specs.OrderEffects.{codes_after}
+use Rattle.mb_model.specs.OrderFormat.{order_format}
 use Rattle.mb_model.specs.Sectors.{header_sector, code_sector, log_sector}
 use Rattle.mb_model.specs.Segments.{HoldsHeader, HoldsLog, AreBytesOf, HoldsSegments}
 use Rattle.mb_model.specs.StoredLog.{AreCounted}
@@ -19,7 +23,7 @@ use Rattle.mb_model_lemmas.specs.SegmentLaws.{IsOnlyHeader, SpellsLog}
 use Rattle.mb_model_memory.specs.FlashInForce.{slot_in, AgreeForArea, KeepsSignedLog, IsUncounted, IsFreeSlot}
 use Rattle.mb_model_memory.specs.FlashInForce.{DiffersOnlyIn, IsSectorWritten}
 use Rattle.mb_model_memory.specs.NextHeaders.{code_brought, HasNewCode, IsCodeWritten}
-use Rattle.mb_model_memory.specs.NextHeaders.{header_after, header_settled}
+use Rattle.mb_model_memory.specs.NextHeaders.{texts_of_entries, header_after, header_settled}
 
 -- ---- agreement
 
@@ -87,8 +91,8 @@ OrdersAreHeld =
     → AreBytesOf first second unsigned → AreCounted new.pending unsigned
     → HoldsSegments after new (codes_after codes layer act) signed unsigned
 
--- So it is after both writes: the code to the free slot, and the header to the other area. For the old root the flash holds
--- what it held.
+-- So it is after both writes: the code to the free slot, and the header to the other area. For the old root the flash
+-- holds what it held.
 abbrev pub OrderWritesAreHeld : Type 0
 OrderWritesAreHeld =
     (before between after : List ℕ) (old new : Root) (codes : Codes) (signed : List SignedEntry)
@@ -100,6 +104,35 @@ OrderWritesAreHeld =
     → Spells header_format bytes (header_after holds.header layer act first second) → new.area ≡ 1 - old.area
     → AreBytesOf first second unsigned → AreCounted new.pending unsigned
     → HoldsSegments after new (codes_after codes layer act) signed unsigned × HoldsSegments after old codes signed []
+
+-- ---- headers and texts that are written have spellings
+
+-- Up to two entries have texts, if the log has room for them.
+abbrev pub EntriesHaveTexts : Type 0
+EntriesHaveTexts =
+    (entries : List Entry) (signed : ℕ) → length entries ≤ 2 → signed + length entries ≤ ENTRY_LIMIT
+    → All entry_format.Allowed entries
+    → (unsigned_format signed).Allowed (first_text (texts_of_entries entries), second_text (texts_of_entries entries))
+    × AreBytesOf (first_text (texts_of_entries entries)) (second_text (texts_of_entries entries)) entries
+
+-- an order brings code that fits a slot
+abbrev pub OrdersBringShortCode : Type 0
+OrdersBringShortCode =
+    (order : Order) → order_format.Allowed order → IfSome (code_brought order.act) (λ code. length code ≤ CODE_LIMIT)
+
+-- the header after an order has a spelling, if its code fits and its texts have spellings
+abbrev pub OrderHeadersAreAllowed : Type 0
+OrderHeadersAreAllowed =
+    (old : Header) (layer : ℕ) (act : Act) (first second : Option (List ℕ)) → header_format.Allowed old
+    → IfSome (code_brought act) (λ code. length code ≤ CODE_LIMIT)
+    → (unsigned_format old.signed).Allowed (first, second)
+    → header_format.Allowed (header_after old layer act first second)
+
+-- and so has the header that settling leaves
+abbrev pub SettledHeadersAreAllowed : Type 0
+SettledHeadersAreAllowed =
+    (old : Header) (more : ℕ) → header_format.Allowed old → old.signed + more ≤ ENTRY_LIMIT
+    → header_format.Allowed (header_settled old more)
 
 -- ---- what settling writes
 
@@ -120,8 +153,8 @@ SettledLogsAreHeld =
     → HoldsHeader flash new.area (header_settled holds.header (length more)) → new.pending ≡ None
     → HoldsSegments flash new codes (signed ++ more) []
 
--- So it is after the writes for one entry: its log sector, and the header to the other area. For the root before the flash
--- holds what it held.
+-- So it is after the writes for one entry: its log sector, and the header to the other area. For the root before, the
+-- flash holds what it held.
 abbrev pub SettlingOneIsHeld : Type 0
 SettlingOneIsHeld =
     (before between after : List ℕ) (root new : Root) (codes : Codes) (signed : List SignedEntry)

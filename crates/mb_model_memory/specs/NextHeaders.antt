@@ -1,10 +1,12 @@
--- Which header an order leaves, and which one its settling leaves. Where does new code go, and when does an entry count as
--- signed?
-use Rattle.std.specs.Prelude.{◌≡◌, ℕ, ◌+◌, ◌==◌, List, length, IfSome, Option, None, Some, if◌then◌else◌}
+-- Which header an order leaves, and which one its settling leaves. Where does new code go, and when does an entry
+-- count as signed?
+use Rattle.std.specs.Prelude.{◌≡◌, ℕ, ◌+◌, ◌==◌, List, length, map, IfSome, Option, None, Some, if◌then◌else◌}
+use Rattle.mb_model.specs.declared.entry.Entry.{Entry}
 use Rattle.mb_model.specs.declared.order.Act.{Act}
 use Rattle.mb_model.specs.declared.order.Act.TheVariants as act
 use Rattle.mb_model.specs.declared.stored.Slot.{Slot}
 use Rattle.mb_model.specs.declared.stored.Header.{Header}
+use Rattle.mb_model.specs.EntryFormat.{entry_format}
 use Rattle.mb_model.specs.Sectors.{code_sector}
 use Rattle.mb_model.specs.Segments.{code_slot}
 use Rattle.mb_model_memory.specs.FlashInForce.{DiffersOnlyIn, BeginsWithBytes}
@@ -35,6 +37,10 @@ IsCodeWritten layer slot (Some code) before after =
     × BeginsWithBytes (code_slot after layer (free_slot slot)) code
 
 -- ---- headers
+
+-- entries as texts, whose first and second a header holds
+abbrev pub texts_of_entries : List Entry → List (List ℕ)
+texts_of_entries entries = map entry_format.spelling entries
 
 -- where the code of a layer stands after an order of this layer
 abbrev pub slot_after : Slot → Act → Slot
