@@ -44,6 +44,8 @@ pub mod StoredLog
 pub mod Flash
 pub mod Sectors
 pub mod HeaderFormat
+pub mod Segments
+pub mod WrittenFlash
 pub mod Meaning
 pub mod Faults
 pub mod Clean

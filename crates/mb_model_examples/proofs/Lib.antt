@@ -15,3 +15,4 @@ pub mod RunCounterProofs
 pub mod ChainCounterProofs
 pub mod CommandCounterProofs
 pub mod TextCounterProofs
+pub mod SegmentProofs

@@ -16,3 +16,5 @@ pub mod RunCounterExamples
 pub mod ChainCounterExamples
 pub mod CommandCounterExamples
 pub mod TextCounterExamples
+pub mod SegmentExamples
+pub mod SegmentCounterExamples

@@ -11,6 +11,11 @@ ghost use Rattle.mb_model.specs.Machine.{World};
 ghost use Rattle.mb_model.specs.Board.{Held};
 ghost use Rattle.mb_model_examples.specs.MemoryCounterExamples.{AreaCounterExamples, MeaningCounterExamples, ImageCounterExamples, CleanCounterExamples, WipingCounterExamples, AnswerCounterExamples};
 ghost use Rattle.mb_model_examples.specs.RunCounterExamples.{OrderCounterExamples, RefusalCounterExamples, StepCounterExamples, RunCounterExamples, ServedCounterExamples, LogCounterExamples, ChargeCounterExamples, IndexCounterExamples, AliveCounterExamples, RegionCounterExamples};
+ghost use Rattle.mb_model_examples.specs.SegmentCounterExamples.{HeaderCounterExamples, CodeCounterExamples, LogSectorCounterExamples, TextsCounterExamples, HoldingCounterExamples, AgreementCounterExamples, KeepingCounterExamples, WriteCounterExamples};
+ghost use Rattle.mb_model.specs.declared.entry.Entry.{Entry};
+ghost use Rattle.mb_model.specs.declared.state.Codes.{Codes};
+ghost use Rattle.mb_model.specs.declared.stored.Root.{Root};
+ghost use Rattle.mb_model.specs.Board.{Memory};
 ghost use Rattle.mb_model.specs.Outside.{Outside};
 ghost use Rattle.mb_model.specs.Commands.{Past, Ended};
 ghost use Rattle.mb_model_examples.specs.ChainCounterExamples.{ChainCounterExamples, VerdictCounterExamples, StatementCounterExamples, AuditCounterExamples, ForgedCounterExamples};
@@ -24,6 +29,22 @@ pub fn memory_counter_examples()
     ensures meaning { (flash bbram : List ℕ) → MeaningCounterExamples flash bbram }
     ensures images { (image : List ℕ) → ImageCounterExamples image }
     ensures clean { (bbram : List ℕ) → CleanCounterExamples bbram }
+{}
+
+/// Flashes in segments: what they do not hold.
+pub fn segment_counter_examples()
+    ensures headers { HeaderCounterExamples }
+    ensures codes { CodeCounterExamples }
+    ensures log { LogSectorCounterExamples }
+    ensures texts { TextsCounterExamples }
+    ensures holding { (root : Root) (codes : Codes) (signed : List SignedEntry) (unsigned : List Entry) → HoldingCounterExamples root codes signed unsigned }
+{}
+
+/// Writes to flashes in segments: what does not stay.
+pub fn write_counter_examples()
+    ensures agreement { (other : List ℕ) → AgreementCounterExamples other }
+    ensures keeping { (before after : Memory) → KeepingCounterExamples before after }
+    ensures writes { WriteCounterExamples }
 {}
 
 /// Answers that a board takes.

@@ -16,14 +16,16 @@ mod texts;
 pub use counter_examples::{
     answer_counter_examples, birth_counter_examples, chain_counter_examples,
     command_counter_examples, log_counter_examples, memory_counter_examples, run_counter_examples,
-    text_counter_examples,
+    segment_counter_examples, text_counter_examples, write_counter_examples,
 };
 pub use events::{
     layer_examples, memory_examples, phase_examples, power_examples, stopped_examples,
 };
 pub use formats::{failing_examples, spelling_examples};
 pub use orders::{obeyed_orders, refused_orders, succession_examples, verified_orders};
-pub use records::{failing_headers, failing_records, headers_are_spelled, records_are_spelled};
+pub use records::{
+    failing_headers, failing_records, headers_are_spelled, records_are_spelled, segments_are_held,
+};
 pub use rules::{
     admission_examples, authority_examples, change_examples, condition_examples, life_examples,
     standing_examples, target_examples,

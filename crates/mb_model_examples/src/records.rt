@@ -1,6 +1,7 @@
 //! Records: values and their bytes, and bytes that fail.
 
 ghost use Rattle.mb_model_examples.specs.RecordExamples.{KeyRecords, LayerRecords, EntryRecords, RootRecords, RegionRecords, StatementRecords, ChainRecords, PublicRecords, BodyRecords, FailingRecords};
+ghost use Rattle.mb_model_examples.specs.SegmentExamples.{SegmentExamples};
 ghost use Rattle.mb_model_examples.specs.HeaderExamples.{HeaderRecords, LogRecords, FailingHeaders};
 
 /// How keys, layers, entries, roots, regions, statements, chains, the public record and the signed part of orders are
@@ -31,4 +32,9 @@ pub fn headers_are_spelled()
 /// Where bytes that spell no header fail.
 pub fn failing_headers()
     ensures { FailingHeaders }
+{}
+
+/// What small flashes in segments hold.
+pub fn segments_are_held()
+    ensures { SegmentExamples }
 {}

@@ -1,6 +1,6 @@
 -- Laws of the two trusts of a layer. What does an owner decide by each of them?
-use Rattle.std.specs.Prelude.{◌≡◌, ℕ, ◌==◌, Bool, not, List, ◌∷◌, ◌++◌, Option, None, Some, IsTrue}
-use Rattle.mb_format.specs.Format.{Format, Spells}
+use Rattle.std.specs.Prelude.{◌≡◌, ℕ, Bool, not, List, ◌∷◌, ◌++◌, Option, None, Some, IsTrue}
+use Rattle.mb_format.specs.Format.{Spells}
 use Rattle.mb_model.specs.declared.key.Trust.{Trust}
 use Rattle.mb_model.specs.declared.layer.Layer.{Layer}
 use Rattle.mb_model.specs.declared.layer.Layers.{Layers}

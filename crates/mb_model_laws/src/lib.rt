@@ -13,6 +13,7 @@ mod reader;
 mod refusals;
 mod regions;
 mod sectors;
+mod segments;
 mod signing;
 mod steps;
 mod texts;
@@ -42,6 +43,11 @@ pub use regions::{
     valid_states_have_valid_regions,
 };
 pub use sectors::sectors_are_apart;
+pub use segments::{
+    agreeing_flashes_hold_the_same, free_places_can_be_written, held_segments_fit,
+    order_writes_are_held, segments_hold_one, settling_writes_are_held,
+    written_flashes_hold_what_was_written,
+};
 pub use signing::{
     keys_are_sized, nodes_are_leaves_or_inner, signatures_bear_their_index, signatures_verify,
 };

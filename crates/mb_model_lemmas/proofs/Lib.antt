@@ -25,6 +25,9 @@ pub mod MeaningLemmas
 pub mod PublicLemmas
 pub mod Splits
 pub mod FaultLemmas
+pub mod HeldSegments
+pub mod OneFlash
+pub mod WrittenLemmas
 pub mod FactoryLemmas
 pub mod ChainLemmas
 pub mod AttachLemmas

@@ -3,4 +3,5 @@ pub mod ReaderLaws
 pub mod RegionLaws
 pub mod SigningLaws
 pub mod RefusalLaws
+pub mod SegmentLaws
 pub mod SampleOrder

@@ -9,3 +9,6 @@ pub mod StorableMemories
 pub mod StorableRecords
 pub mod HoldingLemmas
 pub mod StorableChains
+pub mod FlashFrames
+pub mod FlashWrites
+pub mod FlashHeaders

@@ -194,7 +194,7 @@ some_code : (code : List ℕ) → length code ≤ 32768 → code_format.Allowed 
 unfolding code_format
 some_code code short = (tt, ((omega arith, short), refl))
 
-code_short : (differs : Bool) (payload : Payload) → (payload_format differs).Allowed payload → length payload.code ≤ 32768
+pub code_short : (differs : Bool) (payload : Payload) → (payload_format differs).Allowed payload → length payload.code ≤ 32768
 unfolding payload_format
 code_short differs payload is = is.1.1.0.1
 

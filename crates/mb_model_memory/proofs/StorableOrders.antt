@@ -221,7 +221,7 @@ order_layer : (order : Order) → order_format.Allowed order → MayBeFor (kind_
 unfolding order_format body_format
 order_layer order allowed = allowed.0.1.0
 
-order_act : (order : Order) → order_format.Allowed order → (act_by (kind_of order.act) (differs_in order.act)).Allowed order.act
+pub order_act : (order : Order) → order_format.Allowed order → (act_by (kind_of order.act) (differs_in order.act)).Allowed order.act
 unfolding order_format body_format
 order_act order allowed = allowed.0.1.1.1
 

@@ -1,5 +1,8 @@
 pub mod Commits
 pub mod InForce
+pub mod FlashInForce
+pub mod NextHeaders
+pub mod FlashLaws
 pub mod CommitLaws
 pub mod Storable
 pub mod StorableLaws

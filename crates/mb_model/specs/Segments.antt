@@ -1,0 +1,73 @@
+-- What a flash in segments holds: the code of each layer, the signed entries of the log, and those not signed yet.
+-- What of a device may anyone read?
+use Rattle.std.specs.Prelude.{◌≡◌, ◌≢◌, ℕ, ◌*◌, List, [], ◌∷◌, ◌++◌, length, take, Option, None, Some}
+use Rattle.mb_format.specs.Format.{Spells}
+use Rattle.mb_model.specs.declared.limits.TheConstants.{SECTOR_LENGTH, CODE_LIMIT}
+use Rattle.mb_model.specs.declared.entry.Entry.{Entry}
+use Rattle.mb_model.specs.declared.entry.SignedEntry.{SignedEntry}
+use Rattle.mb_model.specs.declared.state.Codes.{Codes}
+use Rattle.mb_model.specs.declared.stored.Root.{Root}
+use Rattle.mb_model.specs.declared.stored.Slot.{Slot}
+use Rattle.mb_model.specs.declared.stored.Header.{Header}
+use Rattle.mb_model.specs.Pieces.{part}
+use Rattle.mb_model.specs.EntryFormat.{entry_format}
+use Rattle.mb_model.specs.HeaderFormat.{header_format, log_format}
+use Rattle.mb_model.specs.Sectors.{header_sector, code_sector, log_sector, BeginsAs}
+use Rattle.mb_model.specs.StoredLog.{AreCounted}
+
+-- ---- where it stands
+
+-- a sector of the flash, by its number
+unfoldable pub sector : List ℕ → ℕ → List ℕ
+sector flash n = part (SECTOR_LENGTH * n) SECTOR_LENGTH flash
+
+-- a code slot, the whole of its eight sectors
+unfoldable pub code_slot : List ℕ → ℕ → ℕ → List ℕ
+code_slot flash layer slot = part (SECTOR_LENGTH * code_sector layer slot) CODE_LIMIT flash
+
+-- ---- what each place holds
+
+-- A header area, 0 or 1, holds the header that it begins with.
+abbrev pub HoldsHeader : List ℕ → ℕ → Header → Type 0
+HoldsHeader flash area header = BeginsAs header_format (sector flash (header_sector area)) header
+
+-- A layer has code exactly if a slot is named for it. The code is what that slot begins with, of the length named.
+abbrev pub HoldsCode : List ℕ → ℕ → Slot → Option (List ℕ) → Type 0
+HoldsCode flash layer slot None = slot.which ≡ 0
+HoldsCode flash layer slot (Some code) =
+    (slot.which ≢ 0) × (code ≡ take slot.length (code_slot flash layer slot.which))
+
+-- A sector of the log begins with the text of an entry, and the signature of that entry.
+pub record HoldsEntry (bytes : List ℕ) (signed : SignedEntry) : Type 0 where
+  pub text : List ℕ
+  pub begins : BeginsAs log_format bytes (text, signed.signature)
+  pub spelled : Spells entry_format text signed.entry
+
+-- Each entry of a log stands in the sector of its position.
+pub record HoldsLog (flash : List ℕ) (log : List SignedEntry) : Type 0 where
+  pub each : (before : List SignedEntry) (signed : SignedEntry) (rest : List SignedEntry)
+      → log ≡ before ++ signed ∷ rest → HoldsEntry (sector flash (log_sector (length before))) signed
+
+-- The unsigned texts of a header, none to two, spell these entries.
+abbrev pub AreBytesOf : Option (List ℕ) → Option (List ℕ) → List Entry → Type 0
+AreBytesOf None None [] = Unit {0}
+AreBytesOf (Some first) None (entry ∷ []) = Spells entry_format first entry
+AreBytesOf (Some first) (Some second) (entry ∷ next ∷ []) =
+    Spells entry_format first entry × Spells entry_format second next
+AreBytesOf first second entries = ⊥
+
+-- ---- what all of it holds
+
+-- The header of the area that the root names counts: its slots hold the codes, the log's sectors below its count hold
+-- the signed entries, and its texts spell the unsigned ones, as many as the root says.
+pub record HoldsSegments
+    (flash : List ℕ) (root : Root) (codes : Codes) (signed : List SignedEntry) (unsigned : List Entry) : Type 0 where
+  pub header : Header
+  pub begins : HoldsHeader flash root.area header
+  pub one : HoldsCode flash 1 header.one codes.one
+  pub two : HoldsCode flash 2 header.two codes.two
+  pub three : HoldsCode flash 3 header.three codes.three
+  pub count : length signed ≡ header.signed
+  pub log : HoldsLog flash signed
+  pub unsigned_are : AreBytesOf header.first header.second unsigned
+  pub counted : AreCounted root.pending unsigned

@@ -1,0 +1,34 @@
+-- What small flashes in segments hold; the checker computes each line. Do the definitions hold of anything?
+use Rattle.std.specs.Prelude.{ℕ, List, [], ◌∷◌, ◌++◌, replicate, codes, None, Some}
+use Rattle.mb_model.specs.declared.entry.Entry.{Entry}
+use Rattle.mb_model.specs.declared.entry.SignedEntry.{SignedEntry}
+use Rattle.mb_model.specs.declared.stored.Slot.{Slot}
+use Rattle.mb_model.specs.Segments.{HoldsHeader, HoldsCode, HoldsEntry, AreBytesOf}
+use Rattle.mb_model_examples.specs.RecordValues.{bytes_of, birth, birth_digits, succession, succession_digits}
+use Rattle.mb_model_examples.specs.HeaderExamples.{header_of_one, log_bytes}
+
+-- a flash of nothing but a header: layer 1 has nine bytes of code in slot 1, and one entry is signed
+abbrev pub only_header : List ℕ
+only_header = bytes_of (codes "4d424831010000000900000000000000000000000100")
+
+-- a flash that ends with these bytes of code, in slot 1 of layer 1
+abbrev pub only_code : List ℕ → List ℕ
+only_code code = replicate 8192 0xFF ++ code
+
+abbrev pub nine_bytes : List ℕ
+nine_bytes = codes "miniboot!"
+
+abbrev pub slot_one : ℕ → Slot
+slot_one length = record { which = 1; length = length }
+
+-- an entry signed by this byte, 2,348 times
+abbrev pub signed_by_byte : ℕ → Entry → SignedEntry
+signed_by_byte byte entry = record { entry = entry; signature = replicate 2348 byte }
+
+pub record SegmentExamples : Type 0 where
+  pub header : HoldsHeader only_header 0 (header_of_one 1 None None)
+  pub code : HoldsCode (only_code nine_bytes) 1 (slot_one 9) (Some nine_bytes)
+  -- whatever follows the code in its slot, and whatever follows the signature in its sector
+  pub more_code : HoldsCode (only_code (nine_bytes ++ 7 ∷ [])) 1 (slot_one 9) (Some nine_bytes)
+  pub entry : HoldsEntry (log_bytes ++ 7 ∷ []) (signed_by_byte 0x61 birth)
+  pub texts : AreBytesOf (Some (bytes_of birth_digits)) (Some (bytes_of succession_digits)) (birth ∷ succession ∷ [])

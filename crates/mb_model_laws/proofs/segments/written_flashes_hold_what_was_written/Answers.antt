@@ -1,0 +1,15 @@
+use Rattle.mb_model_lemmas.proofs.HeldSegments as held
+use Rattle.mb_model_lemmas.proofs.WrittenLemmas as written
+use Rattle.mb_model_laws.proofs.segments.written_flashes_hold_what_was_written.Goals as goal
+
+pub returns-clause-entry : goal.returns-clause-entry
+returns-clause-entry c = held.holds_entry
+
+pub returns-clause-bytes : goal.returns-clause-bytes
+returns-clause-bytes c = written.entry_has_bytes
+
+pub returns-clause-whole : goal.returns-clause-whole
+returns-clause-whole c = written.length-written
+
+pub returns-clause-holds : goal.returns-clause-holds
+returns-clause-holds c = λ codes log root fit fits. written.written_segments codes log fit fits root
