@@ -22,7 +22,9 @@ mod stored;
 mod stored_entries;
 mod usage;
 
-pub use area::{fill_area, public_at_start, record_at_start, record_in, region_in, root_in};
+pub use area::{
+    fill_area, is_blank, public_at_start, record_at_start, record_in, region_in, root_in,
+};
 pub use completion::{complete_record, two_unsigned_entries, unsigned_entry};
 pub use end::LayoutEnd;
 pub use entry::{read_entry, write_entry};
