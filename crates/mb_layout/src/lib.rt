@@ -1,9 +1,9 @@
-//! The records that a device stores, as bytes, both ways, and edits of stored bytes that take no memory.
+//! The records that a device stores, read from bytes and written to bytes, and edits of stored bytes without memory.
 //!
 //! This crate owns how layers, entries, root, region and public records are read and written, how a record is found
 //! in an area of either memory, and how a region's record and the public record are edited while the work of an
-//! order is done. How the records are spelled is defined in `mb_model` (`LayerFormat`, `EntryFormat`, `RootFormat`,
-//! `RegionFormat`, `Flash`, `Memory`).
+//! order is done. It stands on the formats of `mb_model` (`LayerFormat`, `EntryFormat`, `RootFormat`, `RegionFormat`,
+//! `Flash`, `Memory`) and the fields of `mb_bytes`.
 #![tactic(auto)]
 
 mod area;
