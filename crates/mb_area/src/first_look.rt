@@ -1,4 +1,4 @@
-//! What is left to be done in a device that comes up.
+//! The first look at a device that comes up: which work is left in it.
 
 ghost use Rattle.std.specs.Prelude.{◌≡◌, IsOk, IfOk};
 ghost use Rattle.mb_model.specs.declared.stored.Root.{Root};
@@ -15,13 +15,13 @@ use mb_layout::Room;
 use mb_ratchet::{R1, Up};
 use mb_slot::is_other_blank;
 
-/// What is left to be done.
+/// The work that is left in a device.
 pub enum Looked {
-    /// Nothing is pending, and the root's area that is not in force is all zero.
+    /// Nothing is pending, and the root's inactive area is all zero.
     Settled(Up<R1>),
-    /// The root says that work is pending.
+    /// The root record says that work is pending.
     Unsettled(Unsettled),
-    /// Nothing is pending, and the root's area that is not in force is not all zero.
+    /// Nothing is pending, and the root's inactive area is not all zero.
     Unwiped(Unwiped),
 }
 
@@ -31,7 +31,8 @@ pub enum LookEnd {
     NoMemory(Up<R1>),
 }
 
-/// What is left to be done, by the root in force and its other area. Nothing is written, and no memory is taken.
+/// Finds the work that is left, by the current root record and the root's inactive area. Writes nothing and takes no
+/// memory.
 pub fn look<B: Board>(up: Up<R1>, b: &mut B, room: &mut Room) -> Result<Looked, LookEnd>
     requires up { IsUp 1 (B.seen b.old) }
     requires root { HasSomeRoot (B.seen b.old).memory }

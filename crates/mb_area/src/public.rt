@@ -15,15 +15,15 @@ use mb_flash::write_area;
 use mb_layout::Room;
 use mb_ratchet::{Off, One, Reaches};
 
-/// The number of bytes of an area of the flash.
+/// The length of an area of the flash, in bytes.
 const FLASH_AREA: u32 = 524_288;
 
-/// The number of bytes before a record that tell its length.
+/// The size of the length before a record, in bytes.
 const PREFIX: usize = 4;
 
-/// Writes the record in `public` of the room into the flash area that is not in force, which then begins with it. The
-/// contents of the memory stay, wherever power fails. Nothing is written to a sector that holds its bytes already, and
-/// there are at most two write calls for each of the others, of which there are at most 115.
+/// Writes the record in `room.public` to the start of the flash's inactive area. The contents of the memory stay,
+/// wherever power fails. Writes nothing to a sector that holds its bytes already; there are at most two write calls for
+/// each of the others, at most 115 of them.
 #[tactic(auto, using(crate::proofs::Published::flash_kept, crate::proofs::Published::few_writes))]
 pub fn write_public<S: Reaches<One>, B: Board>(s: S, b: &mut B, room: &mut Room) -> Result<S, Off>
     requires up { IsUp S.stage (B.seen b.old) }
@@ -31,12 +31,15 @@ pub fn write_public<S: Reaches<One>, B: Board>(s: S, b: &mut B, room: &mut Room)
     requires short { length room.old.public.items ≤ 470000 }
     ensures contents { KeepsContents (B.seen b.old).memory (B.seen b.new).memory }
     ensures written { (root : Root) → RootIn (B.seen b.old).memory.bbram root
-        → OnOk result (BeginsArea (flash_area (B.seen b.new).memory.flash (1 - root.area)) room.old.public.items) }
+        → OnOk result (BeginsArea (flash_area (B.seen b.new).memory.flash
+        (1 - root.area)) room.old.public.items) }
     ensures rest { (root : Root) → RootIn (B.seen b.old).memory.bbram root
-        → flash_area (B.seen b.new).memory.flash root.area ≡ flash_area (B.seen b.old).memory.flash root.area }
+        → flash_area (B.seen b.new).memory.flash root.area
+        ≡ flash_area (B.seen b.old).memory.flash root.area }
     ensures idle { (root : Root) → RootIn (B.seen b.old).memory.bbram root
         → BeginsArea (flash_area (B.seen b.old).memory.flash (1 - root.area)) room.old.public.items
-        → IsOk result × ((B.seen b.new).memory ≡ (B.seen b.old).memory) × ((B.seen b.new).meter ≡ (B.seen b.old).meter) }
+        → IsOk result × ((B.seen b.new).memory ≡ (B.seen b.old).memory)
+        × ((B.seen b.new).meter ≡ (B.seen b.old).meter) }
     ensures bbram { (B.seen b.new).memory.bbram ≡ (B.seen b.old).memory.bbram }
     ensures ran { Ran 230 result (B.seen b.old) (B.seen b.new) }
     ensures public { room.new.public ≡ room.old.public }
@@ -48,13 +51,14 @@ pub fn write_public<S: Reaches<One>, B: Board>(s: S, b: &mut B, room: &mut Room)
     }
 }
 
-/// The number of bytes of the record with which an area of the flash begins.
+/// The length of the record with which an area of the flash begins, in bytes.
 #[tactic(auto, using(crate::proofs::Published::length_stands))]
 fn stored_length<B: Board>(b: &B, area: u8) -> usize
     requires powered { IsPowered (B.seen b.now) }
     requires area { area ≤ 1 }
     requires begins { BeginsSome (flash_area (B.seen b.now).memory.flash area) }
-    ensures length { (bytes : List ℕ) → BeginsArea (flash_area (B.seen b.now).memory.flash area) bytes
+    ensures length { (bytes : List ℕ)
+        → BeginsArea (flash_area (B.seen b.now).memory.flash area) bytes
         → result ≡ length bytes }
     ensures most { result ≤ 470000 }
 {
@@ -63,7 +67,7 @@ fn stored_length<B: Board>(b: &B, area: u8) -> usize
     u32::from_be_bytes(number) as usize
 }
 
-/// Replaces `public` of the room by the record with which an area of the flash begins.
+/// Replaces `room.public` by the record with which an area of the flash begins.
 pub fn read_public<B: Board>(b: &B, area: u8, room: &mut Room)
     requires powered { IsPowered (B.seen b.now) }
     requires area { area ≤ 1 }

@@ -1,7 +1,8 @@
-//! The root in its slot.
+//! The root record in its slot.
 
 ghost use Rattle.std.specs.Prelude.{◌≡◌, ◌≤◌, ◌-◌, ◌⊎◌, length, OnOk, IsOk, vec_capacity};
 ghost use Rattle.mb_format.specs.Format.{Spells};
+ghost use Rattle.mb_model.specs.declared.limits.TheConstants.{AREA_LENGTH, RECORD_LIMIT};
 ghost use Rattle.mb_model.specs.declared.stored.Root.{Root};
 ghost use Rattle.mb_model.specs.RootFormat.{root_format};
 ghost use Rattle.mb_model.specs.Memory.{IsBlank, current, other, HoldsRecord};
@@ -22,7 +23,7 @@ use mb_slot::{commit, read_current, wipe_other};
 /// The number of the root's slot.
 pub(crate) const ROOT_SLOT: u16 = 1;
 
-/// The root whose record the area holds.
+/// The root record that the area holds.
 fn held_root(area: &[u8]) -> Root
     requires { HoldsSomeRoot area.now }
     ensures holds { HoldsRecord root_format area.now result }
@@ -34,7 +35,7 @@ fn held_root(area: &[u8]) -> Root
     root
 }
 
-/// The root in force.
+/// Reads the current root record.
 pub fn read_root<B: Board>(b: &B, room: &mut Room) -> Root
     requires can_use { CanUse (B.seen b.now) 1 }
     requires root { HasSomeRoot (B.seen b.now).memory }
@@ -48,26 +49,29 @@ pub fn read_root<B: Board>(b: &B, room: &mut Room) -> Root
     held_root(&room.area)
 }
 
-/// Replaces `out` by the bytes of the root.
+/// Replaces `out` by the bytes of the root record.
 fn root_bytes(root: &Root, out: &mut Vec<u8>)
     requires allowed { root_format.Allowed root.now }
-    requires room { 4096 ≤ vec_capacity out.old }
+    requires room { AREA_LENGTH ≤ vec_capacity out.old }
     ensures spelled { Spells root_format out.new.items root.now }
-    ensures short { length out.new.items ≤ 4094 }
+    ensures short { length out.new.items ≤ RECORD_LIMIT }
     ensures capacity { vec_capacity out.old ≤ vec_capacity out.new }
 {
     out.clear();
     let _ = write_root(root, out);
 }
 
-/// Puts the root in force. Where power fails, this one or the one before is in force. There are at most two write calls.
+/// Makes this root record the current one. If power fails, this one or the one before is current. There are at most two
+/// write calls.
 fn store_root<B: Board>(b: &mut B, root: &Root, room: &mut Room) -> Result<(), Stopped>
     requires can_use { CanUse (B.seen b.old) 1 }
     requires allowed { root_format.Allowed root.now }
-    ensures done { OnOk result (HoldsRecord root_format (current (B.seen b.new).memory.bbram 1) root.now) }
+    ensures done { OnOk result (HoldsRecord root_format
+        (current (B.seen b.new).memory.bbram 1) root.now) }
     ensures either { (current (B.seen b.new).memory.bbram 1 ≡ current (B.seen b.old).memory.bbram 1)
         ⊎ HoldsRecord root_format (current (B.seen b.new).memory.bbram 1) root.now }
-    ensures left { OnOk result (other (B.seen b.new).memory.bbram 1 ≡ current (B.seen b.old).memory.bbram 1) }
+    ensures left { OnOk result (other (B.seen b.new).memory.bbram 1
+        ≡ current (B.seen b.old).memory.bbram 1) }
     ensures besides { AgreeBesides 1 (B.seen b.old).memory.bbram (B.seen b.new).memory.bbram }
     ensures rest { IsSameBut 1 (B.seen b.old).memory.bbram (B.seen b.new).memory.bbram }
     ensures flash { (B.seen b.new).memory.flash ≡ (B.seen b.old).memory.flash }
@@ -80,8 +84,8 @@ fn store_root<B: Board>(b: &mut B, root: &Root, room: &mut Room) -> Result<(), S
     commit(b, ROOT_SLOT, &room.area)
 }
 
-/// Puts the root in force, with whose public record the flash area that it names begins, as an order leaves it. Where
-/// power fails, this one or the one before is in force. There are at most two write calls.
+/// Commits the root record that an order leaves; the flash area that it names begins with its public record. If power
+/// fails, this root record or the one before is current. There are at most two write calls.
 #[tactic(auto, using(crate::proofs::Rooted::root_committed, crate::proofs::Rooted::committed_or_kept, crate::proofs::Rooted::committed_means, crate::proofs::Rooted::committed_means_or_kept))]
 pub fn commit_root<B: Board>(
     up: Up<R1>,
@@ -107,8 +111,7 @@ pub fn commit_root<B: Board>(
     }
 }
 
-/// The root of a device with nothing pending, whose public record stands in the area of the flash that this root does
-/// not name.
+/// The root record of the same device with nothing pending, and with its public record in the other area of the flash.
 fn settled_root(root: &Root) -> Root
     requires { root.now.area ≤ 1 }
     ensures { result ≡ settled_root root.now }
@@ -122,9 +125,9 @@ fn settled_root(root: &Root) -> Root
     }
 }
 
-/// Puts the root in force that says that nothing is pending, where the fates stand applied and the signed public record
-/// stands in the flash area that is not in force. Where power fails, this root or the one before is in force. There are at
-/// most two write calls.
+/// Commits the root record that says that nothing is pending. Both fates have been applied, and the signed public record
+/// stands in the flash's inactive area. If power fails, this root record or the one before is current. There are at most
+/// two write calls.
 #[tactic(auto, using(crate::proofs::Rooted::root_finished, crate::proofs::Rooted::finished_or_kept, crate::proofs::Rooted::finished_means, crate::proofs::Rooted::settled_allowed))]
 pub fn finish_root<B: Board>(u: Unsettled, b: &mut B, room: &mut Room) -> Result<Unwiped, Off>
     requires up { IsUp 1 (B.seen b.old) }
@@ -150,15 +153,16 @@ fn unwiped(u: Unsettled) -> Unwiped {
     Unwiped { up }
 }
 
-/// Sets each byte of the root's area that is not in force to zero; writes nothing where each is zero already. There is at
-/// most one write call.
+/// Sets each byte of the root's inactive area to zero, and writes nothing if each is zero already. There is at most one
+/// write call.
 #[tactic(auto, using(crate::proofs::Rooted::kept_in_force))]
 pub fn wipe_root<B: Board>(w: Unwiped, b: &mut B) -> Result<Up<R1>, Off>
     requires up { IsUp 1 (B.seen b.old) }
     ensures blank { OnOk result (IsBlank (other (B.seen b.new).memory.bbram 1)) }
     ensures contents { KeepsContents (B.seen b.old).memory (B.seen b.new).memory }
     ensures idle { IsBlank (other (B.seen b.old).memory.bbram 1)
-        → IsOk result × ((B.seen b.new).memory ≡ (B.seen b.old).memory) × ((B.seen b.new).meter ≡ (B.seen b.old).meter) }
+        → IsOk result × ((B.seen b.new).memory ≡ (B.seen b.old).memory)
+        × ((B.seen b.new).meter ≡ (B.seen b.old).meter) }
     ensures rest { IsSameButOther 1 (B.seen b.old).memory.bbram (B.seen b.new).memory.bbram }
     ensures flash { (B.seen b.new).memory.flash ≡ (B.seen b.old).memory.flash }
     ensures ran { Ran 1 result (B.seen b.old) (B.seen b.new) }

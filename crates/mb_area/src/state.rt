@@ -4,14 +4,14 @@ ghost use Rattle.std.proofs.Common.{rules};
 
 use mb_ratchet::{Off, One, Place, R1, Reaches, Register, Up};
 
-/// A device at level 1 whose root says that work is pending. It reaches every place, and cannot be let go: the work has
-/// to be done first.
+/// A device at level 1 whose root record says that work is pending. It reaches every place, and cannot be dropped: the
+/// work has to be done first.
 pub struct Unsettled {
     pub(crate) up: Up<R1>,
 }
 
-/// A device at level 1 with nothing pending, of whose root the area that is not in force may hold an old secret. It
-/// cannot be let go: that area has to be wiped first.
+/// A device at level 1 with no pending work, whose inactive root area may still hold an old secret. It cannot be
+/// dropped: that area has to be wiped first.
 pub struct Unwiped {
     pub(crate) up: Up<R1>,
 }

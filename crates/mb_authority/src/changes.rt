@@ -1,4 +1,4 @@
-//! Which changes a layer admits, and what a change leaves.
+//! The changes that a layer admits, and the layers after a change.
 
 ghost use Rattle.std.specs.Prelude.{◌≡◌};
 ghost use Rattle.mb_model.specs.Layers.{trust_for};
@@ -6,10 +6,11 @@ ghost use Rattle.mb_model.specs.Rules.{trusts, admits, is_kept, kept_regions, ma
 
 use crate::kinds::{is_load, is_own_load};
 use crate::layers::{is_in, is_owned, layer_of};
-use mb_model::{Act, ChangeKind, CodeName, Layer, Layers, Pair, Payload, Trust, Trusts};
+use mb_model::{Act, ChangeKind, CodeName, Layer, Layers, Pair, Payload, Trust};
 use sha2::{Digest, Sha256};
 
-/// Whether a layer with this trust goes along with a load beneath it, which its owner has or has not countersigned.
+/// Whether a layer with this trust goes along with a load beneath it. `cosigned` says whether the layer's owner has
+/// countersigned the load.
 fn trusts(trust: Trust, cosigned: bool) -> bool
     ensures { result ≡ trusts trust cosigned }
 {
@@ -31,8 +32,8 @@ fn trust_for(layer: &Layer, k: u8) -> Trust
     }
 }
 
-/// Whether layer `m` admits a change of the kind at `layer`, which is `m` or stands beneath it: its own ordinary load,
-/// and each load beneath it that it trusts. The layers are those before the change.
+/// Whether layer `m` admits a change of the kind at `layer`, which is `m` or beneath it. A layer admits its own ordinary
+/// load, and each load beneath it that it trusts. The layers are those before the change.
 pub fn admits(layers: &Layers, kind: ChangeKind, layer: u8, cosigned: Pair, m: u8) -> bool
     ensures { result ≡ admits layers.now kind layer cosigned m }
 {
@@ -43,7 +44,7 @@ pub fn admits(layers: &Layers, kind: ChangeKind, layer: u8, cosigned: Pair, m: u
     }
 }
 
-/// Whether region `m` is kept over a change of the kind at `layer`: the change is above it, or its layer admits it.
+/// Whether region `m` is kept over a change of the kind at `layer`: if the change is above it, or its layer admits it.
 fn is_kept(layers: &Layers, kind: ChangeKind, layer: u8, cosigned: Pair, m: u8) -> bool
     ensures { result ≡ is_kept layers.now kind layer cosigned m }
 {
@@ -60,15 +61,15 @@ pub fn kept_regions(layers: &Layers, kind: ChangeKind, layer: u8, cosigned: Pair
     }
 }
 
-/// Whether the owner of layer `m` may countersign a change of the kind at `layer`: it is a load, and `m` has an owner
-/// and stands above.
+/// Whether the owner of layer `m` may countersign a change of the kind at `layer`: if it is a load, and `m` is above it
+/// and has an owner.
 pub fn may_cosign(layers: &Layers, kind: ChangeKind, layer: u8, m: u8) -> bool
     ensures { result ≡ may_cosign layers.now kind layer m }
 {
     is_load(kind) && layer < m && is_owned(layers, m)
 }
 
-/// The layer with the code and the trusts of a load, whose code is hashed; its owner stays.
+/// The layer after a load: with the hash of the load's code, with its trusts, and with the owner as before.
 fn loaded_layer(old: &Layer, payload: &Payload) -> Layer
     ensures { result ≡ loaded_layer old.now payload.now }
 {
@@ -83,8 +84,7 @@ fn loaded_layer(old: &Layer, payload: &Payload) -> Layer
     }
 }
 
-/// What an order that does this puts in place of the layer that it is for, which stands as `old`. The code of a load is
-/// hashed once.
+/// The layer that an order puts in place of the layer `old`, by what the order does. The code of a load is hashed once.
 pub fn placed(old: &Layer, act: &Act) -> Layer
     ensures { result ≡ placed old.now act.now }
 {
@@ -95,18 +95,13 @@ pub fn placed(old: &Layer, act: &Act) -> Layer
             reliable: false,
             trust: *trust,
         },
-        Act::Surrender => Layer {
-            owner: None,
-            code: None,
-            reliable: false,
-            trust: Trusts::equal(Trust::Never),
-        },
+        Act::Surrender => Layer::unowned(),
         Act::Load(payload) | Act::Emergency(payload) => loaded_layer(old, payload),
         Act::NewKey { .. } => *old,
     }
 }
 
-/// Layer `m` after the change that `after` is about.
+/// Layer `m` after the change, as `after` has it.
 fn layer_after(
     layers: &Layers,
     kind: ChangeKind,
@@ -130,8 +125,8 @@ fn layer_after(
     }
 }
 
-/// The layers after a change of the kind that puts `placed` in place of `layer`. A layer above it stays reliable only
-/// where it admits the change; all else stays.
+/// The layers after a change of the kind that puts `placed` in place of `layer`. A layer above it stays reliable only if
+/// it admits the change; all else stays.
 #[tactic(auto, unfolding(mb_model::specs::Rules::after))]
 pub fn after(layers: &Layers, kind: ChangeKind, layer: u8, cosigned: Pair, placed: &Layer) -> Layers
     ensures { result ≡ after layers.now kind layer cosigned placed.now }

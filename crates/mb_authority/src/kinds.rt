@@ -6,7 +6,7 @@ ghost use Rattle.mb_model.specs.OrderChecks.{change_by};
 
 use mb_model::{Act, ChangeKind, Order};
 
-/// The kind of the change that the order makes, or `None` where it makes a new key.
+/// The kind of the change that the order makes, or `None` if it makes a new key.
 pub fn change_by(order: &Order) -> Option<ChangeKind>
     ensures { result ≡ change_by order.now }
 {
@@ -26,14 +26,14 @@ pub fn is_load(kind: ChangeKind) -> bool
     matches!(kind, ChangeKind::Load | ChangeKind::Emergency)
 }
 
-/// Whether the layer's own owner puts code in place.
+/// Whether a change of the kind puts code in place by the layer's own owner.
 pub fn is_own_load(kind: ChangeKind) -> bool
     ensures { result ≡ is_own_load (Some kind) }
 {
     matches!(kind, ChangeKind::Load)
 }
 
-/// Whether an order of the kind, `None` for a new key, makes the next device key: it is an ordinary load of layer 1.
+/// Whether an order of the kind, `None` for a new key, makes the next device key: if it is an ordinary load of layer 1.
 pub fn renews(kind: Option<ChangeKind>, layer: u8) -> bool
     ensures { result ≡ renews kind layer }
 {

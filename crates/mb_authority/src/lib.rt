@@ -1,9 +1,8 @@
-//! Who may give an order, when, and what a change leaves of the layers.
+//! Who may give an order and when, and the layers after a change.
 //!
-//! This crate owns the rules of layers: the key under which an order has to verify, which of its targets fails, how
-//! the layers have to stand, which changes a layer admits, and the layers and the kept regions afterwards. Its
-//! calls speak of a kind of change and a layer, so that they serve orders and log entries alike. No call takes
-//! memory.
+//! This crate owns the rules of layers: the key under which an order has to verify, the target that fails, the state of
+//! the layers that an order needs, the changes that a layer admits, and the layers and the kept regions afterwards. Its
+//! calls take a kind of change and a layer, so that they serve orders and log entries alike. No call takes memory.
 #![tactic(auto)]
 
 mod changes;

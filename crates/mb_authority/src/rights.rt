@@ -1,4 +1,4 @@
-//! Who has to sign an order, and how the layers have to stand for it.
+//! Who has to sign an order, and the state of the layers that it needs.
 
 ghost use Rattle.std.specs.Prelude.{◌≡◌};
 ghost use Rattle.mb_model.specs.Rules.{authority, condition, signing_layer};
@@ -8,8 +8,8 @@ use crate::kinds::change_by;
 use crate::layers::{is_owned, is_runnable, is_upper, layer_of};
 use mb_model::{ChangeKind, Layers, Order, PublicKey};
 
-/// The layer whose owner has to sign an order of the kind, `None` for a new key, that is for `layer`. An owner is
-/// established, and code is loaded in an emergency, from beneath; all else is up to the layer's own owner.
+/// The layer whose owner has to sign an order of the kind, `None` for a new key, for `layer`. The owner beneath
+/// establishes an owner and loads code in an emergency; the layer's own owner does all else.
 fn signing_layer(kind: Option<ChangeKind>, layer: u8) -> u8
     ensures { result ≡ signing_layer kind layer }
 {
@@ -19,16 +19,15 @@ fn signing_layer(kind: Option<ChangeKind>, layer: u8) -> u8
     }
 }
 
-/// The key under which the order has to verify, or `None` exactly where the layer whose owner has to sign it is
-/// unowned.
+/// The key under which the order has to verify, or `None` exactly if the layer whose owner has to sign it is unowned.
 pub fn authority(layers: &Layers, order: &Order) -> Option<PublicKey>
     ensures { result ≡ authority layers.now (change_by order.now) order.now.layer }
 {
     layer_of(layers, signing_layer(change_by(order), order.layer)).owner
 }
 
-/// Whether the layers stand so that an order of the kind, `None` for a new key, may be given for `layer`. It is false
-/// for every layer that an order of the kind cannot be for.
+/// Whether these layers allow an order of the kind, `None` for a new key, for `layer`. It is false for every layer that
+/// an order of the kind cannot be for.
 pub fn condition(layers: &Layers, kind: Option<ChangeKind>, layer: u8) -> bool
     ensures { result ≡ condition layers.now kind layer }
 {

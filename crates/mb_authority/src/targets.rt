@@ -1,4 +1,4 @@
-//! What an order demands of the device.
+//! The demands of an order on the device.
 
 ghost use Rattle.std.specs.Prelude.{◌↔◌, All, IsTrue, MatchOption};
 ghost use Rattle.mb_model.specs.declared.order.Target.{Target};
@@ -9,7 +9,7 @@ use crate::layers::layer_of;
 use mb_lms::key_hash;
 use mb_model::{Order, Target, View};
 
-/// Whether the target holds. One on a layer without an owner, or without code, does not.
+/// Whether the target holds. A target on the owner or the code of a layer that has none does not hold.
 fn holds(view: &View, target: &Target) -> bool
     ensures { IsTrue result ↔ TargetHolds view.now.serial view.now.layers view.now.length target.now }
 {
@@ -27,7 +27,7 @@ fn holds(view: &View, target: &Target) -> bool
     }
 }
 
-/// The index, from 0, of the first target of the order that fails, or `None` exactly where all hold. The order has a
+/// The index, from 0, of the first target of the order that fails, or `None` exactly if all hold. The order has a
 /// spelling.
 pub fn target_fails(view: &View, order: &Order) -> Option<u8>
     requires { order_format.Allowed order.now }

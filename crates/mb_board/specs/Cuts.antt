@@ -3,6 +3,7 @@ use Rattle.std.specs.Prelude.{◌≡◌, ℕ, zero, suc, ◌+◌, ◌-◌, ◌<�
 use Rattle.std.specs.Prelude.{List, ◌++◌, length, take, map, slice_index}
 use Rattle.std.specs.Prelude.{Bool, true, false, Option, None, Some, Result, Ok, Err, if◌then◌else◌}
 use Rattle.std.specs.List.{range_with_len}
+use Rattle.mb_model.specs.declared.limits.TheConstants.{FILL_LIMIT}
 use Rattle.mb_model.specs.declared.event.Event.{Event}
 use Rattle.mb_model.specs.declared.event.Event.TheVariants as event
 use Rattle.mb_model.specs.declared.event.Tear.{Tear}
@@ -13,7 +14,7 @@ use Rattle.mb_board.specs.declared.fuse.Cut.{Cut}
 -- a tear has 1 to 16 bytes to fill with
 pub record HasFill (tear : Tear) : Type 0 where
   pub some : 1 ≤ tear.fill_length
-  pub most : tear.fill_length ≤ 16
+  pub most : tear.fill_length ≤ FILL_LIMIT
 
 -- the power loss that is armed, how many calls were stopped, and how many write calls were made since the last event
 pub record Armed : Type 0 where

@@ -1,14 +1,15 @@
 -- What holds of the fields of a memory: a sector in which nothing was written since the bytes were kept is as it was.
 use Rattle.std.specs.Prelude.{◌≡◌, ℕ, ◌*◌, ◌<◌, Bool, false, List, length, get_or}
+use Rattle.mb_model.specs.declared.limits.TheConstants.{SECTOR_LENGTH}
 use Rattle.mb_model.specs.Pieces.{part}
 use Rattle.mb_board.specs.declared.bank.Bank.TheInside.{Inside}
 
 abbrev pub sector_of : ℕ → List ℕ → List ℕ
-sector_of sector bytes = part (4096 * sector) 4096 bytes
+sector_of sector bytes = part (SECTOR_LENGTH * sector) SECTOR_LENGTH bytes
 
 -- two memories of whole sectors are the same in those that did not change
 pub record IsSameUnchanged (changed : List Bool) (standing bytes : List ℕ) : Type 0 where
-  pub whole : length bytes ≡ 4096 * length changed
+  pub whole : length bytes ≡ SECTOR_LENGTH * length changed
   pub sized : length standing ≡ length bytes
   pub same : (sector : ℕ) → sector < length changed → get_or changed sector false ≡ false
       → sector_of sector standing ≡ sector_of sector bytes

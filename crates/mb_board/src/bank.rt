@@ -1,7 +1,8 @@
-//! One of a device's memories.
+//! The bytes of one memory of a simulated device.
 
 ghost use Rattle.std.specs.Prelude.{◌≡◌, ◌+◌, ◌*◌, ◌%◌, ◌≤◌, ◌<◌, [], length, replicate, true, IfOk};
 ghost use Rattle.mb_format.specs.Format.{IsBytes};
+ghost use Rattle.mb_model.specs.declared.limits.TheConstants.{SECTOR_LENGTH};
 ghost use Rattle.mb_model.specs.Pieces.{part};
 ghost use Rattle.mb_model.specs.Board.{put, erased, zeros};
 ghost use Rattle.mb_board.specs.Cuts.{HasFill, filling, torn_by};
@@ -12,14 +13,14 @@ use mb_model::{NoMemory, SECTOR_LENGTH, Tear};
 use std::alloc::Global;
 use std::marker::Model;
 
-/// The bytes of a memory of whole sectors, and what they were when they were last kept. Keeping them copies the sectors
-/// in which something was written since, and nothing where nothing was written.
+/// The bytes of a memory of whole sectors, and a copy of them from when they were last kept. Keeping them copies only
+/// the sectors that were written since.
 #[derive(Drop)]
 pub struct Bank {
     bytes: Vec<u8>,
     standing: Vec<u8>,
-    // One that is set where nothing was written costs time alone, so no contract speaks of it.
-    /// Whether something was written in each sector since the bytes were kept.
+    // A mark without a write costs only time, so no contract speaks of it.
+    /// For each sector, whether it was written since the bytes were kept.
     changed: Vec<bool>,
 }
 
@@ -35,7 +36,7 @@ impl Model for Bank {
 }
 
 impl Bank {
-    /// A memory of no bytes.
+    /// An empty memory.
     pub fn new(alloc: Global) -> Bank
         ensures { result ≡ just_kept [] }
     {
@@ -46,9 +47,9 @@ impl Bank {
         }
     }
 
-    /// A memory of these bytes, which are kept. `NoMemory` where an allocation fails, of which no clause says when.
+    /// A memory of these bytes, which are kept. `NoMemory` if an allocation fails.
     pub fn from_slice(alloc: Global, bytes: &[u8]) -> Result<Bank, NoMemory>
-        requires { length bytes.now % 4096 ≡ 0 }
+        requires { length bytes.now % SECTOR_LENGTH ≡ 0 }
         ensures { IfOk result (λ bank. bank ≡ just_kept bytes.now) }
     {
         Ok(Bank {
@@ -65,10 +66,10 @@ impl Bank {
         self.bytes.as_slice()
     }
 
-    /// Stores bytes from `at` on, within one sector.
+    /// Stores bytes at the offset `at`, within one sector.
     pub fn write(&mut self, at: usize, bytes: &[u8])
         requires some { 0 < length bytes.now }
-        requires one_sector { at % 4096 + length bytes.now ≤ 4096 }
+        requires one_sector { at % SECTOR_LENGTH + length bytes.now ≤ SECTOR_LENGTH }
         requires within { at + length bytes.now ≤ length self.old.bytes }
         ensures { self.new ≡ record self.old { bytes = put at bytes.now self.old.bytes } }
     {
@@ -78,8 +79,12 @@ impl Bank {
 
     /// Sets each byte of a sector to 0xFF.
     pub fn erase(&mut self, sector: u16)
-        requires { 4096 * sector + 4096 ≤ length self.old.bytes }
-        ensures { self.new ≡ record self.old { bytes = put (4096 * sector) (erased 4096) self.old.bytes } }
+        requires { SECTOR_LENGTH * sector + SECTOR_LENGTH ≤ length self.old.bytes }
+        ensures { self.new
+            ≡ record self.old {
+              bytes = put (SECTOR_LENGTH * sector)
+                  (erased SECTOR_LENGTH) self.old.bytes;
+            } }
     {
         let sector = sector as usize;
         erase(&mut self.bytes, SECTOR_LENGTH * sector, SECTOR_LENGTH);
@@ -87,36 +92,45 @@ impl Bank {
     }
 
     #[tactic(auto, using(mb_model::proofs::Places::puts))]
-    /// Stores what a power loss leaves of a write of these bytes from `at` on.
+    /// Stores what a power loss leaves of a write of these bytes at the offset `at`.
     pub fn write_torn(&mut self, at: usize, bytes: &[u8], tear: &Tear)
         requires fill { HasFill tear.now }
         requires some { 0 < length bytes.now }
-        requires one_sector { at % 4096 + length bytes.now ≤ 4096 }
+        requires one_sector { at % SECTOR_LENGTH + length bytes.now ≤ SECTOR_LENGTH }
         requires within { at + length bytes.now ≤ length self.old.bytes }
-        ensures { self.new ≡ record self.old { bytes = put at (torn_by tear.now bytes.now) self.old.bytes } }
+        ensures { self.new
+            ≡ record self.old { bytes = put at (torn_by tear.now bytes.now) self.old.bytes } }
     {
         self.write(at, bytes);
         self.spoil(at, bytes.len(), tear);
     }
 
     #[tactic(auto, using(mb_model::proofs::Places::puts))]
-    /// Leaves a sector as a power loss leaves one that is set to 0xFF.
+    /// Stores what a power loss leaves of the erasure of a sector.
     pub fn erase_torn(&mut self, sector: u16, tear: &Tear)
         requires fill { HasFill tear.now }
-        requires within { 4096 * sector + 4096 ≤ length self.old.bytes }
-        ensures { self.new ≡ record self.old { bytes = put (4096 * sector) (torn_by tear.now (erased 4096)) self.old.bytes } }
+        requires within { SECTOR_LENGTH * sector + SECTOR_LENGTH ≤ length self.old.bytes }
+        ensures { self.new
+            ≡ record self.old {
+              bytes = put (SECTOR_LENGTH * sector)
+                  (torn_by tear.now (erased SECTOR_LENGTH)) self.old.bytes;
+            } }
     {
         self.erase(sector);
         self.spoil(SECTOR_LENGTH * sector as usize, SECTOR_LENGTH, tear);
     }
 
-    /// Leaves `count` bytes, which were just stored from `at` on, as a power loss in that write leaves them.
+    /// Replaces `count` bytes, just written at the offset `at`, by what a power loss leaves of that write.
     fn spoil(&mut self, at: usize, count: usize, tear: &Tear)
         requires fill { HasFill tear.now }
         requires some { 0 < count }
-        requires one_sector { at % 4096 + count ≤ 4096 }
+        requires one_sector { at % SECTOR_LENGTH + count ≤ SECTOR_LENGTH }
         requires within { at + count ≤ length self.old.bytes }
-        ensures { self.new ≡ record self.old { bytes = put at (torn_by tear.now (part at count self.old.bytes)) self.old.bytes } }
+        ensures { self.new
+            ≡ record self.old {
+              bytes = put at (torn_by tear.now
+                  (part at count self.old.bytes)) self.old.bytes;
+            } }
     {
         spoil(&mut self.bytes, at, count, tear);
         self.changed[at / SECTOR_LENGTH] = true;
@@ -130,7 +144,7 @@ impl Bank {
         mark_all(&mut self.changed);
     }
 
-    /// Keeps the bytes as they are now.
+    /// Keeps a copy of the bytes as they are now.
     pub fn keep(&mut self)
         ensures { self.new ≡ just_kept self.old.bytes }
     {
@@ -138,7 +152,7 @@ impl Bank {
     }
 }
 
-/// Stores bytes in a memory from `at` on.
+/// Stores bytes in a memory at the offset `at`.
 #[tactic(auto, unfolding(mb_model::specs::Board::put))]
 fn write(memory: &mut Vec<u8>, at: usize, bytes: &[u8])
     requires { at + length bytes.now ≤ length memory.old.items }
@@ -147,7 +161,7 @@ fn write(memory: &mut Vec<u8>, at: usize, bytes: &[u8])
     memory[at..at + bytes.len()].copy_from_slice(bytes);
 }
 
-/// Sets `count` bytes of a memory from `at` on to 0xFF.
+/// Sets `count` bytes of a memory, from the offset `at` on, to 0xFF.
 #[tactic(auto, unfolding(mb_model::specs::Board::put, mb_model::specs::Board::erased))]
 fn erase(memory: &mut Vec<u8>, at: usize, count: usize)
     requires { at + count ≤ length memory.old.items }
@@ -171,17 +185,18 @@ fn mark_all(changed: &mut Vec<bool>)
     changed.as_mut_slice().fill(true);
 }
 
-/// Leaves `count` bytes, which were just stored in a memory from `at` on, as a power loss in that write leaves them.
+/// Replaces `count` bytes of a memory, just written at the offset `at`, by what a power loss leaves of that write.
 fn spoil(memory: &mut Vec<u8>, at: usize, count: usize, tear: &Tear)
     requires fill { HasFill tear.now }
     requires within { at + count ≤ length memory.old.items }
-    ensures { memory.new.items ≡ put at (torn_by tear.now (part at count memory.old.items)) memory.old.items }
+    ensures { memory.new.items
+        ≡ put at (torn_by tear.now (part at count memory.old.items)) memory.old.items }
 {
     let kept = count.min(tear.keep as usize);
     store_filling(memory, at + kept, count - kept, tear);
 }
 
-/// Stores `count` bytes of the filling of a tear from `at` on.
+/// Stores `count` bytes of the filling of a tear at the offset `at`.
 #[tactic(auto, unfolding(mb_model::specs::Board::put))]
 fn store_filling(memory: &mut Vec<u8>, at: usize, count: usize, tear: &Tear)
     requires fill { HasFill tear.now }
@@ -191,7 +206,7 @@ fn store_filling(memory: &mut Vec<u8>, at: usize, count: usize, tear: &Tear)
     fill(&mut memory[at..at + count], tear);
 }
 
-/// Fills a range with the bytes that a tear fills with, repeated from the first.
+/// Fills a range with the bytes of a tear's filling, repeated from the first.
 fn fill(range: &mut [u8], tear: &Tear)
     requires { HasFill tear.now }
     ensures { range.new ≡ filling tear.now (length range.old) }
@@ -202,7 +217,7 @@ fn fill(range: &mut [u8], tear: &Tear)
     }
 }
 
-/// Makes `standing`, which is the same in all sectors that did not change, the same as `bytes`.
+/// Copies the changed sectors of `bytes` to `standing`, which agrees in all others, and clears the marks.
 fn copy_changed(standing: &mut Vec<u8>, bytes: &[u8], changed: &mut Vec<bool>)
     requires { IsSameUnchanged changed.old.items standing.old.items bytes.now }
     ensures copied { standing.new.items ≡ bytes.now }
@@ -219,14 +234,15 @@ fn copy_changed(standing: &mut Vec<u8>, bytes: &[u8], changed: &mut Vec<bool>)
 /// Copies the bytes of one sector.
 fn copy_sector(standing: &mut Vec<u8>, bytes: &[u8], sector: usize)
     requires sized { length standing.old.items ≡ length bytes.now }
-    requires within { 4096 * sector + 4096 ≤ length bytes.now }
-    ensures { standing.new.items ≡ put (4096 * sector) (sector_of sector bytes.now) standing.old.items }
+    requires within { SECTOR_LENGTH * sector + SECTOR_LENGTH ≤ length bytes.now }
+    ensures { standing.new.items
+        ≡ put (SECTOR_LENGTH * sector) (sector_of sector bytes.now) standing.old.items }
 {
     let start = SECTOR_LENGTH * sector;
     write(standing, start, &bytes[start..start + SECTOR_LENGTH]);
 }
 
-/// Each byte of a memory is less than 256.
+/// A law without a body: each byte of a memory is less than 256.
 pub fn are_bytes(bytes: &[u8])
     ensures { IsBytes bytes.now }
 {}

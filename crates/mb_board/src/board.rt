@@ -1,7 +1,8 @@
-//! What a board is for those who use it.
+//! The trait of a board: a device's memories, its power, and the events that it hands out.
 
 ghost use Rattle.std.specs.Prelude.{◌≡◌, ◌+◌, ◌*◌, ◌/◌, ◌-◌, ◌<◌, ◌≤◌, ◌++◌, ◌∷◌, [], true, false, length, All, IfSome, IfNone, OnOk, OnErr, List, Some, None};
 ghost use Rattle.mb_format.specs.Format.{IsBytes};
+ghost use Rattle.mb_model.specs.declared.limits.TheConstants.{EVENT_LIMIT, IMAGE_LENGTH, SECTOR_LENGTH};
 ghost use Rattle.mb_model.specs.Pieces.{part};
 ghost use Rattle.mb_model.specs.Script.{IsScriptEvent};
 ghost use Rattle.mb_model.specs.Board.{IsLoaded, image_of, put, erased, loaded, power_after, memory_after, armed_after};
@@ -13,19 +14,19 @@ use mb_model::{Answered, Event, Events, NoMemory, Reply};
 use mb_ratchet::Register;
 use std::alloc::Global;
 
-/// Power failed in this call.
+/// Power failed in the call.
 #[derive(Clone, Copy, Debug, PartialEq, Eq)]
 pub struct Stopped;
 
 /// A device's memories, its power, and the events that it is given.
 ///
-/// A write call (`flash_erase`, `flash_program`, `bbram_write`) is stopped only by a power loss that was armed. Then the
-/// bytes in its range are any, power is off, and no power loss is armed any more. All else is as before.
+/// A write call (`flash_erase`, `flash_program`, `bbram_write`) is stopped only by an armed power loss. The bytes in
+/// its range are then arbitrary, power is off, and no power loss is armed any more. All else is as before.
 pub trait Board: Register {
-    /// All that it shows.
+    /// All that a board shows.
     ghost seen: { Self → Seen };
 
-    /// The bytes of the flash from `at` on.
+    /// Reads bytes of the flash at the offset `at`.
     fn flash_read(&self, at: u32, out: &mut [u8])
         requires on { (seen self.now).power ≡ true }
         requires within { at + length out.old ≤ length (seen self.now).memory.flash }
@@ -34,9 +35,12 @@ pub trait Board: Register {
     /// Sets each byte of a sector of 4,096 bytes to 0xFF.
     fn flash_erase(&mut self, sector: u16) -> Result<(), Stopped>
         requires on { (seen self.old).power ≡ true }
-        requires within { 4096 * sector + 4096 ≤ length (seen self.old).memory.flash }
-        ensures erased { OnOk result ((seen self.new).memory.flash ≡ put (4096 * sector) (erased 4096) (seen self.old).memory.flash) }
-        ensures torn { Torn (4096 * sector) 4096 (seen self.old).memory.flash (seen self.new).memory.flash }
+        requires within { SECTOR_LENGTH * sector + SECTOR_LENGTH ≤ length
+            (seen self.old).memory.flash }
+        ensures erased { OnOk result ((seen self.new).memory.flash
+            ≡ put (SECTOR_LENGTH * sector) (erased SECTOR_LENGTH) (seen self.old).memory.flash) }
+        ensures torn { Torn (SECTOR_LENGTH * sector) SECTOR_LENGTH (seen self.old).memory.flash
+            (seen self.new).memory.flash }
         ensures bbram { (seen self.new).memory.bbram ≡ (seen self.old).memory.bbram }
         ensures power { (seen self.new).power ≡ power_of result }
         ensures level { (seen self.new).level ≡ level_of result (seen self.old).level }
@@ -44,15 +48,18 @@ pub trait Board: Register {
         ensures meter { (seen self.new).meter ≡ metered result (seen self.old).meter }
         ensures stopped { OnErr result ((seen self.old).meter.armed ≡ true) };
 
-    /// Stores bytes in flash that has been erased there, within one sector.
+    /// Stores bytes in erased flash, within one sector.
     fn flash_program(&mut self, at: u32, bytes: &[u8]) -> Result<(), Stopped>
         requires on { (seen self.old).power ≡ true }
         requires some { 0 < length bytes.now }
         requires within { at + length bytes.now ≤ length (seen self.old).memory.flash }
-        requires one_sector { at / 4096 ≡ (at + length bytes.now - 1) / 4096 }
-        requires blank { part at (length bytes.now) (seen self.old).memory.flash ≡ erased (length bytes.now) }
-        ensures stored { OnOk result ((seen self.new).memory.flash ≡ put at bytes.now (seen self.old).memory.flash) }
-        ensures torn { Torn at (length bytes.now) (seen self.old).memory.flash (seen self.new).memory.flash }
+        requires one_sector { at / SECTOR_LENGTH ≡ (at + length bytes.now - 1) / SECTOR_LENGTH }
+        requires blank { part at (length bytes.now) (seen self.old).memory.flash
+            ≡ erased (length bytes.now) }
+        ensures stored { OnOk result ((seen self.new).memory.flash
+            ≡ put at bytes.now (seen self.old).memory.flash) }
+        ensures torn { Torn at (length bytes.now) (seen self.old).memory.flash
+            (seen self.new).memory.flash }
         ensures bbram { (seen self.new).memory.bbram ≡ (seen self.old).memory.bbram }
         ensures power { (seen self.new).power ≡ power_of result }
         ensures level { (seen self.new).level ≡ level_of result (seen self.old).level }
@@ -60,23 +67,25 @@ pub trait Board: Register {
         ensures meter { (seen self.new).meter ≡ metered result (seen self.old).meter }
         ensures stopped { OnErr result ((seen self.old).meter.armed ≡ true) };
 
-    /// The bytes of the battery-backed memory from `at` on, which the level has to reach: the life byte, the selector of a
-    /// slot, or a part of one of its areas.
+    /// Reads bytes of the battery-backed memory at the offset `at`: the life byte, the selector of a slot, or a part of
+    /// one of its areas. The level has to reach them.
     fn bbram_read(&self, at: u16, out: &mut [u8])
         requires on { (seen self.now).power ≡ true }
         requires within { at + length out.old ≤ length (seen self.now).memory.bbram }
         requires reached { Readable (seen self.now).level at (length out.old) }
         ensures { out.new ≡ part at (length out.old) (seen self.now).memory.bbram };
 
-    /// Stores bytes in the battery-backed memory, where the level has to reach: the selector of a slot, or a part of one
-    /// of its areas.
+    /// Stores bytes in the battery-backed memory: the selector of a slot, or a part of one of its areas. The level has
+    /// to reach them.
     fn bbram_write(&mut self, at: u16, bytes: &[u8]) -> Result<(), Stopped>
         requires on { (seen self.old).power ≡ true }
         requires some { 0 < length bytes.now }
         requires within { at + length bytes.now ≤ length (seen self.old).memory.bbram }
         requires reached { Reached (seen self.old).level at (length bytes.now) }
-        ensures stored { OnOk result ((seen self.new).memory.bbram ≡ put at bytes.now (seen self.old).memory.bbram) }
-        ensures torn { Torn at (length bytes.now) (seen self.old).memory.bbram (seen self.new).memory.bbram }
+        ensures stored { OnOk result ((seen self.new).memory.bbram
+            ≡ put at bytes.now (seen self.old).memory.bbram) }
+        ensures torn { Torn at (length bytes.now) (seen self.old).memory.bbram
+            (seen self.new).memory.bbram }
         ensures flash { (seen self.new).memory.flash ≡ (seen self.old).memory.flash }
         ensures power { (seen self.new).power ≡ power_of result }
         ensures level { (seen self.new).level ≡ level_of result (seen self.old).level }
@@ -84,42 +93,53 @@ pub trait Board: Register {
         ensures meter { (seen self.new).meter ≡ metered result (seen self.old).meter }
         ensures stopped { OnErr result ((seen self.old).meter.armed ≡ true) };
 
-    /// Loads an image, the flash followed by the battery-backed memory, and the events that will be handed out. Room
-    /// for all answers is taken. If an allocation fails, of which no clause says when, the board is as before.
+    /// Loads an image, the flash followed by the battery-backed memory, and the events to hand out. Takes room for all
+    /// answers. If an allocation fails, the board is as before.
     fn load(&mut self, alloc: Global, image: &[u8], events: Events) -> Result<(), NoMemory>
-        requires image { length image.now ≡ 1077248 }
-        requires count { length events ≤ 65536 }
+        requires image { length image.now ≡ IMAGE_LENGTH }
+        requires count { length events ≤ EVENT_LIMIT }
         requires events { All IsScriptEvent events }
         requires off { (seen self.old).power ≡ false }
         requires none_out { (seen self.old).ledger.out ≡ None }
         ensures power { (seen self.new).power ≡ false }
         ensures sized { OnOk result (IsLoaded (seen self.new).memory) }
         ensures image { OnOk result (image_of (seen self.new).memory ≡ image.now) }
-        ensures ledger { OnOk result ((seen self.new).ledger ≡ loaded (seen self.new).memory events) }
-        ensures meter { OnOk result ((seen self.new).meter ≡ record (seen self.old).meter { armed = false; writes = 0 }) }
+        ensures ledger { OnOk result ((seen self.new).ledger
+            ≡ loaded (seen self.new).memory events) }
+        ensures meter { OnOk result ((seen self.new).meter
+            ≡ record (seen self.old).meter { armed = false; writes = 0 }) }
         ensures err_memory { OnErr result ((seen self.new).memory ≡ (seen self.old).memory) }
         ensures err_ledger { OnErr result ((seen self.new).ledger ≡ (seen self.old).ledger) }
         ensures err_meter { OnErr result ((seen self.new).meter ≡ (seen self.old).meter) };
 
-    /// How many events wait.
+    /// The number of events that wait.
     fn events_left(&self) -> u32
         ensures { result ≡ length (seen self.now).ledger.waiting };
 
-    /// The first event that waits, which is out until it is answered; `None` exactly where none waits. `Off` and `Tamper`
-    /// turn power off, `Tamper` zeroes the battery-backed memory, and `Cut` arms a power loss.
+    /// Hands out the first event that waits; it is out until it is answered. `None` exactly if none waits. `Off` and
+    /// `Tamper` turn power off, `Tamper` zeroes the battery-backed memory, and `Cut` arms a power loss.
     fn take(&mut self) -> Option<Event>
         requires { (seen self.old).ledger.out ≡ None }
-        ensures none { IfNone result (((seen self.old).ledger.waiting ≡ []) × ((seen self.new).ledger ≡ (seen self.old).ledger)) }
-        ensures some { IfSome result (λ event. (rest : List Event) × ((seen self.old).ledger.waiting ≡ event ∷ rest)
-            × ((seen self.new).ledger ≡ record (seen self.old).ledger { waiting = rest; out = Some event })) }
+        ensures none { IfNone result (((seen self.old).ledger.waiting ≡ [])
+            × ((seen self.new).ledger ≡ (seen self.old).ledger)) }
+        ensures some { IfSome result (λ event. (rest : List Event)
+            × ((seen self.old).ledger.waiting ≡ event ∷ rest)
+            × ((seen self.new).ledger
+            ≡ record (seen self.old).ledger { waiting = rest; out = Some event })) }
         ensures power { (seen self.new).power ≡ power_after result (seen self.old).power }
         ensures level { (seen self.new).level ≡ (seen self.old).level }
         ensures memory { (seen self.new).memory ≡ memory_after result (seen self.old).memory }
-        ensures meter { (seen self.new).meter ≡ record (seen self.old).meter { armed = armed_after result (seen self.old).meter.armed; writes = 0 } }
+        ensures meter { (seen self.new).meter
+            ≡ record (seen self.old).meter {
+              armed = armed_after result
+                  (seen self.old).meter.armed;
+              writes = 0;
+            } }
         ensures flash_bytes { IsBytes (seen self.new).memory.flash }
         ensures bbram_bytes { IsBytes (seen self.new).memory.bbram };
 
-    /// Answers the event that is out, which has to be one step from the world at the answer before to the world now.
+    /// Answers the event that is out. Event and reply have to be one step from the world at the last answer to the
+    /// world now.
     fn answer(&mut self, event: Event, reply: Reply)
         requires out { (seen self.old).ledger.out ≡ Some event }
         requires step { MayAnswer (seen self.old).ledger.standing
@@ -134,14 +154,14 @@ pub trait Board: Register {
         ensures memory { (seen self.new).memory ≡ (seen self.old).memory }
         ensures meter { (seen self.new).meter ≡ (seen self.old).meter };
 
-    /// The events that were answered since the load, in order.
+    /// The events answered since the load, in order.
     fn answered(&self) -> &[Answered]
         ensures { result.now ≡ (seen self.now).ledger.answered };
 
     /// The image: the flash, and then the battery-backed memory.
     fn copy_image(&self, out: &mut [u8])
         requires loaded { IsLoaded (seen self.now).memory }
-        requires room { length out.old ≡ 1077248 }
+        requires room { length out.old ≡ IMAGE_LENGTH }
         ensures { out.new ≡ image_of (seen self.now).memory };
 
     ghost sees_power: { (a : Self) → (seen a).power ≡ Self.power a };

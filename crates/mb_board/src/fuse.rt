@@ -1,4 +1,4 @@
-//! When power fails.
+//! Armed power losses, and the count of write calls.
 
 ghost use Rattle.std.specs.Prelude.{◌≡◌, Some, None, IfErr};
 ghost use Rattle.mb_board.specs.Cuts.{FallsInItsCall, LeavesWhatItKeeps, HasFill, unused, is_armed, passes, fuse_after};
@@ -6,31 +6,31 @@ ghost use Rattle.mb_board.specs.Cuts.{FallsInItsCall, LeavesWhatItKeeps, HasFill
 use mb_model::Tear;
 use std::marker::Model;
 
-/// Write calls are counted up to this number.
+/// The count of write calls saturates here.
 const COUNTED_WRITES: u16 = 1_000;
 
-/// A power loss that is armed.
+/// An armed power loss.
 #[derive(Clone, Copy)]
 pub struct Cut {
-    /// The number of the write call that it falls in, where the next one has the number 1.
+    /// The number of the write call in which power fails; the next call has the number 1.
     pub count: u32,
-    /// What it leaves of the write.
+    /// What the power loss leaves of the write.
     pub tear: Tear,
 }
 
 impl Cut {
-    /// A power loss falls into the write call that it is set for, and into no other.
+    /// A law without a body: a power loss falls into the write call that it is set for, and into no other.
     pub fn falls_in_its_call(&self)
         ensures { FallsInItsCall self.now }
     {}
 
-    /// A power loss leaves a write complete if it keeps all of its bytes.
+    /// A law without a body: a power loss that keeps all bytes of a write leaves it complete.
     pub fn leaves_what_it_keeps(&self)
         ensures { LeavesWhatItKeeps self.now }
     {}
 }
 
-/// The power loss that is armed, the count of calls that were stopped, and that of write calls since the last event.
+/// The armed power loss, the count of stopped calls, and that of write calls since the last event.
 #[derive(Drop)]
 pub struct Fuse {
     cut: Option<Cut>,
@@ -50,7 +50,7 @@ impl Model for Fuse {
 }
 
 impl Fuse {
-    /// No power loss is armed, and no call was stopped.
+    /// A fuse with no power loss armed and no call counted.
     pub fn new() -> Fuse
         ensures { result ≡ unused }
     {
@@ -68,29 +68,30 @@ impl Fuse {
         self.cut.is_some()
     }
 
-    /// Arms a power loss. One that was armed before is so no more.
+    /// Arms a power loss, in place of one that was armed before.
     pub fn arm(&mut self, count: u32, tear: Tear)
         requires { HasFill tear }
-        ensures { self.new ≡ record self.old { cut = Some (record { count = count; tear = tear }) } }
+        ensures { self.new
+            ≡ record self.old { cut = Some (record { count = count; tear = tear }) } }
     {
         self.cut = Some(Cut { count, tear });
     }
 
-    /// No power loss is armed any more.
+    /// Disarms a power loss.
     pub fn disarm(&mut self)
         ensures { self.new ≡ record self.old { cut = None } }
     {
         self.cut = None;
     }
 
-    /// Counts write calls from 0 again.
+    /// Sets the count of write calls to 0.
     pub fn restart(&mut self)
         ensures { self.new ≡ record self.old { writes = 0 } }
     {
         self.writes = 0;
     }
 
-    /// One more write call. It fails where power fails in it, and then says what that leaves of the write.
+    /// Counts a write call. `Err` if power fails in it, with what that leaves of the write.
     pub fn pass(&mut self) -> Result<(), Tear>
         ensures exact { result ≡ passes self.old }
         ensures fuse { self.new ≡ fuse_after result self.old }

@@ -1,8 +1,9 @@
 //! The board: a trait for a device's memories, its power and the events that it is given, and a board that
 //! simulates one.
 //!
-//! This crate owns what may be relied on of the hardware: what a write call leaves where a power loss falls into
-//! it, which part of the battery-backed memory each level of the ratchet reaches, and when an answer is taken.
+//! This crate owns what may be relied on of the hardware: what a write call leaves if power fails in it, which part
+//! of the battery-backed memory each level of the ratchet reaches, and when an answer is taken. It stands on the
+//! values of `mb_model` and the register of `mb_ratchet`.
 #![tactic(auto)]
 
 mod bank;

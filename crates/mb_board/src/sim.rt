@@ -4,6 +4,7 @@ ghost use Rattle.std.specs.Prelude.{◌≡◌, ◌+◌, ◌*◌, ◌-◌, ◌/�
 ghost use Rattle.std.specs.Result.{is_ok};
 ghost use Rattle.std.proofs.Common.{ap, refl};
 ghost use Rattle.mb_format.specs.Format.{IsBytes};
+ghost use Rattle.mb_model.specs.declared.limits.TheConstants.{EVENT_LIMIT, IMAGE_LENGTH, SECTOR_LENGTH};
 ghost use Rattle.mb_model.specs.Pieces.{part};
 ghost use Rattle.mb_model.specs.Script.{IsScriptEvent};
 ghost use Rattle.mb_model.specs.Board.{IsLoaded, image_of, loaded, put, erased, power_after, memory_after, armed_after};
@@ -22,7 +23,7 @@ use std::alloc::Global;
 use std::collections::VecDeque;
 use std::marker::Model;
 
-/// What a board held, beside the bytes of its memories, when they were last kept.
+/// The power of a board when the bytes of its memories were last kept.
 #[derive(Drop)]
 struct Standing {
     is_on: bool,
@@ -31,7 +32,7 @@ struct Standing {
 }
 
 impl Standing {
-    /// Power is off, and no power loss is armed.
+    /// Power off, and no power loss armed.
     fn off() -> Standing
         ensures on { result.is_on ≡ false }
         ensures armed { result.is_armed ≡ false }
@@ -44,20 +45,20 @@ impl Standing {
     }
 }
 
-/// A board whose memories and events are held in memory. A write call of it is stopped exactly where a power loss was
-/// armed for that call, unless its count of stops is at its last value.
+/// A board whose memories and events are held in memory. A write call is stopped exactly if a power loss is armed for
+/// it, unless the count of stops is at its last value.
 #[derive(Drop)]
 pub struct SimBoard {
     is_on: bool,
     level: u8,
     fuse: Fuse,
-    /// Its bytes were last kept at the last answer, or at the load where nothing was answered since. So were those of
-    /// the battery-backed memory, and `standing` says what the board held then.
+    /// The flash. Both memories and `standing` were last kept at the last answer, or at the load if nothing was answered
+    /// since.
     flash: Bank,
     bbram: Bank,
     standing: Standing,
     waiting: VecDeque<Event>,
-    /// A copy of each event that waits, which the board keeps while that event is out.
+    /// A copy of each event that waits; the board keeps it while that event is out.
     copies: VecDeque<Event>,
     out: Option<Event>,
     answered: Vec<Answered>,
@@ -91,8 +92,7 @@ impl Model for SimBoard {
 }
 
 impl SimBoard {
-    /// A board on which nothing was ever loaded: power is off, both memories are empty, there are no events, and no
-    /// power loss is armed.
+    /// A board without a load: power is off, both memories are empty, there are no events, and no power loss is armed.
     pub fn new(alloc: Global) -> SimBoard
         ensures power { result.power ≡ false }
         ensures memory { result.memory ≡ unloaded }
@@ -113,11 +113,13 @@ impl SimBoard {
         }
     }
 
-    /// What an event does to the board as it is handed out.
+    /// Does to the board what handing out this event does.
     fn meet(&mut self, event: &Event)
         requires { IsScriptEvent event.now }
-        ensures fuse { self.new.fuse ≡ record self.old.fuse { cut = cut_after (Some event.now) self.old.fuse.cut } }
-        ensures armed { is_armed self.new.fuse.cut ≡ armed_after (Some event.now) (is_armed self.old.fuse.cut) }
+        ensures fuse { self.new.fuse
+            ≡ record self.old.fuse { cut = cut_after (Some event.now) self.old.fuse.cut } }
+        ensures armed { is_armed self.new.fuse.cut
+            ≡ armed_after (Some event.now) (is_armed self.old.fuse.cut) }
         ensures power { self.new.power ≡ power_after (Some event.now) self.old.power }
         ensures level { self.new.level ≡ self.old.level }
         ensures memory { self.new.memory ≡ memory_after (Some event.now) self.old.memory }
@@ -158,8 +160,8 @@ impl Register for SimBoard {
     }
 }
 
-// Where a call has clauses here, they say more than the trait's: which write call is stopped, what its range holds then,
-// and that nothing else changes the power loss that is armed. `torn` follows from `left`; the check wants it written out.
+// Clauses that stand here say more than the trait's: which write call is stopped, what its range then holds, and that
+// nothing else changes the armed power loss. `torn` follows from `left`; the check wants it written out.
 impl Board for SimBoard {
     ghost seen = { λ board. record {
       power = board.power;
@@ -176,13 +178,13 @@ impl Board for SimBoard {
 
     fn flash_erase(&mut self, sector: u16) -> Result<(), Stopped>
         requires on { self.old.power ≡ true }
-        requires within { 4096 * sector + 4096 ≤ length self.old.memory.flash }
+        requires within { SECTOR_LENGTH * sector + SECTOR_LENGTH ≤ length self.old.memory.flash }
         ensures passes { is_ok result ≡ is_ok (passes self.old.fuse) }
         ensures left { self.new.memory ≡ record self.old.memory {
-          flash = put (4096 * sector) (left_by (passes self.old.fuse) (erased 4096)) self.old.memory.flash;
+          flash = put (SECTOR_LENGTH * sector) (left_by (passes self.old.fuse) (erased SECTOR_LENGTH)) self.old.memory.flash;
         } }
         ensures after { self.new ≡ board_after result self.new.memory self.old }
-        ensures torn { Torn (4096 * sector) 4096 self.old.memory.flash self.new.memory.flash }
+        ensures torn { Torn (SECTOR_LENGTH * sector) SECTOR_LENGTH self.old.memory.flash self.new.memory.flash }
     {
         match self.fuse.pass() {
             Ok(()) => {
@@ -202,8 +204,9 @@ impl Board for SimBoard {
         requires on { self.old.power ≡ true }
         requires some { 0 < length bytes.now }
         requires within { at + length bytes.now ≤ length self.old.memory.flash }
-        requires one_sector { at / 4096 ≡ (at + length bytes.now - 1) / 4096 }
-        requires blank { part at (length bytes.now) self.old.memory.flash ≡ erased (length bytes.now) }
+        requires one_sector { at / SECTOR_LENGTH ≡ (at + length bytes.now - 1) / SECTOR_LENGTH }
+        requires blank { part at (length bytes.now) self.old.memory.flash
+            ≡ erased (length bytes.now) }
         ensures passes { is_ok result ≡ is_ok (passes self.old.fuse) }
         ensures left { self.new.memory ≡ record self.old.memory {
           flash = put at (left_by (passes self.old.fuse) bytes.now) self.old.memory.flash;
@@ -257,8 +260,8 @@ impl Board for SimBoard {
     }
 
     fn load(&mut self, alloc: Global, image: &[u8], events: Events) -> Result<(), NoMemory>
-        requires image { length image.now ≡ 1077248 }
-        requires count { length events ≤ 65536 }
+        requires image { length image.now ≡ IMAGE_LENGTH }
+        requires count { length events ≤ EVENT_LIMIT }
         requires events { All IsScriptEvent events }
         requires off { self.old.power ≡ false }
         requires none_out { self.old.ledger.out ≡ None }
@@ -266,7 +269,8 @@ impl Board for SimBoard {
         ensures sized { OnOk result (IsLoaded self.new.memory) }
         ensures image { OnOk result (image_of self.new.memory ≡ image.now) }
         ensures ledger { OnOk result (self.new.ledger ≡ loaded self.new.memory events) }
-        ensures fuse { OnOk result (self.new.fuse ≡ record self.old.fuse { cut = None; writes = 0 }) }
+        ensures fuse { OnOk result (self.new.fuse
+            ≡ record self.old.fuse { cut = None; writes = 0 }) }
         ensures failed { OnErr result (self.new ≡ self.old) }
     {
         let (flash, bbram) = image.split_at(FLASH_LENGTH);
@@ -291,9 +295,12 @@ impl Board for SimBoard {
 
     fn take(&mut self) -> Option<Event>
         requires { self.old.ledger.out ≡ None }
-        ensures fuse { self.new.fuse ≡ record self.old.fuse { cut = cut_after result self.old.fuse.cut; writes = 0 } }
-        ensures none { IfNone result ((self.old.ledger.waiting ≡ []) × (self.new.ledger ≡ self.old.ledger)) }
-        ensures some { IfSome result (λ event. (rest : List Event) × (self.old.ledger.waiting ≡ event ∷ rest)
+        ensures fuse { self.new.fuse
+            ≡ record self.old.fuse { cut = cut_after result self.old.fuse.cut; writes = 0 } }
+        ensures none { IfNone result ((self.old.ledger.waiting ≡ [])
+            × (self.new.ledger ≡ self.old.ledger)) }
+        ensures some { IfSome result (λ event. (rest : List Event)
+            × (self.old.ledger.waiting ≡ event ∷ rest)
             × (self.new.ledger ≡ record self.old.ledger { waiting = rest; out = Some event })) }
         ensures power { self.new.power ≡ power_after result self.old.power }
         ensures level { self.new.level ≡ self.old.level }
@@ -356,7 +363,7 @@ impl Board for SimBoard {
     ghost keeps_meter = { λ a b same. ap (λ (rest : Rest). meter_of rest.fuse) same };
 }
 
-/// A copy of each event.
+/// Copies each event.
 fn copies_of(alloc: Global, events: &[Event]) -> Result<VecDeque<Event>, NoMemory>
     ensures { IfOk result (λ copies. copies.items ≡ events.now) }
 {
@@ -367,7 +374,7 @@ fn copies_of(alloc: Global, events: &[Event]) -> Result<VecDeque<Event>, NoMemor
     Ok(copies)
 }
 
-/// Adds an answer at the end of a list that has room for it.
+/// Appends an answer to a list that has room for it.
 fn append(answered: &mut Vec<Answered>, answer: Answered)
     requires { vec_len answered.old < vec_capacity answered.old }
     ensures items { answered.new.items ≡ answered.old.items ++ answer ∷ [] }

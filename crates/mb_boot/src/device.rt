@@ -1,4 +1,4 @@
-//! A device that comes up.
+//! Booting a device, and finishing an order.
 
 ghost use Rattle.std.specs.Prelude.{◌≡◌, ◌+◌, ◌≤◌, ◌==◌, OnOk, Option, true, false};
 ghost use Rattle.std.specs.Option.{is_none};
@@ -42,7 +42,7 @@ fn is_dead<B: Board>(b: &B) -> bool
     life[0] == 0
 }
 
-/// Does the pending work, and wipes the root's area that is not in force. There are at most 237 write calls.
+/// Does the pending work, and wipes the root's inactive area. There are at most 237 write calls.
 #[tactic(auto, using(crate::proofs::Booted::settled_rests, mb_model_memory::proofs::HoldingLemmas::contents_keep, mb_model_memory::proofs::HoldingLemmas::keeps_then))]
 fn settle_and_wipe<B: Board, L: Ledger>(
     u: Unsettled,
@@ -62,8 +62,7 @@ fn settle_and_wipe<B: Board, L: Ledger>(
     Ok(up)
 }
 
-/// Does what is left to be done in a device that is alive, and wipes the root's area that is not in force. There are at
-/// most 237 write calls.
+/// Does the work that is left in a live device, and wipes the root's inactive area. There are at most 237 write calls.
 #[tactic(auto, using(crate::proofs::Booted::already_rests, crate::proofs::Booted::wiped_rests, crate::proofs::Booted::already_quiet, crate::proofs::Booted::unwiped_quiet, crate::proofs::Booted::unsettled_quiet, mb_model_memory::proofs::HoldingLemmas::contents_keep, mb_model_memory::proofs::HoldingLemmas::keeps_then, crate::proofs::Booted::keeps_all))]
 fn bring_to_rest<B: Board, L: Ledger>(
     looked: Looked,
@@ -76,7 +75,8 @@ fn bring_to_rest<B: Board, L: Ledger>(
     requires looked { IsFoundAs looked (B.seen b.old).memory.bbram }
     ensures rests { OnOk result (Rests (B.seen b.old).memory (B.seen b.new).memory) }
     ensures meaning { KeepsMeaning (B.seen b.old).memory (B.seen b.new).memory }
-    ensures quiet { IsQuiet (B.seen b.old).memory (B.seen b.new).memory (B.seen b.old).meter (B.seen b.new).meter }
+    ensures quiet { IsQuiet (B.seen b.old).memory (B.seen b.new).memory (B.seen b.old).meter
+        (B.seen b.new).meter }
     ensures ran { Ran 237 result (B.seen b.old) (B.seen b.new) }
     ensures cost { hashes.new ≤ hashes.old + 70946 }
 {
@@ -87,7 +87,7 @@ fn bring_to_rest<B: Board, L: Ledger>(
     }
 }
 
-/// Wipes the areas of both regions that are not in force. There are at most two write calls.
+/// Wipes the inactive areas of both regions. There are at most two write calls.
 #[tactic(auto, using(crate::proofs::Booted::contents_then, crate::proofs::Booted::two_leaves_root, crate::proofs::Booted::three_leaves_root, crate::proofs::Booted::both_wiped))]
 fn wipe_regions<B: Board>(up: Up<R1>, b: &mut B) -> Result<Up<R1>, Off>
     requires up { IsUp 1 (B.seen b.old) }
@@ -95,7 +95,8 @@ fn wipe_regions<B: Board>(up: Up<R1>, b: &mut B) -> Result<Up<R1>, Off>
     ensures root { other (B.seen b.new).memory.bbram 1 ≡ other (B.seen b.old).memory.bbram 1 }
     ensures contents { KeepsContents (B.seen b.old).memory (B.seen b.new).memory }
     ensures idle { IsWiped (B.seen b.old).memory.bbram
-        → ((B.seen b.new).memory ≡ (B.seen b.old).memory) × ((B.seen b.new).meter ≡ (B.seen b.old).meter) }
+        → ((B.seen b.new).memory ≡ (B.seen b.old).memory)
+        × ((B.seen b.new).meter ≡ (B.seen b.old).meter) }
     ensures ran { Ran 2 result (B.seen b.old) (B.seen b.new) }
 {
     let up = wipe_region::<Up<R1>, Two, B>(up, b)?;
@@ -103,7 +104,7 @@ fn wipe_regions<B: Board>(up: Up<R1>, b: &mut B) -> Result<Up<R1>, Off>
     Ok(up)
 }
 
-/// Does all that is left to be done in a device that is alive. There are at most 239 write calls.
+/// Does all work that is left in a live device, and wipes all inactive areas. There are at most 239 write calls.
 #[tactic(auto, using(crate::proofs::Booted::found_as, crate::proofs::Settled::some_root, crate::proofs::Booted::cleaned, mb_model_memory::proofs::HoldingLemmas::contents_keep, mb_model_memory::proofs::HoldingLemmas::keeps_then, crate::proofs::Booted::quiet_then))]
 fn come_up<B: Board, L: Ledger>(
     up: Up<R1>,
@@ -115,7 +116,8 @@ fn come_up<B: Board, L: Ledger>(
     requires live { IsLive (B.seen b.old).memory }
     ensures clean { OnOk result (Cleans (B.seen b.old).memory (B.seen b.new).memory) }
     ensures meaning { KeepsMeaning (B.seen b.old).memory (B.seen b.new).memory }
-    ensures quiet { IsQuiet (B.seen b.old).memory (B.seen b.new).memory (B.seen b.old).meter (B.seen b.new).meter }
+    ensures quiet { IsQuiet (B.seen b.old).memory (B.seen b.new).memory (B.seen b.old).meter
+        (B.seen b.new).meter }
     ensures ran { Ran 239 result (B.seen b.old) (B.seen b.new) }
     ensures cost { hashes.new ≤ hashes.old + 70946 }
 {
@@ -128,9 +130,9 @@ fn come_up<B: Board, L: Ledger>(
     Ok(up)
 }
 
-/// Does what a committed order has left to be done, and wipes what it replaced. The memory stands for the same state
-/// wherever power fails, and afterwards it is clean. The memory stands for a state that a device can have. There are at
-/// most 239 write calls, and 70,946 hashes.
+/// Does the pending work of a committed order, and wipes what it replaced. The memory has to stand for a state that a
+/// device can have. It stands for the same state wherever power fails, and afterwards it is clean. There are at most 239
+/// write calls, and 70,946 hashes.
 #[tactic(auto, using(crate::proofs::Booted::cleaned, mb_model_memory::proofs::HoldingLemmas::contents_keep, mb_model_memory::proofs::HoldingLemmas::keeps_then))]
 pub fn finish_order<B: Board, L: Ledger>(
     u: Unsettled,
@@ -185,12 +187,12 @@ fn give_up<B: Board>(up: Up<R1>, b: &mut B) -> Off
     up.off(b)
 }
 
-/// Brings a device up to level 1, where nothing is pending and its battery-backed memory is clean, with the buffers in
+/// Brings a device up to level 1, with nothing pending and a clean battery-backed memory, and returns the buffers in
 /// which it works. Wherever power fails, the memory stands for what it stood for. Nothing is written to a clean memory.
 /// There are at most 239 write calls, and 70,946 hashes.
 ///
-/// Errors: `Zeroised` exactly where the device is dead; `Stopped` where power failed; `NoMemory` where an allocation
-/// failed, of which no clause says when, before anything was written.
+/// Errors: `Zeroised` exactly if the device is dead; `Stopped` if power failed; `NoMemory` if an allocation failed, before
+/// anything was written.
 #[tactic(auto, using(crate::proofs::Booted::live_from, crate::proofs::Booted::dead_from, crate::proofs::Booted::alive_from, crate::proofs::Booted::state_kept_from, crate::proofs::Booted::cleans_from, crate::proofs::Booted::quiet_from, crate::proofs::Booted::state_same, crate::proofs::Booted::same_quiet, crate::proofs::Booted::loaded_as))]
 pub fn boot<B: Board, L: Ledger>(
     alloc: Global,
@@ -202,10 +204,13 @@ pub fn boot<B: Board, L: Ledger>(
     requires stands { StandsForValid (B.seen b.old).memory }
     ensures clean { OnOk result (Cleans (B.seen b.old).memory (B.seen b.new).memory) }
     ensures meaning { KeepsState (B.seen b.old).memory (B.seen b.new).memory }
-    ensures zeroised { (state : Option State) → StandsFor (B.seen b.old).memory.flash (B.seen b.old).memory.bbram state
+    ensures zeroised { (state : Option State)
+        → StandsFor (B.seen b.old).memory.flash (B.seen b.old).memory.bbram state
         → is_zeroised result ≡ is_none state }
-    ensures quiet { IsQuiet (B.seen b.old).memory (B.seen b.new).memory (B.seen b.old).meter (B.seen b.new).meter }
-    ensures unwritten { IfUnwritten result ((B.seen b.new).memory ≡ (B.seen b.old).memory) ((B.seen b.new).meter ≡ (B.seen b.old).meter) }
+    ensures quiet { IsQuiet (B.seen b.old).memory (B.seen b.new).memory (B.seen b.old).meter
+        (B.seen b.new).meter }
+    ensures unwritten { IfUnwritten result ((B.seen b.new).memory ≡ (B.seen b.old).memory)
+        ((B.seen b.new).meter ≡ (B.seen b.old).meter) }
     ensures power { (B.seen b.new).power ≡ power_at result }
     ensures level { HasLevel result (B.seen b.new).level }
     ensures ledger { (B.seen b.new).ledger ≡ (B.seen b.old).ledger }

@@ -1,9 +1,10 @@
-//! How a device comes up and how an order's work ends: what is left to be done is done, and old secrets are wiped.
+//! How a device comes up and how an order's work ends: pending work is done, and old secrets are wiped.
 //!
 //! This crate owns the order in which pending work is done, so that the memory stands for one state wherever power
 //! fails; the boot that leaves a memory clean; and `finish_order`, which leaves it clean once an order is committed.
-//! Unsigned entries are signed by the key and at the index that the root names, so that a signature made again after
-//! a power loss is the same one. `boot` takes memory before its first write, and no other call takes any.
+//! Unsigned entries are signed by the key and at the index that the root record names, so that a signature made again
+//! after a power loss is the same one. The crate stands on `mb_area`, `mb_region` and `mb_signer`. `boot` takes memory
+//! before its first write; no other call takes any.
 #![tactic(auto)]
 
 mod device;

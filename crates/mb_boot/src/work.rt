@@ -1,7 +1,6 @@
-//! What an order has left to be done.
+//! The pending work of an order.
 
 ghost use Rattle.std.specs.Prelude.{◌≡◌, ◌≤◌, ◌+◌, length, OnOk};
-ghost use Rattle.mb_model.specs.Meaning.{fate_of_two, fate_of_three};
 ghost use Rattle.mb_board.specs.Calls.{IsPowered, IsUp, Ran};
 ghost use Rattle.mb_model_memory.specs.Holding.{KeepsContents, KeepsMeaning};
 ghost use Rattle.mb_boot.specs.Settling.{IsLive, IsOnlyRoot, AppliesBoth, SpellsSigned, SignsRecord, Settles};
@@ -11,32 +10,12 @@ use mb_area::{Unsettled, Unwiped, finish_root, read_public, read_root, write_pub
 use mb_board::Board;
 use mb_layout::Room;
 use mb_lms::HashCount;
-use mb_model::{Fate, Root};
+use mb_model::Root;
 use mb_ratchet::{Off, Three, Two};
 use mb_region::apply_fate;
 use std::sync::ledger::Ledger;
 
-/// What is to be done to region 2.
-fn fate_of_two(root: &Root) -> Fate
-    ensures { result ≡ fate_of_two root.now.pending }
-{
-    match &root.pending {
-        None => Fate::Keep,
-        Some(pending) => pending.two,
-    }
-}
-
-/// What is to be done to region 3.
-fn fate_of_three(root: &Root) -> Fate
-    ensures { result ≡ fate_of_three root.now.pending }
-{
-    match &root.pending {
-        None => Fate::Keep,
-        Some(pending) => pending.three,
-    }
-}
-
-/// Does to both regions what is to be done to them.
+/// Applies the fates that are pending for both regions.
 #[tactic(auto, using(crate::proofs::Settled::two_is_pending, crate::proofs::Settled::keeps))]
 fn apply_fates<B: Board>(
     u: Unsettled,
@@ -53,12 +32,12 @@ fn apply_fates<B: Board>(
     ensures flash { (B.seen b.new).memory.flash ≡ (B.seen b.old).memory.flash }
     ensures ran { Ran 4 result (B.seen b.old) (B.seen b.new) }
 {
-    let u = apply_fate::<Unsettled, Two, B>(u, b, &fate_of_two(root), room)?;
-    let u = apply_fate::<Unsettled, Three, B>(u, b, &fate_of_three(root), room)?;
+    let u = apply_fate::<Unsettled, Two, B>(u, b, &root.fate_of_two(), room)?;
+    let u = apply_fate::<Unsettled, Three, B>(u, b, &root.fate_of_three(), room)?;
     Ok(u)
 }
 
-/// Replaces `public` of the room by the record in force with every entry signed.
+/// Replaces `room.public` by the current public record with every entry signed.
 #[tactic(auto, using(crate::proofs::Settled::some_record))]
 fn sign_record<B: Board, L: Ledger>(b: &B, root: &Root, room: &mut Room, hashes: &mut HashCount<L>)
     requires powered { IsPowered (B.seen b.now) }
@@ -72,7 +51,7 @@ fn sign_record<B: Board, L: Ledger>(b: &B, root: &Root, room: &mut Room, hashes:
     sign_pending(root, &mut room.public, hashes);
 }
 
-/// Writes the public record with every entry signed into the flash area that is not in force.
+/// Writes the public record with every entry signed into the flash's inactive area.
 #[tactic(auto, using(crate::proofs::Settled::some_root, crate::proofs::Settled::record_signed))]
 fn write_signed<B: Board, L: Ledger>(
     u: Unsettled,
@@ -95,9 +74,9 @@ fn write_signed<B: Board, L: Ledger>(
     Ok(u)
 }
 
-/// Does the pending work: what is to be done to the regions, and the signatures that are still to be made, each entry
-/// being signed once. The memory stands for the same state wherever power fails, and afterwards nothing is pending. The
-/// memory stands for a state that a device can have. There are at most 236 write calls, and 70,946 hashes.
+/// Does the pending work: applies the fates of the regions, and signs each unsigned entry once. The memory has to stand
+/// for a state that a device can have. It stands for the same state wherever power fails, and afterwards nothing is
+/// pending. There are at most 236 write calls, and 70,946 hashes.
 #[tactic(auto, using(crate::proofs::Settled::some_root, crate::proofs::Settled::only_root, crate::proofs::Settled::live_still, mb_model_memory::proofs::HoldingLemmas::contents_keep, crate::proofs::Settled::finish_keeps, mb_model_memory::proofs::HoldingLemmas::keeps_then, crate::proofs::Settled::settled))]
 pub fn settle<B: Board, L: Ledger>(
     u: Unsettled,

@@ -1,11 +1,12 @@
 -- From what a reader works out to what is spelled.
-use Rattle.std.proofs.Common.{◌≡◌, ℕ, ◌+◌, ◌-◌, ◌<◌, ◌≤◌, Bool, true, false, cond, List, length, take, drop, Option, Some, None, Result, Ok, Err, refl, ap, ◌∙◌, ltb, arith, inl, inr}
+use Rattle.std.proofs.Common.{◌≡◌, ℕ, ◌+◌, ◌-◌, ◌<◌, ◌≤◌, Bool, true, false, cond, List, length, take, drop, Option, Some, None, Result, Ok, Err, refl, sym, ap, ◌∙◌, ltb, arith, inl, inr}
 use Rattle.std.specs.Int.{Width, byte_len, from_be_bytes}
 use Rattle.mb_format.specs.Format.{Format, IsOffset, SpelledAt, Spells, FailsWhole}
-use Rattle.mb_format.specs.Combinators.{number, raw}
+use Rattle.mb_format.specs.Combinators.{number, raw, same_bytes, mark}
 use Rattle.mb_format.specs.Reading.{IsExact, number_at, raw_at, into_read}
 use Rattle.mb_bytes.specs.declared.cursor.Cursor.{Cursor}
 use Rattle.mb_format.proofs.Steps.{raw_at-long, raw_at-short}
+use Rattle.mb_format.proofs.Fields.{same_bytes-true, same_bytes-refl}
 use Rattle.std.proofs.lemmas.Slice.{between_to_end}
 use Rattle.mb_bytes.specs.Reads.{SameBytes, ReadsOk, ReadsErr, ReadsErrAt, IsRead, IsLeft, IsNotRead, IsNotReadAt, FailsWholeAt}
 use Rattle.mb_format.proofs.Whole.{whole_from}
@@ -71,3 +72,21 @@ number_ok w {old} {new} {value} r = record { bytes = r.bytes; reads = number_at-
 
 pub number_err : (w : Width) {old new : Cursor} {at : ℕ} → ReadsErr (raw (byte_len w)) old at new → ReadsErr (number w) old at new
 number_err w {old} {new} {at} r = record { bytes = r.bytes; reads = number_at-raw w old.bytes.now old.offset ∙ ap (into_read (from_be_bytes w)) r.reads }
+
+-- ---- magic words
+
+others_differ : (word found : List ℕ) (same : Bool) → same_bytes word found ≡ same → (found ≡ word → ⊥) → same ≡ false
+others_differ word found true t other = absurd (other (sym (same_bytes-true word found t)))
+others_differ word found false t other = refl
+
+-- the bytes of the word were read, or others, or there are too few
+pub mark_found : {n : ℕ} {old new : Cursor} (word found : List ℕ) → length word ≡ n → ReadsOk (raw n) old found new → found ≡ word → ReadsOk (mark word) old tt new
+mark_found {n} {old} {new} word found size r same =
+    record { bytes = r.bytes; reads = rw (size, r.reads, same, same_bytes-refl word) refl }
+
+pub mark_differs : {n : ℕ} {old new : Cursor} (word found : List ℕ) → length word ≡ n → ReadsOk (raw n) old found new → (found ≡ word → ⊥) → ReadsErr (mark word) old old.offset new
+mark_differs {n} {old} {new} word found size r other =
+    record { bytes = r.bytes; reads = rw (size, r.reads, others_differ word found (same_bytes word found) refl other) refl }
+
+pub mark_short : {n at : ℕ} {old new : Cursor} (word : List ℕ) → length word ≡ n → ReadsErr (raw n) old at new → ReadsErr (mark word) old at new
+mark_short {n} {at} {old} {new} word size r = record { bytes = r.bytes; reads = rw (size, r.reads) refl }

@@ -2,13 +2,14 @@
 
 ghost use Rattle.std.specs.Prelude.{◌≡◌, ◌+◌, ◌≤◌, length};
 ghost use Rattle.mb_format.specs.Format.{IsBytes};
+ghost use Rattle.mb_model.specs.declared.limits.TheConstants.{FILE_LIMIT};
 
 use mb_model::BadRecord;
 
-/// Too few bytes were left for the field that begins at this offset.
+/// Too few bytes are left for the field at this offset.
 #[derive(Clone, Copy, Debug, PartialEq, Eq)]
 pub struct Short {
-    /// The offset, counted from the first of the cursor's bytes.
+    /// The offset in the cursor's bytes, from 0.
     pub at: u32,
 }
 
@@ -27,7 +28,7 @@ pub struct Cursor<'a> {
     offset: u32,
     ghost are_bytes: { IsBytes bytes.now },
     ghost within: { offset ≤ length bytes.now },
-    ghost short: { length bytes.now ≤ 4194304 },
+    ghost short: { length bytes.now ≤ FILE_LIMIT },
 }
 
 impl<'a> Cursor<'a> {
@@ -35,9 +36,9 @@ impl<'a> Cursor<'a> {
     ghost use Rattle.mb_format.specs.Combinators.{number, raw};
     ghost use Rattle.mb_bytes.specs.Reads.{short_at, Reads, ReadsAs, ReadsExactly, ReadsExactlyAs};
 
-    /// A cursor before the first of these bytes, of which there are at most 4,194,304.
+    /// A cursor at offset 0 of these bytes, at most 4,194,304 of them.
     pub fn new(bytes: &'a [u8]) -> Cursor<'a>
-        requires { length bytes.now ≤ 4194304 }
+        requires { length bytes.now ≤ FILE_LIMIT }
         ensures all { result.bytes.now ≡ bytes.now }
         ensures first { result.offset ≡ 0 }
     {
@@ -58,7 +59,7 @@ impl<'a> Cursor<'a> {
         self.bytes.len() as u32 - self.offset
     }
 
-    /// The number in the next byte; `Short` exactly where none is left, and the cursor is then unchanged.
+    /// The number in the next byte; `Short` exactly if none is left, and the cursor is then unchanged.
     pub fn take_u8(&mut self) -> Result<u8, Short>
         ensures reads { Reads short_at (number w8) self.old result self.new }
         ensures exactly { ReadsExactly short_at (number w8) self.old result self.new }
@@ -66,8 +67,7 @@ impl<'a> Cursor<'a> {
         Ok(u8::from_be_bytes(self.take_array()?))
     }
 
-    /// The number in the next two bytes, high byte first; `Short` exactly where fewer are left, and the cursor is then
-    /// unchanged.
+    /// The number in the next two bytes, big-endian; `Short` exactly if fewer are left, and the cursor is then unchanged.
     pub fn take_u16(&mut self) -> Result<u16, Short>
         ensures reads { Reads short_at (number w16) self.old result self.new }
         ensures exactly { ReadsExactly short_at (number w16) self.old result self.new }
@@ -75,8 +75,7 @@ impl<'a> Cursor<'a> {
         Ok(u16::from_be_bytes(self.take_array()?))
     }
 
-    /// The number in the next four bytes, high byte first; `Short` exactly where fewer are left, and the cursor is then
-    /// unchanged.
+    /// The number in the next four bytes, big-endian; `Short` exactly if fewer are left, and the cursor is then unchanged.
     pub fn take_u32(&mut self) -> Result<u32, Short>
         ensures reads { Reads short_at (number w32) self.old result self.new }
         ensures exactly { ReadsExactly short_at (number w32) self.old result self.new }
@@ -84,7 +83,7 @@ impl<'a> Cursor<'a> {
         Ok(u32::from_be_bytes(self.take_array()?))
     }
 
-    /// The next N bytes; `Short` exactly where fewer are left, and the cursor is then unchanged.
+    /// The next N bytes; `Short` exactly if fewer are left, and the cursor is then unchanged.
     pub fn take_array<const N: usize>(&mut self) -> Result<[u8; N], Short>
         ensures reads { Reads short_at (raw N) self.old result self.new }
         ensures exactly { ReadsExactly short_at (raw N) self.old result self.new }
@@ -98,7 +97,7 @@ impl<'a> Cursor<'a> {
         }
     }
 
-    /// The next `length` bytes; `Short` exactly where fewer are left, and the cursor is then unchanged.
+    /// The next `length` bytes; `Short` exactly if fewer are left, and the cursor is then unchanged.
     pub fn take_slice(&mut self, length: u32) -> Result<&'a [u8], Short>
         ensures reads { ReadsAs (λ slice. slice.now) short_at (raw length) self.old result self.new }
         ensures exactly { ReadsExactlyAs (λ slice. slice.now) short_at (raw length) self.old result self.new }

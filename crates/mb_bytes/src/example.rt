@@ -1,9 +1,10 @@
 //! A record of a number, raw bytes and a counted list, read and written.
 //!
-//! It shows how the contracts of this crate are composed, and is checked with it: a change of these contracts that would
-//! leave the readers and writers of the crates above unproved is seen here first.
+//! The example shows how the contracts of this crate are composed. It is checked with the crate, so that a change of the
+//! contracts that would leave readers and writers above unproved is seen here first.
 
 ghost use Rattle.std.specs.Prelude.{◌≡◌, ◌<◌, ◌≤◌, length};
+ghost use Rattle.mb_model.specs.declared.limits.TheConstants.{FILE_LIMIT};
 ghost use Rattle.mb_bytes.specs.Reads.{Reads, ReadsExactly, ReadsWhole};
 ghost use Rattle.mb_bytes.specs.Puts.{Puts, Writes};
 ghost use Rattle.mb_bytes.specs.Example.{example, values, points};
@@ -81,8 +82,7 @@ fn values_at(alloc: Global, cursor: &mut Cursor) -> Result<Items<u16>, NotRead>
     Ok(values)
 }
 
-/// The example that is spelled at the cursor's offset. After an error the cursor stands where it stood. `NoMemory` where
-/// an allocation fails, of which no clause says when.
+/// The example that is spelled at the cursor's offset; the cursor is unchanged after an error.
 pub fn read_example(alloc: Global, cursor: &mut Cursor) -> Result<Example, NotRead>
     ensures { ReadsExactly points example cursor.old result cursor.new }
 {
@@ -92,10 +92,9 @@ pub fn read_example(alloc: Global, cursor: &mut Cursor) -> Result<Example, NotRe
     Ok(value)
 }
 
-/// The example that is spelled by the whole of the bytes. `NoMemory` where an allocation fails, of which no clause says
-/// when.
+/// The example that all of the bytes spell.
 pub fn read_whole_example(alloc: Global, bytes: &[u8]) -> Result<Example, NotRead>
-    requires { length bytes.now ≤ 4194304 }
+    requires { length bytes.now ≤ FILE_LIMIT }
     ensures { ReadsWhole points example bytes.now result }
 {
     let mut cursor = Cursor::new(bytes);

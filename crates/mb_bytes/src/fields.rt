@@ -1,16 +1,36 @@
-//! Single fields of records: numbers within bounds, flags, and bytes after their number.
+//! Single fields of records: magic words, numbers within bounds, flags, names, and bytes after their number.
 //!
-//! Each reader is a part of a larger one: `BadRecord` carries the offset at which the field begins that lacks bytes or
-//! is not allowed, and the cursor may then stand anywhere.
+//! Each reader is part of a larger one. `BadRecord` has the offset of the field that lacks bytes or is not allowed; the
+//! cursor may then stand anywhere.
 
-ghost use Rattle.std.specs.Prelude.{◌<◌, ◌≤◌, ◌++◌, ◌^◌, length, IfOk};
+ghost use Rattle.std.specs.Prelude.{◌≡◌, ◌<◌, ◌≤◌, ◌++◌, ◌^◌, length, IfOk};
 ghost use Rattle.std.specs.Int.{w8, w16, w32};
-ghost use Rattle.mb_format.specs.Combinators.{number, between, flag, sized};
+ghost use Rattle.mb_format.specs.Combinators.{number, between, flag, mark, sized};
+ghost use Rattle.mb_model.specs.RegionFormat.{is_name};
 ghost use Rattle.mb_bytes.specs.Reads.{bad_at, Reads, ReadsAs};
 ghost use Rattle.mb_bytes.specs.Puts.{Puts};
 
 use crate::{Cursor, put_slice, put_u8, put_u16, put_u32};
 use mb_model::{BadRecord, NoMemory};
+
+/// The word by which a kind of record is known: these four bytes and no others.
+pub fn word_at(cursor: &mut Cursor, word: &[u8; 4]) -> Result<(), BadRecord>
+    ensures { Reads bad_at (mark word.now) cursor.old result cursor.new }
+{
+    let at = cursor.offset();
+    let found = cursor.take_array::<4>()?;
+    if found != *word {
+        return Err(BadRecord { at });
+    }
+    Ok(())
+}
+
+/// Whether every byte prints and is no space, as in the name of a secret.
+pub fn is_name(bytes: &[u8]) -> bool
+    ensures { result ≡ is_name bytes.now }
+{
+    bytes.iter().all(|byte| (0x21..=0x7E).contains(byte))
+}
 
 /// A number of one byte, from `least` to `most`.
 pub fn u8_between(cursor: &mut Cursor, least: u8, most: u8) -> Result<u8, BadRecord>
@@ -25,7 +45,7 @@ pub fn u8_between(cursor: &mut Cursor, least: u8, most: u8) -> Result<u8, BadRec
     Ok(number)
 }
 
-/// A number of two bytes, high byte first, from `least` to `most`.
+/// A number of two bytes, big-endian, from `least` to `most`.
 pub fn u16_between(cursor: &mut Cursor, least: u16, most: u16) -> Result<u16, BadRecord>
     ensures reads { Reads bad_at (between w16 least most) cursor.old result cursor.new }
     ensures bounds { IfOk result (λ n. (least ≤ n) × (n ≤ most)) }
@@ -38,7 +58,7 @@ pub fn u16_between(cursor: &mut Cursor, least: u16, most: u16) -> Result<u16, Ba
     Ok(number)
 }
 
-/// A number of four bytes, high byte first, from `least` to `most`.
+/// A number of four bytes, big-endian, from `least` to `most`.
 pub fn u32_between(cursor: &mut Cursor, least: u32, most: u32) -> Result<u32, BadRecord>
     ensures reads { Reads bad_at (between w32 least most) cursor.old result cursor.new }
     ensures bounds { IfOk result (λ n. (least ≤ n) × (n ≤ most)) }

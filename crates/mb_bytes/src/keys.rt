@@ -1,13 +1,14 @@
-//! Keys and what belongs to them, as they stand in records of every kind.
+//! Keys, trust and kinds of keys, as they stand in records of every kind, and the file of a public key.
 
-ghost use Rattle.std.specs.Prelude.{◌≡◌};
+ghost use Rattle.std.specs.Prelude.{◌≡◌, ◌≤◌, length};
 ghost use Rattle.std.specs.Int.{w32};
 ghost use Rattle.mb_format.specs.Combinators.{table};
+ghost use Rattle.mb_model.specs.declared.limits.TheConstants.{FILE_LIMIT};
 ghost use Rattle.mb_model.specs.Key.{tree_type, chains_type};
 ghost use Rattle.mb_model.specs.KeyFormat.{tree_rows, chains_rows, public_key_format, key_seed_format};
 ghost use Rattle.mb_model.specs.LayerFormat.{trust_byte, trust_format, one_trust};
 ghost use Rattle.mb_model.specs.EntryFormat.{key_kind_byte, key_kind_format};
-ghost use Rattle.mb_bytes.specs.Reads.{bad_at, Reads};
+ghost use Rattle.mb_bytes.specs.Reads.{bad_at, Reads, ReadsWhole};
 ghost use Rattle.mb_bytes.specs.Puts.{Puts};
 
 use crate::{Cursor, put_slice, put_u8, put_u32};
@@ -55,6 +56,23 @@ pub fn public_key_at(cursor: &mut Cursor) -> Result<PublicKey, BadRecord>
         identifier,
         root,
     })
+}
+
+/// The public key that a file spells, of any of the twenty pairs of types, in at most 4,194,304 bytes.
+///
+/// `BadRecord` has the offset of the first field that is not in its form, or of the first byte after the last field.
+pub fn read_public_key(bytes: &[u8]) -> Result<PublicKey, BadRecord>
+    requires { length bytes.now ≤ FILE_LIMIT }
+    ensures { ReadsWhole bad_at public_key_format bytes.now result }
+{
+    let mut cursor = Cursor::new(bytes);
+    let key = public_key_at(&mut cursor)?;
+    if cursor.left() > 0 {
+        return Err(BadRecord {
+            at: cursor.offset(),
+        });
+    }
+    Ok(key)
 }
 
 /// The seed of a key: its identifier and its secret.

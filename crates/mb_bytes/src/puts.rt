@@ -1,4 +1,4 @@
-//! Fields appended to bytes. Each call appends its field, or leaves the bytes as they were where it finds no memory. One
+//! Fields appended to bytes. Each call appends its field, or leaves the bytes as they were if an allocation fails. One
 //! call writes in place.
 
 ghost use Rattle.std.specs.Prelude.{◌≡◌, ◌+◌, ◌≤◌, ◌++◌, length, take, drop};
@@ -8,7 +8,7 @@ ghost use Rattle.mb_bytes.specs.Puts.{Puts, Writes};
 
 use mb_model::NoMemory;
 
-/// Appends the number as one byte; where the capacity holds it, the answer is Ok.
+/// Appends the number as one byte. It does not fail if the capacity holds it.
 pub fn put_u8(out: &mut Vec<u8>, value: u8) -> Result<(), NoMemory>
     ensures puts { Puts ((number w8).spelling value) out.old result out.new }
     ensures writes { Writes ((number w8).spelling value) out.old result out.new }
@@ -16,7 +16,7 @@ pub fn put_u8(out: &mut Vec<u8>, value: u8) -> Result<(), NoMemory>
     put_slice(out, &value.to_be_bytes())
 }
 
-/// Appends the number as two bytes, high byte first; where the capacity holds them, the answer is Ok.
+/// Appends the number as two bytes, big-endian. It does not fail if the capacity holds them.
 pub fn put_u16(out: &mut Vec<u8>, value: u16) -> Result<(), NoMemory>
     ensures puts { Puts ((number w16).spelling value) out.old result out.new }
     ensures writes { Writes ((number w16).spelling value) out.old result out.new }
@@ -24,7 +24,7 @@ pub fn put_u16(out: &mut Vec<u8>, value: u16) -> Result<(), NoMemory>
     put_slice(out, &value.to_be_bytes())
 }
 
-/// Appends the number as four bytes, high byte first; where the capacity holds them, the answer is Ok.
+/// Appends the number as four bytes, big-endian. It does not fail if the capacity holds them.
 pub fn put_u32(out: &mut Vec<u8>, value: u32) -> Result<(), NoMemory>
     ensures puts { Puts ((number w32).spelling value) out.old result out.new }
     ensures writes { Writes ((number w32).spelling value) out.old result out.new }
@@ -32,7 +32,7 @@ pub fn put_u32(out: &mut Vec<u8>, value: u32) -> Result<(), NoMemory>
     put_slice(out, &value.to_be_bytes())
 }
 
-/// Appends the bytes; where the capacity holds them, the answer is Ok.
+/// Appends the bytes. It does not fail if the capacity holds them.
 pub fn put_slice(out: &mut Vec<u8>, bytes: &[u8]) -> Result<(), NoMemory>
     ensures puts { Puts bytes.now out.old result out.new }
     ensures writes { Writes bytes.now out.old result out.new }

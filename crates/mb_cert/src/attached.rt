@@ -1,4 +1,4 @@
-//! Chains to which a statement is attached.
+//! The chain of a device with a statement attached.
 
 ghost use Rattle.std.specs.Prelude.{◌≡◌, take, None};
 ghost use Rattle.std.specs.List.{position};
@@ -7,8 +7,8 @@ ghost use Rattle.mb_model.specs.ChainFormat.{statement_format, chain_format};
 
 use mb_model::{Chain, Entry, Items, SignedEntry, Statement};
 
-/// The chain, which has no statement, with this one: its first entry, and the entries after it up to, and without, the
-/// first change among them whose configuration number is above the statement's. Takes no memory.
+/// The chain, which has no statement, with this one attached. It keeps its first entry, and the entries after it that
+/// come before the first change with a configuration number above the statement's. Takes no memory.
 pub fn attach(chain: Chain, statement: Statement) -> Chain
     requires { chain.statement ≡ None }
     ensures is { result ≡ stated_chain chain.entries statement }
@@ -23,7 +23,7 @@ pub fn attach(chain: Chain, statement: Statement) -> Chain
     }
 }
 
-/// How many entries stand in a chain with a statement of this configuration number.
+/// The number of entries that the chain keeps beside a statement of this configuration number.
 fn count_before_cut(entries: &[SignedEntry], number: u32) -> usize
     ensures { take result entries.now ≡ cut_at number entries.now }
 {
@@ -36,7 +36,7 @@ fn count_before_cut(entries: &[SignedEntry], number: u32) -> usize
     }
 }
 
-/// The index of the first change with a configuration number above this one.
+/// The index of the first change with a configuration number above this one, if there is one.
 fn first_change_above(number: u32, entries: &[SignedEntry]) -> Option<usize>
     ensures { result ≡ position (λ signed. is_change_above number signed.entry) entries.now }
 {

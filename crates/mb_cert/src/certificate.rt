@@ -1,4 +1,4 @@
-//! Who signed an entry.
+//! The signer of an entry.
 
 ghost use Rattle.std.specs.Prelude.{◌≡◌, ◌↔◌, IfOk, IsTrue};
 ghost use Rattle.mb_model.specs.EntryFormat.{entry_format};
@@ -7,14 +7,12 @@ ghost use Rattle.mb_model.specs.SignedTexts.{entry_text};
 
 use mb_layout::write_entry;
 use mb_lms::verify;
-use mb_model::{NoMemory, PublicKey, SignedEntry};
+use mb_model::separators::ENTRY_TEXT;
+use mb_model::{NoMemory, PublicKey, SIGNATURE_LENGTH, SignedEntry};
 use std::alloc::Global;
 
-/// What the text of an entry that is signed begins with.
-const ENTRY: u8 = 3;
-
 /// The index of a signature, which is the number of its leaf (RFC 8554, section 5.4).
-pub fn leaf_number(signature: &[u8; 2348]) -> u32
+pub fn leaf_number(signature: &[u8; SIGNATURE_LENGTH]) -> u32
     ensures { result ≡ leaf_number signature.now }
 {
     let mut index = [0; 4];
@@ -22,9 +20,8 @@ pub fn leaf_number(signature: &[u8; 2348]) -> u32
     u32::from_be_bytes(index)
 }
 
-/// Whether the key signed the entry, of which the signature is then one (RFC 8554, section 5.4.2); or `NoMemory` where
-/// the allocation of the entry's text fails.
-/// Nothing is said of when memory is found: a test judges an entry where there is enough.
+/// Whether the entry's signature is one of the entry under the key (RFC 8554, section 5.4.2). Memory is taken for the
+/// bytes of the entry.
 #[tactic(auto, unfolding(mb_model::specs::SignedTexts::entry_text))]
 pub fn certifies(alloc: Global, key: &PublicKey, signed: &SignedEntry) -> Result<bool, NoMemory>
     requires { entry_format.Allowed signed.now.entry }
@@ -32,5 +29,5 @@ pub fn certifies(alloc: Global, key: &PublicKey, signed: &SignedEntry) -> Result
 {
     let mut spelling = Vec::new(alloc);
     write_entry(&signed.entry, &mut spelling)?;
-    Ok(verify(key, &[ENTRY], spelling.as_slice(), &signed.signature))
+    Ok(verify(key, &[ENTRY_TEXT], spelling.as_slice(), &signed.signature))
 }

@@ -8,14 +8,14 @@ use mb_model::{BadRecord, NoMemory};
 /// Why no chain or statement was read.
 #[derive(Clone, Copy, Debug, PartialEq, Eq)]
 pub enum ChainEnd {
-    /// The bytes spell none.
+    /// The bytes spell no chain or statement.
     BadChain {
-        /// The offset at which the first field begins that lacks bytes or is not allowed, or of the first byte after the
-        /// last field, in bytes from 0.
+        /// The offset, from 0, of the first field that lacks bytes or is not allowed, or of the first byte after the last
+        /// field.
         at: u32,
     },
-    /// An allocation failed. No clause of a reader says when, so one that always answers this is proved too: the tests
-    /// read chains and statements where there is enough memory.
+    /// An allocation failed. No clause of a reader says when, so that a reader that always answers this would be proved
+    /// too: the tests read chains and statements with ample memory.
     NoMemory,
 }
 

@@ -1,8 +1,8 @@
 //! Chains of certificates and statements.
 //!
-//! This crate owns how a chain and a statement are read and written as bytes, how a statement is read from its line
-//! of text and attached to a chain, and whether a key signed an entry. How chains and statements are spelled, and
-//! which entries stand beside a statement, is defined in `mb_model` (`ChainFormat`, `OrderLines`, `Attach`).
+//! This crate owns how a chain and a statement are read and written as bytes, how a statement is read from its line of
+//! text and attached to a chain, and whether a key signed an entry. The spelling of chains and statements, and the
+//! entries that a chain keeps beside a statement, are defined in `mb_model` (`ChainFormat`, `OrderLines`, `Attach`).
 #![tactic(auto)]
 
 mod attached;

@@ -1,6 +1,7 @@
-//! Whole statements.
+//! Whole statements in bytes.
 
 ghost use Rattle.std.specs.Prelude.{◌≤◌, ◌<◌, length};
+ghost use Rattle.mb_model.specs.declared.limits.TheConstants.{FILE_LIMIT};
 ghost use Rattle.mb_model.specs.ChainFormat.{statement_format};
 ghost use Rattle.mb_bytes.specs.Reads.{Reads, ReadsWhole};
 ghost use Rattle.mb_bytes.specs.Puts.{Puts, Writes};
@@ -8,7 +9,7 @@ ghost use Rattle.mb_cert.specs.Ends.{chain_at};
 
 use crate::end::ChainEnd;
 use mb_bytes::{Cursor, bytes_after_u8, put_after_u8, put_slice, put_u32};
-use mb_model::{Bytes, NoMemory, Statement};
+use mb_model::{Bytes, MESSAGE_LIMIT, NoMemory, Statement};
 use std::alloc::Global;
 
 /// The statement at the cursor's offset; after an error the cursor may stand anywhere.
@@ -17,7 +18,7 @@ pub(crate) fn statement_at(alloc: Global, cursor: &mut Cursor) -> Result<Stateme
     ensures { Reads chain_at statement_format cursor.old result cursor.new }
 {
     let number = cursor.take_u32()?;
-    let message = bytes_after_u8(cursor, 0, 128)?;
+    let message = bytes_after_u8(cursor, 0, MESSAGE_LIMIT)?;
     let signature = cursor.take_array()?;
     Ok(Statement {
         number,
@@ -26,11 +27,12 @@ pub(crate) fn statement_at(alloc: Global, cursor: &mut Cursor) -> Result<Stateme
     })
 }
 
-/// The statement that the whole of the bytes spells, of which there are at most 4,194,304. Else `BadChain` with the
-/// offset of the first field that lacks bytes or is not allowed, or of the first byte after the last field, or
-/// `NoMemory` where an allocation fails, of which no clause says when.
+/// The statement that all of the bytes spell, at most 4,194,304 of them.
+///
+/// Errors: `BadChain` with the offset of the first field that lacks bytes or is not allowed, or of the first byte after
+/// the last field; and `NoMemory`.
 pub fn read_statement(alloc: Global, bytes: &[u8]) -> Result<Statement, ChainEnd>
-    requires { length bytes.now ≤ 4194304 }
+    requires { length bytes.now ≤ FILE_LIMIT }
     ensures { ReadsWhole chain_at statement_format bytes.now result }
 {
     let mut cursor = Cursor::new(bytes);
@@ -43,7 +45,7 @@ pub fn read_statement(alloc: Global, bytes: &[u8]) -> Result<Statement, ChainEnd
     Ok(statement)
 }
 
-/// Appends the spelling, or a part of it where an allocation fails.
+/// Appends the spelling, or a prefix of it if an allocation fails.
 #[tactic(auto, unfolding(mb_model::specs::ChainFormat::statement_format))]
 pub(crate) fn put_statement(out: &mut Vec<u8>, statement: &Statement) -> Result<(), NoMemory>
     requires { length statement.now.message < 256 }
@@ -54,8 +56,8 @@ pub(crate) fn put_statement(out: &mut Vec<u8>, statement: &Statement) -> Result<
     put_slice(out, &statement.signature)
 }
 
-/// Appends the spelling of the statement, whose message has at most 128 bytes, or leaves `out` as it was. Where the
-/// capacity of `out` holds it, the answer is Ok.
+/// Appends the spelling of the statement, whose message has at most 128 bytes, or leaves `out` as it was. It does not
+/// fail if the capacity of `out` holds the spelling.
 #[tactic(auto, using(crate::proofs::Sizes::message_fits))]
 pub fn write_statement(statement: &Statement, out: &mut Vec<u8>) -> Result<(), NoMemory>
     requires { statement_format.Allowed statement.now }

@@ -1,4 +1,4 @@
-//! The line of a statement, as it is handed on, read.
+//! The line of a statement, as it is handed on.
 
 ghost use Rattle.std.specs.Prelude.{◌∷◌, [], IfOk};
 ghost use Rattle.mb_format.specs.Format.{Spells};
@@ -21,7 +21,7 @@ const STATEMENT_LIMIT: usize = 2481;
 pub enum StatementLineEnd {
     /// The first line is not that of a statement, or a second line follows it.
     BadLine {
-        /// The number of the first such line: 1, also where the text has no line, or 2.
+        /// The number of the first such line: 1, also if the text has no line, or 2.
         line: u32,
     },
     /// An allocation failed.
@@ -30,8 +30,8 @@ pub enum StatementLineEnd {
 
 /// The statement of the text, whose one line is its bytes in hexadecimal. The line may lack its LF.
 ///
-/// Errors: `BadLine` with 1 where there is no line or the first is not that of a statement, and with 2 where another
-/// line follows that of a statement, be it empty; and `NoMemory`, of which no clause says when it comes.
+/// Errors: `BadLine` with 1 if there is no line or the first is not that of a statement, and with 2 if another line
+/// follows that of a statement, be it empty; and `NoMemory`.
 pub fn read_statement_line(alloc: Global, text: &[u8]) -> Result<Statement, StatementLineEnd>
     ensures read { ReadsStatementLine text.now result }
     ensures spelled { IfOk result (λ statement. statement_format.Allowed statement) }
@@ -53,7 +53,7 @@ pub fn read_statement_line(alloc: Global, text: &[u8]) -> Result<Statement, Stat
     }
 }
 
-/// The statement whose line this is.
+/// The statement that the line spells in hexadecimal.
 fn statement_in(alloc: Global, line: &[u8]) -> Result<Statement, NotSaid>
     ensures { Finds (IsStatementLine (line.now ∷ [])) result }
 {

@@ -1,6 +1,7 @@
 //! What an order does.
 
 ghost use Rattle.std.specs.Prelude.{◌≡◌, ◌+◌, ◌≤◌, not, length};
+ghost use Rattle.mb_model.specs.declared.limits.TheConstants.{CODE_LIMIT};
 ghost use Rattle.mb_model.specs.Rules.{kind_of};
 ghost use Rattle.std.specs.Int.{w8};
 ghost use Rattle.mb_format.specs.Combinators.{listed};
@@ -17,13 +18,12 @@ use mb_bytes::{
     Cursor, bytes_after_u32, key_kind_at, one_trust_at, public_key_at, put_after_u32, put_key_kind,
     put_public_key, put_trust, put_u32, trust_at,
 };
-use mb_model::{Act, BadRecord, Bytes, NoMemory, OrderForm, OrderKind, Payload, Trust, Trusts};
+use mb_model::{
+    Act, BadRecord, Bytes, CODE_LIMIT, NoMemory, OrderForm, OrderKind, Payload, Trust, Trusts,
+};
 use std::alloc::Global;
 
-/// The most bytes of code in a load.
-const CODE_LIMIT: u32 = 32_768;
-
-/// A trust other than this one.
+/// Reads a trust other than this one.
 fn other_trust_at(cursor: &mut Cursor, one: Trust) -> Result<Trust, BadRecord>
     ensures { Reads bad_at (listed w8 (other_rows one) trust_byte) cursor.old result cursor.new }
 {
@@ -36,7 +36,7 @@ fn other_trust_at(cursor: &mut Cursor, one: Trust) -> Result<Trust, BadRecord>
     }
 }
 
-/// Two trusts that differ.
+/// Reads two trusts that differ.
 fn differing_trusts_at(cursor: &mut Cursor) -> Result<Trusts, BadRecord>
     ensures { Reads bad_at differing_trusts cursor.old result cursor.new }
 {
@@ -45,7 +45,7 @@ fn differing_trusts_at(cursor: &mut Cursor) -> Result<Trusts, BadRecord>
     Ok(Trusts { one, two })
 }
 
-/// The trusts that an act gives its layer: one trust if they are equal, else both.
+/// Reads the trusts that an act gives its layer: one trust if they are equal, else both.
 fn given_trusts_at(cursor: &mut Cursor, differs: bool) -> Result<Trusts, BadRecord>
     ensures { Reads bad_at (given_trusts differs) cursor.old result cursor.new }
 {
@@ -97,7 +97,7 @@ fn new_key_at(cursor: &mut Cursor, differs: bool) -> Result<Act, OrderEnd>
     Ok(Act::NewKey { kind })
 }
 
-/// What an order of the form does. `NoMemory` where an allocation fails, of which no clause says when.
+/// Reads what an order of the form does.
 pub fn act_at(alloc: Global, cursor: &mut Cursor, form: OrderForm) -> Result<Act, OrderEnd>
     ensures { Reads order_text_at (act_by form.kind form.differs) cursor.old result cursor.new }
 {
@@ -124,7 +124,7 @@ fn put_given(out: &mut Vec<u8>, trusts: Trusts, differs: bool) -> Result<(), NoM
 
 #[tactic(auto, unfolding(mb_model::specs::OrderFormat::payload_format))]
 fn put_payload(out: &mut Vec<u8>, payload: &Payload) -> Result<(), NoMemory>
-    requires { length payload.now.code ≤ 32768 }
+    requires { length payload.now.code ≤ CODE_LIMIT }
     ensures { Puts ((payload_format (not (are_equal payload.now.trust))).spelling payload.now) out.old result out.new }
 {
     put_u32(out, payload.version)?;

@@ -1,6 +1,7 @@
 //! The part of an order that its owner signs.
 
 ghost use Rattle.std.specs.Prelude.{◌≡◌, ◌≤◌, length, take, IfOk};
+ghost use Rattle.mb_model.specs.declared.limits.TheConstants.{TARGET_LIMIT};
 ghost use Rattle.mb_model.specs.OrderFormat.{body_by, body_format, body_of, order_body, order_format};
 ghost use Rattle.mb_bytes.specs.Reads.{ReadsAs};
 ghost use Rattle.mb_bytes.specs.Puts.{Puts};
@@ -43,7 +44,7 @@ fn after_form_at(
     })
 }
 
-/// The signed part of an order. `NoMemory` where an allocation fails, of which no clause says when.
+/// Reads the signed part of an order.
 #[tactic(auto, unfolding(mb_model::specs::OrderFormat::body_format))]
 pub fn body_at(alloc: Global, cursor: &mut Cursor) -> Result<SignedPart, OrderEnd>
     ensures reads { ReadsAs body_in order_text_at body_format cursor.old result cursor.new }
@@ -56,7 +57,7 @@ pub fn body_at(alloc: Global, cursor: &mut Cursor) -> Result<SignedPart, OrderEn
 /// Appends the signed part of an order.
 #[tactic(auto, unfolding(mb_model::specs::OrderFormat::body_format))]
 pub fn put_body(out: &mut Vec<u8>, order: &Order) -> Result<(), NoMemory>
-    requires targets { length order.now.targets ≤ 8 }
+    requires targets { length order.now.targets ≤ TARGET_LIMIT }
     requires code { HasShortCode order.now.act }
     ensures { Puts (body_format.spelling (body_of order.now)) out.old result out.new }
 {
@@ -66,7 +67,7 @@ pub fn put_body(out: &mut Vec<u8>, order: &Order) -> Result<(), NoMemory>
     put_act(out, &order.act)
 }
 
-/// How many bytes of the order are signed: its body, with which its spelling begins. The order has a spelling.
+/// The length of the signed part of an order, in bytes. The order has a spelling, which begins with that part.
 pub fn body_length(order: &Order) -> u32
     requires { order_format.Allowed order.now }
     ensures length { result ≡ length (order_body order.now) }

@@ -2,6 +2,7 @@
 
 ghost use Rattle.std.specs.Prelude.{◌≤◌, ◌-◌, length, IfOk};
 ghost use Rattle.std.specs.List.{All};
+ghost use Rattle.mb_model.specs.declared.limits.TheConstants.{SIGNATURE_LIMIT};
 ghost use Rattle.mb_model.specs.OrderFormat.{Body, sized_signature_format, countersignature_format, countersignatures_format};
 ghost use Rattle.mb_bytes.specs.Reads.{Reads};
 ghost use Rattle.mb_bytes.specs.Puts.{Puts};
@@ -16,16 +17,17 @@ use mb_bytes::{Cursor, bytes_after_u16, put_after_u16, put_u8, u8_between};
 use mb_model::{Bytes, Countersignature, Countersignatures, Items, NoMemory, SIGNATURE_LIMIT};
 use std::alloc::Global;
 
-/// A signature after two bytes for its length. `NoMemory` where an allocation fails, of which no clause says when.
+/// Reads a signature after its length in two bytes.
 #[tactic(auto, unfolding(mb_model::specs::OrderFormat::sized_signature_format))]
 pub fn signature_at(alloc: Global, cursor: &mut Cursor) -> Result<Bytes, OrderEnd>
     ensures { Reads order_text_at sized_signature_format cursor.old result cursor.new }
 {
-    let signature = bytes_after_u16(cursor, 0, SIGNATURE_LIMIT as u16)?;
+    let signature = bytes_after_u16(cursor, 0, SIGNATURE_LIMIT)?;
     Ok(Bytes::copy(alloc, signature)?)
 }
 
-/// A countersignature of a layer above `below` that leaves a layer to each of those still to come; `left` counts it too.
+/// Reads a countersignature of a layer above `below`, low enough that each of those still to come has a layer of its own.
+/// `left` counts them and this one.
 fn countersignature_at(
     alloc: Global,
     cursor: &mut Cursor,
@@ -42,8 +44,8 @@ fn countersignature_at(
     Ok(Countersignature { layer, signature })
 }
 
-/// The countersignatures after the signed part and its signature: a byte for their number, and as many, their layers
-/// ascending. `NoMemory` where an allocation fails, of which no clause says when.
+/// Reads the countersignatures of an order with this signed part: a byte for their number, and as many, their layers
+/// ascending.
 #[tactic(auto, unfolding(mb_model::specs::OrderFormat::countersignatures_format))]
 pub fn countersignatures_at(
     alloc: Global,
@@ -68,7 +70,7 @@ pub fn countersignatures_at(
 /// Appends the length of a signature, in two bytes, and the signature.
 #[tactic(auto, unfolding(mb_model::specs::OrderFormat::sized_signature_format))]
 pub fn put_signature(out: &mut Vec<u8>, signature: &Bytes) -> Result<(), NoMemory>
-    requires { length signature.now ≤ 9324 }
+    requires { length signature.now ≤ SIGNATURE_LIMIT }
     ensures { Puts (sized_signature_format.spelling signature.now) out.old result out.new }
 {
     put_after_u16(out, signature.as_slice())

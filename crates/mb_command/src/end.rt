@@ -10,12 +10,11 @@ use mb_model::{BadRecord, NoMemory};
 pub enum OrderEnd {
     /// The bytes spell no order.
     BadText {
-        /// The place at which the first field begins that lacks bytes or is not allowed, or of the first byte after the
-        /// last field, in bytes from 0.
+        /// The offset of the first field that lacks bytes or is not allowed, or of the first byte after the last
+        /// field.
         at: u32,
     },
-    /// An allocation failed. No clause of a reader says when, so one that always answers this is proved too:
-    /// the tests read orders where there is enough.
+    /// An allocation failed.
     NoMemory,
 }
 

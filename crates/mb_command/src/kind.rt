@@ -17,7 +17,7 @@ fn form(kind: OrderKind, differs: bool) -> OrderForm
     OrderForm { kind, differs }
 }
 
-/// The form of an order, in a byte.
+/// Reads the form of an order, in a byte.
 pub fn form_at(cursor: &mut Cursor) -> Result<OrderForm, BadRecord>
     ensures { Reads bad_at (listed w8 form_rows form_byte) cursor.old result cursor.new }
 {

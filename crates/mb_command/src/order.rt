@@ -1,6 +1,8 @@
 //! Whole orders.
 
 ghost use Rattle.std.specs.Prelude.{◌≤◌, length, IfErr, IfSome};
+ghost use Rattle.mb_command.specs.declared.order.TheConstants.{ORDER_LIMIT};
+ghost use Rattle.mb_model.specs.declared.limits.TheConstants.{FILE_LIMIT};
 ghost use Rattle.mb_model.specs.OrderFormat.{order_format};
 ghost use Rattle.mb_bytes.specs.Reads.{Reads, ReadsWhole};
 ghost use Rattle.mb_bytes.specs.Puts.{Puts, Writes};
@@ -16,8 +18,8 @@ use mb_bytes::Cursor;
 use mb_model::{NoMemory, Order};
 use std::alloc::Global;
 
-/// More bytes than any order has.
-const ORDER_LIMIT: usize = 65_536;
+/// A length that no order reaches, in bytes: no more than these are read of a text.
+pub const ORDER_LIMIT: usize = 65_536;
 
 #[tactic(auto, unfolding(mb_model::specs::OrderFormat::order_format))]
 fn order_at(alloc: Global, cursor: &mut Cursor) -> Result<Order, OrderEnd>
@@ -36,7 +38,7 @@ fn order_at(alloc: Global, cursor: &mut Cursor) -> Result<Order, OrderEnd>
 }
 
 fn whole_order(alloc: Global, bytes: &[u8]) -> Result<Order, OrderEnd>
-    requires { length bytes.now ≤ 4194304 }
+    requires { length bytes.now ≤ FILE_LIMIT }
     ensures { ReadsWhole order_text_at order_format bytes.now result }
 {
     let mut cursor = Cursor::new(bytes);
@@ -49,13 +51,13 @@ fn whole_order(alloc: Global, bytes: &[u8]) -> Result<Order, OrderEnd>
     Ok(order)
 }
 
-/// The order that the whole of the bytes spells, of however many bytes. Else `BadText` with the place of the first field
-/// that lacks bytes or is not allowed, or of the first byte after the last field; it is at most 65,536. An order is
-/// shorter than that, so no more bytes are looked at. Memory is taken for what the order holds, and nothing is said of
-/// when it is found: the tests read orders where there is enough.
+/// Reads the order that the whole of the bytes spells. The bytes may be more than any order has.
+///
+/// Errors: `BadText` with the offset of the first field that lacks bytes or is not allowed, or of the first byte after
+/// the last field, at most `ORDER_LIMIT`; and `NoMemory`.
 pub fn read_order(alloc: Global, bytes: &[u8]) -> Result<Order, OrderEnd>
     ensures reads { ReadsWhole order_text_at order_format bytes.now result }
-    ensures near { IfErr result (λ end. IfSome (order_text_at end) (λ at. at ≤ 65536)) }
+    ensures near { IfErr result (λ end. IfSome (order_text_at end) (λ at. at ≤ ORDER_LIMIT)) }
 {
     match bytes.get(..ORDER_LIMIT) {
         Some(first) => whole_order(alloc, first),
@@ -73,8 +75,8 @@ fn put_order(out: &mut Vec<u8>, order: &Order) -> Result<(), NoMemory>
     put_countersignatures(out, &order.countersignatures)
 }
 
-/// Appends the spelling of the order, which has one, or leaves `out` as it was. Where the capacity of `out` holds it, the
-/// answer is Ok.
+/// Appends the spelling of an order, which has one, or leaves `out` as it was. The answer is Ok if the capacity of `out`
+/// holds the spelling.
 #[tactic(auto, using(crate::proofs::Sizes::sized_of))]
 pub fn write_order(order: &Order, out: &mut Vec<u8>) -> Result<(), NoMemory>
     requires { order_format.Allowed order.now }

@@ -8,15 +8,7 @@ use crate::order::write_order;
 use mb_model::{Bytes, NoMemory, Order};
 use std::alloc::Global;
 
-/// What the text begins with that the owner in charge signs. The signed part comes next.
-pub const ORDER_HEAD: u8 = 1;
-
-/// What the text begins with that the owner of a higher layer signs. That layer's number comes next, in a byte, and then
-/// the signed part.
-pub const COUNTERSIGNATURE_HEAD: u8 = 2;
-
-/// The body of the order, the part that its owners sign. The order has a spelling. `NoMemory` where an allocation
-/// fails, of which no clause says when.
+/// The part of an order that its owners sign, as bytes. The order has a spelling.
 pub fn signed_part(alloc: Global, order: &Order) -> Result<Bytes, NoMemory>
     requires { order_format.Allowed order.now }
     ensures { IfOk result (λ part. part ≡ order_body order.now) }

@@ -2,6 +2,7 @@
 
 ghost use Rattle.std.specs.Prelude.{◌≡◌, ◌+◌, ◌≤◌, length};
 ghost use Rattle.std.specs.Int.{w8};
+ghost use Rattle.mb_model.specs.declared.limits.TheConstants.{TARGET_LIMIT};
 ghost use Rattle.mb_format.specs.Combinators.{between, counted};
 ghost use Rattle.mb_model.specs.OrderFormat.{serial_tag, length_tag, owner_tag, code_tag, target_by, target_format};
 ghost use Rattle.mb_bytes.specs.Reads.{bad_at, Reads};
@@ -11,7 +12,7 @@ ghost use Rattle.mb_command.specs.Parts.{named_bytes};
 
 use crate::end::OrderEnd;
 use mb_bytes::{Cursor, put_slice, put_u8, put_u32, u8_between};
-use mb_model::{BadRecord, Items, NoMemory, Target, Targets};
+use mb_model::{BadRecord, Items, NoMemory, TARGET_LIMIT, Target, Targets};
 use std::alloc::Global;
 
 fn serial_at(cursor: &mut Cursor) -> Result<Target, BadRecord>
@@ -56,12 +57,11 @@ fn target_at(cursor: &mut Cursor) -> Result<Target, BadRecord>
     }
 }
 
-/// The targets of an order, after a byte for their number. `NoMemory` where an allocation fails, of which no clause
-/// says when.
+/// Reads the targets of an order, after a byte for their number.
 pub fn targets_at(alloc: Global, cursor: &mut Cursor) -> Result<Targets, OrderEnd>
-    ensures { Reads order_text_at (counted (between w8 0 8) target_format) cursor.old result cursor.new }
+    ensures { Reads order_text_at (counted (between w8 0 TARGET_LIMIT) target_format) cursor.old result cursor.new }
 {
-    let count = u8_between(cursor, 0, 8)?;
+    let count = u8_between(cursor, 0, TARGET_LIMIT)?;
     let mut targets = Items::new(alloc);
     for _i in 0..count {
         targets.push(target_at(cursor)?)?;
@@ -97,8 +97,8 @@ fn put_target(out: &mut Vec<u8>, target: &Target) -> Result<(), NoMemory>
 
 /// Appends the number of the targets, in a byte, and the targets.
 pub fn put_targets(out: &mut Vec<u8>, targets: &Targets) -> Result<(), NoMemory>
-    requires { length targets.now ≤ 8 }
-    ensures { Puts ((counted (between w8 0 8) target_format).spelling targets.now) out.old result out.new }
+    requires { length targets.now ≤ TARGET_LIMIT }
+    ensures { Puts ((counted (between w8 0 TARGET_LIMIT) target_format).spelling targets.now) out.old result out.new }
 {
     put_u8(out, targets.as_slice().len() as u8)?;
     for target in targets.as_slice() {
@@ -120,10 +120,10 @@ fn target_length(target: &Target) -> u32
     }
 }
 
-/// How many bytes the targets have, with the byte for their number.
+/// The length of the targets of an order with the byte for their number, in bytes.
 pub fn targets_length(targets: &Targets) -> u32
-    requires { (counted (between w8 0 8) target_format).Allowed targets.now }
-    ensures length { result ≡ length ((counted (between w8 0 8) target_format).spelling targets.now) }
+    requires { (counted (between w8 0 TARGET_LIMIT) target_format).Allowed targets.now }
+    ensures length { result ≡ length ((counted (between w8 0 TARGET_LIMIT) target_format).spelling targets.now) }
     ensures most { result ≤ 273 }
 {
     let mut total = 1;

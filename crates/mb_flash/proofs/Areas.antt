@@ -1,5 +1,5 @@
 -- What a record in an area of the flash leaves of the flash.
-use Rattle.std.proofs.Common.{◌≡◌, ℕ, zero, suc, ◌+◌, ◌*◌, ◌-◌, ◌/◌, ◌≤◌, ◌⊎◌, inl, inr, List, ◌++◌, length, take, drop, OnOk, Result, refl, ap, sym, ◌∙◌, arith, append_assoc, length-append}
+use Rattle.std.proofs.Common.{◌≡◌, ℕ, zero, suc, ◌+◌, ◌*◌, ◌-◌, ◌≤◌, ◌⊎◌, inl, inr, List, ◌++◌, length, take, drop, OnOk, Result, refl, ap, sym, ◌∙◌, arith, append_assoc, length-append}
 use Rattle.std.specs.Int.{w32, to_be_bytes}
 use Rattle.std.proofs.Math.Seq.{take-add, take-append_seam}
 use Rattle.std.proofs.lemmas.List.{take-take}
@@ -8,6 +8,7 @@ use Rattle.mb_model.specs.Flash.{flash_area, BeginsArea}
 use Rattle.mb_slot.specs.Slots.{IsSameOutside}
 use Rattle.mb_slot.proofs.Ranges.{apart_same}
 use Rattle.mb_slot.proofs.Slotted.{on_ok}
+use Rattle.mb_flash.specs.Sectors.{sectors_for}
 use Rattle.mb_flash.proofs.Sectored.{both_stand, piece_stands, next_stands}
 
 -- an area begins with a record that stands at its start after its length
@@ -50,7 +51,7 @@ parted prefix slice head rest bytes begun split =
 -- what the writes of the first sector and of those after it leave of a record after a prefix of four bytes
 pub stands_whole : (area : ℕ) (mid after prefix slice head rest bytes : List ℕ) → length prefix ≡ 4 → slice ≡ prefix ++ head → bytes ≡ head ++ rest
     → length head ≤ 4092 → (length head ≡ 4092) ⊎ (length rest ≡ 0)
-    → IsSameOutside (4096 * (128 * area + 1)) (4096 * ((length rest + 4095) / 4096)) mid after → area ≤ 1 → length mid ≡ 1048576
+    → IsSameOutside (4096 * (128 * area + 1)) (4096 * sectors_for (length rest)) mid after → area ≤ 1 → length mid ≡ 1048576
     → part (4096 * (128 * area)) (length slice) mid ≡ slice → part (4096 * (128 * area + 1)) (length rest) after ≡ rest
     → part (524288 * area) (4 + length bytes) after ≡ prefix ++ bytes
 stands_whole area mid after prefix slice head rest bytes four begun split most full same low sized stood later =

@@ -1,5 +1,5 @@
 -- What the writes of a sector, and of several, leave.
-use Rattle.std.proofs.Common.{◌≡◌, ℕ, ◌+◌, ◌*◌, ◌/◌, ◌<◌, ◌≤◌, ◌⊎◌, inl, inr, List, [], ◌∷◌, ◌++◌, length, take, drop, refl, ap, sym, ◌∙◌, arith, length-append}
+use Rattle.std.proofs.Common.{◌≡◌, ℕ, ◌+◌, ◌*◌, ◌<◌, ◌≤◌, ◌⊎◌, inl, inr, List, [], ◌∷◌, ◌++◌, length, take, drop, refl, ap, sym, ◌∙◌, arith, length-append}
 use Rattle.std.proofs.Math.Seq.{take-add, take-append_seam, drop-append_seam}
 use Rattle.std.proofs.lemmas.List.{take-take, take-replicate, drop-drop, drop-take, append-nil}
 use Rattle.mb_model.specs.Pieces.{part}
@@ -8,6 +8,7 @@ use Rattle.mb_model.proofs.Places.{length-erased, part-put}
 use Rattle.mb_board.specs.Calls.{Torn}
 use Rattle.mb_slot.specs.Slots.{IsOutside, IsSameOutside}
 use Rattle.mb_slot.proofs.Ranges.{torn_same, apart_same}
+use Rattle.mb_flash.specs.Sectors.{sectors_for}
 
 -- ---- what stays
 
@@ -80,14 +81,14 @@ joined at flash piece rest bytes whole (inr none) first later =
 
 -- what stands in a sector stays while those after it are written
 pub both_stand : (first : ℕ) (mid after piece rest bytes : List ℕ) → bytes ≡ piece ++ rest → length piece ≤ 4096 → (length piece ≡ 4096) ⊎ (length rest ≡ 0)
-    → IsSameOutside (4096 * (first + 1)) (4096 * ((length rest + 4095) / 4096)) mid after → 4096 * first + 4096 ≤ length mid
+    → IsSameOutside (4096 * (first + 1)) (4096 * sectors_for (length rest)) mid after → 4096 * first + 4096 ≤ length mid
     → part (4096 * first) (length piece) mid ≡ piece → part (4096 * (first + 1)) (length rest) after ≡ rest
     → part (4096 * first) (length bytes) after ≡ bytes
 both_stand first mid after piece rest bytes whole most full same within stood later =
     let at : ℕ = 4096 * first in
     let next : 4096 * (first + 1) ≡ at + 4096 = omega arith in
     let stays : part at (length piece) after ≡ part at (length piece) mid =
-    apart_same at (length piece) (4096 * (first + 1)) (4096 * ((length rest + 4095) / 4096)) mid after same (omega arith) (inl (omega arith)) in
+    apart_same at (length piece) (4096 * (first + 1)) (4096 * sectors_for (length rest)) mid after same (omega arith) (inl (omega arith)) in
     joined at after piece rest bytes whole full (stays ∙ stood) (ap (λ k. part k (length rest) after) (sym next) ∙ later)
 
 -- ---- what stands already

@@ -1,6 +1,7 @@
--- How many sectors of the flash bytes take.
-use Rattle.std.specs.Prelude.{ℕ, ◌+◌, ◌/◌}
+-- How many sectors of the flash a number of bytes takes.
+use Rattle.std.specs.Prelude.{ℕ, ◌+◌, ◌-◌, ◌/◌}
+use Rattle.mb_model.specs.declared.limits.TheConstants.{SECTOR_LENGTH}
 
--- how many sectors of 4,096 bytes so many bytes take
+-- so many bytes take so many sectors
 abbrev pub sectors_for : ℕ → ℕ
-sectors_for n = (n + 4095) / 4096
+sectors_for n = (n + SECTOR_LENGTH - 1) / SECTOR_LENGTH

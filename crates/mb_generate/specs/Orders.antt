@@ -1,6 +1,7 @@
 -- How the orders of a workload are signed, one after another. Is each signed by the right officer, at the next index of
 -- the officer's key?
-use Rattle.std.specs.Prelude.{◌≡◌, ℕ, ◌+◌, ◌≤◌, List, [], ◌∷◌, ◌++◌, length, All, Result, IfOk}
+use Rattle.std.specs.Prelude.{◌≡◌, ℕ, ◌+◌, ◌≤◌, ◌==◌, if◌then◌else◌, List, [], ◌∷◌, ◌++◌, length, All, Result, IfOk}
+use Rattle.mb_model.specs.declared.limits.TheConstants.{CODE_LIMIT}
 use Rattle.mb_model.specs.declared.order.Act.{Act}
 use Rattle.mb_model.specs.declared.order.Target.TheVariants as target
 use Rattle.mb_model.specs.declared.order.Order.{Order}
@@ -45,6 +46,10 @@ pub record CanBeOrdered (layer : ℕ) (what : Act) : Type 0 where
   pub layered : MayBeFor (kind_of what) layer
   pub spelled : (act_by (kind_of what) (differs_in what)).Allowed what
 
+-- the layers above this one, 1, 2 or 3
+abbrev pub layers_above : ℕ → List ℕ
+layers_above layer = if layer == 1 then 2 ∷ 3 ∷ [] else if layer == 2 then 3 ∷ [] else []
+
 -- The order is the one that is planned, after others that leave the log one entry shorter than `count`.
 abbrev pub SignsPlan : {E : Type 0} → ℕ → Plan → Officers → Result Order E → Officers → Type 0
 SignsPlan count planned old result new =
@@ -54,12 +59,12 @@ SignsPlan count planned old result new =
 
 -- the code of a round is not too long for an order, and its secrets are no more than four
 pub record RoundFits (round : RoundDraws) : Type 0 where
-  pub code : length round.code ≤ 32768
+  pub code : length round.code ≤ CODE_LIMIT
   pub values : length round.values ≤ 4
 
--- so it is for all that is drawn
+-- no code of a workload is too long for an order
 pub record DrawsFit (draws : Draws) : Type 0 where
-  pub one : length draws.code_one ≤ 32768
-  pub two : length draws.code_two ≤ 32768
-  pub three : length draws.code_three ≤ 32768
+  pub one : length draws.code_one ≤ CODE_LIMIT
+  pub two : length draws.code_two ≤ CODE_LIMIT
+  pub three : length draws.code_three ≤ CODE_LIMIT
   pub rounds : All RoundFits draws.rounds

@@ -1,8 +1,8 @@
--- What it takes to serve a workload. Can its script and its noise be refused?
+-- Whether a workload can be served. Can its script and its noise be refused?
 use Rattle.std.specs.Prelude.{◌*◌, ◌≤◌, List, length}
 use Rattle.mb_model.specs.declared.event.Event.{Event}
 use Rattle.mb_model.specs.declared.tools.Workload.{Workload}
-use Rattle.mb_model.specs.declared.limits.TheConstants.{FILE_LIMIT}
+use Rattle.mb_model.specs.declared.limits.TheConstants.{FILE_LIMIT, DRAW_LENGTH}
 use Rattle.mb_model.specs.Lines.{ReadsLines}
 use Rattle.mb_model.specs.Script.{IsScript, commands_in}
 
@@ -10,6 +10,6 @@ use Rattle.mb_model.specs.Script.{IsScript, commands_in}
 pub record CanBeServed (made : Workload) : Type 0 where
   pub undrawn : List Event
   pub script : ReadsLines IsScript made.script undrawn
-  pub noise : 32 * commands_in undrawn ≤ length made.noise
+  pub noise : DRAW_LENGTH * commands_in undrawn ≤ length made.noise
   pub script_fits : length made.script ≤ FILE_LIMIT
   pub noise_fits : length made.noise ≤ FILE_LIMIT

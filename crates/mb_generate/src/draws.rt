@@ -1,42 +1,42 @@
-//! What is drawn for a workload: words of a generator, in order, none left out.
+//! The draws of a workload: words of a generator, in order, none left out.
 
 ghost use Rattle.std.specs.Prelude.{◌≡◌, ◌+◌, ◌*◌, ◌%◌, ◌≤◌, ◌++◌, length, map, replicate, IfOk};
 ghost use Rattle.std.specs.Int.{w32, to_be_bytes};
 ghost use Rattle.mb_model.specs.Workload.{DrawnBytes, DrawnCode, DrawnValue, DrawnRound};
 ghost use Rattle.mb_generate.specs.Drawing.{IsDrawn, DrawnValues, DrawnRounds, round_of, draws_of, AreDraws};
 
-use mb_model::{Bytes, Items, NoMemory};
+use mb_model::{Bytes, DRAW_LENGTH, Items, NoMemory};
 use rand_chacha::ChaCha20Rng;
 use rand_core::SeedableRng;
 use rand_core::utils::NextWord;
 use std::alloc::Global;
 
-/// How many secrets are put in a round.
+/// The number of secrets that are put in a round.
 const SECRETS: u32 = 4;
 
-/// How many bytes are stated in a round.
+/// The length of the message that is signed in a round, in bytes.
 const MESSAGE: usize = 32;
 
-/// What is drawn for a round.
+/// The draws of a round.
 #[derive(Drop)]
 pub(crate) struct RoundDrawn {
     /// The code that is loaded, 1,024 to 32,768 bytes.
     pub(crate) code: Bytes,
     /// The values of four secrets, each at most 128 bytes.
     pub(crate) values: Items<Bytes>,
-    /// What is stated, 32 bytes.
+    /// The message that is signed, 32 bytes.
     pub(crate) message: Bytes,
 }
 
-/// All that is drawn.
+/// All draws of a workload.
 #[derive(Drop)]
 pub(crate) struct Drawn {
     /// The noise of the maker's key.
-    pub(crate) root: [u8; 32],
+    pub(crate) root: [u8; DRAW_LENGTH],
     /// The noise of the keys of the three officers.
-    pub(crate) officer_one: [u8; 32],
-    pub(crate) officer_two: [u8; 32],
-    pub(crate) officer_three: [u8; 32],
+    pub(crate) officer_one: [u8; DRAW_LENGTH],
+    pub(crate) officer_two: [u8; DRAW_LENGTH],
+    pub(crate) officer_three: [u8; DRAW_LENGTH],
     /// The noise of the new device.
     pub(crate) factory: [u8; 48],
     /// The first code of each layer, 1,024 to 32,768 bytes.
@@ -48,7 +48,7 @@ pub(crate) struct Drawn {
     pub(crate) noise: Bytes,
 }
 
-/// All that is drawn for the workload of a number with so many rounds.
+/// Draws the workload of a number with `rounds` rounds.
 pub(crate) fn draw_all(alloc: Global, number: u32, rounds: u32) -> Result<Drawn, NoMemory>
     requires { rounds ≤ 24 }
     ensures { IfOk result (λ drawn. AreDraws number rounds (draws_of drawn)) }
@@ -64,7 +64,7 @@ pub(crate) fn draw_all(alloc: Global, number: u32, rounds: u32) -> Result<Drawn,
         code_two: draw_code(alloc, &mut rng)?,
         code_three: draw_code(alloc, &mut rng)?,
         rounds: draw_rounds(alloc, &mut rng, rounds)?,
-        noise: draw_bytes(alloc, &mut rng, 32 * (5 + rounds as usize))?,
+        noise: draw_bytes(alloc, &mut rng, DRAW_LENGTH * (5 + rounds as usize))?,
     })
 }
 
@@ -77,7 +77,7 @@ fn seed_of(number: u32) -> [u8; 32]
     seed
 }
 
-/// What is drawn for so many rounds.
+/// Draws `count` rounds.
 fn draw_rounds(
     alloc: Global,
     rng: &mut ChaCha20Rng,
@@ -92,7 +92,7 @@ fn draw_rounds(
     Ok(rounds)
 }
 
-/// What is drawn for a round.
+/// Draws a round.
 fn draw_round(alloc: Global, rng: &mut ChaCha20Rng) -> Result<RoundDrawn, NoMemory>
     ensures { IfOk result (λ round. IsDrawn DrawnRound rng.old (round_of round) rng.new) }
 {
@@ -103,7 +103,7 @@ fn draw_round(alloc: Global, rng: &mut ChaCha20Rng) -> Result<RoundDrawn, NoMemo
     })
 }
 
-/// The values of the secrets of a round.
+/// Draws the values of the secrets of a round.
 fn draw_values(alloc: Global, rng: &mut ChaCha20Rng) -> Result<Items<Bytes>, NoMemory>
     ensures { IfOk result (λ values. IsDrawn (DrawnValues 4) rng.old values rng.new) }
 {
@@ -114,7 +114,7 @@ fn draw_values(alloc: Global, rng: &mut ChaCha20Rng) -> Result<Items<Bytes>, NoM
     Ok(values)
 }
 
-/// A code: a word says how many bytes, 1,024 to 32,768.
+/// Draws a code: a word for its length, 1,024 to 32,768 bytes, and then the bytes.
 fn draw_code(alloc: Global, rng: &mut ChaCha20Rng) -> Result<Bytes, NoMemory>
     ensures { IfOk result (λ code. IsDrawn DrawnCode rng.old code rng.new) }
 {
@@ -122,7 +122,7 @@ fn draw_code(alloc: Global, rng: &mut ChaCha20Rng) -> Result<Bytes, NoMemory>
     draw_bytes(alloc, rng, 1024 + (size % 31_745) as usize)
 }
 
-/// The value of a secret: a word says how many bytes, at most 128.
+/// Draws the value of a secret: a word for its length, at most 128 bytes, and then the bytes.
 fn draw_value(alloc: Global, rng: &mut ChaCha20Rng) -> Result<Bytes, NoMemory>
     ensures { IfOk result (λ value. IsDrawn DrawnValue rng.old value rng.new) }
 {
@@ -130,7 +130,7 @@ fn draw_value(alloc: Global, rng: &mut ChaCha20Rng) -> Result<Bytes, NoMemory>
     draw_bytes(alloc, rng, (word % 129) as usize)
 }
 
-/// N bytes.
+/// Draws N bytes.
 fn draw_array<const N: usize>(alloc: Global, rng: &mut ChaCha20Rng) -> Result<[u8; N], NoMemory>
     ensures { IfOk result (λ bytes. IsDrawn (DrawnBytes N) rng.old bytes rng.new) }
 {
@@ -140,7 +140,7 @@ fn draw_array<const N: usize>(alloc: Global, rng: &mut ChaCha20Rng) -> Result<[u
     Ok(array)
 }
 
-/// So many bytes: each word gives four, the highest first, and what the last has over is dropped.
+/// Draws `count` bytes: four from each word, big-endian; leftover bytes of the last word are dropped.
 fn draw_bytes(alloc: Global, rng: &mut ChaCha20Rng, count: usize) -> Result<Bytes, NoMemory>
     ensures drawn { IfOk result (λ bytes. IsDrawn (DrawnBytes count) rng.old bytes rng.new) }
     ensures length { IfOk result (λ bytes. length bytes ≡ count) }

@@ -1,6 +1,7 @@
 //! A whole workload.
 
 ghost use Rattle.std.specs.Prelude.{◌+◌, ◌*◌, ◌≤◌, [], length, IfOk};
+ghost use Rattle.mb_model.specs.declared.limits.TheConstants.{CODE_LIMIT};
 ghost use Rattle.mb_model.specs.Born.{officer_key};
 ghost use Rattle.mb_model.specs.Signing.{public_of};
 ghost use Rattle.mb_model.specs.Factory.{IsFactoryImage};
@@ -19,12 +20,10 @@ use mb_signer::public;
 use std::alloc::Global;
 use std::sync::ledger::Ledger;
 
-/// The workload of a number with so many rounds, 1 to 24: the image of a new device, a script in which officers load
-/// each layer in turn, and the noise of the script's commands. In at most 350,434 hashes and 106,419 for each round.
+/// Makes the workload of a number, with 1 to 24 rounds: the image of a new device, a script in which officers load each
+/// layer in turn, and the noise of the script's commands. It takes at most 350,434 hashes, and 106,419 for each round.
 ///
 /// The script can be read, its noise has 32 bytes for each of its commands, and neither is longer than an input may be.
-///
-/// Errors: `NoMemory`. Nothing is said of when memory is found.
 pub fn workload<L: Ledger>(
     alloc: Global,
     number: u32,
@@ -48,7 +47,7 @@ pub fn workload<L: Ledger>(
     })
 }
 
-/// The officers, none of whom has signed.
+/// The officers before any of them has signed.
 fn officers_of(drawn: &Drawn) -> Officers
     ensures { AreOfficers (draws_of drawn.now) [] result }
 {
@@ -59,14 +58,14 @@ fn officers_of(drawn: &Drawn) -> Officers
     }
 }
 
-/// The image of the new device, whose layer 1 this officer owns. The maker's key signs its birth.
+/// The image of a new device, whose layer 1 this officer owns, and whose birth the maker's key signs.
 fn image_of<L: Ledger>(
     alloc: Global,
     drawn: &Drawn,
     officer: &Keyfile,
     hashes: &mut HashCount<L>,
 ) -> Result<Vec<u8>, NoMemory>
-    requires { length drawn.now.code_one ≤ 32768 }
+    requires { length drawn.now.code_one ≤ CODE_LIMIT }
     ensures image { IfOk result (λ image. IsFactoryImage (officer_key drawn.now.root) 0 (public_of officer.now.seed) drawn.now.code_one drawn.now.factory image.items) }
     ensures cost { hashes.new ≤ hashes.old + 104271 }
 {

@@ -1,6 +1,7 @@
 //! The officers of a workload, and the orders that they sign.
 
 ghost use Rattle.std.specs.Prelude.{◌≡◌, ◌+◌, ◌-◌, ◌<◌, ◌≤◌, ◌∷◌, [], length, IsTrue, IfOk, OnOk};
+ghost use Rattle.mb_model.specs.declared.limits.TheConstants.{CODE_LIMIT, KEY_USES};
 ghost use Rattle.mb_model.specs.declared.key.Trust.TheVariants.{Countersigned};
 ghost use Rattle.mb_model.specs.Layers.{equal_trusts};
 ghost use Rattle.mb_model.specs.declared.order.Act.TheVariants as act;
@@ -8,7 +9,7 @@ ghost use Rattle.mb_model.specs.Layers.{is_upper};
 ghost use Rattle.mb_model.specs.OrderFormat.{order_format};
 ghost use Rattle.mb_model.specs.SignedOrders.{used_once, signed_order, countersigned_order, IsCountersignable};
 ghost use Rattle.mb_model.specs.Workload.{plan, plan_payload, round_plan};
-ghost use Rattle.mb_generate.specs.Orders.{HaveUsed, targeted, CanBeOrdered, SignsPlan};
+ghost use Rattle.mb_generate.specs.Orders.{HaveUsed, layers_above, targeted, CanBeOrdered, SignsPlan};
 
 use mb_lms::HashCount;
 use mb_model::{
@@ -18,7 +19,7 @@ use mb_officer::{SignEnd, countersign, sign_order};
 use std::alloc::Global;
 use std::sync::ledger::Ledger;
 
-/// The officers' keys: the officer of each number owns the layer with that number.
+/// The keys of the three officers; each owns the layer with the officer's number.
 #[derive(Clone, Copy)]
 pub(crate) struct Officers {
     pub(crate) one: Keyfile,
@@ -26,7 +27,8 @@ pub(crate) struct Officers {
     pub(crate) three: Keyfile,
 }
 
-/// The order of round `round`, from 1: layers 3, 2 and 1 are loaded in turn, and all above countersign.
+/// The order of round `round`, from 1: layers 3, 2 and 1 are loaded in turn, and the owners of the layers above
+/// countersign.
 pub(crate) fn round_order<L: Ledger>(
     alloc: Global,
     round: u32,
@@ -35,7 +37,7 @@ pub(crate) fn round_order<L: Ledger>(
     hashes: &mut HashCount<L>,
 ) -> Result<Order, NoMemory>
     requires round { round ≤ 24 }
-    requires code { length code.now ≤ 32768 }
+    requires code { length code.now ≤ CODE_LIMIT }
     requires used { HaveUsed (5 + round) officers.old }
     ensures signs { SignsPlan (5 + round) (round_plan round code.now) officers.old result officers.new }
     ensures spelled { IfOk result order_format.Allowed }
@@ -44,13 +46,13 @@ pub(crate) fn round_order<L: Ledger>(
 {
     let load = load_of(alloc, 1 + round, code)?;
     match round % 3 {
-        1 => load_three(alloc, 5 + round, load, officers, hashes),
-        2 => load_two(alloc, 5 + round, load, officers, hashes),
-        _ => load_one(alloc, 5 + round, load, officers, hashes),
+        1 => load_layer(alloc, 3, 5 + round, load, officers, hashes),
+        2 => load_layer(alloc, 2, 5 + round, load, officers, hashes),
+        _ => load_layer(alloc, 1, 5 + round, load, officers, hashes),
     }
 }
 
-/// What a load carries that lets the layer trust what is countersigned.
+/// The payload of a load by which the layer trusts countersigned changes.
 pub(crate) fn load_of(alloc: Global, version: u32, code: &[u8]) -> Result<Payload, NoMemory>
     ensures { IfOk result (λ payload. payload ≡ plan_payload version code.now) }
 {
@@ -61,73 +63,45 @@ pub(crate) fn load_of(alloc: Global, version: u32, code: &[u8]) -> Result<Payloa
     })
 }
 
-/// The load of layer 3, where the log has so many entries.
-fn load_three<L: Ledger>(
+/// The load of a layer, where the log has `count` entries: the owner signs it, and the owners of the layers above
+/// countersign it.
+fn load_layer<L: Ledger>(
     alloc: Global,
+    layer: u8,
     count: u32,
     load: Payload,
     officers: &mut Officers,
     hashes: &mut HashCount<L>,
 ) -> Result<Order, NoMemory>
     requires count { count ≤ 30 }
-    requires able { CanBeOrdered 3 (act.Load load) }
+    requires able { CanBeOrdered layer (act.Load load) }
     requires used { HaveUsed count officers.old }
-    ensures signs { SignsPlan count (plan 3 (act.Load load) []) officers.old result officers.new }
+    ensures signs { SignsPlan count (plan layer (act.Load load) (layers_above layer)) officers.old result officers.new }
     ensures spelled { IfOk result order_format.Allowed }
     ensures used { OnOk result (HaveUsed (count + 1) officers.new) }
     ensures cost { hashes.new ≤ hashes.old + 106419 }
 {
-    let mut order = targeted(alloc, 3, count, Act::Load(load))?;
-    sign(alloc, &mut officers.three, &mut order, hashes)?;
-    Ok(order)
+    let mut order = targeted(alloc, layer, count, Act::Load(load))?;
+    match layer {
+        1 => {
+            sign(alloc, &mut officers.one, &mut order, hashes)?;
+            agree(alloc, &mut officers.two, 2, &mut order, hashes)?;
+            agree(alloc, &mut officers.three, 3, &mut order, hashes)?;
+            Ok(order)
+        }
+        2 => {
+            sign(alloc, &mut officers.two, &mut order, hashes)?;
+            agree(alloc, &mut officers.three, 3, &mut order, hashes)?;
+            Ok(order)
+        }
+        _ => {
+            sign(alloc, &mut officers.three, &mut order, hashes)?;
+            Ok(order)
+        }
+    }
 }
 
-/// The load of layer 2, which the owner of layer 3 countersigns.
-fn load_two<L: Ledger>(
-    alloc: Global,
-    count: u32,
-    load: Payload,
-    officers: &mut Officers,
-    hashes: &mut HashCount<L>,
-) -> Result<Order, NoMemory>
-    requires count { count ≤ 30 }
-    requires able { CanBeOrdered 2 (act.Load load) }
-    requires used { HaveUsed count officers.old }
-    ensures signs { SignsPlan count (plan 2 (act.Load load) (3 ∷ [])) officers.old result officers.new }
-    ensures spelled { IfOk result order_format.Allowed }
-    ensures used { OnOk result (HaveUsed (count + 1) officers.new) }
-    ensures cost { hashes.new ≤ hashes.old + 106419 }
-{
-    let mut order = targeted(alloc, 2, count, Act::Load(load))?;
-    sign(alloc, &mut officers.two, &mut order, hashes)?;
-    agree(alloc, &mut officers.three, 3, &mut order, hashes)?;
-    Ok(order)
-}
-
-/// The load of layer 1, which the owners of layers 2 and 3 countersign.
-fn load_one<L: Ledger>(
-    alloc: Global,
-    count: u32,
-    load: Payload,
-    officers: &mut Officers,
-    hashes: &mut HashCount<L>,
-) -> Result<Order, NoMemory>
-    requires count { count ≤ 30 }
-    requires able { CanBeOrdered 1 (act.Load load) }
-    requires used { HaveUsed count officers.old }
-    ensures signs { SignsPlan count (plan 1 (act.Load load) (2 ∷ 3 ∷ [])) officers.old result officers.new }
-    ensures spelled { IfOk result order_format.Allowed }
-    ensures used { OnOk result (HaveUsed (count + 1) officers.new) }
-    ensures cost { hashes.new ≤ hashes.old + 106419 }
-{
-    let mut order = targeted(alloc, 1, count, Act::Load(load))?;
-    sign(alloc, &mut officers.one, &mut order, hashes)?;
-    agree(alloc, &mut officers.two, 2, &mut order, hashes)?;
-    agree(alloc, &mut officers.three, 3, &mut order, hashes)?;
-    Ok(order)
-}
-
-/// An order that nobody has signed, for where the log has so many entries.
+/// An order without signatures, whose target is a log of `count` entries.
 pub(crate) fn targeted(alloc: Global, layer: u8, count: u32, what: Act) -> Result<Order, NoMemory>
     requires { CanBeOrdered layer what }
     ensures order { IfOk result (λ order. order ≡ targeted layer count what) }
@@ -144,14 +118,14 @@ pub(crate) fn targeted(alloc: Global, layer: u8, count: u32, what: Act) -> Resul
     })
 }
 
-/// Signs the order by the officer, who has an index left.
+/// Signs the order by an officer, who has an index left.
 pub(crate) fn sign<L: Ledger>(
     alloc: Global,
     officer: &mut Keyfile,
     order: &mut Order,
     hashes: &mut HashCount<L>,
 ) -> Result<(), NoMemory>
-    requires left { officer.old.next < 32 }
+    requires left { officer.old.next < KEY_USES }
     requires spelled { order_format.Allowed order.old }
     ensures signed { OnOk result (order.new ≡ signed_order officer.old order.old) }
     ensures used { OnOk result (officer.new ≡ used_once officer.old) }
@@ -166,7 +140,7 @@ pub(crate) fn sign<L: Ledger>(
     }
 }
 
-/// Countersigns the order by the officer, the owner of the layer, who has an index left.
+/// Countersigns the order by an officer, the owner of the layer, who has an index left.
 fn agree<L: Ledger>(
     alloc: Global,
     officer: &mut Keyfile,
@@ -174,7 +148,7 @@ fn agree<L: Ledger>(
     order: &mut Order,
     hashes: &mut HashCount<L>,
 ) -> Result<(), NoMemory>
-    requires left { officer.old.next < 32 }
+    requires left { officer.old.next < KEY_USES }
     requires spelled { order_format.Allowed order.old }
     requires layer { IsTrue (is_upper layer) }
     requires able { IsCountersignable order.old layer }

@@ -1,13 +1,13 @@
 //! The script of a workload.
 
 ghost use Rattle.std.specs.Prelude.{◌≡◌, ◌+◌, ◌-◌, ◌*◌, ◌≤◌, ◌<◌, ◌++◌, [], length, IfOk, OnOk};
-ghost use Rattle.std.specs.String.{string_bytes};
+ghost use Rattle.mb_model.specs.declared.limits.TheConstants.{CODE_LIMIT, KEY_USES};
 ghost use Rattle.mb_model.specs.declared.key.Trust.TheVariants.{Countersigned};
 ghost use Rattle.mb_model.specs.Layers.{equal_trusts};
 ghost use Rattle.mb_model.specs.declared.order.Act.TheVariants as act;
 ghost use Rattle.mb_model.specs.Signing.{public_of};
 ghost use Rattle.mb_model.specs.Texts.{ended};
-ghost use Rattle.mb_model.specs.Lines.{hex_word, text_of};
+ghost use Rattle.mb_model.specs.Lines.{text_of};
 ghost use Rattle.mb_model.specs.OrderFormat.{order_format};
 ghost use Rattle.mb_model.specs.OrderLines.{order_line};
 ghost use Rattle.mb_model.specs.SignedOrders.{used_once, signed_order};
@@ -22,10 +22,11 @@ use mb_lms::HashCount;
 use mb_model::{Act, Bytes, KeyKind, Keyfile, NoMemory, Order, Trust, Trusts};
 use mb_officer::write_order_line;
 use mb_signer::public;
+use mb_words::hex_word;
 use std::alloc::Global;
 use std::sync::ledger::Ledger;
 
-/// The script's text, in which the officers give their orders; none of them has signed before.
+/// The text of the script, in which the officers give their orders. None of them has signed before.
 pub(crate) fn script_of<L: Ledger>(
     alloc: Global,
     drawn: &Drawn,
@@ -99,7 +100,7 @@ fn put_first_orders<L: Ledger>(
     )
 }
 
-/// What gives a layer this officer as its owner, and lets it trust what is countersigned.
+/// The act by which this officer becomes the owner of a layer, which trusts countersigned changes.
 fn establish_of<L: Ledger>(officer: &Keyfile, hashes: &mut HashCount<L>) -> Act
     ensures act { result ≡ act.Establish (public_of officer.now.seed) (equal_trusts Countersigned) }
     ensures cost { hashes.new ≡ hashes.old + 34399 }
@@ -110,7 +111,7 @@ fn establish_of<L: Ledger>(officer: &Keyfile, hashes: &mut HashCount<L>) -> Act
     }
 }
 
-/// Appends the line of the order, which the officer signs.
+/// Signs an order by the officer, and appends its line.
 fn put_order<L: Ledger>(
     alloc: Global,
     officer: &mut Keyfile,
@@ -118,7 +119,7 @@ fn put_order<L: Ledger>(
     script: &mut Vec<u8>,
     hashes: &mut HashCount<L>,
 ) -> Result<(), NoMemory>
-    requires left { officer.old.next < 32 }
+    requires left { officer.old.next < KEY_USES }
     requires spelled { order_format.Allowed order }
     ensures text { OnOk result (script.new.items ≡ script.old.items ++ ended (order_line (signed_order officer.old order))) }
     ensures used { OnOk result (officer.new ≡ used_once officer.old) }
@@ -131,7 +132,7 @@ fn put_order<L: Ledger>(
     Ok(())
 }
 
-/// Appends the lines of a round with this number, from 1.
+/// Appends the lines of round `number`, from 1.
 fn put_round<L: Ledger>(
     alloc: Global,
     number: u32,
@@ -142,7 +143,7 @@ fn put_round<L: Ledger>(
 ) -> Result<(), NoMemory>
     requires least { 1 ≤ number }
     requires most { number ≤ 24 }
-    requires fits { length round.now.code ≤ 32768 }
+    requires fits { length round.now.code ≤ CODE_LIMIT }
     requires used { HaveUsed (5 + number) officers.old }
     requires values { length round.now.values ≤ 4 }
     ensures text { OnOk result (AppendsRound number (round_of round.now) officers.old script.old.items script.new.items) }
@@ -159,7 +160,7 @@ fn put_round<L: Ledger>(
     put_statement(alloc, round.message.as_slice(), script)
 }
 
-/// Appends a line for each secret, the first of which is put after n others.
+/// Appends a line for each secret; the first is put after n others.
 fn put_secrets(
     alloc: Global,
     n: u32,
@@ -192,7 +193,7 @@ fn put_secret(alloc: Global, n: u32, value: &[u8], script: &mut Vec<u8>) -> Resu
     Ok(())
 }
 
-/// Appends the line by which the key with number 1 states the message.
+/// Appends the line by which the key with number 1 signs the message.
 fn put_statement(alloc: Global, message: &[u8], script: &mut Vec<u8>) -> Result<(), NoMemory>
     ensures { OnOk result (script.new.items ≡ script.old.items ++ ended (sign_line message.now)) }
 {
@@ -201,14 +202,4 @@ fn put_statement(alloc: Global, message: &[u8], script: &mut Vec<u8>) -> Result<
     script.extend_from_slice(word.as_bytes())?;
     script.extend_from_slice(b"\n")?;
     Ok(())
-}
-
-/// Bytes in hexadecimal, or a dash for none.
-fn hex_word(alloc: Global, bytes: &[u8]) -> Result<String, NoMemory>
-    ensures { IfOk result (λ word. string_bytes word ≡ hex_word bytes.now) }
-{
-    if bytes.is_empty() {
-        return Ok(String::from_str(alloc, "-")?);
-    }
-    Ok(hex::encode(alloc, bytes)?)
 }

@@ -2,6 +2,7 @@
 
 ghost use Rattle.std.specs.Prelude.{◌≡◌, ◌≤◌, length, IfOk, MatchOption};
 ghost use Rattle.mb_format.specs.Format.{Spells};
+ghost use Rattle.mb_model.specs.declared.limits.TheConstants.{FILE_LIMIT};
 ghost use Rattle.mb_hss.specs.declared.key.HssKey.{HssKey};
 ghost use Rattle.mb_hss.specs.HssKeyFormat.{hss_key_format};
 ghost use Rattle.mb_bytes.specs.Reads.{Reads, ReadsWhole, bad_at};
@@ -22,6 +23,7 @@ pub struct HssKey {
     pub top: PublicKey,
 }
 
+/// A public key of HSS, at the cursor.
 #[tactic(auto, unfolding(crate::specs::HssKeyFormat::hss_key_format))]
 fn hss_key_at(cursor: &mut Cursor) -> Result<HssKey, BadRecord>
     ensures { Reads bad_at hss_key_format cursor.old result cursor.new }
@@ -38,7 +40,7 @@ fn hss_key_at(cursor: &mut Cursor) -> Result<HssKey, BadRecord>
 /// its form, or of the first byte after the last field. The fields begin at 0, 4, 8, 12 and 28. There are at most
 /// 4,194,304 bytes.
 pub fn read_hss_key(bytes: &[u8]) -> Result<HssKey, BadRecord>
-    requires { length bytes.now ≤ 4194304 }
+    requires { length bytes.now ≤ FILE_LIMIT }
     ensures reads { ReadsWhole bad_at hss_key_format bytes.now result }
     ensures levels { IfOk result (λ key. (1 ≤ key.levels) × (key.levels ≤ 8)) }
 {
@@ -52,8 +54,8 @@ pub fn read_hss_key(bytes: &[u8]) -> Result<HssKey, BadRecord>
     Ok(key)
 }
 
-/// The key that 60 bytes spell; none exactly where they spell no key: the number of levels is not 1 to 8, or a type
-/// number is not one of the tables (RFC 8554, sections 4.1 and 5.1).
+/// The key that 60 bytes spell; `None` exactly if they spell no key: the number of levels is not 1 to 8, or a type
+/// number is not in the tables (RFC 8554, sections 4.1 and 5.1).
 pub fn parse(bytes: &[u8; 60]) -> Option<HssKey>
     ensures { MatchOption result ((key : HssKey) → Spells hss_key_format bytes.now key → ⊥)
         (λ key. Spells hss_key_format bytes.now key) }

@@ -2,6 +2,7 @@
 
 ghost use Rattle.std.specs.Prelude.{◌≡◌, ◌+◌, ◌/◌, ◌^◌, ◌<◌, ◌≤◌, ◌++◌};
 ghost use Rattle.std.specs.Int.{w8, w64, to_be_bytes};
+ghost use Rattle.mb_model.specs.declared.limits.TheConstants.{LAST_INDEX};
 ghost use Rattle.mb_model.specs.Key.{key_bytes};
 ghost use Rattle.mb_model.specs.Signing.{public_of, signature_of};
 ghost use Rattle.mb_signer.specs.Tree.{IsTreeOf};
@@ -10,15 +11,10 @@ ghost use Rattle.mb_hss.specs.MakerKeys.{level_key, prefix_at, index_at, key_at}
 use crate::maker::Maker;
 use mb_bytes::put_at;
 use mb_lms::{HashCount, hash, key_bytes};
-use mb_model::KeySeed;
+use mb_model::separators::{LEVEL_IDENTIFIER, LEVEL_SECRET};
+use mb_model::{KeySeed, SIGNATURE_LENGTH};
 use mb_signer::{KeptTree, Uses, public_kept, sign_kept, take_index};
 use std::sync::ledger::Ledger;
-
-/// Domain separator of the hash that derives the seed of a level's key.
-const SEED: u8 = 0x14;
-
-/// Domain separator of the hash that derives the identifier of a level's key.
-const IDENTIFIER: u8 = 0x15;
 
 /// The number without its last `count` digits to the base 32, at most 8.
 #[tactic(auto, using(crate::proofs::Digits::digit_powers))]
@@ -51,10 +47,10 @@ pub(crate) fn level_key<L: Ledger>(
 {
     let whose = level_and_prefix(level, prefix);
     let mut identifier = [0; 16];
-    identifier.copy_from_slice(&hash(&[IDENTIFIER], seed, &whose, hashes)[..16]);
+    identifier.copy_from_slice(&hash(&[LEVEL_IDENTIFIER], seed, &whose, hashes)[..16]);
     KeySeed {
         identifier,
-        seed: hash(&[SEED], seed, &whose, hashes),
+        seed: hash(&[LEVEL_SECRET], seed, &whose, hashes),
     }
 }
 
@@ -65,7 +61,7 @@ pub(crate) struct Level {
     tree: KeptTree,
     index: u32,
     ghost kept: { IsTreeOf seed tree },
-    ghost within: { index ≤ 31 },
+    ghost within: { index ≤ LAST_INDEX },
 }
 
 impl Level {
@@ -102,7 +98,7 @@ impl Level {
         head: &[u8],
         body: &[u8],
         hashes: &mut HashCount<L>,
-    ) -> [u8; 2348]
+    ) -> [u8; SIGNATURE_LENGTH]
         ensures signature { result ≡ signature_of self.now.seed self.now.index (head.now ++ body.now) }
         ensures cost { hashes.new ≤ hashes.old + 1074 }
     {
@@ -125,6 +121,6 @@ impl Level {
 }
 
 /// Room for a signature.
-fn no_signature() -> [u8; 2348] {
-    [0; 2348]
+fn no_signature() -> [u8; SIGNATURE_LENGTH] {
+    [0; SIGNATURE_LENGTH]
 }

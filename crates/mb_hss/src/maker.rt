@@ -3,12 +3,10 @@
 ghost use Rattle.std.specs.Prelude.{◌≡◌, ◌≤◌, ◌∷◌, ◌^◌};
 ghost use Rattle.mb_hss.specs.MakerKeys.{IsMaker, new_maker};
 
+use mb_model::separators::MAKER_SECRET;
 use sha2::{Digest, Sha256};
 
-/// Domain separator of the hash that derives a maker's seed.
-const MAKER_SEED: u8 = 0x16;
-
-/// A maker's key, from which the keys of all its levels are derived. It can't be copied: each number signs only once.
+/// A maker's key, from which the keys of all its levels are derived. It cannot be copied: each number signs only once.
 #[derive(PartialEq, Eq, Drop)]
 pub struct Maker {
     /// The number of levels, 1 to 8.
@@ -28,7 +26,7 @@ pub fn make_maker(noise: &[u8; 32], levels: u8) -> Maker
     ensures valid { IsMaker result }
 {
     let mut hasher = Sha256::new();
-    hasher.update([MAKER_SEED]);
+    hasher.update([MAKER_SECRET]);
     hasher.update(noise.as_slice());
     Maker {
         levels,

@@ -3,29 +3,19 @@
 ghost use Rattle.std.specs.Prelude.{◌^◌, ◌≤◌, length, IfOk};
 ghost use Rattle.std.specs.Int.{w64};
 ghost use Rattle.mb_format.specs.Format.{Spells};
-ghost use Rattle.mb_format.specs.Combinators.{number, between, mark};
+ghost use Rattle.mb_format.specs.Combinators.{number, between};
+ghost use Rattle.mb_model.specs.declared.limits.TheConstants.{FILE_LIMIT};
 ghost use Rattle.mb_bytes.specs.Reads.{Reads, ReadsWhole, short_at, bad_at};
 ghost use Rattle.mb_hss.specs.MakerKeys.{IsMaker};
-ghost use Rattle.mb_hss.specs.MakerFormat.{maker_word, maker_format};
+ghost use Rattle.mb_hss.specs.MakerFormat.{maker_format};
 
 use crate::key::MOST_LEVELS;
 use crate::maker::{Maker, number_count};
-use mb_bytes::{Cursor, Short, put_at, u8_between};
+use mb_bytes::{Cursor, Short, put_at, u8_between, word_at};
 use mb_model::BadRecord;
 
 /// The word by which a maker's file is known.
 const WORD: [u8; 4] = *b"MBK2";
-
-fn word_at(cursor: &mut Cursor) -> Result<(), BadRecord>
-    ensures { Reads bad_at (mark maker_word) cursor.old result cursor.new }
-{
-    let at = cursor.offset();
-    let word = cursor.take_array::<4>()?;
-    if word != WORD {
-        return Err(BadRecord { at });
-    }
-    Ok(())
-}
 
 /// The number in the next eight bytes, big-endian.
 fn take_u64(cursor: &mut Cursor) -> Result<u64, Short>
@@ -47,11 +37,12 @@ fn next_at(cursor: &mut Cursor, levels: u8) -> Result<u64, BadRecord>
     Ok(next)
 }
 
+/// A maker of its file, at the cursor.
 #[tactic(auto, unfolding(crate::specs::MakerFormat::maker_format))]
 fn maker_at(cursor: &mut Cursor) -> Result<Maker, BadRecord>
     ensures { Reads bad_at maker_format cursor.old result cursor.new }
 {
-    word_at(cursor)?;
+    word_at(cursor, &WORD)?;
     let levels = u8_between(cursor, 1, MOST_LEVELS)?;
     let seed = cursor.take_array()?;
     let next = next_at(cursor, levels)?;
@@ -61,7 +52,7 @@ fn maker_at(cursor: &mut Cursor) -> Result<Maker, BadRecord>
 /// The maker that the bytes spell; else the offset of the first field that is not in its form, or of the first byte
 /// after the last field. The fields begin at 0, 4, 5 and 37. There are at most 4,194,304 bytes.
 pub fn read_maker(bytes: &[u8]) -> Result<Maker, BadRecord>
-    requires { length bytes.now ≤ 4194304 }
+    requires { length bytes.now ≤ FILE_LIMIT }
     ensures reads { ReadsWhole bad_at maker_format bytes.now result }
     ensures valid { IfOk result IsMaker }
 {

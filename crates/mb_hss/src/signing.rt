@@ -11,13 +11,10 @@ use crate::level::{Level, level_key};
 use crate::maker::{Maker, number_count};
 use mb_bytes::put_slice;
 use mb_lms::HashCount;
-use mb_model::NoMemory;
+use mb_model::{NoMemory, SIGNATURE_LENGTH};
 use mb_signer::public as public_of_seed;
 use std::alloc::AllocError;
 use std::sync::ledger::Ledger;
-
-/// The length of one level's signature, in bytes.
-const SIGNATURE_LENGTH: usize = 2348;
 
 /// The length of a level's public key, in bytes.
 const KEY_LENGTH: usize = 56;
@@ -107,8 +104,8 @@ fn put_signature<L: Ledger>(
 /// Signs `head` followed by `body` with the maker's next number, which is answered and raised, and appends the
 /// signature, in at most 35,475 hashes a level (RFC 8554, section 6.2).
 ///
-/// Errors: `Spent` exactly where the next number is 32^levels; and `NoMemory`, only where the capacity of `out` doesn't
-/// hold the signature.
+/// Errors: `Spent` exactly if the next number is 32^levels; and `NoMemory`, only if the capacity of `out` does not hold
+/// the signature.
 pub fn sign<L: Ledger>(
     maker: &mut Maker,
     head: &[u8],

@@ -52,7 +52,7 @@ fn signature_length(key: &PublicKey) -> usize
     44 + 32 * chain_count(key.chains) + 32 * height(key.tree)
 }
 
-/// Takes a signature above the last level apart; none where it is too short, or where the next key is of unknown types.
+/// Takes a signature above the last level apart; `None` if it is too short, or the next key is of unknown types.
 fn split<'a>(key: &PublicKey, sig: &'a [u8]) -> Option<Parts<'a>>
     ensures { MatchOption result (HasNoParts key.now sig.now)
         (λ parts. ArePartsOf key.now sig.now parts.own.now parts.next parts.rest.now) }
@@ -78,7 +78,7 @@ fn verifies_under(key: &PublicKey, below: u8, head: &[u8], body: &[u8], sig: &[u
 }
 
 /// Whether `sig` is a signature of `head` followed by `body` under the key, whose number of levels is 1 to 8 (RFC 8554,
-/// section 6.3). Bytes after the signature make it none.
+/// section 6.3). With bytes after it, it is no signature.
 pub fn verify(key: &HssKey, head: &[u8], body: &[u8], sig: &[u8]) -> bool
     requires least { 1 ≤ key.now.levels }
     requires most { key.now.levels ≤ 8 }

@@ -1,4 +1,4 @@
-//! Which keys are alive by a log.
+//! The keys that are alive by a log.
 
 ghost use Rattle.std.specs.Prelude.{◌≡◌, ◌++◌, IfOk, OnOk, filter, option_to_list};
 ghost use Rattle.mb_model.specs.Lives.{ends, alive_keys};
@@ -33,7 +33,7 @@ pub(crate) fn alive_keys(
     Ok(alive)
 }
 
-/// Drops the keys that an entry ends, and adds the one that it makes.
+/// Passes an entry: drops the keys that it ends, and adds the key that it makes.
 fn pass(alive: &mut Vec<MadeKey>, layer: u8, entry: &Entry) -> Result<(), NoMemory>
     ensures { OnOk result (listed_keys alive.new.items ≡ filter (goes_on layer entry.now) (listed_keys alive.old.items) ++ made_by layer entry.now) }
 {
@@ -51,7 +51,7 @@ fn drop_ended(alive: &mut Vec<MadeKey>, layer: u8, entry: &Entry)
     alive.retain(|made| !ends(made.kind, layer, entry));
 }
 
-/// The key that an entry makes in the layer's region.
+/// The key that an entry makes in the layer's region, if it makes one.
 fn made_by(layer: u8, entry: &Entry) -> Option<MadeKey>
     ensures { listed_keys (option_to_list result) ≡ made_by layer entry.now }
 {

@@ -1,4 +1,4 @@
-//! Whether each code has its name.
+//! The names of stored codes.
 
 ghost use Rattle.std.specs.Prelude.{◌↔◌, IsTrue};
 ghost use Rattle.mb_model.specs.Valid.{IsNamed, AreNamed};
@@ -6,7 +6,7 @@ ghost use Rattle.mb_model.specs.Valid.{IsNamed, AreNamed};
 use mb_model::{Bytes, CodeName, Codes, Layers};
 use sha2::{Digest, Sha256};
 
-/// Whether each layer has code exactly where it has a code name, whose hash is the code's.
+/// Whether each layer has code exactly if it has a code name, with the hash of that code.
 pub(crate) fn are_named(layers: &Layers, codes: &Codes) -> bool
     ensures { IsTrue result ↔ AreNamed layers.now codes.now }
 {
@@ -15,7 +15,7 @@ pub(crate) fn are_named(layers: &Layers, codes: &Codes) -> bool
         && is_named(&layers.three.code, &codes.three)
 }
 
-/// Whether there is code exactly where there is a name, and the name's hash is that of the code.
+/// Whether there is code exactly if there is a name, and the name has the hash of the code.
 fn is_named(name: &Option<CodeName>, code: &Option<Bytes>) -> bool
     ensures { IsTrue result ↔ IsNamed name.now code.now }
 {

@@ -1,6 +1,7 @@
-//! The signatures that are still to be made.
+//! The signatures that are still to be made, of entries that are stored without one.
 
 ghost use Rattle.std.specs.Prelude.{◌≡◌, ℕ, ◌+◌, ◌*◌, ◌≤◌, ◌++◌, length, map, All, Some, IfOk, OnOk, IfSome};
+ghost use Rattle.mb_model.specs.declared.limits.TheConstants.{KEY_USES, LAST_INDEX};
 ghost use Rattle.mb_model.specs.EntryFormat.{entry_format};
 ghost use Rattle.mb_model.specs.OrderEffects.{signed_by};
 ghost use Rattle.mb_model.specs.StoredLog.{signed_for, outgoing_of, completed};
@@ -8,16 +9,14 @@ ghost use Rattle.mb_signer.specs.Tree.{IsTreeOf};
 
 use mb_layout::write_entry;
 use mb_lms::HashCount;
-use mb_model::{Entry, KeySeed, Log, NoMemory, Outgoing, Root, SignedEntry};
+use mb_model::separators::ENTRY_TEXT;
+use mb_model::{Entry, KeySeed, Log, NoMemory, Outgoing, Root, SIGNATURE_LENGTH, SignedEntry};
 use mb_signer::{KeptTree, Uses, sign_kept, take_index};
 use std::alloc::Global;
 use std::sync::ledger::Ledger;
 
-/// What the text begins with that a device key signs of an entry.
-const ENTRY: u8 = 3;
-
-/// The log for which the entries of a memory stand: the unsigned ones, of which there are at most two, get their
-/// signatures, by the outgoing key and by the device key, whose tree is given.
+/// The log that the entries of a memory mean. The unsigned entries, at most two, get their signatures by the outgoing key
+/// and by the device key; `tree` is the tree of the device key.
 #[tactic(auto, unfolding(mb_model::specs::StoredLog::completed))]
 pub(crate) fn completed<L: Ledger>(
     alloc: Global,
@@ -28,8 +27,8 @@ pub(crate) fn completed<L: Ledger>(
     hashes: &mut HashCount<L>,
 ) -> Result<Log, NoMemory>
     requires tree { IsTreeOf root.now.device tree.now }
-    requires uses { root.now.uses ≤ 32 }
-    requires outgoing { IfSome (outgoing_of root.now.pending) (λ outgoing. outgoing.uses ≤ 32) }
+    requires uses { root.now.uses ≤ KEY_USES }
+    requires outgoing { IfSome (outgoing_of root.now.pending) (λ outgoing. outgoing.uses ≤ KEY_USES) }
     requires spelled { All entry_format.Allowed unsigned.now }
     ensures log { IfOk result (λ log. log ≡ completed root.now signed unsigned.now) }
     ensures cost { hashes.new ≤ hashes.old + 34399 + 1074 * length unsigned.now }
@@ -55,7 +54,7 @@ pub(crate) fn completed<L: Ledger>(
     Ok(log)
 }
 
-/// The device key that gives way.
+/// The device key that gives way, if one does.
 fn outgoing_of(root: &Root) -> Option<Outgoing>
     ensures { result ≡ outgoing_of root.now.pending }
 {
@@ -65,8 +64,8 @@ fn outgoing_of(root: &Root) -> Option<Outgoing>
     }
 }
 
-/// Adds the entries, of which the outgoing key signs the first, with the index that it used last, and the next key the
-/// others, with its first.
+/// Adds the entries. The outgoing key signs the first with the index that it used last, and the device key the others
+/// with its first index.
 fn push_handed_over<L: Ledger>(
     alloc: Global,
     log: &mut Log,
@@ -77,7 +76,7 @@ fn push_handed_over<L: Ledger>(
     hashes: &mut HashCount<L>,
 ) -> Result<(), NoMemory>
     requires tree { IsTreeOf device.now tree.now }
-    requires uses { outgoing.now.uses ≤ 32 }
+    requires uses { outgoing.now.uses ≤ KEY_USES }
     requires spelled { All entry_format.Allowed entries.now }
     ensures log { (uses : ℕ) → OnOk result (log.new ≡ log.old ++ signed_for device.now uses (Some outgoing.now) entries.now) }
     ensures cost { hashes.new ≤ hashes.old + 34399 + 1074 * length entries.now }
@@ -92,7 +91,7 @@ fn push_handed_over<L: Ledger>(
     push_signed(alloc, log, device, tree, 0, others, hashes)
 }
 
-/// Adds the entries, each signed by the key, whose tree is given, at the index.
+/// Adds the entries, each signed by the key at the index; `tree` is the tree of the key.
 fn push_signed<L: Ledger>(
     alloc: Global,
     log: &mut Log,
@@ -103,7 +102,7 @@ fn push_signed<L: Ledger>(
     hashes: &mut HashCount<L>,
 ) -> Result<(), NoMemory>
     requires tree { IsTreeOf key.now tree.now }
-    requires index { index ≤ 31 }
+    requires index { index ≤ LAST_INDEX }
     requires spelled { All entry_format.Allowed entries.now }
     ensures log { OnOk result (log.new ≡ log.old ++ map (signed_by key.now index) entries.now) }
     ensures cost { hashes.new ≤ hashes.old + 1074 * length entries.now }
@@ -114,7 +113,7 @@ fn push_signed<L: Ledger>(
     Ok(())
 }
 
-/// The entry signed by the key, whose tree is given, at the index.
+/// The entry signed by the key at the index; `tree` is the tree of the key.
 #[tactic(auto, unfolding(mb_model::specs::OrderEffects::signed_by, mb_model::specs::SignedTexts::entry_text))]
 fn signed_by<L: Ledger>(
     alloc: Global,
@@ -125,7 +124,7 @@ fn signed_by<L: Ledger>(
     hashes: &mut HashCount<L>,
 ) -> Result<SignedEntry, NoMemory>
     requires tree { IsTreeOf key.now tree.now }
-    requires index { index ≤ 31 }
+    requires index { index ≤ LAST_INDEX }
     requires spelled { entry_format.Allowed entry.now }
     ensures signed { IfOk result (λ signed. signed ≡ signed_by key.now index entry.now) }
     ensures cost { hashes.new ≤ hashes.old + 1074 }
@@ -141,7 +140,7 @@ fn signed_by<L: Ledger>(
         right,
         tree,
         key,
-        &[ENTRY],
+        &[ENTRY_TEXT],
         spelling.as_slice(),
         &mut signature,
         hashes,
@@ -153,6 +152,6 @@ fn signed_by<L: Ledger>(
 }
 
 /// Room for a signature.
-fn no_signature() -> [u8; 2348] {
-    [0; 2348]
+fn no_signature() -> [u8; SIGNATURE_LENGTH] {
+    [0; SIGNATURE_LENGTH]
 }

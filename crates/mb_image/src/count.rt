@@ -1,6 +1,7 @@
-//! How long the log is of the device for whose state an image stands.
+//! The length of the log of the device whose image is given.
 
 ghost use Rattle.std.specs.Prelude.{◌≡◌, ◌+◌, ◌≤◌, length, List, ℕ, Option};
+ghost use Rattle.mb_model.specs.declared.limits.TheConstants.{FLASH_LENGTH};
 ghost use Rattle.mb_model.specs.declared.entry.Entry.{Entry};
 ghost use Rattle.mb_model.specs.declared.entry.SignedEntry.{SignedEntry};
 ghost use Rattle.mb_model.specs.declared.state.Codes.{Codes};
@@ -10,14 +11,14 @@ ghost use Rattle.mb_model.specs.Flash.{HoldsPublic};
 ghost use Rattle.mb_model.specs.Meaning.{StandsFor};
 ghost use Rattle.mb_model.specs.GenerateCommand.{log_length};
 
-use crate::memory::{is_blank, memories, root_of};
+use crate::memory::{memories, root_of};
 use crate::stored::flash_area;
-use mb_layout::{entry_count, record_at_start};
+use mb_layout::{entry_count, is_blank, record_at_start};
 use mb_model::Root;
 
-/// How many entries the log has of the device for whose state the image stands: at most 128, and none where the device
-/// is dead. The entries are counted where they stand, so that no memory is taken and nothing is hashed. Nothing is said
-/// where the image stands for no state.
+/// The number of entries of the log of the device whose state the image means: at most 128, and 0 if the device is dead.
+/// The entries are counted in place, so that no memory is taken and nothing is hashed. The number is arbitrary if the
+/// image means no state.
 pub fn log_length(image: &[u8]) -> u16
     ensures { (flash bbram : List ℕ) (state : Option State) → IsImage image.now flash bbram → StandsFor flash bbram state
         → result ≡ log_length state }
@@ -34,9 +35,9 @@ pub fn log_length(image: &[u8]) -> u16
     count_entries(flash, &root)
 }
 
-/// How many entries, signed or not, stand in the area of the flash that the root names.
+/// The number of entries, signed or not, in the area of the flash that the root names.
 fn count_entries(flash: &[u8], root: &Root) -> u16
-    requires sized { length flash.now ≡ 1048576 }
+    requires sized { length flash.now ≡ FLASH_LENGTH }
     requires area { root.now.area ≤ 1 }
     ensures { (codes : Codes) (signed : List SignedEntry) (unsigned : List Entry)
         → HoldsPublic flash.now root.now codes signed unsigned → result ≡ length signed + length unsigned }

@@ -1,4 +1,4 @@
-//! Stored entries, signed and not signed yet.
+//! Stored entries, signed and unsigned.
 
 ghost use Rattle.std.specs.Prelude.{◌≡◌, ◌↔◌, List, IfOk, IsTrue, MatchOption, map};
 ghost use Rattle.mb_model.specs.declared.entry.Entry.{Entry};
@@ -10,15 +10,15 @@ ghost use Rattle.mb_image.specs.Entries.{IsSplitLog};
 use mb_model::{Entries, Items, Log, NoMemory, Pending, PublicEntry, SignedEntry};
 use std::alloc::Global;
 
-/// Entries that are signed, and those after them that are not.
+/// The signed entries of a log, and the unsigned entries after them.
 #[derive(Drop)]
 pub(crate) struct Parted {
     pub signed: Log,
     pub unsigned: Entries,
 }
 
-/// The stored entries by whether they are signed, where as many of the last ones are unsigned as the root's pending
-/// work says, and no others; else none.
+/// The signed and the unsigned stored entries; `None` unless exactly as many of the last entries are unsigned as the
+/// pending work of the root says, and no others.
 pub(crate) fn split_entries(
     alloc: Global,
     entries: &[PublicEntry],
@@ -40,7 +40,7 @@ pub(crate) fn split_entries(
     Ok(Some(Parted { signed, unsigned }))
 }
 
-/// How many entries are not signed yet.
+/// The number of unsigned entries by the pending work.
 fn unsigned_by(pending: &Option<Pending>) -> usize
     ensures { result ≡ unsigned_by pending.now }
 {
@@ -50,7 +50,7 @@ fn unsigned_by(pending: &Option<Pending>) -> usize
     }
 }
 
-/// Whether two entries are left unsigned only where there is an outgoing key.
+/// Whether there is an outgoing key if two entries are unsigned.
 fn can_sign(pending: &Option<Pending>) -> bool
     ensures { IsTrue result ↔ CanSign pending.now }
 {
@@ -60,7 +60,7 @@ fn can_sign(pending: &Option<Pending>) -> bool
     }
 }
 
-/// The entries, where each is signed.
+/// The entries with their signatures; `None` if one is unsigned.
 fn all_signed(alloc: Global, entries: &[PublicEntry]) -> Result<Option<Log>, NoMemory>
     ensures { IfOk result (λ log. MatchOption log ((signed : List SignedEntry) → entries.now ≡ map with_signature signed → ⊥) (λ signed. entries.now ≡ map with_signature signed)) }
 {
@@ -77,7 +77,7 @@ fn all_signed(alloc: Global, entries: &[PublicEntry]) -> Result<Option<Log>, NoM
     Ok(Some(log))
 }
 
-/// The entries, where none is signed.
+/// The entries without signatures; `None` if one is signed.
 fn all_unsigned(alloc: Global, entries: &[PublicEntry]) -> Result<Option<Entries>, NoMemory>
     ensures { IfOk result (λ list. MatchOption list ((unsigned : List Entry) → entries.now ≡ map without_signature unsigned → ⊥) (λ unsigned. entries.now ≡ map without_signature unsigned)) }
 {

@@ -1,4 +1,4 @@
-//! What becomes of a region.
+//! The pending work on a region.
 
 ghost use Rattle.std.specs.Prelude.{◌≡◌, IfOk, filter};
 ghost use Rattle.std.specs.List.{list_any};
@@ -9,7 +9,7 @@ ghost use Rattle.mb_model.specs.Meaning.{fated};
 use mb_model::{Fate, Items, KeyKind, NoMemory, Region, RegionKeys};
 use std::alloc::Global;
 
-/// The region after what is to be done to it.
+/// The region after the pending work on it.
 #[tactic(auto, unfolding(mb_model::specs::Meaning::fated))]
 pub(crate) fn fated(alloc: Global, fate: &Fate, region: Region) -> Result<Region, NoMemory>
     ensures { IfOk result (λ after. after ≡ fated fate.now region) }
@@ -34,7 +34,7 @@ pub(crate) fn fated(alloc: Global, fate: &Fate, region: Region) -> Result<Region
     }
 }
 
-/// The epoch keys alone.
+/// The epoch keys among the keys.
 fn epoch_keys(keys: RegionKeys) -> RegionKeys
     ensures { result ≡ filter (λ key. is_epoch key.kind) keys }
 {

@@ -1,32 +1,33 @@
-//! For which state an image stands.
+//! The state that an image means.
 
 ghost use Rattle.std.specs.Prelude.{◌≡◌, ◌+◌, ◌≤◌, IfOk, IfErr, IfSome};
 ghost use Rattle.mb_model.specs.Meaning.{IsWellFormed};
 ghost use Rattle.mb_model.specs.Faults.{HasFault};
 ghost use Rattle.mb_image.specs.Ends.{fault_of};
 
-use crate::memory::{is_blank, memories, root_of};
+use crate::memory::{memories, root_of};
 use crate::sound::sound_state;
 use crate::stored::stored_in;
+use mb_layout::is_blank;
 use mb_lms::HashCount;
 use mb_model::{NoMemory, State};
 use std::alloc::Global;
 use std::sync::ledger::Ledger;
 
-/// Why an image stands for no state. If several apply, the first in this list is returned; `NoMemory` may stand in
+/// Why an image means no state. If several apply, the first in this list is returned; `NoMemory` may stand in
 /// place of any but `Length` and `Root`.
 #[derive(Clone, Copy, PartialEq, Eq)]
 pub enum ImageEnd {
-    /// It has not 1,077,248 bytes.
+    /// The image does not have 1,077,248 bytes.
     Length,
-    /// The battery-backed memory is neither all zero nor alive with a root in force.
+    /// The battery-backed memory is neither all zero nor alive with a root record in its current area.
     Root,
     /// The area of the flash that the root names begins with no public record, or not as many of its last entries are
     /// unsigned as the root says.
     Public,
-    /// The area in force of region 2 holds no region.
+    /// The current area of region 2 holds no region.
     RegionTwo,
-    /// The area in force of region 3 holds no region.
+    /// The current area of region 3 holds no region.
     RegionThree,
     /// The device key has no index for what it has still to sign, or no device can have the state.
     State,
@@ -44,11 +45,11 @@ impl From<NoMemory> for ImageEnd {
     }
 }
 
-/// The state for which an image of any bytes stands, `None` being that of a dead device, or its first fault, in at most
-/// 621,330 hashes: those of the public keys of the device and of sixteen keys of regions, each made once, and of the
-/// signatures that are still to be made.
+/// The state that an image of arbitrary bytes means, `None` for a dead device, or the first fault of the image. It takes
+/// at most 621,330 hashes: those of the public keys of the device and of sixteen keys of regions, each derived once, and
+/// of the signatures that are still to be made.
 ///
-/// Errors: those of `ImageEnd`. `NoMemory` where an allocation fails, of which no clause says when.
+/// Errors: those of `ImageEnd`.
 pub fn stand_for<L: Ledger>(
     alloc: Global,
     image: &[u8],

@@ -1,8 +1,7 @@
-//! For which state an image stands, or its first fault; and how long the log is of a device whose image it is.
+//! The state that an image means, or the image's first fault; and the length of the log of the image's device.
 //!
-//! This crate owns the meaning of a device's memory as it lies: which areas are in force, the entries that are not
-//! signed yet and their signatures, what becomes of the regions, and whether a device can have the state that comes
-//! of it.
+//! This crate owns the meaning of a device's memory as it lies: the current areas, the unsigned entries and their
+//! signatures, the pending work on the regions, and whether a device can have the state that results.
 #![tactic(auto)]
 
 mod alive;

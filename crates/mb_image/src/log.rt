@@ -1,4 +1,4 @@
-//! Whether each entry of a log follows from those before it.
+//! The check that each entry of a log follows from those before it.
 
 ghost use Rattle.std.specs.Prelude.{◌≡◌, ◌↔◌, ◌-◌, ◌^◌, ◌<◌, List, length, All, IfOk, IsTrue, MatchOption};
 ghost use Rattle.mb_model.specs.EntryFormat.{entry_format};
@@ -11,7 +11,7 @@ use mb_log::{add_entry, follows_figures, no_figures};
 use mb_model::{Figures, Follow, NoMemory, SignedEntry};
 use std::alloc::Global;
 
-/// The figures of a log, where each entry follows from those before it; else none.
+/// The figures of a log, or `None` if an entry does not follow from those before it.
 pub(crate) fn figures_of(alloc: Global, log: &[SignedEntry]) -> Result<Option<Figures>, NoMemory>
     requires spelled { All (λ signed. entry_format.Allowed signed.entry) log.now }
     requires short { length log.now < 2 ^ 32 - 1 }
@@ -38,7 +38,8 @@ fn follows(alloc: Global, figures: &Figures, signed: &SignedEntry) -> Result<boo
     }
 }
 
-/// Whether an entry verifies under the device key that the log before it names last. The first is not tried.
+/// Whether an entry is signed by the device key that the log before it names last. The first entry is not checked: the
+/// maker's key signs it, which an image does not hold.
 fn verifies(alloc: Global, figures: &Figures, signed: &SignedEntry) -> Result<bool, NoMemory>
     requires { entry_format.Allowed signed.now.entry }
     ensures { IfOk result (λ yes. IsTrue yes ↔ IsVerified figures.now signed.now) }

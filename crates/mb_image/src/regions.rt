@@ -1,4 +1,4 @@
-//! Whether a region is one that its layer can have by the log.
+//! The check that a region is one that its layer can have by the log.
 
 ghost use Rattle.std.specs.Prelude.{◌≡◌, ◌≢◌, ◌↔◌, ◌+◌, ◌*◌, ◌≤◌, ℕ, false, length, map, All, AllPairs, Any, IfOk, IsTrue};
 ghost use Rattle.mb_model.specs.Layers.{layer_of, is_upper};
@@ -11,16 +11,15 @@ ghost use Rattle.mb_image.specs.Losses.{loss};
 use crate::alive::{MadeKey, alive_keys};
 use mb_lms::HashCount;
 use mb_log::ends;
-use mb_model::{Entry, Figures, KeyKind, Layers, NoMemory, Region, RegionKey, Secret, SignedEntry};
+use mb_model::{
+    Entry, Figures, KEY_LIMIT, KeyKind, Layers, NoMemory, Region, RegionKey, Secret, SignedEntry,
+};
 use mb_signer::public;
 use std::alloc::Global;
 use std::sync::ledger::Ledger;
 
-/// The most keys of a region.
-const MOST_KEYS: usize = 8;
-
-/// Whether a region is one that its layer, 2 or 3, can have by a log that obeys the rules, the figures being those of
-/// the log. The public key of each of its keys is made once.
+/// Whether this can be the region of the layer (2 or 3) in a device with this log. The log obeys the rules, and `figures`
+/// are its figures. The public key of each key of the region is derived once.
 pub(crate) fn is_valid_region<L: Ledger>(
     alloc: Global,
     log: &[SignedEntry],
@@ -35,7 +34,9 @@ pub(crate) fn is_valid_region<L: Ledger>(
     ensures valid { IfOk result (λ valid. IsTrue valid ↔ IsValidRegion (entries_of log.now) figures.now.layers layer region.now) }
     ensures cost { hashes.new ≤ hashes.old + 275192 }
 {
-    if !may_be_there(&figures.layers, layer, region) || region.keys.as_slice().len() > MOST_KEYS {
+    if !may_be_there(&figures.layers, layer, region)
+        || region.keys.as_slice().len() > KEY_LIMIT as usize
+    {
         return Ok(false);
     }
     if !are_kept(log, figures.number, layer, region.secrets.as_slice()) {
@@ -45,7 +46,7 @@ pub(crate) fn is_valid_region<L: Ledger>(
     Ok(are_alive(region.keys.as_slice(), &alive, hashes))
 }
 
-/// Whether the region is empty or its layer reliable.
+/// Whether the region is empty or its layer is reliable.
 fn may_be_there(layers: &Layers, layer: u8, region: &Region) -> bool
     requires { IsTrue (is_upper layer) }
     ensures { IsTrue result ↔ ((layer_of layers.now layer).reliable ≡ false → region.now ≡ empty_region) }
@@ -58,8 +59,8 @@ fn may_be_there(layers: &Layers, layer: u8, region: &Region) -> bool
     own.reliable || (region.secrets.as_slice().is_empty() && region.keys.as_slice().is_empty())
 }
 
-/// Whether the secrets have different names, and each was put at a configuration number up to the log's and was admitted
-/// by the layer at each change since then.
+/// Whether the secrets have different names, each was put at a configuration number up to the log's, and the layer has
+/// admitted each change since then.
 fn are_kept(log: &[SignedEntry], number: u32, layer: u8, secrets: &[Secret]) -> bool
     requires ruled { RuledLog (entries_of log.now) }
     requires layer { IsTrue (is_upper layer) }
@@ -77,7 +78,7 @@ fn are_born_within(secrets: &[Secret], first: u32, last: u32) -> bool
         .all(|secret| first <= secret.born && secret.born <= last)
 }
 
-/// Whether no two secrets have one name.
+/// Whether the secrets have different names.
 fn names_differ(secrets: &[Secret]) -> bool
     ensures { IsTrue result ↔ AllPairs (λ a b. a.name ≢ b.name) secrets.now }
 {
@@ -96,7 +97,7 @@ fn has_name(secrets: &[Secret], name: &[u8]) -> bool
     secrets.iter().any(|secret| secret.name.as_slice() == name)
 }
 
-/// The number of the last change by which the layer's region lost its secrets; 0 where there is none.
+/// The number of the last change by which the layer's region lost its secrets; 0 if there is none.
 fn last_loss(log: &[SignedEntry], layer: u8) -> u32
     ensures upper { All (λ signed. loss layer signed.entry ≤ result) log.now }
     ensures least { (c : ℕ) → All (λ signed. loss layer signed.entry ≤ c) log.now → result ≤ c }
@@ -108,7 +109,7 @@ fn last_loss(log: &[SignedEntry], layer: u8) -> u32
     last
 }
 
-/// The number of the change by which the layer's region lost its secrets; 0 where the entry is none.
+/// The number of the entry if it is a change by which the layer's region lost its secrets; else 0.
 fn loss(layer: u8, entry: &Entry) -> u32
     ensures { result ≡ loss layer entry.now }
 {
@@ -118,7 +119,7 @@ fn loss(layer: u8, entry: &Entry) -> u32
     }
 }
 
-/// Whether the keys are those that are alive, in order.
+/// Whether the keys are the living ones, in order.
 fn are_alive<L: Ledger>(keys: &[RegionKey], alive: &[MadeKey], hashes: &mut HashCount<L>) -> bool
     ensures alive { IsTrue result ↔ (map as_made keys.now ≡ listed_keys alive.now) }
     ensures cost { hashes.new ≤ hashes.old + 34399 * length keys.now }

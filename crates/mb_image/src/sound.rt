@@ -1,9 +1,9 @@
-//! The state that stored contents mean.
+//! The state that stored contents mean, and whether a device can have it.
 
 ghost use Rattle.std.specs.Prelude.{◌≡◌, ◌↔◌, ◌+◌, ◌≤◌, IfOk, IsTrue, MatchOption};
 ghost use Rattle.mb_model.specs.Log.{layers_of};
 ghost use Rattle.mb_model.specs.StoredLog.{HasIndex};
-ghost use Rattle.mb_model.specs.Meaning.{meant, fate_of_two, fate_of_three};
+ghost use Rattle.mb_model.specs.Meaning.{meant};
 ghost use Rattle.mb_model.specs.Faults.{AreSound};
 ghost use Rattle.mb_signer.specs.Tree.{IsTreeOf};
 ghost use Rattle.mb_image.specs.Stored.{contents_of, CanBeCompleted};
@@ -14,13 +14,13 @@ use crate::stored::Stored;
 use crate::validity::is_valid;
 use mb_lms::HashCount;
 use mb_log::layers_of;
-use mb_model::{Fate, NoMemory, Pending, Root, State};
+use mb_model::{NoMemory, Root, State};
 use mb_signer::{KeptTree, public_kept};
 use std::alloc::Global;
 use std::sync::ledger::Ledger;
 
-/// The state that stored contents mean, with all pending work done; none where the device key has no index for what it
-/// has still to sign, or no device can have the state.
+/// The state that stored contents mean, with all pending work done; `None` if the device key has no index for an entry
+/// that it has still to sign, or no device can have the state.
 pub(crate) fn sound_state<L: Ledger>(
     alloc: Global,
     stored: Stored,
@@ -43,7 +43,7 @@ pub(crate) fn sound_state<L: Ledger>(
     }
 }
 
-/// Whether the device key has an index for what it has still to sign.
+/// Whether the device key has an index for the entry that it has still to sign, if there is one.
 fn has_index(root: &Root) -> bool
     ensures { IsTrue result ↔ HasIndex root.now root.now.pending }
 {
@@ -75,8 +75,8 @@ fn state_of<L: Ledger>(
         three,
     } = stored;
     let log = completed(alloc, &root, tree, signed, unsigned.as_slice(), hashes)?;
-    let two = fated(alloc, &fate_of_two(&root.pending), two)?;
-    let three = fated(alloc, &fate_of_three(&root.pending), three)?;
+    let two = fated(alloc, &root.fate_of_two(), two)?;
+    let three = fated(alloc, &root.fate_of_three(), three)?;
     Ok(State {
         serial: root.serial,
         layers: layers_of(log.as_slice()),
@@ -87,24 +87,4 @@ fn state_of<L: Ledger>(
         two,
         three,
     })
-}
-
-/// What is to be done to region 2.
-fn fate_of_two(pending: &Option<Pending>) -> Fate
-    ensures { result ≡ fate_of_two pending.now }
-{
-    match pending {
-        None => Fate::Keep,
-        Some(pending) => pending.two,
-    }
-}
-
-/// What is to be done to region 3.
-fn fate_of_three(pending: &Option<Pending>) -> Fate
-    ensures { result ≡ fate_of_three pending.now }
-{
-    match pending {
-        None => Fate::Keep,
-        Some(pending) => pending.three,
-    }
 }

@@ -1,6 +1,7 @@
-//! What stands in a memory, decoded.
+//! The contents of a memory, decoded.
 
 ghost use Rattle.std.specs.Prelude.{◌≡◌, ◌≤◌, length, IfOk, IfErr, IfSome, MatchOption};
+ghost use Rattle.mb_model.specs.declared.limits.TheConstants.{FLASH_LENGTH};
 ghost use Rattle.mb_model.specs.Memory.{AreSized};
 ghost use Rattle.mb_model.specs.Flash.{flash_area, HoldsPublic};
 ghost use Rattle.mb_model.specs.Meaning.{RootIn, HoldsContents};
@@ -10,12 +11,12 @@ ghost use Rattle.mb_image.specs.Stored.{contents_of};
 
 use crate::entries::split_entries;
 use crate::image::ImageEnd;
-use crate::memory::area_in_force;
+use crate::memory::current_area;
 use mb_layout::{public_at_start, region_in};
 use mb_model::{Codes, Entries, Log, NoMemory, Public, Region, Root};
 use std::alloc::Global;
 
-/// How many bytes an area of the flash has.
+/// The length of an area of the flash, in bytes.
 const FLASH_AREA: usize = 524_288;
 
 /// All that is stored in the memory of a live device.
@@ -23,9 +24,9 @@ const FLASH_AREA: usize = 524_288;
 pub(crate) struct Stored {
     pub root: Root,
     pub codes: Codes,
-    /// The entries that are signed.
+    /// The signed entries.
     pub signed: Log,
-    /// The entries after them, which are not signed yet, at most two.
+    /// The unsigned entries after them, at most two.
     pub unsigned: Entries,
     /// The region of layer 2.
     pub two: Region,
@@ -33,7 +34,7 @@ pub(crate) struct Stored {
     pub three: Region,
 }
 
-/// What is stored in the memory of a device with this root, or what is lacking first.
+/// The contents of the memory of a device with this root record, or the first that is missing.
 pub(crate) fn stored_in(
     alloc: Global,
     flash: &[u8],
@@ -48,10 +49,10 @@ pub(crate) fn stored_in(
     let Some(public) = public_in(alloc, flash, &root)? else {
         return Err(ImageEnd::Public);
     };
-    let Some(two) = region_in(alloc, area_in_force(bbram, 2))? else {
+    let Some(two) = region_in(alloc, current_area(bbram, 2))? else {
         return Err(ImageEnd::RegionTwo);
     };
-    let Some(three) = region_in(alloc, area_in_force(bbram, 3))? else {
+    let Some(three) = region_in(alloc, current_area(bbram, 3))? else {
         return Err(ImageEnd::RegionThree);
     };
     Ok(Stored {
@@ -64,7 +65,7 @@ pub(crate) fn stored_in(
     })
 }
 
-/// What the flash holds: codes, the entries that are signed, and those that are not.
+/// The contents of the flash: codes, signed entries, and unsigned entries.
 #[derive(Drop)]
 struct PublicParts {
     codes: Codes,
@@ -72,9 +73,10 @@ struct PublicParts {
     unsigned: Entries,
 }
 
-/// What the area of the flash that the root names holds; none where it holds nothing, or not as the root says.
+/// The contents of the area of the flash that the root names; `None` if it holds no public record, or not one as the root
+/// says.
 fn public_in(alloc: Global, flash: &[u8], root: &Root) -> Result<Option<PublicParts>, NoMemory>
-    requires sized { length flash.now ≡ 1048576 }
+    requires sized { length flash.now ≡ FLASH_LENGTH }
     requires area { root.now.area ≤ 1 }
     ensures { IfOk result (λ found. MatchOption found (SomePublic flash.now root.now → ⊥) (λ parts. HoldsPublic flash.now root.now parts.codes parts.signed parts.unsigned)) }
 {
@@ -95,7 +97,7 @@ fn public_in(alloc: Global, flash: &[u8], root: &Root) -> Result<Option<PublicPa
 /// An area of the flash, 0 or 1.
 #[tactic(auto, unfolding(mb_model::specs::Flash::flash_area))]
 pub(crate) fn flash_area(flash: &[u8], number: u8) -> &[u8]
-    requires sized { length flash.now ≡ 1048576 }
+    requires sized { length flash.now ≡ FLASH_LENGTH }
     requires area { number ≤ 1 }
     ensures { result.now ≡ flash_area flash.now number }
 {

@@ -1,4 +1,4 @@
-//! Whether a state is one that a device can have.
+//! The check that a device can have a state.
 
 ghost use Rattle.std.specs.Prelude.{◌≡◌, ◌↔◌, ◌+◌, ◌≤◌, ◌-◌, ◌^◌, ◌<◌, length, All, IfOk, IsTrue, Some};
 ghost use Rattle.mb_model.specs.EntryFormat.{entry_format};
@@ -15,8 +15,8 @@ use mb_model::{Figures, NoMemory, PublicKey, SignedEntry, State};
 use std::alloc::Global;
 use std::sync::ledger::Ledger;
 
-/// Whether a state is one that a live device can have. Its layers are those of its log, and its device key's public key
-/// is given.
+/// Whether a live device can have the state. The layers of the state are those of its log, and `device` is the public key
+/// of its device key.
 pub(crate) fn is_valid<L: Ledger>(
     alloc: Global,
     state: &State,
@@ -43,8 +43,8 @@ pub(crate) fn is_valid<L: Ledger>(
     is_valid_region(alloc, log, &figures, 3, &state.three, hashes)
 }
 
-/// Whether the serial is that of the birth, the device key the one that is named last, and its uses those that the log
-/// tells, whose figures are given.
+/// Whether the serial is that of the birth, the device key the one that the log names last, and its uses those of the
+/// log. `figures` are the figures of the log.
 fn is_device(log: &[SignedEntry], figures: &Figures, state: &State, device: &PublicKey) -> bool
     requires { figures.now ≡ figures_of (entries_of log.now) }
     ensures { IsTrue result ↔ ((serial_of (entries_of log.now) ≡ Some state.now.serial) × (device_of (entries_of log.now) ≡ Some device.now) × (state.now.uses ≡ used (entries_of log.now))) }

@@ -1,5 +1,6 @@
 -- The bounds that every record with a spelling keeps. Do its numbers, lengths and counts fit into their fields?
 use Rattle.std.specs.Prelude.{◌<◌, ◌≤◌, ◌^◌, ℕ, List, All, length, Option, Some, None}
+use Rattle.mb_model.specs.declared.limits.TheConstants.{KEY_LIMIT, SECRET_LIMIT}
 use Rattle.mb_model.specs.declared.region.Region.{Region}
 use Rattle.mb_model.specs.declared.region.RegionKey.{RegionKey}
 use Rattle.mb_model.specs.declared.region.Secret.{Secret}
@@ -16,9 +17,9 @@ pub record SecretFits (secret : Secret) : Type 0 where
   pub value : length secret.value < 256
 
 pub record RegionFits (region : Region) : Type 0 where
-  pub secrets : length region.secrets ≤ 16
+  pub secrets : length region.secrets ≤ SECRET_LIMIT
   pub each_secret : All SecretFits region.secrets
-  pub keys : length region.keys ≤ 8
+  pub keys : length region.keys ≤ KEY_LIMIT
   pub each_key : All HasByteUses region.keys
 
 abbrev pub CodeFits : Option (List ℕ) → Type 0

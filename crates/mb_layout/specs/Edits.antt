@@ -6,6 +6,7 @@ use Rattle.std.specs.Vec.{vec_capacity}
 use Rattle.mb_format.specs.Format.{Spells}
 use Rattle.mb_model.specs.declared.entry.Entry.{Entry}
 use Rattle.mb_model.specs.declared.entry.SignedEntry.{SignedEntry}
+use Rattle.mb_model.specs.declared.limits.TheConstants.{KEY_USES}
 use Rattle.mb_model.specs.declared.region.Region.{Region}
 use Rattle.mb_model.specs.declared.region.RegionKey.{RegionKey}
 use Rattle.mb_model.specs.declared.state.Codes.{Codes}
@@ -35,14 +36,14 @@ region_with_use number region = record region { keys = with_use number region.ke
 -- it, if that can be stored.
 pub record IsUsed (region : Region) (number : ℕ) (key : RegionKey) (new : List ℕ) : Type 0 where
   pub found : find (has_number number) region.keys ≡ Some key
-  pub left : key.uses < 32
+  pub left : key.uses < KEY_USES
   pub stored : CanBeStored (region_with_use number region) → SpellsRegion new (region_with_use number region)
 
 -- no index of the key is left
 pub record IsSpent (region : Region) (number : ℕ) : Type 0 where
   pub key : RegionKey
   pub found : find (has_number number) region.keys ≡ Some key
-  pub spent : 32 ≤ key.uses
+  pub spent : KEY_USES ≤ key.uses
 
 -- what using a key of a region comes to
 abbrev pub UseOf : Region → ℕ → Result RegionKey NotUsed → List ℕ → Type 0

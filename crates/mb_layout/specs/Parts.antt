@@ -6,6 +6,7 @@ use Rattle.mb_format.specs.Combinators.{number, between, optional, times, counte
 use Rattle.mb_model.specs.declared.key.PublicKey.{PublicKey}
 use Rattle.mb_model.specs.declared.layer.Layers.{Layers}
 use Rattle.mb_model.specs.declared.layer.Pair.{Pair}
+use Rattle.mb_model.specs.declared.limits.TheConstants.{ENTRY_LIMIT}
 use Rattle.mb_model.specs.declared.order.ChangeKind.{ChangeKind}
 use Rattle.mb_model.specs.declared.order.KeyKind.{KeyKind}
 use Rattle.mb_model.specs.declared.entry.PublicEntry.{PublicEntry}
@@ -41,7 +42,7 @@ root_key_bytes root =
 
 -- the entries of a public record, after their number
 unfoldable pub entries_format : Format (List PublicEntry)
-entries_format = counted (between w16 1 128) public_entry_format
+entries_format = counted (between w16 1 ENTRY_LIMIT) public_entry_format
 
 -- their bytes
 abbrev pub entries_bytes : List PublicEntry → List ℕ

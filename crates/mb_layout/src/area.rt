@@ -1,6 +1,7 @@
-//! Records in areas: after their length, and before zeros or any bytes.
+//! Records in areas: after their length, and before zeros (battery-backed memory) or arbitrary bytes (flash).
 
 ghost use Rattle.std.specs.Prelude.{◌≡◌, ◌≤◌, ◌↔◌, length, IfOk, IsTrue};
+ghost use Rattle.mb_model.specs.declared.limits.TheConstants.{AREA_LENGTH, RECORD_LIMIT};
 ghost use Rattle.mb_model.specs.RootFormat.{root_format};
 ghost use Rattle.mb_model.specs.Memory.{IsBlank, HoldsInArea, HoldsRecord};
 ghost use Rattle.mb_model.specs.Meaning.{HoldsRegion};
@@ -12,23 +13,21 @@ use crate::public::public_of_bytes;
 use crate::region::region_of_bytes;
 use crate::root::root_of_bytes;
 use mb_bytes::put_at;
-use mb_model::{Items, NoMemory, Public, Region, Root};
+use mb_model::{Items, NoMemory, Public, RECORD_LIMIT, Region, Root};
 use std::alloc::Global;
 
-/// The most bytes of a record in an area of the battery-backed memory.
-const RECORD_LIMIT: usize = 4_094;
+/// The longest record in an area of the flash, in bytes.
+pub const PUBLIC_LIMIT: usize = 470_000;
 
-/// The most bytes of a record in an area of the flash.
-const PUBLIC_LIMIT: usize = 470_000;
-
-fn is_blank(bytes: &[u8]) -> bool
+/// Whether all bytes are zero.
+pub fn is_blank(bytes: &[u8]) -> bool
     ensures { IsTrue result ↔ IsBlank bytes.now }
 {
     bytes.iter().all(|byte| *byte == 0)
 }
 
-/// The bytes that an area of the battery-backed memory holds, after two bytes for their number and before zeros. `None`
-/// where they are more than 4,094 or more than the area has, or a byte after them is not zero.
+/// The record that an area of the battery-backed memory holds, after its length in two bytes and before zeros. `None` if
+/// it has more than 4,094 bytes or more than the area, or if a byte after it is not zero.
 pub fn record_in(area: &[u8]) -> Option<&[u8]>
     ensures { FindsBy (λ bytes. bytes.now) (HoldsInArea area.now) result }
 {
@@ -41,8 +40,8 @@ pub fn record_in(area: &[u8]) -> Option<&[u8]>
     if is_blank(blank) { Some(bytes) } else { None }
 }
 
-/// The bytes with which an area of the flash begins, after four bytes for their number and before any others. `None`
-/// where they are more than 470,000 or more than the area has.
+/// The record with which an area of the flash begins, after its length in four bytes and before arbitrary ones. `None` if
+/// it has more than 470,000 bytes or more than the area.
 pub fn record_at_start(area: &[u8]) -> Option<&[u8]>
     ensures { FindsBy (λ bytes. bytes.now) (BeginsArea area.now) result }
 {
@@ -54,11 +53,11 @@ pub fn record_at_start(area: &[u8]) -> Option<&[u8]>
     Some(&rest[..length])
 }
 
-/// Makes an area of the battery-backed memory, of 4,096 bytes, hold these bytes, of which there are at most 4,094: their
-/// number, the bytes, and zeros.
+/// Replaces an area of the battery-backed memory, 4,096 bytes, by these bytes, at most 4,094: their length, the bytes,
+/// and zeros.
 pub fn fill_area(bytes: &[u8], area: &mut [u8])
-    requires area { length area.old ≡ 4096 }
-    requires bytes { length bytes.now ≤ 4094 }
+    requires area { length area.old ≡ AREA_LENGTH }
+    requires bytes { length bytes.now ≤ RECORD_LIMIT }
     ensures { HoldsInArea area.new bytes.now }
 {
     area.fill(0);
@@ -66,7 +65,7 @@ pub fn fill_area(bytes: &[u8], area: &mut [u8])
     put_at(area, 2, bytes);
 }
 
-/// The root whose record an area of the battery-backed memory holds; `None` exactly where it holds none.
+/// The root record that an area of the battery-backed memory holds; `None` exactly if it holds none.
 pub fn root_in(area: &[u8]) -> Option<Root>
     ensures { FindsBy (λ root. root) (HoldsRecord root_format area.now) result }
 {
@@ -79,8 +78,8 @@ pub fn root_in(area: &[u8]) -> Option<Root>
     }
 }
 
-/// The region for which the bytes stand that an area of the battery-backed memory holds: the empty one where they are
-/// none. `None` exactly where it holds none; `NoMemory` where an allocation fails, of which no clause says when.
+/// The region that an area of the battery-backed memory holds: the empty one if the area holds no bytes. `None` exactly
+/// if it holds none; `NoMemory` if an allocation fails.
 pub fn region_in(alloc: Global, area: &[u8]) -> Result<Option<Region>, NoMemory>
     ensures { IfOk result (λ found. FindsBy (λ region. region) (HoldsRegion area.now) found) }
 {
@@ -100,10 +99,11 @@ pub fn region_in(alloc: Global, area: &[u8]) -> Result<Option<Region>, NoMemory>
     }
 }
 
-/// The public record with which an area of the flash begins; `None` exactly where it begins with none; `NoMemory` where
-/// an allocation fails, of which no clause says when.
+/// The public record with which an area of the flash begins; `None` exactly if it begins with none; `NoMemory` if an
+/// allocation fails.
 pub fn public_at_start(alloc: Global, flash_area: &[u8]) -> Result<Option<Public>, NoMemory>
-    ensures { IfOk result (λ found. FindsBy (λ stored. stored) (BeginsWithRecord public_format flash_area.now) found) }
+    ensures { IfOk result (λ found. FindsBy (λ stored. stored)
+        (BeginsWithRecord public_format flash_area.now) found) }
 {
     let Some(bytes) = record_at_start(flash_area) else {
         return Ok(None);

@@ -10,8 +10,8 @@ use mb_model::{BadRecord, NoMemory};
 pub enum LayoutEnd {
     /// The bytes spell no such record.
     Bad(BadRecord),
-    /// An allocation failed. No clause of a reader says when, so one that always answers this is proved too: the tests
-    /// read records where there is enough.
+    /// An allocation failed. No clause of a reader says when, so a reader that always returns this is proved too: the
+    /// tests read records with enough memory.
     NoMemory,
 }
 

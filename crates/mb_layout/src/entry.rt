@@ -135,7 +135,7 @@ fn succession_at(cursor: &mut Cursor<'_>) -> Result<Entry, BadRecord>
     Ok(Entry::Succession { position, key })
 }
 
-/// An entry, after a byte that says which of the four it is, and which version a birth or change has.
+/// Reads an entry after its first byte, which says which of the four it is, and which version a birth or change has.
 #[tactic(auto, unfolding(mb_model::specs::EntryFormat::entry_format))]
 pub fn entry_at(cursor: &mut Cursor<'_>) -> Result<Entry, BadRecord>
     ensures { Reads bad_at entry_format cursor.old result cursor.new }
@@ -254,7 +254,7 @@ fn put_made_key(
     put_public_key(out, key)
 }
 
-/// Appends an entry after a byte for which of the four it is.
+/// Appends an entry after its first byte, which says which of the four it is.
 #[tactic(auto, unfolding(mb_model::specs::EntryFormat::birth_format, mb_model::specs::EntryFormat::change_format, mb_model::specs::EntryFormat::new_key_format, mb_model::specs::EntryFormat::succession_format, mb_model::specs::EntryFormat::entry_format))]
 pub fn put_entry(out: &mut Vec<u8>, entry: &Entry) -> Result<(), NoMemory>
     ensures { Puts (entry_format.spelling entry.now) out.old result out.new }
@@ -336,15 +336,15 @@ impl Record for Entry {
     ghost exact = { entry_exact };
 }
 
-/// The entry that is spelled at the cursor's offset; the cursor then stands after it. Else the place of the first field
-/// that lacks bytes or is not allowed, and the cursor is unchanged.
+/// The entry spelled at the cursor's offset; the cursor then stands after it. Else the offset of the first field that
+/// lacks bytes or is not allowed, and the cursor is unchanged.
 pub fn read_entry(c: &mut Cursor<'_>) -> Result<Entry, BadRecord>
     ensures { ReadsExactly bad_at entry_format c.old result c.new }
 {
     read_record((), c)
 }
 
-/// Appends the spelling of the entry, or leaves `out` as it was. Where the capacity of `out` holds it, the answer is Ok.
+/// Appends the spelling of the entry, or leaves `out` as it was. `Ok` if the capacity of `out` holds it.
 pub fn write_entry(entry: &Entry, out: &mut Vec<u8>) -> Result<(), NoMemory>
     requires { entry_format.Allowed entry.now }
     ensures { Writes (entry_format.spelling entry.now) out.old result out.new }

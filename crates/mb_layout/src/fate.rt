@@ -1,6 +1,7 @@
-//! What becomes of a stored region, without memory.
+//! The fate of a stored region, carried out without memory.
 
 ghost use Rattle.std.specs.Prelude.{◌≡◌, ◌≤◌, length, vec_capacity};
+ghost use Rattle.mb_model.specs.declared.limits.TheConstants.{FILE_LIMIT, KEY_LIMIT};
 ghost use Rattle.mb_model.specs.declared.region.Region.{Region};
 ghost use Rattle.mb_model.specs.Meaning.{fated, fated_keys};
 ghost use Rattle.mb_model.specs.RegionFormat.{SpellsRegion};
@@ -9,16 +10,17 @@ ghost use Rattle.mb_layout.specs.Edits.{IsFated, CanBeStored};
 
 use crate::row::{KeyRow, epoch_keys, has_key};
 use crate::stored::{StoredRegion, no_region, store, stored_region};
-use mb_model::{Fate, RegionKey};
+use mb_model::{Fate, KEY_LIMIT, RegionKey};
 
-/// The keys with this one after the others, where none has its number and there is room.
+/// Appends the key, if none has its number and there is room.
 fn with_key(keys: KeyRow, key: &RegionKey) -> KeyRow
-    ensures { length (fated_keys (Fate.AddKey key.now) keys) ≤ 8 → result ≡ fated_keys (Fate.AddKey key.now) keys }
+    ensures { length (fated_keys (Fate.AddKey key.now) keys) ≤ KEY_LIMIT
+        → result ≡ fated_keys (Fate.AddKey key.now) keys }
 {
     if has_key(keys.as_slice(), key.number) {
         return keys;
     }
-    if keys.as_slice().len() >= 8 {
+    if keys.as_slice().len() >= KEY_LIMIT as usize {
         return keys;
     }
     let mut row = keys;
@@ -28,7 +30,9 @@ fn with_key(keys: KeyRow, key: &RegionKey) -> KeyRow
 
 #[tactic(auto, unfolding(mb_model::specs::Meaning::fated))]
 fn fated_region<'a>(fate: &Fate, stored: StoredRegion<'a>) -> StoredRegion<'a>
-    ensures { (region : Region) → IsStoredAs stored.entry region → length (fated fate.now region).keys ≤ 8 → IsStoredAs result (fated fate.now region) }
+    ensures { (region : Region) → IsStoredAs stored.entry region
+        → length (fated fate.now region).keys ≤ KEY_LIMIT
+        → IsStoredAs result (fated fate.now region) }
 {
     match fate {
         Fate::Keep => stored,
@@ -46,14 +50,15 @@ fn fated_region<'a>(fate: &Fate, stored: StoredRegion<'a>) -> StoredRegion<'a>
     }
 }
 
-/// Replaces `out` by the record of the region for which the bytes stand, after its fate; by no bytes where it is then
-/// empty. Nothing is said where the bytes stand for no region, or the region afterwards can't be stored, as one with nine
-/// keys. `out` has room for any record of a region.
+/// Replaces `out` by the record of the stored region after its fate, or by no bytes if it is then empty. Nothing is said
+/// if the bytes stand for no region, or if the region afterwards cannot be stored, as one with nine keys. `out` has room
+/// for any record of a region.
 pub fn fate_record(bytes: &[u8], fate: &Fate, out: &mut Vec<u8>)
     requires room { 3091 ≤ vec_capacity out.old }
-    requires short { length bytes.now ≤ 4194304 }
+    requires short { length bytes.now ≤ FILE_LIMIT }
     ensures fated { IsFated fate.now bytes.now out.new.items }
-    ensures capacity { (region : Region) → SpellsRegion bytes.now region → CanBeStored (fated fate.now region)
+    ensures capacity { (region : Region) → SpellsRegion bytes.now region
+        → CanBeStored (fated fate.now region)
         → vec_capacity out.old ≤ vec_capacity out.new }
 {
     out.clear();

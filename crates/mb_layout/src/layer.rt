@@ -45,7 +45,7 @@ fn two_nevers_at(cursor: &mut Cursor<'_>) -> Result<Trusts, BadRecord>
     Ok(Trusts { one, two })
 }
 
-/// The trusts of a layer without an owner, in an entry of this version.
+/// Reads the trusts of a layer without an owner, in an entry of this version.
 fn nevers_at(cursor: &mut Cursor<'_>, version: u8) -> Result<Trusts, BadRecord>
     ensures { Reads bad_at (trusts_of version (trust_by has_nothing)) cursor.old result cursor.new }
 {
@@ -64,7 +64,7 @@ fn two_trusts_at(cursor: &mut Cursor<'_>) -> Result<Trusts, BadRecord>
     Ok(Trusts { one, two })
 }
 
-/// The trusts of a layer with an owner, in an entry of this version.
+/// Reads the trusts of a layer with an owner, in an entry of this version.
 fn trusts_at(cursor: &mut Cursor<'_>, version: u8) -> Result<Trusts, BadRecord>
     ensures { Reads bad_at (trusts_of version trust_format) cursor.old result cursor.new }
 {
@@ -128,7 +128,7 @@ fn reliable_at(cursor: &mut Cursor<'_>, version: u8) -> Result<Layer, BadRecord>
     })
 }
 
-/// A layer in an entry of this version: a byte that says what it has, its trusts, its owner and its code name.
+/// Reads a layer in an entry of this version: a byte that says what it has, its trusts, its owner and its code name.
 #[tactic(auto, unfolding(mb_model::specs::LayerFormat::layer_format))]
 pub fn layer_at(cursor: &mut Cursor<'_>, version: u8) -> Result<Layer, BadRecord>
     ensures { Reads bad_at (layer_format version) cursor.old result cursor.new }
@@ -143,7 +143,7 @@ pub fn layer_at(cursor: &mut Cursor<'_>, version: u8) -> Result<Layer, BadRecord
     }
 }
 
-/// Three layers in an entry of this version, from the first on.
+/// Reads three layers in an entry of this version, from the first on.
 #[tactic(auto, unfolding(mb_model::specs::LayerFormat::layers_format))]
 pub fn layers_at(cursor: &mut Cursor<'_>, version: u8) -> Result<Layers, BadRecord>
     ensures { Reads bad_at (layers_format version) cursor.old result cursor.new }
@@ -213,8 +213,8 @@ pub fn put_layers(out: &mut Vec<u8>, layers: &Layers, version: u8) -> Result<(),
     put_layer(out, &layers.three, version)
 }
 
-/// The layer that is spelled at the cursor's offset in the form of entries of this version, 1 or 2. The cursor then
-/// stands after it. Else the offset of the first field that lacks bytes or is not allowed, and the cursor is unchanged.
+/// The layer spelled at the cursor's offset in the form of entries of this version, 1 or 2. The cursor then stands after
+/// it. Else the offset of the first field that lacks bytes or is not allowed, and the cursor is unchanged.
 pub fn read_layer(c: &mut Cursor<'_>, version: u8) -> Result<Layer, BadRecord>
     requires { (version ≡ 1) ⊎ (version ≡ 2) }
     ensures { ReadsExactly bad_at (layer_format version) c.old result c.new }
@@ -226,8 +226,8 @@ pub fn read_layer(c: &mut Cursor<'_>, version: u8) -> Result<Layer, BadRecord>
 }
 
 /// Appends the layer's spelling in the form of entries of this version, 1 or 2; it has to have one. Version 1 spells a
-/// layer only if its trusts are equal. The answer is Ok if the capacity of `out` holds the bytes; else memory may lack,
-/// and `out` is as it was.
+/// layer only if its trusts are equal. `Ok` if the capacity of `out` holds the bytes; else memory may lack, and `out` is
+/// then as it was.
 pub fn write_layer(layer: &Layer, out: &mut Vec<u8>, version: u8) -> Result<(), NoMemory>
     requires version { (version ≡ 1) ⊎ (version ≡ 2) }
     requires spelled { (layer_format version).Allowed layer.now }

@@ -2,6 +2,7 @@
 
 ghost use Rattle.std.specs.Prelude.{◌≤◌, ◌<◌, ◌+◌, length, map};
 ghost use Rattle.mb_format.specs.Combinators.{optional};
+ghost use Rattle.mb_model.specs.declared.limits.TheConstants.{FILE_LIMIT};
 ghost use Rattle.mb_model.specs.EntryFormat.{signature_format};
 ghost use Rattle.mb_model.specs.Flash.{code_format, codes_format, public_entry_format, public_format, public_of_parts, with_signature, without_signature};
 ghost use Rattle.mb_bytes.specs.Reads.{bad_at, Reads, ReadsAs, ReadsExactly, ReadsWhole};
@@ -20,18 +21,12 @@ use mb_bytes::{
     Cursor, bytes_after_u32, flag_at, put_after_u32, put_flag, put_slice, put_u16, u16_between,
 };
 use mb_model::{
-    BadRecord, Bytes, Codes, Entry, Items, NoMemory, Public, PublicEntries, PublicEntry,
-    SignedEntry,
+    BadRecord, Bytes, CODE_LIMIT, Codes, ENTRY_LIMIT, Entry, Items, NoMemory, Public,
+    PublicEntries, PublicEntry, SIGNATURE_LENGTH, SignedEntry,
 };
 use std::alloc::Global;
 
-/// The most bytes of a layer's code.
-pub const CODE_LIMIT: u32 = 32_768;
-
-/// The most entries of a log.
-pub const ENTRIES: u16 = 128;
-
-/// The code of each layer where it stands, not copied.
+/// The code of each layer in place, not copied.
 #[derive(Clone, Copy)]
 pub struct StoredCodes<'a> {
     pub one: Option<&'a [u8]>,
@@ -39,7 +34,7 @@ pub struct StoredCodes<'a> {
     pub three: Option<&'a [u8]>,
 }
 
-/// The code of a layer after its length, where it has some, not copied.
+/// Reads the code of a layer after its length, if it has some, and does not copy it.
 #[tactic(auto, unfolding(mb_model::specs::Flash::code_format))]
 fn stored_code_at<'a>(cursor: &mut Cursor<'a>) -> Result<Option<&'a [u8]>, BadRecord>
     ensures { ReadsAs option_copied bad_at code_format cursor.old result cursor.new }
@@ -51,7 +46,7 @@ fn stored_code_at<'a>(cursor: &mut Cursor<'a>) -> Result<Option<&'a [u8]>, BadRe
     }
 }
 
-/// The codes of the layers, not copied.
+/// Reads the codes of the layers, and does not copy them.
 #[tactic(auto, unfolding(mb_model::specs::Flash::codes_format))]
 pub fn stored_codes_at<'a>(cursor: &mut Cursor<'a>) -> Result<StoredCodes<'a>, BadRecord>
     ensures { ReadsAs codes_in bad_at codes_format cursor.old result cursor.new }
@@ -81,7 +76,7 @@ fn codes_at(alloc: Global, cursor: &mut Cursor<'_>) -> Result<Codes, LayoutEnd>
     Ok(Codes { one, two, three })
 }
 
-fn signature_at(cursor: &mut Cursor<'_>) -> Result<Option<[u8; 2348]>, BadRecord>
+fn signature_at(cursor: &mut Cursor<'_>) -> Result<Option<[u8; SIGNATURE_LENGTH]>, BadRecord>
     ensures { Reads bad_at (optional signature_format) cursor.old result cursor.new }
 {
     if flag_at(cursor)? {
@@ -104,7 +99,7 @@ pub fn public_entry_at(cursor: &mut Cursor<'_>) -> Result<PublicEntry, BadRecord
 fn entries_at(alloc: Global, cursor: &mut Cursor<'_>) -> Result<PublicEntries, LayoutEnd>
     ensures { Reads layout_at entries_format cursor.old result cursor.new }
 {
-    let count = u16_between(cursor, 1, ENTRIES)?;
+    let count = u16_between(cursor, 1, ENTRY_LIMIT)?;
     let mut entries = Items::new(alloc);
     for _i in 0..count {
         entries.push(public_entry_at(cursor)?)?;
@@ -146,10 +141,15 @@ fn put_codes(out: &mut Vec<u8>, codes: &Codes) -> Result<(), NoMemory>
     put_code(out, &codes.three)
 }
 
-/// Appends an entry, a byte for whether it is signed, and its signature where it is.
+/// Appends a signed entry: the entry, a byte that says that it is signed, and the signature.
 #[tactic(auto, unfolding(mb_model::specs::Flash::public_entry_format))]
-pub fn put_signed(out: &mut Vec<u8>, entry: &Entry, signature: &[u8; 2348]) -> Result<(), NoMemory>
-    ensures { Puts (public_entry_format.spelling (record { entry = entry.now; signature = Some signature.now })) out.old result out.new }
+pub fn put_signed(
+    out: &mut Vec<u8>,
+    entry: &Entry,
+    signature: &[u8; SIGNATURE_LENGTH],
+) -> Result<(), NoMemory>
+    ensures { Puts (public_entry_format.spelling
+        (record { entry = entry.now; signature = Some signature.now })) out.old result out.new }
 {
     put_entry(out, entry)?;
     put_flag(out, true)?;
@@ -158,7 +158,8 @@ pub fn put_signed(out: &mut Vec<u8>, entry: &Entry, signature: &[u8; 2348]) -> R
 
 #[tactic(auto, unfolding(mb_model::specs::Flash::public_entry_format))]
 fn put_unsigned(out: &mut Vec<u8>, entry: &Entry) -> Result<(), NoMemory>
-    ensures { Puts (public_entry_format.spelling (without_signature entry.now)) out.old result out.new }
+    ensures { Puts (public_entry_format.spelling
+        (without_signature entry.now)) out.old result out.new }
 {
     put_entry(out, entry)?;
     put_flag(out, false)
@@ -258,27 +259,24 @@ impl Record for Public {
     ghost exact = { public_exact };
 }
 
-/// The public record that is spelled at the cursor's offset; the cursor then stands after it. Else `Bad` with the place
-/// of the first field that lacks bytes or is not allowed, or `NoMemory` where an allocation fails, of which no clause
-/// says when, and the cursor is unchanged.
+/// The public record spelled at the cursor's offset; the cursor then stands after it. After an error the cursor is
+/// unchanged: `Bad` with the offset of the first field that lacks bytes or is not allowed, or `NoMemory`.
 pub fn read_public(alloc: Global, c: &mut Cursor<'_>) -> Result<Public, LayoutEnd>
     ensures { ReadsExactly layout_at public_format c.old result c.new }
 {
     read_record(alloc, c)
 }
 
-/// The public record that the whole of the bytes spells; else `Bad` with the place of the first field that lacks bytes
-/// or is not allowed, or of the first byte after the last field, or `NoMemory` where an allocation fails, of which no
-/// clause says when. There are at most 4,194,304 bytes.
+/// The public record that these bytes spell, at most 4,194,304 of them. Else `Bad` with the offset of the first field
+/// that lacks bytes or is not allowed, or of the first byte after the last field; or `NoMemory`.
 pub fn public_of_bytes(alloc: Global, bytes: &[u8]) -> Result<Public, LayoutEnd>
-    requires { length bytes.now ≤ 4194304 }
+    requires { length bytes.now ≤ FILE_LIMIT }
     ensures { ReadsWhole layout_at public_format bytes.now result }
 {
     whole_record(alloc, bytes)
 }
 
-/// Appends the spelling of the public record, or leaves `out` as it was. Where the capacity of `out` holds it, the answer
-/// is Ok.
+/// Appends the spelling of the public record, or leaves `out` as it was. `Ok` if the capacity of `out` holds it.
 pub fn write_public_record(public: &Public, out: &mut Vec<u8>) -> Result<(), NoMemory>
     requires { public_format.Allowed public.now }
     ensures { Writes (public_format.spelling public.now) out.old result out.new }
@@ -286,8 +284,8 @@ pub fn write_public_record(public: &Public, out: &mut Vec<u8>) -> Result<(), NoM
     write_record(public, out)
 }
 
-/// Appends the spelling of the public record of these codes, and of entries that are signed up to the last ones, none of
-/// which is copied; or leaves `out` as it was. Where the capacity of `out` holds it, the answer is Ok.
+/// Appends the spelling of the public record of these codes and entries, the last of them unsigned, without copying any;
+/// or leaves `out` as it was. `Ok` if the capacity of `out` holds it.
 pub fn write_public_parts(
     codes: &Codes,
     signed: &[SignedEntry],
@@ -295,7 +293,8 @@ pub fn write_public_parts(
     out: &mut Vec<u8>,
 ) -> Result<(), NoMemory>
     requires { public_format.Allowed (public_of_parts codes.now signed.now unsigned.now) }
-    ensures { Writes (public_format.spelling (public_of_parts codes.now signed.now unsigned.now)) out.old result out.new }
+    ensures { Writes (public_format.spelling
+        (public_of_parts codes.now signed.now unsigned.now)) out.old result out.new }
 {
     let length = out.len();
     match put_parts(out, codes, signed, unsigned) {

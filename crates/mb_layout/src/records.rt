@@ -1,27 +1,28 @@
-//! What every stored record has: a reader of a part and a writer of a part, of which those that others call are made.
+//! The reader and the writer of a stored record, once for every kind of record.
 
 ghost use Rattle.std.specs.Prelude.{◌≡◌, ℕ, ◌≤◌, length, Option, Some};
 ghost use Rattle.mb_format.specs.Format.{Format};
 ghost use Rattle.mb_format.specs.Reading.{IsExact};
+ghost use Rattle.mb_model.specs.declared.limits.TheConstants.{FILE_LIMIT};
 ghost use Rattle.mb_bytes.specs.Reads.{Reads, ReadsExactly, ReadsWhole};
 ghost use Rattle.mb_bytes.specs.Puts.{Puts, Writes};
 
 use mb_bytes::Cursor;
 use mb_model::NoMemory;
 
-/// A record with its format.
+/// A stored record with its format.
 pub trait Record: Drop {
-    /// What reading one needs: an allocator, or nothing.
+    /// What reading a record needs: an allocator, or nothing.
     type Needs: Drop;
-    /// Why none was read.
+    /// Why no record was read.
     type End: Drop;
 
     ghost format: { Format Self };
 
     ghost points: { Self.End → Option ℕ };
 
-    /// The record at the cursor's offset; after an error the cursor may stand anywhere. Where reading takes memory, an
-    /// allocation may fail, of which no clause says when.
+    /// Reads the record at the cursor's offset; after an error the cursor may stand anywhere. If reading takes memory,
+    /// an allocation may fail.
     fn read_at(needs: Self::Needs, cursor: &mut Cursor<'_>) -> Result<Self, Self::End>
         ensures { Reads points format cursor.old result cursor.new };
 
@@ -29,7 +30,7 @@ pub trait Record: Drop {
     fn bad(at: u32) -> Self::End
         ensures { points result ≡ Some at };
 
-    /// Appends the spelling, or a part of it where there is no memory.
+    /// Appends the spelling, or a part of it if memory lacks.
     fn put(&self, out: &mut Vec<u8>) -> Result<(), NoMemory>
         requires { format.Allowed self.now }
         ensures { Puts (format.spelling self.now) out.old result out.new };
@@ -37,7 +38,7 @@ pub trait Record: Drop {
     ghost exact: { IsExact format };
 }
 
-/// The record at the cursor's offset. After an error the cursor stands where it stood.
+/// Reads the record at the cursor's offset. After an error the cursor is unchanged.
 pub fn read_record<T: Record>(needs: T::Needs, cursor: &mut Cursor<'_>) -> Result<T, T::End>
     ensures { ReadsExactly T.points T.format cursor.old result cursor.new }
 {
@@ -47,9 +48,9 @@ pub fn read_record<T: Record>(needs: T::Needs, cursor: &mut Cursor<'_>) -> Resul
     Ok(value)
 }
 
-/// The record that is spelled by the whole of the bytes.
+/// The record that these bytes spell.
 pub fn whole_record<T: Record>(needs: T::Needs, bytes: &[u8]) -> Result<T, T::End>
-    requires { length bytes.now ≤ 4194304 }
+    requires { length bytes.now ≤ FILE_LIMIT }
     ensures { ReadsWhole T.points T.format bytes.now result }
 {
     let mut cursor = Cursor::new(bytes);

@@ -4,6 +4,7 @@ ghost use Rattle.std.specs.Prelude.{◌≡◌, ◌≤◌, ◌<◌, length};
 ghost use Rattle.std.specs.List.{All};
 ghost use Rattle.std.specs.Int.{w8};
 ghost use Rattle.mb_format.specs.Combinators.{between, sized_that};
+ghost use Rattle.mb_model.specs.declared.limits.TheConstants.{FILE_LIMIT, NAME_LIMIT};
 ghost use Rattle.mb_model.specs.RegionFormat.{is_name, secret_format, secrets_format, least_keys, keys_format, region_format};
 ghost use Rattle.mb_bytes.specs.Reads.{bad_at, Reads, ReadsAs, ReadsExactly, ReadsWhole};
 ghost use Rattle.mb_bytes.specs.Puts.{Puts, Writes};
@@ -14,17 +15,16 @@ ghost use Rattle.mb_layout.specs.Uncopied.{secret_in};
 use crate::end::LayoutEnd;
 use crate::records::{Record, read_record, whole_record, write_record};
 use crate::root::{put_region_key, region_key_at, version_at};
-use mb_bytes::{Cursor, bytes_after_u8, put_after_u8, put_slice, put_u8, put_u32, u8_between};
-use mb_model::{BadRecord, Bytes, Items, NoMemory, Region, RegionKey, RegionKeys, Secret, Secrets};
+use mb_bytes::{
+    Cursor, bytes_after_u8, is_name, put_after_u8, put_slice, put_u8, put_u32, u8_between,
+};
+use mb_model::{
+    BadRecord, Bytes, Items, KEY_LIMIT, NAME_LIMIT, NoMemory, Region, RegionKey, RegionKeys,
+    SECRET_LIMIT, Secret, Secrets, VALUE_LIMIT,
+};
 use std::alloc::Global;
 
-/// The most secrets of a region.
-pub const SECRETS: u8 = 16;
-
-/// The most keys of a region.
-pub const KEYS: u8 = 8;
-
-/// A secret where it stands, not copied.
+/// A secret in place, not copied.
 #[derive(Clone, Copy)]
 pub struct StoredSecret<'a> {
     pub name: &'a [u8],
@@ -32,17 +32,12 @@ pub struct StoredSecret<'a> {
     pub born: u32,
 }
 
-fn is_name(name: &[u8]) -> bool
-    ensures { result ≡ is_name name.now }
-{
-    name.iter().all(|byte| (0x21..=0x7E).contains(byte))
-}
-
-/// A name of 1 to 32 bytes that print and are no space, after its length.
+/// A name after its length: 1 to 32 printable bytes, none of them a space.
 fn name_at<'a>(cursor: &mut Cursor<'a>) -> Result<&'a [u8], BadRecord>
-    ensures { ReadsAs (λ slice. slice.now) bad_at (sized_that is_name (between w8 1 32)) cursor.old result cursor.new }
+    ensures { ReadsAs (λ slice. slice.now) bad_at
+        (sized_that is_name (between w8 1 NAME_LIMIT)) cursor.old result cursor.new }
 {
-    let length = u8_between(cursor, 1, 32)?;
+    let length = u8_between(cursor, 1, NAME_LIMIT)?;
     let at = cursor.offset();
     let name = cursor.take_slice(length as u32)?;
     if is_name(name) {
@@ -52,13 +47,13 @@ fn name_at<'a>(cursor: &mut Cursor<'a>) -> Result<&'a [u8], BadRecord>
     }
 }
 
-/// A secret, not copied.
+/// Reads a secret, and does not copy it.
 #[tactic(auto, unfolding(mb_model::specs::RegionFormat::secret_format))]
 pub fn stored_secret_at<'a>(cursor: &mut Cursor<'a>) -> Result<StoredSecret<'a>, BadRecord>
     ensures { ReadsAs secret_in bad_at secret_format cursor.old result cursor.new }
 {
     let name = name_at(cursor)?;
-    let value = bytes_after_u8(cursor, 0, 128)?;
+    let value = bytes_after_u8(cursor, 0, VALUE_LIMIT)?;
     let born = cursor.take_u32()?;
     Ok(StoredSecret { name, value, born })
 }
@@ -78,7 +73,7 @@ fn secret_at(alloc: Global, cursor: &mut Cursor<'_>) -> Result<Secret, LayoutEnd
 fn secrets_at(alloc: Global, cursor: &mut Cursor<'_>) -> Result<Secrets, LayoutEnd>
     ensures { Reads layout_at secrets_format cursor.old result cursor.new }
 {
-    let count = u8_between(cursor, 0, SECRETS)?;
+    let count = u8_between(cursor, 0, SECRET_LIMIT)?;
     let mut secrets = Items::new(alloc);
     for _i in 0..count {
         secrets.push(secret_at(alloc, cursor)?)?;
@@ -90,7 +85,7 @@ fn secrets_at(alloc: Global, cursor: &mut Cursor<'_>) -> Result<Secrets, LayoutE
 fn keys_at(alloc: Global, cursor: &mut Cursor<'_>, least: u8) -> Result<RegionKeys, LayoutEnd>
     ensures { Reads layout_at (keys_format least) cursor.old result cursor.new }
 {
-    let count = u8_between(cursor, least, KEYS)?;
+    let count = u8_between(cursor, least, KEY_LIMIT)?;
     let mut keys = Items::new(alloc);
     for _i in 0..count {
         keys.push(region_key_at(cursor)?)?;
@@ -98,7 +93,7 @@ fn keys_at(alloc: Global, cursor: &mut Cursor<'_>, least: u8) -> Result<RegionKe
     Ok(keys)
 }
 
-/// The least number of keys beside these secrets: a region without any has no record.
+/// The least number of keys beside these secrets: a region without secrets and keys has no record.
 fn least_keys(secrets: &Secrets) -> u8
     ensures { result ≡ least_keys secrets.now }
 {
@@ -139,7 +134,7 @@ fn put_secrets(out: &mut Vec<u8>, secrets: &Secrets) -> Result<(), NoMemory>
     Ok(())
 }
 
-/// Appends the number of the keys, in a byte, and the keys.
+/// Appends the number of keys, in a byte, and the keys.
 #[tactic(auto, unfolding(mb_model::specs::RegionFormat::keys_format))]
 pub fn put_keys(out: &mut Vec<u8>, keys: &[RegionKey]) -> Result<(), NoMemory>
     requires { length keys.now < 256 }
@@ -191,27 +186,24 @@ impl Record for Region {
     ghost exact = { region_exact };
 }
 
-/// The region record that is spelled at the cursor's offset; the cursor then stands after it. Else `Bad` with the place
-/// of the first field that lacks bytes or is not allowed, or `NoMemory` where an allocation fails, of which no clause
-/// says when, and the cursor is unchanged.
+/// The region record spelled at the cursor's offset; the cursor then stands after it. After an error the cursor is
+/// unchanged: `Bad` with the offset of the first field that lacks bytes or is not allowed, or `NoMemory`.
 pub fn read_region(alloc: Global, c: &mut Cursor<'_>) -> Result<Region, LayoutEnd>
     ensures { ReadsExactly layout_at region_format c.old result c.new }
 {
     read_record(alloc, c)
 }
 
-/// The region record that the whole of the bytes spells; else `Bad` with the place of the first field that lacks bytes
-/// or is not allowed, or of the first byte after the last field, or `NoMemory` where an allocation fails, of which no
-/// clause says when. There are at most 4,194,304 bytes.
+/// The region record that these bytes spell, at most 4,194,304 of them. Else `Bad` with the offset of the first field
+/// that lacks bytes or is not allowed, or of the first byte after the last field; or `NoMemory`.
 pub fn region_of_bytes(alloc: Global, bytes: &[u8]) -> Result<Region, LayoutEnd>
-    requires { length bytes.now ≤ 4194304 }
+    requires { length bytes.now ≤ FILE_LIMIT }
     ensures { ReadsWhole layout_at region_format bytes.now result }
 {
     whole_record(alloc, bytes)
 }
 
-/// Appends the spelling of the region record, or leaves `out` as it was. Where the capacity of `out` holds it, the answer
-/// is Ok.
+/// Appends the spelling of the region record, or leaves `out` as it was. `Ok` if the capacity of `out` holds it.
 pub fn write_region(region: &Region, out: &mut Vec<u8>) -> Result<(), NoMemory>
     requires { region_format.Allowed region.now }
     ensures { Writes (region_format.spelling region.now) out.old result out.new }

@@ -1,39 +1,36 @@
 //! The buffers in which a device works.
 
 ghost use Rattle.std.specs.Prelude.{◌≡◌, ◌≤◌, [], length, vec_len, vec_capacity, IfOk};
+ghost use Rattle.mb_model.specs.declared.limits.TheConstants.{AREA_LENGTH};
 ghost use Rattle.mb_model.specs.Memory.{IsBlank};
 
-use mb_model::NoMemory;
+use crate::area::PUBLIC_LIMIT;
+use mb_model::{AREA_LENGTH, NoMemory};
 use std::alloc::Global;
-
-/// The most bytes of the public record.
-const PUBLIC_ROOM: usize = 470_000;
-
-/// The number of bytes of an area of the battery-backed memory.
-const AREA_ROOM: usize = 4_096;
 
 /// The buffers in which a device works. They always have room for all that it writes: 470,000, 4,096 and 4,096 bytes.
 #[derive(Drop)]
 pub struct Room {
     /// The public record that is written next.
     pub public: Vec<u8>,
-    /// Working space, on which nobody relies after a call.
+    /// Working space; no caller relies on it after a call.
     pub area: Vec<u8>,
     /// More working space.
     pub other: Vec<u8>,
     ghost public_room: { 470000 ≤ vec_capacity public },
-    ghost area_room: { 4096 ≤ vec_capacity area },
-    ghost other_room: { 4096 ≤ vec_capacity other },
+    ghost area_room: { AREA_LENGTH ≤ vec_capacity area },
+    ghost other_room: { AREA_LENGTH ≤ vec_capacity other },
 }
 
 impl Room {
-    /// Empty buffers with their room. `NoMemory` where an allocation fails, of which no clause says when.
+    /// Empty buffers with their room. `NoMemory` if an allocation fails.
     pub fn new(alloc: Global) -> Result<Room, NoMemory>
-        ensures { IfOk result (λ room. (room.public.items ≡ []) × (room.area.items ≡ []) × (room.other.items ≡ [])) }
+        ensures { IfOk result (λ room. (room.public.items ≡ []) × (room.area.items ≡ [])
+            × (room.other.items ≡ [])) }
     {
-        let public = Vec::with_capacity(alloc, PUBLIC_ROOM)?;
-        let area = Vec::with_capacity(alloc, AREA_ROOM)?;
-        let other = Vec::with_capacity(alloc, AREA_ROOM)?;
+        let public = Vec::with_capacity(alloc, PUBLIC_LIMIT)?;
+        let area = Vec::with_capacity(alloc, AREA_LENGTH)?;
+        let other = Vec::with_capacity(alloc, AREA_LENGTH)?;
         Ok(Room {
             public,
             area,
@@ -42,14 +39,15 @@ impl Room {
     }
 }
 
-/// Replaces the bytes of a buffer that has room for an area of the battery-backed memory by a blank one: 4,096 zeros.
+/// Replaces the bytes of a buffer by a blank area of the battery-backed memory: 4,096 zeros. The buffer has room for
+/// them.
 pub fn make_area(buffer: &mut Vec<u8>)
-    requires { 4096 ≤ vec_capacity buffer.old }
+    requires { AREA_LENGTH ≤ vec_capacity buffer.old }
     ensures blank { IsBlank buffer.new.items }
-    ensures length { length buffer.new.items ≡ 4096 }
-    ensures len { vec_len buffer.new ≡ 4096 }
+    ensures length { length buffer.new.items ≡ AREA_LENGTH }
+    ensures len { vec_len buffer.new ≡ AREA_LENGTH }
     ensures capacity { vec_capacity buffer.old ≤ vec_capacity buffer.new }
 {
     buffer.clear();
-    let _ = buffer.resize(AREA_ROOM, 0);
+    let _ = buffer.resize(AREA_LENGTH, 0);
 }

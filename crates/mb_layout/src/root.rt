@@ -1,8 +1,9 @@
-//! Root records as bytes, and the keys of regions, which stand in them too.
+//! Root records as bytes, and keys of regions, which stand in root records too.
 
 ghost use Rattle.std.specs.Prelude.{◌≤◌, [], ◌∷◌, length};
 ghost use Rattle.std.specs.Int.{w8};
 ghost use Rattle.mb_format.specs.Combinators.{mark, number, optional};
+ghost use Rattle.mb_model.specs.declared.limits.TheConstants.{FILE_LIMIT};
 ghost use Rattle.mb_model.specs.RootFormat.{region_key_format, outgoing_format, add_tag, fate_by, fate_format, pending_format, root_format};
 ghost use Rattle.mb_bytes.specs.Reads.{bad_at, Reads, ReadsExactly, ReadsWhole};
 ghost use Rattle.mb_bytes.specs.Puts.{Puts, Writes};
@@ -13,15 +14,12 @@ use mb_bytes::{
     Cursor, flag_at, key_kind_at, key_seed_at, put_flag, put_key_kind, put_key_seed, put_slice,
     put_u8, put_u32, u8_between,
 };
-use mb_model::{BadRecord, Fate, NoMemory, Outgoing, Pending, RegionKey, Root};
+use mb_model::{BadRecord, Fate, KEY_USES, NoMemory, Outgoing, Pending, RegionKey, Root};
 
 /// The version of the records.
 const VERSION: u8 = 1;
 
-/// How many indices a key has.
-const INDICES: u8 = 32;
-
-/// The version of a record, in a byte.
+/// Reads the version of a record, in a byte.
 pub fn version_at(cursor: &mut Cursor<'_>) -> Result<(), BadRecord>
     ensures { Reads bad_at (mark (1 ∷ [])) cursor.old result cursor.new }
 {
@@ -33,7 +31,7 @@ pub fn version_at(cursor: &mut Cursor<'_>) -> Result<(), BadRecord>
     Ok(())
 }
 
-/// A key of a region.
+/// Reads a key of a region.
 #[tactic(auto, unfolding(mb_model::specs::RootFormat::region_key_format))]
 pub fn region_key_at(cursor: &mut Cursor<'_>) -> Result<RegionKey, BadRecord>
     ensures { Reads bad_at region_key_format cursor.old result cursor.new }
@@ -41,7 +39,7 @@ pub fn region_key_at(cursor: &mut Cursor<'_>) -> Result<RegionKey, BadRecord>
     let number = cursor.take_u32()?;
     let kind = key_kind_at(cursor)?;
     let seed = key_seed_at(cursor)?;
-    let uses = u8_between(cursor, 0, INDICES)?;
+    let uses = u8_between(cursor, 0, KEY_USES)?;
     Ok(RegionKey {
         number,
         kind,
@@ -55,7 +53,7 @@ fn outgoing_at(cursor: &mut Cursor<'_>) -> Result<Outgoing, BadRecord>
     ensures { Reads bad_at outgoing_format cursor.old result cursor.new }
 {
     let seed = key_seed_at(cursor)?;
-    let uses = u8_between(cursor, 1, INDICES)?;
+    let uses = u8_between(cursor, 1, KEY_USES)?;
     Ok(Outgoing {
         seed,
         uses: uses as u32,
@@ -126,7 +124,7 @@ fn root_at(cursor: &mut Cursor<'_>) -> Result<Root, BadRecord>
     let area = u8_between(cursor, 0, 1)?;
     let serial = cursor.take_array()?;
     let device = key_seed_at(cursor)?;
-    let uses = u8_between(cursor, 0, INDICES)?;
+    let uses = u8_between(cursor, 0, KEY_USES)?;
     let pending = some_pending_at(cursor)?;
     Ok(Root {
         area,
@@ -137,7 +135,7 @@ fn root_at(cursor: &mut Cursor<'_>) -> Result<Root, BadRecord>
     })
 }
 
-/// Appends how many indices of a key are used, in a byte: the low one of a number that needs more.
+/// Appends the number of used indices of a key, in a byte: the low one of a number that needs more.
 fn put_uses(out: &mut Vec<u8>, uses: u32) -> Result<(), NoMemory>
     ensures { Puts ((number w8).spelling uses) out.old result out.new }
 {
@@ -252,25 +250,24 @@ impl Record for Root {
     ghost exact = { root_exact };
 }
 
-/// The root record that is spelled at the cursor's offset; the cursor then stands after it. Else the place of the first
-/// field that lacks bytes or is not allowed, and the cursor is unchanged.
+/// The root record spelled at the cursor's offset; the cursor then stands after it. Else the offset of the first field
+/// that lacks bytes or is not allowed, and the cursor is unchanged.
 pub fn read_root(c: &mut Cursor<'_>) -> Result<Root, BadRecord>
     ensures { ReadsExactly bad_at root_format c.old result c.new }
 {
     read_record((), c)
 }
 
-/// The root record that the whole of the bytes spells; else the place of the first field that lacks bytes or is not
-/// allowed, or of the first byte after the last field. There are at most 4,194,304 bytes.
+/// The root record that these bytes spell, at most 4,194,304 of them. Else the offset of the first field that lacks
+/// bytes or is not allowed, or of the first byte after the last field.
 pub fn root_of_bytes(bytes: &[u8]) -> Result<Root, BadRecord>
-    requires { length bytes.now ≤ 4194304 }
+    requires { length bytes.now ≤ FILE_LIMIT }
     ensures { ReadsWhole bad_at root_format bytes.now result }
 {
     whole_record((), bytes)
 }
 
-/// Appends the spelling of the root record, or leaves `out` as it was. Where the capacity of `out` holds it, the answer is
-/// Ok.
+/// Appends the spelling of the root record, or leaves `out` as it was. `Ok` if the capacity of `out` holds it.
 pub fn write_root(root: &Root, out: &mut Vec<u8>) -> Result<(), NoMemory>
     requires { root_format.Allowed root.now }
     ensures { Writes (root_format.spelling root.now) out.old result out.new }

@@ -2,22 +2,22 @@
 
 ghost use Rattle.std.specs.Prelude.{◌≡◌, ◌+◌, ◌<◌, ◌≤◌, [], ◌∷◌, ◌++◌, length, filter, find, if◌then◌else◌};
 ghost use Rattle.std.specs.List.{All, list_any};
+ghost use Rattle.mb_model.specs.declared.limits.TheConstants.{KEY_LIMIT};
 ghost use Rattle.mb_model.specs.Regions.{is_epoch};
 ghost use Rattle.mb_model.specs.LayerEvents.{has_number, with_use};
 ghost use Rattle.mb_model.specs.RegionFormat.{keys_format};
 ghost use Rattle.mb_bytes.specs.Reads.{bad_at, Reads};
 ghost use Rattle.mb_layout.specs.Bounds.{HasByteUses};
 
-use crate::region::KEYS;
 use crate::root::region_key_at;
 use mb_bytes::{Cursor, u8_between};
-use mb_model::{BadRecord, KeyKind, KeySeed, RegionKey};
+use mb_model::{BadRecord, KEY_LIMIT, KeyKind, KeySeed, RegionKey};
 use std::marker::Model;
 
 /// The most keys of a row.
-const ROOM: usize = 8;
+const ROOM: usize = KEY_LIMIT as usize;
 
-/// What stands in a row where no key was put yet.
+/// Fills the places of a row that hold no key yet.
 const NO_KEY: RegionKey = RegionKey {
     number: 0,
     kind: KeyKind::Epoch,
@@ -31,19 +31,20 @@ const NO_KEY: RegionKey = RegionKey {
 /// At most eight keys, which contracts see as a list.
 #[derive(Drop)]
 pub struct KeyRow {
-    keys: [RegionKey; 8],
+    keys: [RegionKey; ROOM],
     count: usize,
 }
 
 impl Model for KeyRow {
     ghost use Rattle.std.specs.Prelude.{◌≤◌, List, take};
+    ghost use Rattle.mb_model.specs.declared.limits.TheConstants.{KEY_LIMIT};
     ghost use Rattle.mb_model.specs.declared.region.RegionKey.{RegionKey};
 
     ghost Value = { List RegionKey };
 
     ghost view = { λ row. take row.count row.keys };
 
-    ghost invariant = { λ row. row.count ≤ 8 };
+    ghost invariant = { λ row. row.count ≤ KEY_LIMIT };
 }
 
 impl KeyRow {
@@ -60,14 +61,14 @@ impl KeyRow {
     /// The keys.
     pub fn as_slice(&self) -> &[RegionKey]
         ensures keys { result.now ≡ self.now }
-        ensures most { length result.now ≤ 8 }
+        ensures most { length result.now ≤ KEY_LIMIT }
     {
         &self.keys[..self.count]
     }
 
-    /// Puts a key after the others.
+    /// Appends a key.
     pub fn push(&mut self, key: RegionKey)
-        requires { length self.old < 8 }
+        requires { length self.old < KEY_LIMIT }
         ensures { self.new ≡ self.old ++ key ∷ [] }
     {
         let keys = &mut self.keys;
@@ -76,12 +77,12 @@ impl KeyRow {
     }
 }
 
-/// The keys after a byte for their number, from `least` to 8.
+/// Reads keys after a byte for their number, from `least` to 8.
 #[tactic(auto, unfolding(mb_model::specs::RegionFormat::keys_format))]
 pub fn key_row_at(cursor: &mut Cursor<'_>, least: u8) -> Result<KeyRow, BadRecord>
     ensures { Reads bad_at (keys_format least) cursor.old result cursor.new }
 {
-    let count = u8_between(cursor, least, KEYS)?;
+    let count = u8_between(cursor, least, KEY_LIMIT)?;
     let mut keys = KeyRow::new();
     for _i in 0..count {
         keys.push(region_key_at(cursor)?);
@@ -90,7 +91,7 @@ pub fn key_row_at(cursor: &mut Cursor<'_>, least: u8) -> Result<KeyRow, BadRecor
 }
 
 fn put_epoch(kept: &mut KeyRow, key: &RegionKey)
-    requires { length kept.old < 8 }
+    requires { length kept.old < KEY_LIMIT }
     ensures { kept.new ≡ kept.old ++ (if is_epoch key.now.kind then key.now ∷ [] else []) }
 {
     match key.kind {
@@ -101,7 +102,7 @@ fn put_epoch(kept: &mut KeyRow, key: &RegionKey)
 
 /// The keys without those of configurations.
 pub fn epoch_keys(keys: &[RegionKey]) -> KeyRow
-    requires { length keys.now ≤ 8 }
+    requires { length keys.now ≤ KEY_LIMIT }
     ensures { result ≡ filter (λ key. is_epoch key.kind) keys.now }
 {
     let mut kept = KeyRow::new();
@@ -112,7 +113,9 @@ pub fn epoch_keys(keys: &[RegionKey]) -> KeyRow
 }
 
 fn used_once(key: &RegionKey, number: u32) -> RegionKey
-    ensures { HasByteUses key.now → result ≡ (if has_number number key.now then record key.now { uses = key.now.uses + 1 } else key.now) }
+    ensures { HasByteUses key.now
+        → result
+        ≡ (if has_number number key.now then record key.now { uses = key.now.uses + 1 } else key.now) }
 {
     let mut used = *key;
     if used.number == number {
@@ -121,10 +124,10 @@ fn used_once(key: &RegionKey, number: u32) -> RegionKey
     used
 }
 
-/// The keys, of which those of the number have been used once more; their uses fit into a byte.
+/// The keys, each key of this number with one more use. Uses fit into a byte.
 #[tactic(auto, unfolding(mb_model::specs::LayerEvents::with_use))]
 pub fn used_keys(keys: &[RegionKey], number: u32) -> KeyRow
-    requires { length keys.now ≤ 8 }
+    requires { length keys.now ≤ KEY_LIMIT }
     ensures { All HasByteUses keys.now → result ≡ with_use number keys.now }
 {
     let mut used = KeyRow::new();
@@ -140,7 +143,7 @@ fn is_numbered(key: &RegionKey, number: u32) -> bool
     key.number == number
 }
 
-/// The first key of the number.
+/// The first key of this number.
 pub fn key_of(keys: &[RegionKey], number: u32) -> Option<RegionKey>
     ensures { result ≡ find (has_number number) keys.now }
 {
@@ -152,7 +155,7 @@ pub fn key_of(keys: &[RegionKey], number: u32) -> Option<RegionKey>
     None
 }
 
-/// Whether there is a key of the number.
+/// Whether there is a key of this number.
 pub fn has_key(keys: &[RegionKey], number: u32) -> bool
     ensures { result ≡ list_any (has_number number) keys.now }
 {

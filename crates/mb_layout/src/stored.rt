@@ -1,36 +1,37 @@
-//! Stored regions, of which only the keys are decoded.
+//! Stored regions in place: only their keys are decoded.
 
 ghost use Rattle.std.specs.Prelude.{◌≡◌, ◌≤◌, [], ◌∷◌, List, ◌++◌, length, vec_capacity};
+ghost use Rattle.mb_model.specs.declared.limits.TheConstants.{FILE_LIMIT, KEY_LIMIT};
 ghost use Rattle.mb_model.specs.declared.region.Region.{Region};
 ghost use Rattle.mb_model.specs.declared.region.Secret.{Secret};
 ghost use Rattle.mb_model.specs.RegionFormat.{least_keys, secrets_format, keys_format, SpellsRegion};
 ghost use Rattle.mb_bytes.specs.Puts.{Puts};
 ghost use Rattle.mb_layout.specs.Edits.{CanBeStored};
 ghost use Rattle.mb_layout.specs.Walks.{PassesOver};
-ghost use Rattle.mb_layout.specs.StoredRegion.{IsStoredAs, Walks, TakesApart};
+ghost use Rattle.mb_layout.specs.StoredRegion.{IsStoredAs, Walks, TakesApart, CountsKeys};
 
-use crate::region::{SECRETS, put_keys, stored_secret_at};
+use crate::region::{put_keys, stored_secret_at};
 use crate::root::version_at;
 use crate::row::{KeyRow, key_row_at};
 use mb_bytes::{Cursor, put_slice, u8_between};
-use mb_model::{BadRecord, NoMemory, RegionKey};
+use mb_model::{BadRecord, NoMemory, RegionKey, SECRET_LIMIT};
 
-/// A stored region: its secrets as they stand, and its keys.
+/// A stored region: the bytes of its secrets, and its keys.
 #[derive(Drop)]
 pub struct StoredRegion<'a> {
-    /// The number of the secrets, in a byte, and the secrets.
+    /// The number of secrets, in a byte, and the secrets.
     pub secrets: &'a [u8],
-    /// The least number of keys beside these secrets: a region without any has no record.
+    /// The least number of keys beside these secrets: a region without secrets and keys has no record.
     pub least: u8,
     pub keys: KeyRow,
 }
 
-/// Moves the cursor past the secrets, which are not copied, and tells how many they are.
+/// Moves the cursor past the secrets, without copying them, and returns their number.
 #[tactic(auto, unfolding(mb_model::specs::RegionFormat::secrets_format))]
 fn pass_secrets(cursor: &mut Cursor<'_>) -> Result<u8, BadRecord>
     ensures { PassesOver secrets_format cursor.old result cursor.new }
 {
-    let count = u8_between(cursor, 0, SECRETS)?;
+    let count = u8_between(cursor, 0, SECRET_LIMIT)?;
     for _i in 0..count {
         stored_secret_at(cursor)?;
     }
@@ -45,7 +46,7 @@ fn least_beside(count: u8) -> u8
 }
 
 fn walk(bytes: &[u8]) -> Result<StoredRegion<'_>, BadRecord>
-    requires { length bytes.now ≤ 4194304 }
+    requires { length bytes.now ≤ FILE_LIMIT }
     ensures { Walks bytes.now result }
 {
     let mut cursor = Cursor::new(bytes);
@@ -75,9 +76,9 @@ pub fn no_region() -> StoredRegion<'static>
     }
 }
 
-/// The region for which the bytes stand; `None` only where they stand for none.
+/// The region for which the bytes stand; `None` only if they stand for none.
 pub fn stored_region(bytes: &[u8]) -> Option<StoredRegion<'_>>
-    requires { length bytes.now ≤ 4194304 }
+    requires { length bytes.now ≤ FILE_LIMIT }
     ensures { TakesApart bytes.now result }
 {
     if bytes.is_empty() {
@@ -89,20 +90,32 @@ pub fn stored_region(bytes: &[u8]) -> Option<StoredRegion<'_>>
     }
 }
 
+/// Counts the keys of the region for which the bytes stand; `None` only if they stand for none.
+pub fn count_keys(bytes: &[u8]) -> Option<u32>
+    requires { length bytes.now ≤ FILE_LIMIT }
+    ensures { CountsKeys bytes.now result }
+{
+    let stored = stored_region(bytes)?;
+    Some(stored.keys.as_slice().len() as u32)
+}
+
 fn put_stored(out: &mut Vec<u8>, secrets: &[u8], keys: &[RegionKey]) -> Result<(), NoMemory>
-    requires { length keys.now ≤ 8 }
-    ensures { Puts ((1 ∷ []) ++ (secrets.now ++ (keys_format 0).spelling keys.now)) out.old result out.new }
+    requires { length keys.now ≤ KEY_LIMIT }
+    ensures { Puts ((1 ∷ []) ++ (secrets.now ++
+        (keys_format 0).spelling keys.now)) out.old result out.new }
 {
     put_slice(out, &[1])?;
     put_slice(out, secrets)?;
     put_keys(out, keys)
 }
 
-/// Replaces `out` by the record of the region, or by no bytes where it is empty.
+/// Replaces `out` by the record of the region, or by no bytes if it is empty.
 pub fn store(stored: &StoredRegion<'_>, out: &mut Vec<u8>)
     requires { 3091 ≤ vec_capacity out.old }
-    ensures stored { (region : Region) → IsStoredAs stored.now region → CanBeStored region → SpellsRegion out.new.items region }
-    ensures capacity { (region : Region) → IsStoredAs stored.now region → CanBeStored region → vec_capacity out.old ≤ vec_capacity out.new }
+    ensures stored { (region : Region) → IsStoredAs stored.now region → CanBeStored region
+        → SpellsRegion out.new.items region }
+    ensures capacity { (region : Region) → IsStoredAs stored.now region → CanBeStored region
+        → vec_capacity out.old ≤ vec_capacity out.new }
 {
     out.clear();
     if stored.keys.as_slice().len() < stored.least as usize {

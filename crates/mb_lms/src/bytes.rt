@@ -7,7 +7,7 @@ ghost use Rattle.sha2.specs.Hashers.{Holds256};
 
 use sha2::{Digest, Sha256};
 
-/// The number in the four bytes from `at` on, high byte first.
+/// The number in the four bytes from `at` on, big-endian.
 pub(crate) fn u32_at(bytes: &[u8], at: usize) -> u32
     requires { at + 4 ≤ length bytes.now }
     ensures { result ≡ from_be_bytes w32 (take 4 (drop at bytes.now)) }
@@ -17,7 +17,7 @@ pub(crate) fn u32_at(bytes: &[u8], at: usize) -> u32
     u32::from_be_bytes(word)
 }
 
-/// The 32 bytes with the number `i` in a row of such values.
+/// Value `i` in a row of values of 32 bytes each.
 pub(crate) fn value_at(values: &[u8], i: usize) -> [u8; 32]
     requires { 32 * i + 32 ≤ length values.now }
     ensures { result ≡ value_at values.now i }
@@ -27,7 +27,7 @@ pub(crate) fn value_at(values: &[u8], i: usize) -> [u8; 32]
     value
 }
 
-/// A hash begun with an identifier, a number and the mark of what is hashed (RFC 8554, section 7.1).
+/// A hasher that has taken an identifier, a number and a mark (RFC 8554, section 7.1).
 pub(crate) fn begun(identifier: &[u8; 16], number: u32, mark: [u8; 2]) -> Sha256
     ensures { Holds256 result (identifier.now ++ to_be_bytes w32 number ++ mark) }
 {

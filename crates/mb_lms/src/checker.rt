@@ -20,7 +20,7 @@ impl Checker {
     ghost use Rattle.mb_model.specs.Merkle.{HasForm};
     ghost use Rattle.mb_lms.specs.Checking.{IsChecking};
 
-    /// Begins to check a signature, before its text; none where the signature has not the form of the key's.
+    /// Begins to check a signature, before its text; `None` if it does not have the form of the key's signatures.
     pub fn begin(key: &PublicKey, sig: &[u8]) -> Option<Checker>
         ensures form { IsSome result ↔ HasForm key.now sig.now }
         ensures checking { IfSome result (λ checker. IsChecking checker key.now sig.now []) }
@@ -34,14 +34,14 @@ impl Checker {
         })
     }
 
-    /// Takes in the next piece of the text.
+    /// Takes the next piece of the text.
     pub fn feed(&mut self, piece: &[u8])
         ensures { (key : PublicKey) (sig text : List ℕ) → IsChecking self.old key sig text → IsChecking self.new key sig (text ++ piece.now) }
     {
         self.hasher.update(piece);
     }
 
-    /// Whether the signature, which is the one that was given to `begin`, is one of the text that was fed.
+    /// Whether the signature, the one that `begin` was given, is a signature of the text that was fed.
     pub fn finish(self, sig: &[u8]) -> bool
         ensures { (key : PublicKey) (text : List ℕ) → IsChecking self key sig.now text → (IsTrue result ↔ Verifies key text sig.now) }
     {

@@ -8,7 +8,8 @@ use std::alloc::Global;
 use std::marker::Model;
 use std::sync::ledger::{Blank, Book, Ledger, Share};
 
-/// How many hashes were taken. It takes no bytes, and `hash` alone raises it. It can be neither copied nor set back.
+/// The number of hashes that were taken. The count occupies no bytes, and only `hash` raises it. It can be neither
+/// copied nor reset.
 #[derive(Drop)]
 pub struct HashCount<L: Ledger> {
     book: Book<L>,
@@ -26,9 +27,9 @@ impl<L: Ledger> Model for HashCount<L> {
 }
 
 impl<L: Ledger> HashCount<L> {
-    /// A count of none yet, over a ledger of at least one part. It takes no memory. The allocator is a permission,
-    /// which a function has only where its caller gives it: no call that hashes is given one, here or in `mb_signer`,
-    /// so that none can begin a count of its own beside its caller's.
+    /// A count of no hashes, over a ledger of at least one part. It takes no memory. The allocator is a permission, which
+    /// a function has only if its caller gives it: no call that hashes is given one, here or in `mb_signer`, so that
+    /// none can begin a count of its own beside its caller's.
     pub fn begin(_permission: Global, blank: Blank) -> HashCount<L>
         requires name { blank.name ≡ L.name }
         requires parts { blank.parts ≡ L.parts }

@@ -11,8 +11,8 @@ use mb_bytes::{chains_type, put_at, tree_type};
 use mb_model::PublicKey;
 use sha2::{Digest, Sha256};
 
-/// The key that the bytes spell: the LMS type, the LM-OTS type, the identifier and the root. None exactly where a type
-/// number is not one of the tables (RFC 8554, sections 4.1 and 5.1).
+/// The key that the bytes spell: the LMS type, the LM-OTS type, the identifier and the root. `None` exactly if a type
+/// number is not in the tables (RFC 8554, sections 4.1 and 5.1).
 pub fn parse_key(bytes: &[u8; 56]) -> Option<PublicKey>
     ensures { MatchOption result ((key : PublicKey) → IsSized key → key_bytes key ≡ bytes.now → ⊥) (λ key. IsSized key × (key_bytes key ≡ bytes.now)) }
 {

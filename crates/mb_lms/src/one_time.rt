@@ -9,13 +9,11 @@ ghost use Rattle.mb_model.specs.Winternitz.{coef, shortfall, checksum, digits_of
 use crate::bytes::{begun, value_at};
 use crate::parameters::{chain_count, greatest_digit, hash_digits};
 use mb_bytes::put_at;
+use mb_model::separators::ONE_TIME_KEY_MARK;
 use mb_model::{Chains, PublicKey};
 use sha2::{Digest, Sha256};
 
-/// D_PBLC (RFC 8554, section 7.1).
-const ONE_TIME_KEY_MARK: [u8; 2] = [0x80, 0x80];
-
-/// The digit with the number `i` (RFC 8554, section 3.1.3).
+/// Digit `i` (RFC 8554, section 3.1.3).
 #[tactic(auto, using(crate::proofs::Digits::digit_rules), unfolding(mb_model::specs::Winternitz::coef))]
 pub fn digit(chains: Chains, bytes: &[u8], i: u16) -> u8
     requires { i * digit_bits chains / 8 < length bytes.now }
@@ -31,7 +29,7 @@ pub fn digit(chains: Chains, bytes: &[u8], i: u16) -> u8
     }
 }
 
-/// By how much the digits of a hash fall short of the greatest digit, in all.
+/// The sum, over the digits of a hash, of how much each is below the greatest digit.
 #[tactic(auto, using(crate::proofs::Digits::shortfall_rules))]
 fn shortfall(chains: Chains, hash: &[u8; 32]) -> u16
     ensures value { result ≡ shortfall hash.now (digit_bits chains) (256 / digit_bits chains) }
@@ -59,7 +57,7 @@ fn checksum(chains: Chains, hash: &[u8; 32]) -> u16
     }
 }
 
-/// The digits that a signature signs: those of the hash, and then those of its checksum (RFC 8554, section 4.5).
+/// The bytes whose digits a signature signs: the hash, and then its checksum (RFC 8554, section 4.5).
 #[tactic(auto, unfolding(mb_model::specs::Winternitz::digits_of))]
 pub fn digits_of(chains: Chains, hash: &[u8; 32]) -> [u8; 34]
     ensures { result ≡ digits_of chains hash.now }
@@ -70,7 +68,7 @@ pub fn digits_of(chains: Chains, hash: &[u8; 32]) -> [u8; 34]
     digits
 }
 
-/// What every step of a chain hashes first: the identifier, the leaf's number and the chain's (RFC 8554, section 4.3).
+/// The first bytes that every step of a chain hashes: the identifier, the leaf's number and the chain's (RFC 8554, section 4.3).
 pub fn chain_prefix(identifier: &[u8; 16], q: u32, chain: u16) -> [u8; 22]
     ensures { result ≡ identifier.now ++ to_be_bytes w32 q ++ to_be_bytes w16 chain }
 {
@@ -92,7 +90,7 @@ fn chain_step(prefix: &[u8; 22], step: u8, value: &[u8; 32]) -> [u8; 32]
     Sha256::digest(text)
 }
 
-/// A chain's value taken through the steps from `first` up to, and without, `last`.
+/// The value of a chain after the steps from `first` on and before `last`.
 #[tactic(auto, using(crate::proofs::Digits::chain_rules))]
 fn chain_end(prefix: &[u8; 22], first: u8, last: u8, value: [u8; 32]) -> [u8; 32]
     requires { first ≤ last }

@@ -7,7 +7,7 @@ ghost use Rattle.mb_model.specs.Key.{tree_type, height, chains_type, digit_bits,
 
 use mb_model::{Chains, Tree};
 
-/// The tree of an LMS type number; none where it is not in the table.
+/// The tree of an LMS type number; `None` if it is not in the table.
 pub(crate) fn tree_of_type(number: u32) -> Option<Tree>
     ensures { MatchOption result ((tree : Tree) → tree_type tree ≡ number → ⊥) (λ tree. tree_type tree ≡ number) }
 {
@@ -35,7 +35,7 @@ pub(crate) fn height(tree: Tree) -> u32
     }
 }
 
-/// The chains of an LM-OTS type number; none where it is not in the table.
+/// The chains of an LM-OTS type number; `None` if it is not in the table.
 pub(crate) fn chains_of_type(number: u32) -> Option<Chains>
     ensures { MatchOption result ((chains : Chains) → chains_type chains ≡ number → ⊥) (λ chains. chains_type chains ≡ number) }
 {
@@ -48,7 +48,7 @@ pub(crate) fn chains_of_type(number: u32) -> Option<Chains>
     }
 }
 
-/// How many chains a one-time key has.
+/// The number of chains of a one-time key.
 pub(crate) fn chain_count(chains: Chains) -> u16
     ensures value { result ≡ chain_count chains }
     ensures bound { result ≤ 265 }
@@ -61,7 +61,7 @@ pub(crate) fn chain_count(chains: Chains) -> u16
     }
 }
 
-/// The greatest digit, which is the number of a chain's steps.
+/// The greatest digit: the number of steps of a chain.
 pub(crate) fn greatest_digit(chains: Chains) -> u8
     ensures { result ≡ 2 ^ digit_bits chains - 1 }
 {
@@ -73,7 +73,7 @@ pub(crate) fn greatest_digit(chains: Chains) -> u8
     }
 }
 
-/// How many digits the 256 bits of a hash make.
+/// The number of digits in the 256 bits of a hash.
 pub(crate) fn hash_digits(chains: Chains) -> u16
     ensures { result ≡ 256 / digit_bits chains }
 {

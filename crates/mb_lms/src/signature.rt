@@ -13,10 +13,8 @@ use crate::parameters::{chain_count, height};
 use crate::tree::{climb, leaf_node};
 use mb_bytes::{chains_type, tree_type};
 use mb_model::PublicKey;
+use mb_model::separators::MESSAGE_MARK;
 use sha2::{Digest, Sha256};
-
-/// D_MESG (RFC 8554, section 7.1).
-const MESSAGE_MARK: [u8; 2] = [0x81, 0x81];
 
 /// Whether the bytes have the form of the key's signatures: the length and the type numbers of the key's types, and a
 /// leaf that is in the tree.
@@ -32,7 +30,7 @@ pub(crate) fn has_form(key: &PublicKey, sig: &[u8]) -> bool
         && u32_at(sig, 0) < 1 << levels
 }
 
-/// A hash of what precedes the text that is signed (RFC 8554, section 4.5).
+/// A hasher that has taken all that precedes the signed text (RFC 8554, section 4.5).
 pub(crate) fn begun_text(key: &PublicKey, sig: &[u8]) -> Sha256
     requires { HasForm key.now sig.now }
     ensures { Holds256 result (key.now.identifier ++ to_be_bytes w32 (leaf_number sig.now) ++ message_mark ++ randomizer sig.now) }

@@ -1,13 +1,20 @@
--- How many entries a fact adds. Does the log have room for them?
+-- How many entries a fact adds. Does the log have room for them, and are the counts of the device in their ranges?
 use Rattle.std.specs.Prelude.{ℕ, ◌+◌, ◌≤◌, ◌==◌, Bool, not, ◌&&◌, if◌then◌else◌}
+use Rattle.mb_model.specs.declared.limits.TheConstants.{LAST_INDEX, ENTRY_LIMIT}
 use Rattle.mb_model.specs.declared.state.View.{View}
 use Rattle.mb_model.specs.declared.state.Fact.{Fact}
 use Rattle.mb_model.specs.OrderEffects.{names_next}
 
 -- how many entries are appended
 abbrev pub needed_with : ℕ → Bool → ℕ
-needed_with uses next = if uses == 31 && not next then 2 else 1
+needed_with uses next = if uses == LAST_INDEX && not next then 2 else 1
 
 -- the log has room for the entries of the fact
 abbrev pub HasRoom : View → Fact → Type 0
-HasRoom view fact = view.length + needed_with view.uses (names_next fact) ≤ 128
+HasRoom view fact = view.length + needed_with view.uses (names_next fact) ≤ ENTRY_LIMIT
+
+-- the device key has an index left, and the other counts are those of a log that fits
+pub record IsInRange (view : View) : Type 0 where
+  pub uses : view.uses ≤ LAST_INDEX
+  pub number : view.number ≤ ENTRY_LIMIT
+  pub keys_made : view.keys_made ≤ ENTRY_LIMIT

@@ -1,16 +1,18 @@
-//! What an order adds to a device: the entries that it appends, and the keys that it makes.
+//! The entries that an order appends to the log, and the keys that it makes.
 
 ghost use Rattle.std.specs.Prelude.{◌≡◌, ◌+◌, ◌<◌, ◌≤◌, [], ◌∷◌, ◌++◌, IfOk, OnErr, vec_len, vec_capacity, if◌then◌else◌};
+ghost use Rattle.mb_model.specs.declared.limits.TheConstants.{LAST_INDEX, ENTRY_LIMIT};
 ghost use Rattle.mb_model.specs.Signing.{public_of};
 ghost use Rattle.mb_model.specs.OrderEffects.{names_next, next_key, named_next, entry_of, device_after, uses_after};
 ghost use Rattle.mb_model.specs.Work.{ready_by, first_by, key_by, outgoing_by, bodies_by};
-ghost use Rattle.mb_log.specs.Additions.{needed_with, HasRoom};
+ghost use Rattle.mb_log.specs.Additions.{needed_with, HasRoom, IsInRange};
 
 use crate::keys::born;
 use mb_authority::renews;
 use mb_lms::HashCount;
 use mb_model::{
-    Bodies, Entries, Entry, Fact, KeyKind, KeySeed, NoMemory, Outgoing, PublicKey, RegionKey, View,
+    Bodies, Entries, Entry, Fact, KeyKind, KeySeed, LAST_INDEX, NoMemory, Outgoing, PublicKey,
+    RegionKey, View,
 };
 use mb_signer::public;
 use std::alloc::Global;
@@ -19,24 +21,23 @@ use std::sync::ledger::Ledger;
 /// The most entries that an order appends.
 const MOST: usize = 2;
 
-/// The last index of a device key, which signs only an entry that names the next.
-pub(crate) const LAST_INDEX: u32 = 31;
-
-/// How many entries an order appends, with `uses` indices of the device key used, where its own entry names the next
-/// device key or not: two where the last index is left for an entry that names none, else one.
+/// The number of entries that an order appends after `uses` uses of the device key. It is two if only the last index is
+/// left and the order's own entry does not name the next key: a succession comes first, since the last index signs only
+/// an entry that names the next key. Else it is one.
 pub fn needed(uses: u32, names_next: bool) -> u32
     ensures { result ≡ needed_with uses names_next }
 {
-    if uses == LAST_INDEX && !names_next {
+    if uses == LAST_INDEX as u32 && !names_next {
         2
     } else {
         1
     }
 }
 
-/// What the fact adds to a device, whose keys are made of the draw, in at most 68,798 hashes: those of two public keys.
+/// The entries and keys that the fact adds to a device, in at most 68,798 hashes: those of two public keys. New keys are
+/// derived from the draw.
 ///
-/// Errors: `NoMemory`, of which no clause says when it comes, but before any step.
+/// No hash is taken if an allocation fails.
 pub fn bodies<L: Ledger>(
     alloc: Global,
     view: &View,
@@ -44,10 +45,8 @@ pub fn bodies<L: Ledger>(
     draw: &[u8; 32],
     hashes: &mut HashCount<L>,
 ) -> Result<Bodies, NoMemory>
-    requires uses { view.now.uses ≤ 31 }
+    requires range { IsInRange view.now }
     requires room { HasRoom view.now fact.now }
-    requires number { view.now.number ≤ 128 }
-    requires keys_made { view.now.keys_made ≤ 128 }
     ensures bodies { IfOk result (λ bodies. bodies ≡ bodies_by view.now fact.now draw.now) }
     ensures cost { hashes.new ≤ hashes.old + 68798 }
     ensures unhashed { OnErr result (hashes.new ≡ hashes.old) }
@@ -66,7 +65,7 @@ pub fn bodies<L: Ledger>(
     })
 }
 
-/// Whether the fact makes the next device key: it is an ordinary load of layer 1.
+/// Whether the fact makes the next device key: if it is an ordinary load of layer 1.
 fn names_next(fact: &Fact) -> bool
     ensures { result ≡ names_next fact.now }
 {
@@ -88,8 +87,8 @@ fn put(entries: &mut Vec<Entry>, entry: Entry)
     };
 }
 
-/// The figures with which the device key has an index for the fact's own entry: those after a succession, where one is
-/// needed, whose entry is put into the list.
+/// The view in which the device key has an index for the fact's own entry. If a succession is needed, it is the view
+/// after that, and the entry of the succession is put into the list.
 fn make_ready<L: Ledger>(
     view: &View,
     names_next: bool,
@@ -99,8 +98,8 @@ fn make_ready<L: Ledger>(
 ) -> View
     requires empty { vec_len entries.old ≡ 0 }
     requires capacity { MOST ≤ vec_capacity entries.old }
-    requires length { view.now.length + needed_with view.now.uses names_next ≤ 128 }
-    requires keys_made { view.now.keys_made ≤ 128 }
+    requires length { view.now.length + needed_with view.now.uses names_next ≤ ENTRY_LIMIT }
+    requires keys_made { view.now.keys_made ≤ ENTRY_LIMIT }
     ensures ready { result ≡ ready_by view.now names_next draw.now }
     ensures entries { entries.new.items ≡ entries.old.items ++ first_by view.now names_next draw.now }
     ensures room { vec_len entries.new < vec_capacity entries.new }
@@ -147,21 +146,21 @@ fn make_key<L: Ledger>(view: &View, draw: &[u8; 32], hashes: &mut HashCount<L>) 
 /// The device key after a change.
 #[derive(Drop)]
 struct DeviceKey {
-    /// The next key, where the change names one.
+    /// The next key, if the change names one.
     named: Option<PublicKey>,
     seed: KeySeed,
-    /// How many of its indices are used.
+    /// The number of its used indices.
     uses: u32,
 }
 
-/// The device key after a change, which names the next one or not.
+/// The device key after a change that names the next key, or does not.
 fn device_after<L: Ledger>(
     names_next: bool,
     view: &View,
     draw: &[u8; 32],
     hashes: &mut HashCount<L>,
 ) -> DeviceKey
-    requires { view.now.uses ≤ 31 }
+    requires { view.now.uses ≤ LAST_INDEX }
     ensures named { result.named ≡ named_next names_next view.now draw.now }
     ensures seed { result.seed ≡ (if names_next then next_key view.now draw.now else view.now.device) }
     ensures uses { result.uses ≡ (if names_next then 0 else view.now.uses + 1) }
@@ -182,27 +181,27 @@ fn device_after<L: Ledger>(
     }
 }
 
-/// What the fact's own entry comes to.
+/// The fact's own entry, and the keys after it.
 #[derive(Drop)]
 struct Addition {
     entry: Entry,
     /// The device key afterwards.
     device: KeySeed,
-    /// How many of its indices are used.
+    /// The number of its used indices.
     uses: u32,
-    /// The new key of a region.
+    /// The new key of a region, if the fact makes one.
     key: Option<RegionKey>,
 }
 
-/// The fact's own entry with the keys after it, where the device key has an index for it.
+/// The fact's own entry, and the keys after it. The device key has an index left for the entry.
 fn own_addition<L: Ledger>(
     view: &View,
     fact: &Fact,
     draw: &[u8; 32],
     hashes: &mut HashCount<L>,
 ) -> Addition
-    requires uses { view.now.uses ≤ 31 }
-    requires number { view.now.number ≤ 128 }
+    requires uses { view.now.uses ≤ LAST_INDEX }
+    requires number { view.now.number ≤ ENTRY_LIMIT }
     ensures entry { result.entry ≡ entry_of view.now fact.now draw.now }
     ensures device { result.device ≡ device_after (names_next fact.now) view.now draw.now }
     ensures uses { result.uses ≡ uses_after (names_next fact.now) view.now }
@@ -240,7 +239,7 @@ fn own_addition<L: Ledger>(
     }
 }
 
-/// The entry of a key that is made in a region, and the key.
+/// The entry of a new key of a region, and the key.
 fn key_addition<L: Ledger>(
     view: &View,
     layer: u8,
@@ -248,7 +247,7 @@ fn key_addition<L: Ledger>(
     draw: &[u8; 32],
     hashes: &mut HashCount<L>,
 ) -> Addition
-    requires { view.now.uses ≤ 31 }
+    requires { view.now.uses ≤ LAST_INDEX }
     ensures entry { result.entry ≡ entry_of view.now (Fact.NewKey layer kind) draw.now }
     ensures device { result.device ≡ view.now.device }
     ensures uses { result.uses ≡ view.now.uses + 1 }
@@ -276,9 +275,9 @@ fn key_addition<L: Ledger>(
     }
 }
 
-/// The device key that gives way, by a succession or by the fact's own entry.
+/// The device key that gives way to the next, by a succession or by the fact's own entry, if it does.
 fn outgoing(view: &View, names_next: bool) -> Option<Outgoing>
-    requires { view.now.uses ≤ 31 }
+    requires { view.now.uses ≤ LAST_INDEX }
     ensures { result ≡ outgoing_by view.now names_next }
 {
     if names_next || needed(view.uses, names_next) == 2 {

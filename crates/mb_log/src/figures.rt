@@ -1,11 +1,12 @@
-//! The figures of a log: what its entries say together.
+//! The figures of a log: counts, layers and device key after its entries.
 
 ghost use Rattle.std.specs.Prelude.{◌≡◌, ◌+◌, ◌-◌, ◌^◌, ◌<◌, ◌≤◌, List, [], ◌∷◌, ◌++◌, length};
+ghost use Rattle.mb_model.specs.declared.limits.TheConstants.{ENTRY_LIMIT};
 ghost use Rattle.mb_model.specs.declared.entry.Entry.{Entry};
-ghost use Rattle.mb_model.specs.Layers.{unowned, unowned_layers};
+ghost use Rattle.mb_model.specs.Layers.{unowned_layers};
 ghost use Rattle.mb_model.specs.Log.{figures_of, entries_of, is_change, is_version_two, layers_in, layers_of, device_in, keys_in};
 
-use mb_model::{Entry, Figures, Layer, Layers, PublicKey, SignedEntry, Trust, Trusts};
+use mb_model::{Entry, Figures, Layer, Layers, PublicKey, SignedEntry};
 
 /// The figures of an empty log.
 #[tactic(auto, using(crate::proofs::Pushes::figures_nil))]
@@ -23,9 +24,9 @@ pub fn no_figures() -> Figures
     }
 }
 
-/// The figures of a log.
+/// The figures of a log of at most 128 entries.
 pub fn figures_of(log: &[SignedEntry]) -> Figures
-    requires { length log.now ≤ 128 }
+    requires { length log.now ≤ ENTRY_LIMIT }
     ensures { result ≡ figures_of (entries_of log.now) }
 {
     let mut figures = no_figures();
@@ -57,26 +58,14 @@ pub fn add_entry(figures: &mut Figures, entry: &Entry)
     };
 }
 
-/// A layer without an owner.
-pub(crate) fn unowned() -> Layer
-    ensures { result ≡ unowned }
-{
-    Layer {
-        owner: None,
-        code: None,
-        reliable: false,
-        trust: Trusts::equal(Trust::Never),
-    }
-}
-
-/// Layers without owners.
+/// Three layers without owners.
 fn unowned_layers() -> Layers
     ensures { result ≡ unowned_layers }
 {
     Layers {
-        one: unowned(),
-        two: unowned(),
-        three: unowned(),
+        one: Layer::unowned(),
+        two: Layer::unowned(),
+        three: Layer::unowned(),
     }
 }
 
@@ -90,13 +79,14 @@ fn is_version_two(entry: &Entry) -> bool
     }
 }
 
+/// Whether the entry is a change, which counts for the configuration number.
 fn is_change(entry: &Entry) -> bool
     ensures { result ≡ is_change entry.now }
 {
     matches!(entry, Entry::Change { .. })
 }
 
-/// The layers of the last birth or change of the log; layers without owners where there is none.
+/// The layers after the last birth or change of the log; three layers without owners if there is none.
 pub fn layers_of(log: &[SignedEntry]) -> Layers
     ensures { result ≡ layers_of (entries_of log.now) }
 {
@@ -107,7 +97,7 @@ pub fn layers_of(log: &[SignedEntry]) -> Layers
     layers
 }
 
-/// The layers that an entry names.
+/// The layers that an entry names, if it is a birth or a change.
 fn layers_in(entry: &Entry) -> Option<Layers>
     ensures { result ≡ layers_in entry.now }
 {
@@ -117,7 +107,7 @@ fn layers_in(entry: &Entry) -> Option<Layers>
     }
 }
 
-/// The device key that an entry names.
+/// The device key that an entry names, if it names one.
 fn device_in(entry: &Entry) -> Option<PublicKey>
     ensures { result ≡ device_in entry.now }
 {
@@ -128,7 +118,7 @@ fn device_in(entry: &Entry) -> Option<PublicKey>
     }
 }
 
-/// How many keys an entry names, 0 or 1.
+/// The number of keys that an entry names, 0 or 1.
 fn keys_in(entry: &Entry) -> u32
     ensures { result ≡ keys_in entry.now }
 {

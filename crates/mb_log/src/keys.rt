@@ -1,40 +1,49 @@
-//! The keys that a device makes.
+//! The derivation of keys from noise.
 
-ghost use Rattle.std.specs.Prelude.{◌≡◌, ◌∷◌, ◌++◌};
+ghost use Rattle.std.specs.Prelude.{◌≡◌, ◌∷◌, ◌++◌, take};
 ghost use Rattle.std.specs.Int.{w32, to_be_bytes};
 ghost use Rattle.sha2.specs.Sha256.{sha256};
 ghost use Rattle.mb_model.specs.Born.{born_key};
 
+use mb_bytes::put_at;
 use mb_model::KeySeed;
+use mb_model::separators::{KEY_IDENTIFIER, KEY_SECRET};
 use sha2::{Digest, Sha256};
 
-/// What the hash begins with by which the secret is made.
-const SECRET: u8 = 0x10;
-
-/// What the hash begins with by which the identifier is made.
-const IDENTIFIER: u8 = 0x11;
-
-/// The key with the number `number` of the device with the serial, made of an event's draw.
+/// The key with the number `number` of the device with the serial, derived from the draw of an event.
 #[tactic(auto, unfolding(mb_model::specs::Born::born_key))]
 pub fn born(draw: &[u8; 32], serial: &[u8; 16], number: u32) -> KeySeed
     ensures { result ≡ born_key draw.now serial.now number }
 {
-    let mut identifier = [0; 16];
-    identifier.copy_from_slice(&hash_of(IDENTIFIER, draw, serial, number)[..16]);
+    let mut text = [0; 52];
+    put_at(&mut text, 0, draw);
+    put_at(&mut text, 32, serial);
+    put_at(&mut text, 48, &number.to_be_bytes());
+    derive_key(KEY_SECRET, KEY_IDENTIFIER, &text)
+}
+
+/// The key that is derived from the text by two domain separators, which begin the hash of the secret and that of the
+/// identifier. The identifier is the first 16 bytes of its hash.
+///
+/// These two hashes are not counted: a crate whose hashes have to be on a count derives its keys by `mb_lms::hash`.
+pub fn derive_key(secret: u8, identifier: u8, text: &[u8]) -> KeySeed
+    ensures identifier { result.identifier ≡ take 16 (sha256 (identifier ∷ text.now)) }
+    ensures secret { result.seed ≡ sha256 (secret ∷ text.now) }
+{
+    let mut first = [0; 16];
+    first.copy_from_slice(&hash_of(identifier, text)[..16]);
     KeySeed {
-        identifier,
-        seed: hash_of(SECRET, draw, serial, number),
+        identifier: first,
+        seed: hash_of(secret, text),
     }
 }
 
-/// The hash of a first byte, the draw, the serial and the number.
-fn hash_of(first: u8, draw: &[u8; 32], serial: &[u8; 16], number: u32) -> [u8; 32]
-    ensures { result ≡ sha256 (first ∷ draw.now ++ serial.now ++ to_be_bytes w32 number) }
+/// The hash of a domain separator and a text.
+fn hash_of(separator: u8, text: &[u8]) -> [u8; 32]
+    ensures { result ≡ sha256 (separator ∷ text.now) }
 {
     let mut hasher = Sha256::new();
-    hasher.update([first]);
-    hasher.update(draw.as_slice());
-    hasher.update(serial.as_slice());
-    hasher.update(number.to_be_bytes());
+    hasher.update([separator]);
+    hasher.update(text);
     hasher.finalize()
 }

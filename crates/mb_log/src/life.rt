@@ -1,43 +1,45 @@
-//! What a list of entries says of one key of a region: whether it is alive, and the configurations in which it lived.
+//! The life of one key of a region by the entries of a log: whether the key is alive, and the configurations in which it
+//! lived.
 
 ghost use Rattle.std.specs.Prelude.{◌≡◌, ℕ, ◌≤◌, not, ◌&&◌, List, [], ◌∷◌, ◌++◌, length, IfOk, OnOk, OnErr, if◌then◌else◌};
 ghost use Rattle.std.specs.Option.{option_to_list};
+ghost use Rattle.mb_model.specs.declared.limits.TheConstants.{ENTRY_LIMIT};
 ghost use Rattle.mb_model.specs.declared.entry.Entry.{Entry};
 ghost use Rattle.mb_model.specs.Log.{figures_of, entries_of, RuledLog};
 ghost use Rattle.mb_model.specs.Lives.{ends, layers_upto, configuration, opened_by, lives_of};
 ghost use Rattle.mb_log.specs.KeyLife.{IsLifeOf};
 
-use crate::figures::{add_entry, no_figures, unowned};
+use crate::figures::{add_entry, no_figures};
 use mb_authority::is_in;
 use mb_model::{
-    Configuration, Entry, Figures, KeyKind, Layers, Lives, NoMemory, PublicKey, SignedEntry,
+    Configuration, Entry, Figures, KeyKind, Layer, Layers, Lives, NoMemory, PublicKey, SignedEntry,
 };
 use std::alloc::Global;
 
-/// What the entry says of a key that it makes.
+/// A key of a region, as the entry that makes it names it.
 #[derive(Clone, Copy)]
 pub struct BornKey {
-    /// The region's layer, 2 or 3.
+    /// The layer of the region, 2 or 3.
     pub layer: u8,
     pub kind: KeyKind,
     pub key: PublicKey,
 }
 
-/// What entries, fed one after another, say of one key of a region.
+/// The life of one key of a region, by entries that are added one after another.
 #[derive(Drop)]
 pub struct Life {
-    /// The number of the key in the row of all keys of the device.
+    /// The number of the key among all keys of the device.
     pub number: u32,
-    /// What its entry says, where one has made it.
+    /// The key as its entry names it, if an entry has made it.
     pub born: Option<BornKey>,
-    /// Whether it is born and no entry since has ended it.
+    /// Whether the key is born and no later entry has ended it.
     pub alive: bool,
-    /// The configurations in which it lived.
+    /// The configurations in which the key lived.
     pub lives: Lives,
 }
 
 impl Life {
-    /// By no entries, of the key with the number `number`. It takes no memory before the key's entry.
+    /// The life of the key `number` by an empty log: not born yet. Takes no memory.
     pub fn begin(alloc: Global, number: u32) -> Life
         ensures { IsLifeOf [] number result }
     {
@@ -49,9 +51,9 @@ impl Life {
         }
     }
 
-    /// By one more entry, which comes after those with these figures and may stand there.
+    /// Adds the next entry, which may follow the entries before it. These have the figures `figures`.
     ///
-    /// Errors: `NoMemory`, of which no clause says when it comes. What was known before then stands.
+    /// The life is unchanged if an allocation fails.
     pub fn add(&mut self, figures: &Figures, entry: &Entry) -> Result<(), NoMemory>
         ensures ok { (before : List Entry) (n : ℕ) → figures.now ≡ figures_of before → RuledLog (before ++ entry.now ∷ []) → IsLifeOf before n self.old → OnOk result (IsLifeOf (before ++ entry.now ∷ []) n self.new) }
         ensures err { OnErr result (self.new ≡ self.old) }
@@ -62,7 +64,7 @@ impl Life {
         }
     }
 
-    /// By one more entry, where none has made the key so far.
+    /// Adds the next entry, before which the key is not born.
     fn be_born(&mut self, figures: &Figures, entry: &Entry) -> Result<(), NoMemory>
         ensures ok { (before : List Entry) (n : ℕ) → figures.now ≡ figures_of before → self.old.born ≡ None → IsLifeOf before n self.old → OnOk result (IsLifeOf (before ++ entry.now ∷ []) n self.new) }
         ensures err { OnErr result (self.new ≡ self.old) }
@@ -88,7 +90,7 @@ impl Life {
         Ok(())
     }
 
-    /// By one more entry after the key's own.
+    /// Adds the next entry, after the one that made the key.
     fn live_on(&mut self, born: &BornKey, entry: &Entry) -> Result<(), NoMemory>
         ensures alive { OnOk result (self.new.alive ≡ (self.old.alive && not (ends born.now.kind born.now.layer entry.now))) }
         ensures lives { OnOk result (self.new.lives ≡ self.old.lives ++ (if self.old.alive && not (ends born.now.kind born.now.layer entry.now) then opened_by born.now.layer entry.now else [])) }
@@ -110,13 +112,12 @@ impl Life {
     }
 }
 
-/// The configurations in which the key with the number `key` lived, by a log of at most 128 entries. This is said of a
-/// log whose every entry obeys the rules, as one has of which `follows` said `Yes` at each: the list is then empty
-/// exactly where no entry makes such a key.
+/// The configurations in which the key `key` lived, by a log of at most 128 entries.
 ///
-/// Errors: `NoMemory`, of which no clause says when it comes.
+/// Each entry of the log has to obey the rules, as those do for which `follows` answers `Yes`. The list is then empty
+/// exactly if no entry makes such a key.
 pub fn lives(alloc: Global, log: &[SignedEntry], key: u32) -> Result<Lives, NoMemory>
-    requires { length log.now ≤ 128 }
+    requires { length log.now ≤ ENTRY_LIMIT }
     ensures { RuledLog (entries_of log.now) → IfOk result (λ list. list ≡ lives_of (entries_of log.now) key) }
 {
     let mut figures = no_figures();
@@ -128,8 +129,8 @@ pub fn lives(alloc: Global, log: &[SignedEntry], key: u32) -> Result<Lives, NoMe
     Ok(life.lives)
 }
 
-/// Whether the entry ends each key of this kind and layer that was born before it: an epoch key ends where a change does
-/// not keep its region, a configuration key where one is at the layer or beneath it.
+/// Whether the entry ends each key of this kind and layer that was born before it. A change ends an epoch key if it does
+/// not keep the region, and a configuration key if it is at the layer or beneath.
 pub fn ends(kind: KeyKind, layer: u8, entry: &Entry) -> bool
     ensures { result ≡ ends kind layer entry.now }
 {
@@ -147,7 +148,7 @@ pub fn ends(kind: KeyKind, layer: u8, entry: &Entry) -> bool
     }
 }
 
-/// The configuration that the entry opens for a key of the layer: a change at the layer or beneath it opens one.
+/// The configuration that the entry opens for a key of the layer, if it is a change at the layer or beneath.
 fn opened_by(layer: u8, entry: &Entry) -> Option<Configuration>
     ensures { option_to_list result ≡ opened_by layer entry.now }
 {
@@ -162,7 +163,7 @@ fn opened_by(layer: u8, entry: &Entry) -> Option<Configuration>
     }
 }
 
-/// The configuration of a key of the layer with this number and these layers.
+/// The configuration with this number and these layers, for a key of the layer.
 fn configuration(layer: u8, number: u32, layers: &Layers) -> Configuration
     ensures { result ≡ configuration layer number layers.now }
 {
@@ -173,13 +174,21 @@ fn configuration(layer: u8, number: u32, layers: &Layers) -> Configuration
     }
 }
 
-/// The layers up to this one; each above stands as unowned.
+/// The layers up to this one, with each above it as unowned.
 fn layers_upto(layer: u8, layers: &Layers) -> Layers
     ensures { result ≡ layers_upto layer layers.now }
 {
     Layers {
         one: layers.one,
-        two: if layer < 2 { unowned() } else { layers.two },
-        three: if layer < 3 { unowned() } else { layers.three },
+        two: if layer < 2 {
+            Layer::unowned()
+        } else {
+            layers.two
+        },
+        three: if layer < 3 {
+            Layer::unowned()
+        } else {
+            layers.three
+        },
     }
 }

@@ -1,28 +1,31 @@
 //! Whether an entry may follow those before it.
 
 ghost use Rattle.std.specs.Prelude.{◌≡◌, ◌↔◌, ◌≤◌, List, length, IsTrue};
+ghost use Rattle.mb_model.specs.declared.limits.TheConstants.{ENTRY_LIMIT};
 ghost use Rattle.mb_model.specs.declared.entry.Entry.{Entry};
 ghost use Rattle.mb_model.specs.Layers.{layer_of};
 ghost use Rattle.mb_model.specs.Rules.{CanPlace, after};
 ghost use Rattle.mb_model.specs.Log.{figures_of, entries_of, StandsAt, AreFirst, HaveEqualTrusts, MayHaveVersion, Ordered, CountsRightly, MakesRightly, ChangesRightly, MayAllCosign, Ruled};
 ghost use Rattle.mb_log.specs.Following.{FollowSays};
 
-use crate::additions::LAST_INDEX;
-use crate::figures::{figures_of, unowned};
+use crate::figures::figures_of;
 use mb_authority::{after, condition, kept_regions, layer_of, may_cosign, renews};
-use mb_model::{ChangeKind, Entry, Figures, Follow, Layer, Layers, Pair, PublicKey, SignedEntry};
+use mb_model::{
+    ChangeKind, Entry, Figures, Follow, LAST_INDEX, Layer, Layers, Pair, PublicKey, SignedEntry,
+};
 
-/// Whether the entry, whose signature has this index, may follow those before it: `Order` exactly where entries stand
-/// before it and it has a wrong position or index, else `Rules` exactly where it breaks the rules of the log.
+/// Whether the entry, with this index of its signature, may follow the at most 128 entries before it: `Order` exactly if
+/// there are entries before it and its position or index is wrong, else `Rules` exactly if it breaks the rules of the
+/// log.
 pub fn follows(before: &[SignedEntry], entry: &Entry, index: u32) -> Follow
-    requires { length before.now ≤ 128 }
+    requires { length before.now ≤ ENTRY_LIMIT }
     ensures { FollowSays (figures_of (entries_of before.now)) entry.now index result }
 {
     follows_figures(&figures_of(before), entry, index)
 }
 
-/// Whether the entry, whose signature has this index, may follow a log with these figures. Answers as `follows` does of
-/// the log itself.
+/// Whether the entry, with this index of its signature, may follow a log with these figures; answers as `follows` does
+/// for the log itself.
 pub fn follows_figures(figures: &Figures, entry: &Entry, index: u32) -> Follow
     ensures { FollowSays figures.now entry.now index result }
 {
@@ -35,14 +38,14 @@ pub fn follows_figures(figures: &Figures, entry: &Entry, index: u32) -> Follow
     Follow::Yes
 }
 
-/// Whether the entry stands in its place, and its signature has the next index.
+/// Whether the entry has the right position, and its signature has the next index.
 fn is_next(figures: &Figures, entry: &Entry, index: u32) -> bool
     ensures { IsTrue result ↔ Ordered figures.now entry.now index }
 {
     stands_at(figures.length, entry) && index == figures.uses
 }
 
-/// Whether by the rules the entry may stand after a log with these figures.
+/// Whether the rules allow the entry after a log with these figures.
 fn allow(figures: &Figures, entry: &Entry) -> bool
     ensures { IsTrue result ↔ Ruled figures.now entry.now }
 {
@@ -76,11 +79,11 @@ fn allow(figures: &Figures, entry: &Entry) -> bool
             layer,
             ..
         } => figures.length > 0 && makes(figures, *number, *key_number, *layer),
-        Entry::Succession { .. } => figures.length > 0 && figures.uses == LAST_INDEX,
+        Entry::Succession { .. } => figures.length > 0 && figures.uses == LAST_INDEX as u32,
     }
 }
 
-/// Whether a change tells its number, and names the next device key exactly where it has to.
+/// Whether a change has the right number, and names the next device key exactly if it has to.
 fn counts(
     figures: &Figures,
     number: u32,
@@ -92,7 +95,7 @@ fn counts(
 {
     number.checked_sub(1) == Some(figures.number)
         && next.is_some() == renews(Some(kind), layer)
-        && (figures.uses != LAST_INDEX || next.is_some())
+        && (figures.uses != LAST_INDEX as u32 || next.is_some())
 }
 
 /// Whether a birth or change with these layers may have this version after a log with these figures.
@@ -106,17 +109,17 @@ fn may_have_version(figures: &Figures, version: u8, layers: &Layers) -> bool
     }
 }
 
-/// Whether a new key of the layer tells its numbers, and may be made.
+/// Whether a new key of the layer has the right numbers, and may be made.
 fn makes(figures: &Figures, number: u32, key_number: u32, layer: u8) -> bool
     ensures { IsTrue result ↔ MakesRightly figures.now number key_number layer }
 {
     number == figures.number
         && key_number == figures.keys_made
-        && figures.uses != LAST_INDEX
+        && figures.uses != LAST_INDEX as u32
         && condition(&figures.layers, None, layer)
 }
 
-/// Whether the entry says that this many stand before it; a birth does not say.
+/// Whether the entry has this position; a birth has none.
 fn stands_at(length: u32, entry: &Entry) -> bool
     ensures { IsTrue result ↔ StandsAt length entry.now }
 {
@@ -128,14 +131,14 @@ fn stands_at(length: u32, entry: &Entry) -> bool
     }
 }
 
-/// Whether layers may be those at a birth.
+/// Whether these can be the layers at a birth.
 fn are_first(layers: &Layers) -> bool
     ensures { IsTrue result ↔ AreFirst layers.now }
 {
     layers.one.owner.is_some()
         && layers.one.reliable
-        && layers.two == unowned()
-        && layers.three == unowned()
+        && layers.two == Layer::unowned()
+        && layers.three == Layer::unowned()
 }
 
 /// Whether each of the layers trusts changes of layer 1 and of layer 2 alike.
@@ -147,7 +150,7 @@ fn have_equal_trusts(layers: &Layers) -> bool
         && layers.three.trust.one == layers.three.trust.two
 }
 
-/// Whether a change leaves these layers and keeps these regions by the rules, where the layers stood so before.
+/// Whether by the rules a change of the layers `old` leaves the layers `new` and keeps these regions.
 fn changes(
     old: &Layers,
     kind: ChangeKind,
@@ -165,14 +168,14 @@ fn changes(
         && may_all_cosign(old, kind, layer, cosigned)
 }
 
-/// Whether the layers follow from what the change puts at its own layer.
+/// Whether the layers `new` follow from the layer that the change puts at its own number.
 fn leaves(old: &Layers, kind: ChangeKind, layer: u8, cosigned: Pair, new: &Layers) -> bool
     ensures { IsTrue result ↔ (new.now ≡ after old.now kind layer cosigned (layer_of new.now layer)) }
 {
     *new == after(old, kind, layer, cosigned, &layer_of(new, layer))
 }
 
-/// Whether each owner that countersigned the change may do so.
+/// Whether each owner that has countersigned the change may do so.
 fn may_all_cosign(layers: &Layers, kind: ChangeKind, layer: u8, cosigned: Pair) -> bool
     ensures { IsTrue result ↔ MayAllCosign layers.now kind layer cosigned }
 {
@@ -186,7 +189,7 @@ fn can_place(kind: ChangeKind, old: &Layer, new: &Layer) -> bool
 {
     match kind {
         ChangeKind::Establish => new.owner.is_some() && new.code.is_none() && !new.reliable,
-        ChangeKind::Surrender => *new == unowned(),
+        ChangeKind::Surrender => *new == Layer::unowned(),
         ChangeKind::Load | ChangeKind::Emergency => {
             new.owner == old.owner && new.code.is_some() && new.reliable
         }

@@ -1,11 +1,11 @@
-//! The serial of the device whose log a list of entries is.
+//! The serial of the device that a log belongs to.
 
 ghost use Rattle.std.specs.Prelude.{◌≡◌};
 ghost use Rattle.mb_model.specs.Log.{entries_of, serial_in, serial_of};
 
 use mb_model::{Entry, SignedEntry};
 
-/// The serial that a birth of the log names.
+/// The serial that the birth in the log names, if there is one.
 pub fn serial_of(log: &[SignedEntry]) -> Option<[u8; 16]>
     ensures { result ≡ serial_of (entries_of log.now) }
 {
@@ -16,7 +16,7 @@ pub fn serial_of(log: &[SignedEntry]) -> Option<[u8; 16]>
     serial
 }
 
-/// The serial that an entry names.
+/// The serial that an entry names, if it is a birth.
 fn serial_in(entry: &Entry) -> Option<[u8; 16]>
     ensures { result ≡ serial_in entry.now }
 {

@@ -20,7 +20,7 @@ use Rattle.mb_model.specs.declared.reply.Refusal.TheVariants.{WrongState, WrongS
 use Rattle.mb_model.specs.declared.reply.Refusal.TheVariants.{LogFull, KeysFull}
 use Rattle.mb_model.specs.Refusals.{refused}
 use Rattle.mb_model.specs.Replies.{HasLine, standing_word, refusal_words, reply_line}
-use Rattle.mb_model_laws.specs.TextLaws.{IsInRange}
+use Rattle.mb_model_laws.specs.TextLaws.{IsReplyInRange}
 use Rattle.mb_model_lemmas.proofs.LineLemmas.{Without, isnt, first_same}
 use Rattle.mb_model_lemmas.proofs.WordLemmas.{number_front, limited_fits, IsHex-same, hex_word-read}
 
@@ -75,7 +75,7 @@ two_numbers k l m n fk fl fm fn e =
     let parts = number_front k l (decimal m) (decimal n) fk fl e in
     (parts.0, decimal_injective m n fm fn parts.1)
 
-pub reply_line-same : (a b : Reply) → IsInRange a → IsInRange b → reply_line a ≡ reply_line b → a ≡ b
+pub reply_line-same : (a b : Reply) → IsReplyInRange a → IsReplyInRange b → reply_line a ≡ reply_line b → a ≡ b
 reply_line-same reply.Booted reply.Booted ra rb e = refl
 reply_line-same reply.Off reply.Off ra rb e = refl
 reply_line-same reply.Tampered reply.Tampered ra rb e = refl

@@ -106,27 +106,27 @@ FirstOrderLine =
     → FailsAtLine IsOrderLine (line ∷ later) 1
 
 -- the numbers of a reply are numbers of a text, its bytes are bytes, and its refusal has words
-abbrev pub IsInRange : Reply → Type 0
-IsInRange reply.Booted = Unit {0}
-IsInRange reply.Off = Unit {0}
-IsInRange reply.Tampered = Unit {0}
-IsInRange reply.Armed = Unit {0}
-IsInRange (reply.At layer) = layer ≤ number_limit
-IsInRange (reply.Done number log) = (number ≤ number_limit) × (log ≤ number_limit)
-IsInRange reply.Kept = Unit {0}
-IsInRange reply.Dropped = Unit {0}
-IsInRange (reply.Value value) = IsBytes value
-IsInRange reply.Absent = Unit {0}
-IsInRange (reply.Signed key index statement) = (key ≤ number_limit) × (index ≤ number_limit) × IsBytes statement
-IsInRange (reply.Status serial number log one two three) =
+abbrev pub IsReplyInRange : Reply → Type 0
+IsReplyInRange reply.Booted = Unit {0}
+IsReplyInRange reply.Off = Unit {0}
+IsReplyInRange reply.Tampered = Unit {0}
+IsReplyInRange reply.Armed = Unit {0}
+IsReplyInRange (reply.At layer) = layer ≤ number_limit
+IsReplyInRange (reply.Done number log) = (number ≤ number_limit) × (log ≤ number_limit)
+IsReplyInRange reply.Kept = Unit {0}
+IsReplyInRange reply.Dropped = Unit {0}
+IsReplyInRange (reply.Value value) = IsBytes value
+IsReplyInRange reply.Absent = Unit {0}
+IsReplyInRange (reply.Signed key index statement) = (key ≤ number_limit) × (index ≤ number_limit) × IsBytes statement
+IsReplyInRange (reply.Status serial number log one two three) =
     IsBytes serial × (number ≤ number_limit) × (log ≤ number_limit)
-IsInRange (reply.Refused number) = (number ≤ number_limit) × HasLine (reply.Refused number)
-IsInRange reply.Stopped = Unit {0}
-IsInRange reply.NoMemory = Unit {0}
+IsReplyInRange (reply.Refused number) = (number ≤ number_limit) × HasLine (reply.Refused number)
+IsReplyInRange reply.Stopped = Unit {0}
+IsReplyInRange reply.NoMemory = Unit {0}
 
 -- no two replies have one line
 abbrev pub RepliesDiffer : Type 0
-RepliesDiffer = (a b : Reply) → IsInRange a → IsInRange b → reply_line a ≡ reply_line b → a ≡ b
+RepliesDiffer = (a b : Reply) → IsReplyInRange a → IsReplyInRange b → reply_line a ≡ reply_line b → a ≡ b
 
 -- what is drawn for a workload, its number and the number of its rounds say
 abbrev pub OneWorkload : Type 0

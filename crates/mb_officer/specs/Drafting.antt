@@ -2,6 +2,7 @@
 use Rattle.std.specs.Prelude.{◌≡◌, ℕ, ◌≤◌, List, [], ◌∷◌, ◌++◌, length, codes, ◌≢◌, Result, Ok, Err}
 use Rattle.std.specs.List.{AllZip}
 use Rattle.std.specs.Fmt.{decimal}
+use Rattle.mb_model.specs.declared.limits.TheConstants.{CODE_LIMIT, TARGET_LIMIT}
 use Rattle.mb_model.specs.declared.key.PublicKey.{PublicKey}
 use Rattle.mb_model.specs.declared.key.Trust.{Trust}
 use Rattle.mb_model.specs.declared.layer.Trusts.{Trusts}
@@ -88,13 +89,14 @@ drafted layer targets a = record { layer = layer; targets = targets; act = a; si
 -- what was read is allowed
 abbrev pub IsSoundDraft : Said → List Target → Type 0
 IsSoundDraft said.Nothing targets = targets ≡ []
-IsSoundDraft (said.Heading k layer) targets = MayBeFor (order_kind k) layer × (length targets ≤ 8)
-IsSoundDraft (said.Owner layer owner) targets = MayBeFor orders.Establish layer × (length targets ≤ 8) × IsSized owner
+IsSoundDraft (said.Heading k layer) targets = MayBeFor (order_kind k) layer × (length targets ≤ TARGET_LIMIT)
+IsSoundDraft (said.Owner layer owner) targets =
+    MayBeFor orders.Establish layer × (length targets ≤ TARGET_LIMIT) × IsSized owner
 IsSoundDraft (said.Version l layer version) targets =
-    MayBeFor (order_kind (kind.Load l)) layer × (length targets ≤ 8) × (version ≤ number_limit)
+    MayBeFor (order_kind (kind.Load l)) layer × (length targets ≤ TARGET_LIMIT) × (version ≤ number_limit)
 IsSoundDraft (said.Trust l layer version trust) targets =
-    MayBeFor (order_kind (kind.Load l)) layer × (length targets ≤ 8) × (version ≤ number_limit)
-IsSoundDraft (said.All layer a) targets = length targets ≤ 8
+    MayBeFor (order_kind (kind.Load l)) layer × (length targets ≤ TARGET_LIMIT) × (version ≤ number_limit)
+IsSoundDraft (said.All layer a) targets = length targets ≤ TARGET_LIMIT
 
 -- the lines after the first line and some targets
 pub record SaysTargets
@@ -109,7 +111,7 @@ pub record SaysTargets
   pub spelled : lines ≡ target_lines ++ act_lines
   pub targeted : AllZip SaysTarget target_lines more
   pub all : order.targets ≡ targets ++ more
-  pub few : length order.targets ≤ 8
+  pub few : length order.targets ≤ TARGET_LIMIT
   pub says_act : SayAct act_lines order.act
   pub of_kind : ordered_by order.act ≡ k
   pub of_layer : order.layer ≡ layer
@@ -127,7 +129,7 @@ pub record SaysCode
   pub line : List ℕ
   pub code : List ℕ
   pub coded : EndsInHex line (codes "code" ∷ []) code
-  pub fits : length code ≤ 32768
+  pub fits : length code ≤ CODE_LIMIT
   pub spelled : lines ≡ line ∷ []
   pub made : order ≡ drafted layer targets (load_act l version trust code)
 
@@ -189,11 +191,11 @@ TellsNext before targets line (Err why.Form) after =
     (more : List (List ℕ)) (order : Order) → SaysRest before targets (line ∷ more) order → ⊥
 TellsNext before targets line (Err why.NoMemory) after = Unit {0}
 
--- one target more, unless eight are there
+-- one target more, unless there are as many as an order may have
 abbrev pub AddsTarget : Kind → ℕ → List Target → Target → Result Said NotSaid → List Target → Type 0
 AddsTarget k layer targets target (Ok next) after =
-    (next ≡ said.Heading k layer) × (after ≡ targets ++ target ∷ []) × (length targets ≢ 8)
-AddsTarget k layer targets target (Err why.Form) after = length targets ≡ 8
+    (next ≡ said.Heading k layer) × (after ≡ targets ++ target ∷ []) × (length targets ≢ TARGET_LIMIT)
+AddsTarget k layer targets target (Err why.Form) after = length targets ≡ TARGET_LIMIT
 AddsTarget k layer targets target (Err why.NoMemory) after = Unit {0}
 
 -- the first line after the targets: the new owner, or the version of the code

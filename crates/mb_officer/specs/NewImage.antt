@@ -4,7 +4,7 @@ use Rattle.std.specs.Int.{w16, w32, to_be_bytes}
 use Rattle.mb_model.specs.declared.key.KeySeed.{KeySeed}
 use Rattle.mb_model.specs.declared.stored.Root.{Root}
 
--- this byte so many times
+-- a byte, repeated
 unfoldable pub filled : ℕ → ℕ → List ℕ
 filled count byte = replicate count byte
 
@@ -12,11 +12,11 @@ filled count byte = replicate count byte
 unfoldable pub new_flash : List ℕ → List ℕ
 new_flash stored = (to_be_bytes w32 (length stored) ++ stored) ++ filled (1048572 - length stored) 0xFF
 
--- the life byte, and the selectors of areas that are each the first
+-- the life byte, and the selectors, each of the first area
 abbrev pub memory_head : List ℕ
 memory_head = 0xA5 ∷ 0 ∷ 0 ∷ 0 ∷ []
 
--- the battery-backed memory: nothing but the root's record in the root's first area
+-- the battery-backed memory: the root's record in the root's first area, and zeros
 unfoldable pub new_bbram : List ℕ → List ℕ
 new_bbram root =
     memory_head ++ (filled 4092 0 ++ ((to_be_bytes w16 (length root) ++ root) ++ filled (24574 - length root) 0))

@@ -2,6 +2,8 @@
 
 ghost use Rattle.std.specs.Prelude.{◌≡◌, ◌↔◌, ◌+◌, ◌≤◌, [], length, None, Some, IfOk, OnOk, OnErr, IsErrOf};
 ghost use Rattle.std.specs.Vec.{vec_len, vec_capacity};
+ghost use Rattle.mb_officer.specs.declared.birth.TheConstants.{LONGEST_ENTRY, LONGEST_PUBLIC};
+ghost use Rattle.mb_model.specs.declared.limits.TheConstants.{CODE_LIMIT, KEY_USES, LAST_INDEX};
 ghost use Rattle.mb_model.specs.declared.entry.Entry.TheVariants as entry;
 ghost use Rattle.mb_model.specs.Key.{IsSized};
 ghost use Rattle.mb_model.specs.EntryFormat.{entry_format};
@@ -15,52 +17,37 @@ ghost use Rattle.mb_model.specs.Factory.{serial_from, first_key, layers_at_birth
 ghost use Rattle.mb_officer.specs.NewImage.{root_at_birth};
 
 use crate::image::put_image;
-use crate::keyfile::NONE_LEFT;
-use crate::signing::{SignEnd, sign_next, use_up};
+use crate::signing::{SignEnd, sign_at};
 use mb_layout::{write_entry, write_public_parts, write_root};
 use mb_lms::HashCount;
 use mb_log::born;
+use mb_model::separators::ENTRY_TEXT;
 use mb_model::{
-    Bytes, CodeName, Codes, Entry, IMAGE_LENGTH, KeySeed, Keyfile, Layer, Layers, NoMemory,
-    PublicKey, Root, SignedEntry, Trust, Trusts,
+    Bytes, CodeName, Codes, DRAW_LENGTH, Entry, IMAGE_LENGTH, KeySeed, Keyfile, Layer, Layers,
+    NoMemory, PublicKey, Root, SignedEntry, Trust, Trusts,
 };
 use mb_signer::public;
 use sha2::{Digest, Sha256};
 use std::alloc::Global;
 use std::sync::ledger::Ledger;
 
-/// What the text begins with that is signed of an entry.
-const ENTRY: u8 = 3;
+/// The longest entry, in bytes.
+const LONGEST_ENTRY: usize = 358;
 
-/// How many bytes an entry has at most.
-const MOST_ENTRY: usize = 358;
+/// The longest public record, in bytes.
+const LONGEST_PUBLIC: usize = 444_818;
 
-/// How many bytes a public record has at most.
-const MOST_PUBLIC: usize = 444_818;
-
-/// A layer without an owner.
-const UNOWNED: Layer = Layer {
-    owner: None,
-    code: None,
-    reliable: false,
-    trust: Trusts {
-        one: Trust::Never,
-        two: Trust::Never,
-    },
-};
-
-/// What the noise gives of a new device.
+/// The serial and the first key of a new device.
 #[derive(Clone, Copy)]
 pub(crate) struct Device {
     pub(crate) serial: [u8; 16],
-    /// Its first key.
     pub(crate) key: KeySeed,
 }
 
-/// The image of a new device, made of the noise, whose layer 1 has this owner and this code, of at most 32,768 bytes.
-/// The maker's key signs the device's birth at its next index, which is at most 32, in at most 69,872 hashes.
+/// Makes the image of a new device from the noise. Its layer 1 has this owner and this code, of at most 32,768 bytes.
+/// The maker's key `k` signs the device's birth at its next index, in at most 69,872 hashes.
 ///
-/// Errors: `Spent` exactly where the next index is 32, and `NoMemory`, of which no clause says when it comes.
+/// Errors: `Spent` exactly if all indices of the key are used, and `NoMemory`.
 pub fn factory<L: Ledger>(
     alloc: Global,
     k: &mut Keyfile,
@@ -69,37 +56,37 @@ pub fn factory<L: Ledger>(
     noise: &[u8; 48],
     hashes: &mut HashCount<L>,
 ) -> Result<Vec<u8>, SignEnd>
-    requires next { k.old.next ≤ 32 }
-    requires code { length code.now ≤ 32768 }
+    requires code { length code.now ≤ CODE_LIMIT }
     ensures image { IfOk result (λ image. IsFactoryImage k.old.seed k.old.next owner.now code.now noise.now image.items) }
     ensures stands { IfOk result (λ image. IsWellFormed image.items (Some (state_at_birth k.old.seed k.old.next owner.now code.now noise.now))) }
     ensures used { OnOk result (k.new ≡ used_once k.old) }
-    ensures spent { IsErrOf result SignEnd.Spent ↔ (k.old.next ≡ 32) }
+    ensures spent { IsErrOf result SignEnd.Spent ↔ (k.old.next ≡ KEY_USES) }
     ensures countersignable { IsErrOf result SignEnd.NotCountersignable → ⊥ }
     ensures unchanged { OnErr result ((k.new ≡ k.old) × (hashes.new ≡ hashes.old)) }
     ensures cost { hashes.new ≤ hashes.old + 69872 }
 {
-    if k.next == NONE_LEFT {
+    let mut next = k.next;
+    let Some(index) = next.take() else {
         return Err(SignEnd::Spent);
-    }
+    };
     key_sizes(owner);
     let device = device_of(noise);
     let codes = codes_of(alloc, code)?;
     let root = root_of(alloc, &device)?;
-    let text = room(alloc, MOST_ENTRY)?;
-    let mut stored = room(alloc, MOST_PUBLIC)?;
+    let text = room(alloc, LONGEST_ENTRY)?;
+    let mut stored = room(alloc, LONGEST_PUBLIC)?;
     let mut image = room(alloc, IMAGE_LENGTH)?;
     let birth = birth_of(&device, owner, code, hashes);
-    let log = [sign_birth(k, birth, text, hashes)];
+    let log = [sign_birth(&k.seed, index, birth, text, hashes)];
     store(&codes, &log, &mut stored);
     let Ok(()) = put_image(&mut image, &stored, &root) else {
         unreachable!();
     };
-    use_up(k);
+    k.next = next;
     Ok(image)
 }
 
-/// The fields of a public key have the sizes that their types say.
+/// Shows that the fields of a public key have the sizes that their types say.
 fn key_sizes(key: &PublicKey)
     ensures { IsSized key.now }
 {
@@ -107,23 +94,23 @@ fn key_sizes(key: &PublicKey)
     let _root: &[u8] = &key.root;
 }
 
-/// A device's serial and its first key.
+/// The serial and the first key of a device that is made from the noise.
 fn device_of(noise: &[u8; 48]) -> Device
     ensures long { length noise.now ≡ 48 }
     ensures serial { result.serial ≡ serial_from noise.now }
     ensures key { result.key ≡ first_key noise.now }
 {
-    let mut draw = [0; 32];
-    draw.copy_from_slice(&noise[..32]);
+    let mut draw = [0; DRAW_LENGTH];
+    draw.copy_from_slice(&noise[..DRAW_LENGTH]);
     let mut serial = [0; 16];
-    serial.copy_from_slice(&noise[32..]);
+    serial.copy_from_slice(&noise[DRAW_LENGTH..]);
     Device {
         serial,
         key: born(&draw, &serial, 0),
     }
 }
 
-/// The code of layer 1 alone.
+/// The codes of a new device: that of layer 1 alone.
 fn codes_of(alloc: Global, code: &[u8]) -> Result<Codes, NoMemory>
     ensures { IfOk result (λ codes. codes ≡ codes_at_birth code.now) }
 {
@@ -134,7 +121,7 @@ fn codes_of(alloc: Global, code: &[u8]) -> Result<Codes, NoMemory>
     })
 }
 
-/// The bytes of the root record.
+/// The bytes of a new device's root record.
 fn root_of(alloc: Global, device: &Device) -> Result<Vec<u8>, NoMemory>
     requires { root_format.Allowed (root_at_birth device.now.serial device.now.key) }
     ensures { IfOk result (λ root. root.items ≡ root_format.spelling (root_at_birth device.now.serial device.now.key)) }
@@ -151,7 +138,7 @@ fn root_of(alloc: Global, device: &Device) -> Result<Vec<u8>, NoMemory>
     Ok(bytes)
 }
 
-/// Room for so many bytes.
+/// Room for `capacity` bytes.
 fn room(alloc: Global, capacity: usize) -> Result<Vec<u8>, NoMemory>
     ensures empty { IfOk result (λ room. room.items ≡ []) }
     ensures length { IfOk result (λ room. vec_len room ≡ 0) }
@@ -160,7 +147,7 @@ fn room(alloc: Global, capacity: usize) -> Result<Vec<u8>, NoMemory>
     Ok(Vec::with_capacity(alloc, capacity)?)
 }
 
-/// The first entry of the log.
+/// The first entry of a new device's log.
 fn birth_of<L: Ledger>(
     device: &Device,
     owner: &PublicKey,
@@ -186,24 +173,25 @@ fn birth_of<L: Ledger>(
         key: public(&device.key, hashes),
         layers: Layers {
             one,
-            two: UNOWNED,
-            three: UNOWNED,
+            two: Layer::unowned(),
+            three: Layer::unowned(),
         },
     }
 }
 
-/// The first entry with the maker's signature at the key's next index. There is room for the entry's bytes.
+/// Signs the first entry by the maker's key at an index. There is room for the entry's bytes.
 fn sign_birth<L: Ledger>(
-    k: &Keyfile,
+    seed: &KeySeed,
+    index: u32,
     birth: Entry,
     text: Vec<u8>,
     hashes: &mut HashCount<L>,
 ) -> SignedEntry
-    requires next { k.now.next ≤ 31 }
+    requires index { index ≤ LAST_INDEX }
     requires spelled { entry_format.Allowed birth }
     requires empty { text.items ≡ [] }
-    requires room { vec_len text + 358 ≤ vec_capacity text }
-    ensures signed { result ≡ signed_by k.now.seed k.now.next birth }
+    requires room { vec_len text + LONGEST_ENTRY ≤ vec_capacity text }
+    ensures signed { result ≡ signed_by seed.now index birth }
     ensures cost { hashes.new ≤ hashes.old + 35473 }
 {
     let mut text = text;
@@ -212,15 +200,15 @@ fn sign_birth<L: Ledger>(
     };
     SignedEntry {
         entry: birth,
-        signature: sign_next(k, &[ENTRY], &text, hashes),
+        signature: sign_at(seed, index, &[ENTRY_TEXT], &text, hashes),
     }
 }
 
-/// Writes the public record, for which there is room.
+/// Writes the public record of a new device. There is room for it.
 fn store(codes: &Codes, log: &[SignedEntry], stored: &mut Vec<u8>)
     requires spelled { public_format.Allowed (public_of_parts codes.now log.now []) }
     requires empty { stored.old.items ≡ [] }
-    requires room { vec_len stored.old + 444818 ≤ vec_capacity stored.old }
+    requires room { vec_len stored.old + LONGEST_PUBLIC ≤ vec_capacity stored.old }
     ensures { stored.new.items ≡ public_format.spelling (public_of_parts codes.now log.now []) }
 {
     let Ok(()) = write_public_parts(codes, log, &[], stored) else {

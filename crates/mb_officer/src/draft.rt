@@ -2,6 +2,7 @@
 
 ghost use Rattle.std.specs.Prelude.{◌≡◌, ◌≤◌, ◌++◌, [], List, length, codes, IfOk, MatchOption, None, Some};
 ghost use Rattle.std.specs.Fmt.{decimal};
+ghost use Rattle.mb_model.specs.declared.limits.TheConstants.{FILE_LIMIT};
 ghost use Rattle.mb_model.specs.declared.order.OrderKind.TheVariants.{Surrender};
 ghost use Rattle.mb_model.specs.Rules.{MayBeFor};
 ghost use Rattle.mb_model.specs.Drafts.{kind_word};
@@ -13,14 +14,11 @@ use crate::words::{
     read_code, read_layer, read_owner, read_target, read_trusts, read_version, split_layer,
 };
 use mb_model::{
-    Act, Bytes, Countersignatures, KeyKind, NoMemory, Order, Payload, PublicKey, Target, Targets,
-    Trusts,
+    Act, Bytes, Countersignatures, KeyKind, NoMemory, Order, Payload, PublicKey, TARGET_LIMIT,
+    Target, Targets, Trusts,
 };
 use mb_words::{NotSaid, after_word, split_line};
 use std::alloc::Global;
-
-/// The most targets of an order.
-const MOST_TARGETS: usize = 8;
 
 /// Why a draft was not read.
 #[derive(Clone, Copy, Debug, PartialEq, Eq)]
@@ -34,14 +32,14 @@ pub enum DraftEnd {
     NoMemory,
 }
 
-/// Which of the two loads is ordered.
+/// One of the two kinds of loads.
 #[derive(Clone, Copy, Debug, PartialEq, Eq)]
 pub(crate) enum Loading {
     Ordinary,
     Emergency,
 }
 
-/// What a first line orders.
+/// What the first line of a draft orders.
 #[derive(Clone, Copy, PartialEq, Eq)]
 pub(crate) enum Kind {
     Establish,
@@ -50,48 +48,47 @@ pub(crate) enum Kind {
     NewKey(KeyKind),
 }
 
-/// What the lines so far say, besides the targets.
+/// What the lines of a draft up to some line say, besides the targets.
 #[derive(Drop)]
 pub(crate) enum Said {
-    /// No line was read.
+    /// No line has been read.
     Nothing,
-    /// What is ordered of which layer.
+    /// The first line, and targets.
     Heading {
         kind: Kind,
         layer: u8,
     },
-    /// And the new owner.
+    /// The lines up to the new owner.
     Owner {
         layer: u8,
         owner: PublicKey,
     },
-    /// And the version of the code.
+    /// The lines up to the version of the code.
     Version {
         loading: Loading,
         layer: u8,
         version: u32,
     },
-    /// And the trusts.
+    /// The lines up to the trusts.
     Trust {
         loading: Loading,
         layer: u8,
         version: u32,
         trust: Trusts,
     },
-    /// All that is ordered.
+    /// All lines.
     All {
         layer: u8,
         act: Act,
     },
 }
 
-/// The order that a draft says, with a signature of no bytes and without countersignatures. The text has at most
-/// 4,194,304 bytes.
+/// Reads the order of a draft of at most 4,194,304 bytes. Its signature is empty, and it has no countersignatures.
 ///
-/// Errors: `BadLine` with the first line that is not in the grammar, or with the line after the last where the text
-/// ends too early, and `NoMemory`, of which no clause says when it comes.
+/// Errors: `BadLine` with the first line that is not in the grammar, or with the line after the last if the text ends
+/// too early, and `NoMemory`.
 pub fn read_draft(alloc: Global, text: &[u8]) -> Result<Order, DraftEnd>
-    requires { length text.now ≤ 4194304 }
+    requires { length text.now ≤ FILE_LIMIT }
     ensures read { ReadsDraft text.now result }
     ensures spelled { IfOk result (λ order. order_format.Allowed order) }
 {
@@ -115,7 +112,7 @@ pub fn read_draft(alloc: Global, text: &[u8]) -> Result<Order, DraftEnd>
     }
 }
 
-/// The order, where nothing is left to be said.
+/// The order of a draft whose lines are all read; none if lines are missing.
 fn finish(alloc: Global, said: Said, targets: Targets) -> Option<Order>
     requires { IsSoundDraft said targets }
     ensures { FindsSome (SaysRest said targets []) result }
@@ -135,7 +132,7 @@ fn finish(alloc: Global, said: Said, targets: Targets) -> Option<Order>
     }
 }
 
-/// The order that nobody has signed yet.
+/// An order that nobody has signed.
 fn unsigned(alloc: Global, layer: u8, targets: Targets, act: Act) -> Order
     ensures { result ≡ drafted layer targets act }
 {
@@ -148,7 +145,7 @@ fn unsigned(alloc: Global, layer: u8, targets: Targets, act: Act) -> Order
     }
 }
 
-/// What the lines say with one more.
+/// Reads one line more of a draft.
 fn read_line(alloc: Global, said: Said, targets: &mut Targets, line: &[u8]) -> Result<Said, NotSaid>
     requires { IsSoundDraft said targets.old }
     ensures { TellsNext said targets.old line.now result targets.new }
@@ -184,7 +181,7 @@ fn read_line(alloc: Global, said: Said, targets: &mut Targets, line: &[u8]) -> R
     }
 }
 
-/// All of an establish, where the line says the trusts.
+/// Reads the trusts of an establish, which end its draft.
 fn end_establish(layer: u8, owner: PublicKey, line: &[u8]) -> Result<Said, NotSaid>
     ensures { (targets : List Target) → IsSoundDraft (Said.Owner layer owner) targets → TellsNext (Said.Owner layer owner) targets line.now result targets }
 {
@@ -197,7 +194,7 @@ fn end_establish(layer: u8, owner: PublicKey, line: &[u8]) -> Result<Said, NotSa
     }
 }
 
-/// A load with its trusts, where the line says them.
+/// Reads the trusts of a load.
 fn trust_load(loading: Loading, layer: u8, version: u32, line: &[u8]) -> Result<Said, NotSaid>
     ensures { (targets : List Target) → IsSoundDraft (Said.Version loading layer version) targets → TellsNext (Said.Version loading layer version) targets line.now result targets }
 {
@@ -212,18 +209,18 @@ fn trust_load(loading: Loading, layer: u8, version: u32, line: &[u8]) -> Result<
     }
 }
 
-/// One target more, where there is room for it.
+/// Adds a target to those of a draft, unless there are as many as an order may have.
 fn add_target(kind: Kind, layer: u8, targets: &mut Targets, target: Target) -> Result<Said, NotSaid>
     ensures { AddsTarget kind layer targets.old target result targets.new }
 {
-    if targets.as_slice().len() == MOST_TARGETS {
+    if targets.as_slice().len() == TARGET_LIMIT as usize {
         return Err(NotSaid::Form);
     }
     targets.push(target)?;
     Ok(Said::Heading { kind, layer })
 }
 
-/// What the first line after the targets says.
+/// Reads the first line after the targets.
 fn read_first(kind: Kind, layer: u8, line: &[u8]) -> Option<Said>
     ensures { FindsSome (IsFirst kind layer line.now) result }
 {
@@ -245,7 +242,7 @@ fn read_first(kind: Kind, layer: u8, line: &[u8]) -> Option<Said>
     }
 }
 
-/// The load of this kind.
+/// A load of this kind.
 fn load_of(loading: Loading, version: u32, trust: Trusts, code: Bytes) -> Act
     ensures { result ≡ load_act loading version trust code }
 {
@@ -260,7 +257,7 @@ fn load_of(loading: Loading, version: u32, trust: Trusts, code: Bytes) -> Act
     }
 }
 
-/// What a draft's first line orders, and of which layer.
+/// Reads the first line of a draft: what is ordered, and the layer.
 fn read_heading(line: &[u8]) -> Option<(Kind, u8)>
     ensures { FindsSome (λ heading. IsHeading line.now heading.0 heading.1) result }
 {
@@ -285,7 +282,7 @@ fn read_heading(line: &[u8]) -> Option<(Kind, u8)>
     }
 }
 
-/// What is ordered, with the layer that was found.
+/// The pair of what is ordered and the layer; none without a layer.
 fn with_layer(kind: Kind, layer: Option<u8>) -> Option<(Kind, u8)>
     ensures { MatchOption layer (result ≡ None) (λ n. result ≡ Some (kind, n)) }
 {
@@ -295,7 +292,7 @@ fn with_layer(kind: Kind, layer: Option<u8>) -> Option<(Kind, u8)>
     }
 }
 
-/// The layer, 2 or 3, that the word is.
+/// Reads a layer, 2 or 3, from a whole word.
 fn read_upper(word: &[u8]) -> Option<u8>
     ensures { FindsSome (λ layer. MayBeFor Surrender layer × (word.now ≡ decimal layer)) result }
 {
@@ -308,7 +305,7 @@ fn read_upper(word: &[u8]) -> Option<u8>
     }
 }
 
-/// What a new key's first line orders, and of which layer, 2 or 3.
+/// Reads the first line of an order of a new key without its first two words: the kind of key, and the layer, 2 or 3.
 fn read_key(words: &[u8]) -> Option<(Kind, u8)>
     ensures { FindsSome (λ heading. IsHeading (codes "order newkey " ++ words.now) heading.0 heading.1) result }
 {
@@ -324,7 +321,7 @@ fn read_key(words: &[u8]) -> Option<(Kind, u8)>
     }
 }
 
-/// The kind of key that the word is.
+/// Reads a kind of key from a whole word.
 fn read_kind(word: &[u8]) -> Option<KeyKind>
     ensures { FindsSome (λ kind. word.now ≡ kind_word kind) result }
 {

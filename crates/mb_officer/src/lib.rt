@@ -1,9 +1,8 @@
-//! What officers' tools, and a maker's, do with keys, orders and new devices.
+//! The work of officers' tools, and of a maker's, on keys, orders and new devices.
 //!
-//! This crate owns the file of an officer's key, read and written; the making of a key from noise; the file of a
-//! public key, read; the drafts of orders, read line by line; the signing and countersigning of orders, each of
-//! which uses up one index of a key; the line of an order, read and written; and the image of a new device, whose
-//! birth a maker's key signs.
+//! This crate owns the file of an officer's key, read and written; the derivation of a key from noise; the drafts of
+//! orders, read line by line; the signing and countersigning of orders, each of which uses up one index of a key; the
+//! line of an order, read and written; and the image of a new device, whose birth a maker's key signs.
 #![tactic(auto)]
 
 mod birth;
@@ -12,7 +11,6 @@ mod image;
 mod keyfile;
 mod make;
 mod order_line;
-mod public_key;
 mod signing;
 mod words;
 
@@ -22,5 +20,4 @@ pub use keyfile::{read_keyfile, write_keyfile};
 pub use make::make_key;
 pub use mb_model::{BadRecord, Keyfile};
 pub use order_line::{OrderLineEnd, read_order_line, write_order_line};
-pub use public_key::read_public_key;
 pub use signing::{SignEnd, countersign, sign_order};

@@ -1,40 +1,19 @@
-//! An officer's key made from noise.
+//! The derivation of an officer's key from noise.
 
-ghost use Rattle.std.specs.Prelude.{◌≡◌, ◌∷◌};
-ghost use Rattle.sha2.specs.Sha256.{sha256};
+ghost use Rattle.std.specs.Prelude.{◌≡◌};
 ghost use Rattle.mb_model.specs.Born.{officer_key};
 
-use mb_model::{KeySeed, Keyfile};
-use sha2::{Digest, Sha256};
+use mb_log::derive_key;
+use mb_model::separators::{OFFICER_IDENTIFIER, OFFICER_SECRET};
+use mb_model::{DRAW_LENGTH, Keyfile, NextIndex};
 
-/// What the hash begins with by which the secret is made.
-const SECRET: u8 = 0x12;
-
-/// What the hash begins with by which the identifier is made.
-const IDENTIFIER: u8 = 0x13;
-
-/// The key that is made from the noise, with all its indices left.
+/// Derives the key of an officer from noise. All its indices are left.
 #[tactic(auto, unfolding(mb_model::specs::Born::officer_key))]
-pub fn make_key(noise: &[u8; 32]) -> Keyfile
+pub fn make_key(noise: &[u8; DRAW_LENGTH]) -> Keyfile
     ensures { result ≡ record { seed = officer_key noise.now; next = 0 } }
 {
-    let mut identifier = [0; 16];
-    identifier.copy_from_slice(&hash_of(IDENTIFIER, noise)[..16]);
     Keyfile {
-        seed: KeySeed {
-            identifier,
-            seed: hash_of(SECRET, noise),
-        },
-        next: 0,
+        seed: derive_key(OFFICER_SECRET, OFFICER_IDENTIFIER, noise),
+        next: NextIndex::first(),
     }
-}
-
-/// The hash of a first byte and the noise.
-fn hash_of(first: u8, noise: &[u8; 32]) -> [u8; 32]
-    ensures { result ≡ sha256 (first ∷ noise.now) }
-{
-    let mut hasher = Sha256::new();
-    hasher.update([first]);
-    hasher.update(noise.as_slice());
-    hasher.finalize()
 }

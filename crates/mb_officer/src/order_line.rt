@@ -1,4 +1,4 @@
-//! The line of an order, as who signs hands it on: read, and written.
+//! The line of an order, in which officers hand it on: read, and written.
 
 ghost use Rattle.std.specs.Prelude.{◌≡◌, ◌∷◌, [], IfOk};
 ghost use Rattle.mb_format.specs.Format.{Spells};
@@ -18,17 +18,17 @@ use std::alloc::Global;
 pub enum OrderLineEnd {
     /// The first line is not that of an order, or a second line follows it.
     BadLine {
-        /// The number of the first such line: 1, also where the text has no line, or 2.
+        /// The number of the first such line: 1, also if the text has no line, or 2.
         line: u32,
     },
     /// An allocation failed.
     NoMemory,
 }
 
-/// The order of the text, whose one line is `command HEX`. The line may lack its LF.
+/// Reads the order of a text whose one line is `command HEX`. The line may lack its LF.
 ///
-/// Errors: `BadLine` with 1 where there is no line or the first is not that of an order, and with 2 where another line
-/// follows that of an order, be it empty; and `NoMemory`, of which no clause says when it comes.
+/// Errors: `BadLine` with 1 if there is no line or the first is not that of an order, and with 2 if another line, even
+/// an empty one, follows; and `NoMemory`.
 pub fn read_order_line(alloc: Global, text: &[u8]) -> Result<Order, OrderLineEnd>
     ensures read { ReadsOrderLine text.now result }
     ensures spelled { IfOk result (λ order. order_format.Allowed order) }
@@ -50,7 +50,7 @@ pub fn read_order_line(alloc: Global, text: &[u8]) -> Result<Order, OrderLineEnd
     }
 }
 
-/// The order whose line this is.
+/// Reads the order of a line.
 fn order_in(alloc: Global, line: &[u8]) -> Result<Order, NotSaid>
     ensures { Finds (IsOrderLine (line.now ∷ [])) result }
 {
@@ -61,7 +61,7 @@ fn order_in(alloc: Global, line: &[u8]) -> Result<Order, NotSaid>
     order_of(alloc, bytes.as_slice())
 }
 
-/// The order that the bytes spell.
+/// Reads the order that the bytes spell.
 fn order_of(alloc: Global, bytes: &[u8]) -> Result<Order, NotSaid>
     ensures { Finds (Spells order_format bytes.now) result }
 {
@@ -72,9 +72,7 @@ fn order_of(alloc: Global, bytes: &[u8]) -> Result<Order, NotSaid>
     }
 }
 
-/// The line of the order, which has a spelling, with its LF.
-///
-/// Errors: `NoMemory`. Nothing is said of when memory is found: the tests write lines where there is enough.
+/// The line of an order, which has a spelling, with its LF.
 pub fn write_order_line(alloc: Global, order: &Order) -> Result<Vec<u8>, NoMemory>
     requires { order_format.Allowed order.now }
     ensures { IfOk result (λ text. text.items ≡ ended (order_line order.now)) }

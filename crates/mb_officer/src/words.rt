@@ -2,6 +2,7 @@
 
 ghost use Rattle.std.specs.Prelude.{◌≡◌, ◌≤◌, ◌++◌, ◌∷◌, [], ℕ, List, length, codes, MatchOption, IsTrue};
 ghost use Rattle.std.specs.Fmt.{decimal};
+ghost use Rattle.mb_model.specs.declared.limits.TheConstants.{CODE_LIMIT};
 ghost use Rattle.mb_model.specs.Key.{key_bytes, IsSized};
 ghost use Rattle.mb_model.specs.Layers.{is_layer_number};
 ghost use Rattle.mb_model.specs.Lines.{number_limit, spaced};
@@ -11,14 +12,11 @@ ghost use Rattle.mb_words.specs.Words.{Finds, FindsSome};
 ghost use Rattle.mb_officer.specs.Drafting.{SaysSecond};
 
 use mb_lms::parse_key;
-use mb_model::{Bytes, PublicKey, Target, Trust, Trusts};
+use mb_model::{Bytes, CODE_LIMIT, PublicKey, Target, Trust, Trusts};
 use mb_words::{NotSaid, after_word, read_array, read_hex, read_number};
 use std::alloc::Global;
 
-/// The most bytes of a layer's code.
-const MOST_OF_CODE: usize = 32_768;
-
-/// The layer, 1 to 3, that the word is.
+/// Reads a layer, 1 to 3, from a whole word.
 pub(crate) fn read_layer(word: &[u8]) -> Option<u8>
     ensures { FindsSome (λ layer. IsTrue (is_layer_number layer) × (word.now ≡ decimal layer)) result }
 {
@@ -33,7 +31,7 @@ pub(crate) fn read_layer(word: &[u8]) -> Option<u8>
     }
 }
 
-/// The layer, 1 to 3, that the first word is, and what stands after it and a space.
+/// Reads a layer, 1 to 3, and a space, and gives what follows too.
 pub(crate) fn split_layer(text: &[u8]) -> Option<(u8, &[u8])>
     ensures { MatchOption result ((layer : ℕ) (rest : List ℕ) → IsTrue (is_layer_number layer) → text.now ≡ decimal layer ++ 32 ∷ rest → ⊥) (λ parts. IsTrue (is_layer_number parts.0) × (text.now ≡ decimal parts.0 ++ 32 ∷ parts.1.now)) }
 {
@@ -49,7 +47,7 @@ pub(crate) fn split_layer(text: &[u8]) -> Option<(u8, &[u8])>
     }
 }
 
-/// The target that a line says.
+/// Reads a target from its line.
 pub(crate) fn read_target(line: &[u8]) -> Option<Target>
     ensures { FindsSome (SaysTarget line.now) result }
 {
@@ -59,7 +57,7 @@ pub(crate) fn read_target(line: &[u8]) -> Option<Target>
     }
 }
 
-/// The target that a line says after its first word.
+/// Reads a target from its line without the first word.
 fn read_demand(words: &[u8]) -> Option<Target>
     ensures { FindsSome (SaysTarget (codes "target " ++ words.now)) result }
 {
@@ -84,7 +82,7 @@ fn read_demand(words: &[u8]) -> Option<Target>
     }
 }
 
-/// The target that demands an owner, by what stands after its first two words.
+/// Reads a target on an owner from its line without the first two words.
 fn read_owner_demand(words: &[u8]) -> Option<Target>
     ensures { FindsSome (SaysTarget (codes "target owner " ++ words.now)) result }
 {
@@ -97,7 +95,7 @@ fn read_owner_demand(words: &[u8]) -> Option<Target>
     Some(Target::Owner { layer, hash })
 }
 
-/// The target that demands code, by what stands after its first two words.
+/// Reads a target on code from its line without the first two words.
 fn read_code_demand(words: &[u8]) -> Option<Target>
     ensures { FindsSome (SaysTarget (codes "target code " ++ words.now)) result }
 {
@@ -110,7 +108,7 @@ fn read_code_demand(words: &[u8]) -> Option<Target>
     Some(Target::Code { layer, hash })
 }
 
-/// The trust that a word says.
+/// Reads a trust from a whole word.
 fn trust_of(word: &[u8]) -> Option<Trust>
     ensures { FindsSome (λ trust. word.now ≡ trust_word trust) result }
 {
@@ -125,7 +123,7 @@ fn trust_of(word: &[u8]) -> Option<Trust>
     }
 }
 
-/// The trusts of which the first was said, and this word says the second.
+/// Reads the second of two trusts from a whole word.
 fn trusts_with(first: Trust, word: &[u8]) -> Option<Trusts>
     ensures { FindsSome (SaysSecond first word.now) result }
 {
@@ -135,7 +133,7 @@ fn trusts_with(first: Trust, word: &[u8]) -> Option<Trusts>
     }
 }
 
-/// The trusts that a line says by two words.
+/// Reads two trusts from a line that has a word for each.
 #[tactic(auto, using(crate::proofs::Trusting::second_tells, crate::proofs::Trusting::none_begins))]
 fn read_two_trusts(line: &[u8]) -> Option<Trusts>
     ensures { FindsSome (λ trusts. line.now ≡ trusts_line trusts) result }
@@ -151,7 +149,7 @@ fn read_two_trusts(line: &[u8]) -> Option<Trusts>
     }
 }
 
-/// The trusts that a line says by one word or by two.
+/// Reads two trusts from a line that has one word for both, or a word for each.
 pub(crate) fn read_trusts(line: &[u8]) -> Option<Trusts>
     ensures { FindsSome (SaysTrusts line.now) result }
 {
@@ -161,7 +159,7 @@ pub(crate) fn read_trusts(line: &[u8]) -> Option<Trusts>
     }
 }
 
-/// The trust that a line says by one word, for changes of layer 1 and of layer 2 alike.
+/// Reads a trust from a line that has one word for changes of layer 1 and of layer 2.
 #[tactic(auto, using(crate::proofs::Trusting::one_tells, crate::proofs::Trusting::none_said))]
 fn read_trust(line: &[u8]) -> Option<Trust>
     ensures { FindsSome (λ trust. line.now ≡ trust_line trust) result }
@@ -172,7 +170,7 @@ fn read_trust(line: &[u8]) -> Option<Trust>
     }
 }
 
-/// The owner's key that a line says.
+/// Reads an owner's key from its line.
 pub(crate) fn read_owner(line: &[u8]) -> Option<PublicKey>
     ensures { FindsSome (λ owner. IsSized owner × EndsInHex line.now (codes "owner" ∷ []) (key_bytes owner)) result }
 {
@@ -185,7 +183,7 @@ pub(crate) fn read_owner(line: &[u8]) -> Option<PublicKey>
     }
 }
 
-/// The version that a line says.
+/// Reads the version of code from its line.
 pub(crate) fn read_version(line: &[u8]) -> Option<u32>
     ensures { FindsSome (λ version. (version ≤ number_limit) × (line.now ≡ spaced (codes "version" ∷ decimal version ∷ []))) result }
 {
@@ -195,15 +193,15 @@ pub(crate) fn read_version(line: &[u8]) -> Option<u32>
     }
 }
 
-/// The code that a line says.
+/// Reads code from its line.
 pub(crate) fn read_code(alloc: Global, line: &[u8]) -> Result<Bytes, NotSaid>
-    ensures { Finds (λ code. (length code ≤ 32768) × EndsInHex line.now (codes "code" ∷ []) code) result }
+    ensures { Finds (λ code. (length code ≤ CODE_LIMIT) × EndsInHex line.now (codes "code" ∷ []) code) result }
 {
     let Some(word) = after_word(line, b"code ") else {
         return Err(NotSaid::Form);
     };
     let code = read_hex(alloc, word)?;
-    if code.as_slice().len() > MOST_OF_CODE {
+    if code.as_slice().len() > CODE_LIMIT as usize {
         return Err(NotSaid::Form);
     }
     Ok(code)

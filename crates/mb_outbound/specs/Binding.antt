@@ -2,6 +2,7 @@
 -- statements be signed with one index?
 use Rattle.std.specs.Prelude.{◌≡◌, ℕ, ◌<◌, ◌⊎◌, List, find, AllPairs, None, Some, Result, Ok, Err}
 use Rattle.mb_model.specs.declared.key.KeySeed.{KeySeed}
+use Rattle.mb_model.specs.declared.limits.TheConstants.{KEY_USES}
 use Rattle.mb_model.specs.declared.region.Region.{Region}
 use Rattle.mb_model.specs.declared.region.RegionKey.{RegionKey}
 use Rattle.mb_model.specs.declared.state.State.{State}
@@ -23,7 +24,7 @@ pub record HoldsOrdered (area : List ℕ) : Type 0 where
 -- the region has a key of this number, which has an index left
 pub record HasUse (region : Region) (number : ℕ) (key : RegionKey) : Type 0 where
   pub found : find (has_number number) region.keys ≡ Some key
-  pub left : key.uses < 32
+  pub left : key.uses < KEY_USES
 
 -- the right is to the next index of that key, and the seed is the key's
 pub record IsBound (region : Region) (number right : ℕ) (handed : KeySeed) : Type 0 where

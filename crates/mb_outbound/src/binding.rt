@@ -1,6 +1,7 @@
-//! Binding of the keys of regions.
+//! Binding a key of a region.
 
 ghost use Rattle.std.specs.Prelude.{◌≡◌, ◌≤◌, ◌<◌, ◌⊎◌, length, OnOk};
+ghost use Rattle.mb_model.specs.declared.limits.TheConstants.{RECORD_LIMIT, KEY_USES};
 ghost use Rattle.mb_model.specs.declared.region.Region.{Region};
 ghost use Rattle.mb_model.specs.declared.state.State.{State};
 ghost use Rattle.mb_model.specs.Memory.{IsBlank, current, other};
@@ -23,22 +24,22 @@ use mb_signer::{OneUse, Uses, take_index};
 
 /// Why no right was handed out.
 pub enum BindEnd<S> {
-    /// The region has no key of the number.
+    /// The region has no key of this number.
     NoKey(S),
     /// None of the key's 32 indices is left.
     Spent(S),
-    /// Power failed in this call.
+    /// Power failed in the call.
     Stopped(Off),
 }
 
-/// The first key of this number in the region of the slot, as it is stored; `other` of the room is replaced by the bytes
-/// that stand for the region with one more use of it.
+/// The first key of this number in the region of the slot, as it is stored. Replaces `room.other` by the bytes that stand
+/// for the region with one more use of the key.
 fn next_use<B: Board>(b: &B, slot: u16, key: u32, room: &mut Room) -> Result<RegionKey, NotUsed>
     requires can_use { CanUse (B.seen b.now) slot }
     requires held { HoldsOrdered (current (B.seen b.now).memory.bbram slot) }
     ensures used { (region : Region) → HoldsRegion (current (B.seen b.now).memory.bbram slot) region
         → FindsUse region key result room.new.other.items }
-    ensures short { OnOk result (length room.new.other.items ≤ 4094) }
+    ensures short { OnOk result (length room.new.other.items ≤ RECORD_LIMIT) }
     ensures public { room.new.public ≡ room.old.public }
 {
     read_area(b, slot, &mut room.area);
@@ -48,10 +49,10 @@ fn next_use<B: Board>(b: &B, slot: u16, key: u32, room: &mut Room) -> Result<Reg
     use_in_record(bytes, key, &mut room.other)
 }
 
-/// Replaces the stored region by the one for which `other` of the room stands, and then wipes the area before it.
+/// Replaces the stored region by the one for which `room.other` stands, and then wipes the area before it.
 fn store<S: Reaches<L>, L: Named, B: Board>(s: S, b: &mut B, room: &mut Room) -> Result<S, Off>
     requires up { IsUp S.stage (B.seen b.old) }
-    requires short { length room.old.other.items ≤ 4094 }
+    requires short { length room.old.other.items ≤ RECORD_LIMIT }
     ensures done { (region : Region) → SpellsRegion room.old.other.items region
         → OnOk result (ReplacesRegion L.place region (B.seen b.old).memory (B.seen b.new).memory) }
     ensures either { (region : Region) → SpellsRegion room.old.other.items region
@@ -67,9 +68,9 @@ fn store<S: Reaches<L>, L: Named, B: Board>(s: S, b: &mut B, room: &mut Room) ->
     wipe_region::<S, L, B>(s, b)
 }
 
-/// The right to the index after so many uses.
+/// The right to the next index of a key with this many uses.
 fn right_after(uses: u32) -> OneUse
-    requires { uses < 32 }
+    requires { uses < KEY_USES }
     ensures { result ≡ uses }
 {
     let mut count = Uses::stored(uses);
@@ -79,10 +80,10 @@ fn right_after(uses: u32) -> OneUse
     }
 }
 
-/// Binds the key of this number: the right to its next index, and its seed. One more use of the key is then stored, and
-/// the area of the region that is not in force is wiped. Where power fails, the uses of the key are the old ones or one
-/// more, and all else stays. `NoKey` exactly where the region has no key of the number, and `Spent` exactly where none of
-/// the key's indices is left; then nothing is written. There are at most three write calls.
+/// Binds the key of this number: stores one more use of it, wipes the region's inactive area, and returns the right to
+/// the key's next index, and its seed. If power fails, the uses of the key are the old ones or one more, and all else
+/// stays. `NoKey` exactly if the region has no key of this number, and `Spent` exactly if no index of the key is left;
+/// then nothing is written. There are at most three write calls.
 pub fn bind<S: Reaches<L>, L: Named, B: Board>(
     s: S,
     b: &mut B,
@@ -91,15 +92,21 @@ pub fn bind<S: Reaches<L>, L: Named, B: Board>(
 ) -> Result<(S, OneUse, KeySeed), BindEnd<S>>
     requires up { IsUp S.stage (B.seen b.old) }
     requires held { HoldsOrdered (current (B.seen b.old).memory.bbram L.place) }
-    ensures bound { (region : Region) → HoldsRegion (current (B.seen b.old).memory.bbram L.place) region → BindOf region key result }
+    ensures bound { (region : Region)
+        → HoldsRegion (current (B.seen b.old).memory.bbram L.place) region
+        → BindOf region key result }
     ensures done { OnOk result (StoresUse L.place key (B.seen b.old).memory (B.seen b.new).memory) }
     ensures either { KeepsOrStoresUse L.place key (B.seen b.old).memory (B.seen b.new).memory }
-    ensures means { HasNoFate L.place (B.seen b.old).memory → (state : State) → Means (B.seen b.old).memory state
+    ensures means { HasNoFate L.place (B.seen b.old).memory → (state : State)
+        → Means (B.seen b.old).memory state
         → OnOk result (Means (B.seen b.new).memory (state_used L.place key state)) }
-    ensures means_either { HasNoFate L.place (B.seen b.old).memory → (state : State) → Means (B.seen b.old).memory state
-        → Means (B.seen b.new).memory state ⊎ Means (B.seen b.new).memory (state_used L.place key state) }
+    ensures means_either { HasNoFate L.place (B.seen b.old).memory → (state : State)
+        → Means (B.seen b.old).memory state
+        → Means (B.seen b.new).memory state
+        ⊎ Means (B.seen b.new).memory (state_used L.place key state) }
     ensures blank { OnOk result (IsBlank (other (B.seen b.new).memory.bbram L.place)) }
-    ensures unwritten { StaysUnbound result (B.seen b.old).memory (B.seen b.new).memory (B.seen b.old).meter (B.seen b.new).meter }
+    ensures unwritten { StaysUnbound result (B.seen b.old).memory (B.seen b.new).memory
+        (B.seen b.old).meter (B.seen b.new).meter }
     ensures besides { AgreeBesides L.place (B.seen b.old).memory.bbram (B.seen b.new).memory.bbram }
     ensures rest { IsSameBut L.place (B.seen b.old).memory.bbram (B.seen b.new).memory.bbram }
     ensures flash { (B.seen b.new).memory.flash ≡ (B.seen b.old).memory.flash }

@@ -1,8 +1,8 @@
 //! Signing by the keys of regions.
 //!
-//! This crate owns how a key of a region is bound: its raised count of uses stands stored, and the area before it
-//! is wiped, before the right to sign at the index is handed out. So no index serves two statements, wherever power
-//! fails. And it owns what such a right signs. No call takes memory.
+//! This crate owns how a key of a region is bound: its raised count of uses is stored, and the area before it is wiped,
+//! before the right to sign at the index is returned. No index serves two statements, wherever power fails. The crate
+//! also owns what such a right signs. It stands on `mb_region` and `mb_signer`. No call takes memory.
 #![tactic(auto)]
 
 mod binding;

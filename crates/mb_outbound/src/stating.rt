@@ -1,34 +1,34 @@
-//! What the keys of regions sign.
+//! Statements: what a key of a region signs.
 
 ghost use Rattle.std.specs.Prelude.{◌≡◌, ◌+◌, ◌≤◌, ◌∷◌, ◌++◌};
 ghost use Rattle.std.specs.Int.{w32, to_be_bytes};
+ghost use Rattle.mb_model.specs.declared.separators.TheConstants.{STATEMENT_TEXT};
 ghost use Rattle.mb_model.specs.Signing.{signature_of};
 ghost use Rattle.mb_model.specs.SignedTexts.{statement_text};
 
 use mb_bytes::put_at;
 use mb_lms::HashCount;
-use mb_model::KeySeed;
+use mb_model::separators::STATEMENT_TEXT;
+use mb_model::{KeySeed, SIGNATURE_LENGTH};
 use mb_signer::{OneUse, sign};
 use std::sync::ledger::Ledger;
 
-/// What the text begins with that the key of a region signs.
-const STATEMENT: u8 = 4;
-
-/// What stands before the message in the text of a statement: its mark, the device's serial, the number of the key, and
-/// the configuration number.
+/// The text of a statement before the message: the domain separator, the device's serial, the number of the key, and the
+/// configuration number.
 fn statement_head(serial: &[u8; 16], key: u32, number: u32) -> [u8; 25]
-    ensures { result ≡ 4 ∷ serial.now ++ to_be_bytes w32 key ++ to_be_bytes w32 number }
+    ensures { result
+        ≡ STATEMENT_TEXT ∷ serial.now ++ to_be_bytes w32 key ++ to_be_bytes w32 number }
 {
     let mut head = [0; 25];
-    put_at(&mut head, 0, &[STATEMENT]);
+    put_at(&mut head, 0, &[STATEMENT_TEXT]);
     put_at(&mut head, 1, serial);
     put_at(&mut head, 17, &key.to_be_bytes());
     put_at(&mut head, 21, &number.to_be_bytes());
     head
 }
 
-/// Signs a statement: what the key with this number states of a message, in the device with this serial and at this
-/// configuration number. The seed is the key's, and the right is spent. At most 35,473 hashes are taken, and no memory.
+/// Signs the statement of a message by the key with this number, in the device with this serial and at this
+/// configuration number. The seed is the key's. Takes the right, at most 35,473 hashes, and no memory.
 pub fn state_text<L: Ledger>(
     right: OneUse,
     seed: &KeySeed,
@@ -36,10 +36,11 @@ pub fn state_text<L: Ledger>(
     key: u32,
     number: u32,
     message: &[u8],
-    out: &mut [u8; 2348],
+    out: &mut [u8; SIGNATURE_LENGTH],
     hashes: &mut HashCount<L>,
 )
-    ensures signature { out.new ≡ signature_of seed.now right (statement_text serial.now key number message.now) }
+    ensures signature { out.new
+        ≡ signature_of seed.now right (statement_text serial.now key number message.now) }
     ensures cost { hashes.new ≤ hashes.old + 35473 }
 {
     let head = statement_head(serial, key, number);

@@ -1,6 +1,7 @@
-//! Regions by their places, and by the states that reach them.
+//! The calls on regions, by the part of the memory that holds one and the state that reaches it.
 
 ghost use Rattle.std.specs.Prelude.{◌≡◌, ◌≤◌, ◌⊎◌, length, OnOk, IfOk, IsOk, vec_capacity};
+ghost use Rattle.mb_model.specs.declared.limits.TheConstants.{AREA_LENGTH, RECORD_LIMIT};
 ghost use Rattle.mb_model.specs.declared.region.Region.{Region};
 ghost use Rattle.mb_model.specs.declared.state.State.{State};
 ghost use Rattle.mb_model.specs.declared.stored.Fate.TheVariants.{Keep};
@@ -17,15 +18,15 @@ ghost use Rattle.mb_region.specs.Regions.{HoldsSomeRegion, HasNoFate, ReplacesRe
 ghost use Rattle.mb_region.specs.Fates.{IsPending, AppliesFate, KeepsOrApplies};
 
 use crate::named::Named;
-use crate::stored::{finish_fate, load_region, replace, store_region};
+use crate::stored::{count_keys_in, finish_fate, load_region, replace, store_region};
 use mb_board::{Board, Stopped};
 use mb_layout::Room;
 use mb_model::{Fate, NoMemory, Region};
-use mb_ratchet::{Off, Reaches};
+use mb_ratchet::{Off, R1, Reaches, Up};
 use mb_slot::wipe_other;
 use std::alloc::Global;
 
-/// The stored region. `NoMemory` where an allocation fails, of which no clause says when.
+/// Reads the stored region. `NoMemory` if an allocation fails.
 pub fn read_stored<S: Reaches<L>, L: Named, B: Board>(
     alloc: Global,
     _s: &S,
@@ -34,15 +35,28 @@ pub fn read_stored<S: Reaches<L>, L: Named, B: Board>(
 ) -> Result<Region, NoMemory>
     requires up { IsUp S.stage (B.seen b.now) }
     requires held { HoldsSomeRegion (current (B.seen b.now).memory.bbram L.place) }
-    ensures region { (region : Region) → HoldsRegion (current (B.seen b.now).memory.bbram L.place) region
+    ensures region { (region : Region)
+        → HoldsRegion (current (B.seen b.now).memory.bbram L.place) region
         → IfOk result (λ it. it ≡ region) }
     ensures public { room.new.public ≡ room.old.public }
 {
     load_region(alloc, b, L::number(), room)
 }
 
-/// Replaces the stored region by the one for which these bytes stand, of which there are at most 4,094. Where power
-/// fails, the region before stands, or this one. `area` is working space. There are at most two write calls.
+/// Counts the keys of the stored region. Takes no memory.
+pub fn count_stored_keys<L: Named, B: Board>(_up: &Up<R1>, b: &B, room: &mut Room) -> u32
+    requires up { IsUp 1 (B.seen b.now) }
+    requires held { HoldsSomeRegion (current (B.seen b.now).memory.bbram L.place) }
+    ensures count { (region : Region)
+        → HoldsRegion (current (B.seen b.now).memory.bbram L.place) region
+        → result ≡ length region.keys }
+    ensures public { room.new.public ≡ room.old.public }
+{
+    count_keys_in(b, L::number(), room)
+}
+
+/// Replaces the stored region by the one for which these bytes stand, at most 4,094 of them. If power fails, the memory
+/// holds the region before or this one. `area` is working space. There are at most two write calls.
 pub fn commit_record<S: Reaches<L>, L: Named, B: Board>(
     s: S,
     b: &mut B,
@@ -50,13 +64,14 @@ pub fn commit_record<S: Reaches<L>, L: Named, B: Board>(
     area: &mut Vec<u8>,
 ) -> Result<S, Off>
     requires up { IsUp S.stage (B.seen b.old) }
-    requires short { length bytes.now ≤ 4094 }
-    requires room { 4096 ≤ vec_capacity area.old }
+    requires short { length bytes.now ≤ RECORD_LIMIT }
+    requires room { AREA_LENGTH ≤ vec_capacity area.old }
     ensures done { (region : Region) → SpellsRegion bytes.now region
         → OnOk result (ReplacesRegion L.place region (B.seen b.old).memory (B.seen b.new).memory) }
     ensures either { (region : Region) → SpellsRegion bytes.now region
         → KeepsOrReplaces L.place region (B.seen b.old).memory (B.seen b.new).memory }
-    ensures left { OnOk result (other (B.seen b.new).memory.bbram L.place ≡ current (B.seen b.old).memory.bbram L.place) }
+    ensures left { OnOk result (other (B.seen b.new).memory.bbram L.place
+        ≡ current (B.seen b.old).memory.bbram L.place) }
     ensures besides { AgreeBesides L.place (B.seen b.old).memory.bbram (B.seen b.new).memory.bbram }
     ensures rest { IsSameBut L.place (B.seen b.old).memory.bbram (B.seen b.new).memory.bbram }
     ensures flash { (B.seen b.new).memory.flash ≡ (B.seen b.old).memory.flash }
@@ -69,8 +84,8 @@ pub fn commit_record<S: Reaches<L>, L: Named, B: Board>(
     }
 }
 
-/// Replaces the stored region by this one. Where power fails, the region before stands, or this one. There are at most
-/// two write calls.
+/// Replaces the stored region by this one. If power fails, the memory holds the region before or this one. There are at
+/// most two write calls.
 pub fn commit_region<S: Reaches<L>, L: Named, B: Board>(
     s: S,
     b: &mut B,
@@ -79,13 +94,19 @@ pub fn commit_region<S: Reaches<L>, L: Named, B: Board>(
 ) -> Result<S, Off>
     requires up { IsUp S.stage (B.seen b.old) }
     requires stored { HasRegionRecord region.now }
-    ensures done { OnOk result (ReplacesRegion L.place region.now (B.seen b.old).memory (B.seen b.new).memory) }
-    ensures either { KeepsOrReplaces L.place region.now (B.seen b.old).memory (B.seen b.new).memory }
-    ensures means { HasNoFate L.place (B.seen b.old).memory → (state : State) → Means (B.seen b.old).memory state
+    ensures done { OnOk result (ReplacesRegion L.place region.now (B.seen b.old).memory
+        (B.seen b.new).memory) }
+    ensures either { KeepsOrReplaces L.place region.now (B.seen b.old).memory
+        (B.seen b.new).memory }
+    ensures means { HasNoFate L.place (B.seen b.old).memory → (state : State)
+        → Means (B.seen b.old).memory state
         → OnOk result (Means (B.seen b.new).memory (with_region state L.place region.now)) }
-    ensures means_either { HasNoFate L.place (B.seen b.old).memory → (state : State) → Means (B.seen b.old).memory state
-        → Means (B.seen b.new).memory state ⊎ Means (B.seen b.new).memory (with_region state L.place region.now) }
-    ensures left { OnOk result (other (B.seen b.new).memory.bbram L.place ≡ current (B.seen b.old).memory.bbram L.place) }
+    ensures means_either { HasNoFate L.place (B.seen b.old).memory → (state : State)
+        → Means (B.seen b.old).memory state
+        → Means (B.seen b.new).memory state
+        ⊎ Means (B.seen b.new).memory (with_region state L.place region.now) }
+    ensures left { OnOk result (other (B.seen b.new).memory.bbram L.place
+        ≡ current (B.seen b.old).memory.bbram L.place) }
     ensures besides { AgreeBesides L.place (B.seen b.old).memory.bbram (B.seen b.new).memory.bbram }
     ensures rest { IsSameBut L.place (B.seen b.old).memory.bbram (B.seen b.new).memory.bbram }
     ensures flash { (B.seen b.new).memory.flash ≡ (B.seen b.old).memory.flash }
@@ -98,8 +119,8 @@ pub fn commit_region<S: Reaches<L>, L: Named, B: Board>(
     }
 }
 
-/// Does to the stored region what is pending for it. The meaning of the memory stays, wherever power fails. A fate that
-/// is applied twice leaves what it leaves once, and `Keep` writes nothing. There are at most two write calls.
+/// Applies the fate that is pending for the stored region. The meaning of the memory stays, wherever power fails. A fate
+/// applied twice leaves what it leaves once, and `Keep` writes nothing. There are at most two write calls.
 pub fn apply_fate<S: Reaches<L>, L: Named, B: Board>(
     s: S,
     b: &mut B,
@@ -108,11 +129,14 @@ pub fn apply_fate<S: Reaches<L>, L: Named, B: Board>(
 ) -> Result<S, Off>
     requires up { IsUp S.stage (B.seen b.old) }
     requires pending { IsPending L.place fate.now (B.seen b.old).memory }
-    ensures done { OnOk result (AppliesFate L.place fate.now (B.seen b.old).memory (B.seen b.new).memory) }
+    ensures done { OnOk result (AppliesFate L.place fate.now (B.seen b.old).memory
+        (B.seen b.new).memory) }
     ensures either { KeepsOrApplies L.place fate.now (B.seen b.old).memory (B.seen b.new).memory }
-    ensures meaning { (state : State) → Means (B.seen b.old).memory state → Means (B.seen b.new).memory state }
+    ensures meaning { (state : State) → Means (B.seen b.old).memory state
+        → Means (B.seen b.new).memory state }
     ensures idle { fate.now ≡ Keep
-        → IsOk result × ((B.seen b.new).memory ≡ (B.seen b.old).memory) × ((B.seen b.new).meter ≡ (B.seen b.old).meter) }
+        → IsOk result × ((B.seen b.new).memory ≡ (B.seen b.old).memory)
+        × ((B.seen b.new).meter ≡ (B.seen b.old).meter) }
     ensures besides { AgreeBesides L.place (B.seen b.old).memory.bbram (B.seen b.new).memory.bbram }
     ensures rest { IsSameBut L.place (B.seen b.old).memory.bbram (B.seen b.new).memory.bbram }
     ensures flash { (B.seen b.new).memory.flash ≡ (B.seen b.old).memory.flash }
@@ -125,15 +149,17 @@ pub fn apply_fate<S: Reaches<L>, L: Named, B: Board>(
     }
 }
 
-/// Sets each byte of the area of the region that is not in force to zero; writes nothing where each is zero already.
-/// There is at most one write call.
+/// Sets each byte of the region's inactive area to zero, and writes nothing if each is zero already. There is at most
+/// one write call.
 pub fn wipe_region<S: Reaches<L>, L: Named, B: Board>(s: S, b: &mut B) -> Result<S, Off>
     requires up { IsUp S.stage (B.seen b.old) }
     ensures blank { OnOk result (IsBlank (other (B.seen b.new).memory.bbram L.place)) }
-    ensures current { current (B.seen b.new).memory.bbram L.place ≡ current (B.seen b.old).memory.bbram L.place }
+    ensures current { current (B.seen b.new).memory.bbram L.place
+        ≡ current (B.seen b.old).memory.bbram L.place }
     ensures contents { KeepsContents (B.seen b.old).memory (B.seen b.new).memory }
     ensures idle { IsBlank (other (B.seen b.old).memory.bbram L.place)
-        → IsOk result × ((B.seen b.new).memory ≡ (B.seen b.old).memory) × ((B.seen b.new).meter ≡ (B.seen b.old).meter) }
+        → IsOk result × ((B.seen b.new).memory ≡ (B.seen b.old).memory)
+        × ((B.seen b.new).meter ≡ (B.seen b.old).meter) }
     ensures besides { AgreeBesides L.place (B.seen b.old).memory.bbram (B.seen b.new).memory.bbram }
     ensures rest { IsSameButOther L.place (B.seen b.old).memory.bbram (B.seen b.new).memory.bbram }
     ensures flash { (B.seen b.new).memory.flash ≡ (B.seen b.old).memory.flash }

@@ -1,11 +1,11 @@
-//! The places of regions.
+//! The parts of the battery-backed memory that hold regions.
 
 ghost use Rattle.std.specs.Prelude.{◌≡◌, ◌⊎◌};
 ghost use Rattle.std.proofs.Common.{rules};
 
 use mb_ratchet::{Place, Three, Two};
 
-/// The place of a region: `Two` or `Three`.
+/// The part of the battery-backed memory that holds a region: `Two` or `Three`.
 pub trait Named: Place {
     ghost named: { (Self.place ≡ 2) ⊎ (Self.place ≡ 3) };
 }

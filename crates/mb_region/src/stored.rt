@@ -2,6 +2,7 @@
 
 ghost use Rattle.std.specs.Prelude.{◌≡◌, ◌≤◌, ◌⊎◌, length, OnOk, IfOk, Ok, vec_capacity};
 ghost use Rattle.mb_format.specs.Format.{IsBytes};
+ghost use Rattle.mb_model.specs.declared.limits.TheConstants.{AREA_LENGTH, RECORD_LIMIT};
 ghost use Rattle.mb_model.specs.declared.region.Region.{Region};
 ghost use Rattle.mb_model.specs.declared.stored.Fate.TheVariants.{Keep};
 ghost use Rattle.mb_model.specs.Memory.{current, other, HoldsInArea};
@@ -15,12 +16,14 @@ ghost use Rattle.mb_region.specs.Regions.{IsRegionSlot, HoldsSomeRegion, Replace
 ghost use Rattle.mb_region.specs.Fates.{CanBeFated, IsPending, AppliesFate, KeepsOrApplies};
 
 use mb_board::{Board, Stopped};
-use mb_layout::{Room, fate_record, fill_area, make_area, record_in, region_in, write_region};
+use mb_layout::{
+    Room, count_keys, fate_record, fill_area, make_area, record_in, region_in, write_region,
+};
 use mb_model::{Fate, NoMemory, Region};
 use mb_slot::{commit, read_current};
 use std::alloc::Global;
 
-/// Puts an area with these bytes, of which there are at most 4,094, in force in the slot. `area` is working space.
+/// Makes an area with these bytes, at most 4,094, the current one of the slot. `area` is working space.
 fn commit_bytes<B: Board>(
     b: &mut B,
     slot: u16,
@@ -28,12 +31,14 @@ fn commit_bytes<B: Board>(
     area: &mut Vec<u8>,
 ) -> Result<(), Stopped>
     requires can_use { CanUse (B.seen b.old) slot }
-    requires short { length bytes.now ≤ 4094 }
-    requires room { 4096 ≤ vec_capacity area.old }
+    requires short { length bytes.now ≤ RECORD_LIMIT }
+    requires room { AREA_LENGTH ≤ vec_capacity area.old }
     ensures done { OnOk result (HoldsInArea (current (B.seen b.new).memory.bbram slot) bytes.now) }
-    ensures either { (current (B.seen b.new).memory.bbram slot ≡ current (B.seen b.old).memory.bbram slot)
+    ensures either { (current (B.seen b.new).memory.bbram slot
+        ≡ current (B.seen b.old).memory.bbram slot)
         ⊎ HoldsInArea (current (B.seen b.new).memory.bbram slot) bytes.now }
-    ensures left { OnOk result (other (B.seen b.new).memory.bbram slot ≡ current (B.seen b.old).memory.bbram slot) }
+    ensures left { OnOk result (other (B.seen b.new).memory.bbram slot
+        ≡ current (B.seen b.old).memory.bbram slot) }
     ensures besides { AgreeBesides slot (B.seen b.old).memory.bbram (B.seen b.new).memory.bbram }
     ensures rest { IsSameBut slot (B.seen b.old).memory.bbram (B.seen b.new).memory.bbram }
     ensures flash { (B.seen b.new).memory.flash ≡ (B.seen b.old).memory.flash }
@@ -45,8 +50,8 @@ fn commit_bytes<B: Board>(
     commit(b, slot, area)
 }
 
-/// Replaces the region in the slot by the one for which these bytes stand, of which there are at most 4,094. `area` is
-/// working space.
+/// Replaces the region in the slot by the one for which these bytes stand, at most 4,094 of them. `area` is working
+/// space.
 pub(crate) fn replace<B: Board>(
     b: &mut B,
     slot: u16,
@@ -55,13 +60,14 @@ pub(crate) fn replace<B: Board>(
 ) -> Result<(), Stopped>
     requires can_use { CanUse (B.seen b.old) slot }
     requires slot { IsRegionSlot slot }
-    requires short { length bytes.now ≤ 4094 }
-    requires room { 4096 ≤ vec_capacity area.old }
+    requires short { length bytes.now ≤ RECORD_LIMIT }
+    requires room { AREA_LENGTH ≤ vec_capacity area.old }
     ensures done { (region : Region) → SpellsRegion bytes.now region
         → OnOk result (ReplacesRegion slot region (B.seen b.old).memory (B.seen b.new).memory) }
     ensures either { (region : Region) → SpellsRegion bytes.now region
         → KeepsOrReplaces slot region (B.seen b.old).memory (B.seen b.new).memory }
-    ensures left { OnOk result (other (B.seen b.new).memory.bbram slot ≡ current (B.seen b.old).memory.bbram slot) }
+    ensures left { OnOk result (other (B.seen b.new).memory.bbram slot
+        ≡ current (B.seen b.old).memory.bbram slot) }
     ensures besides { AgreeBesides slot (B.seen b.old).memory.bbram (B.seen b.new).memory.bbram }
     ensures rest { IsSameBut slot (B.seen b.old).memory.bbram (B.seen b.new).memory.bbram }
     ensures flash { (B.seen b.new).memory.flash ≡ (B.seen b.old).memory.flash }
@@ -71,12 +77,12 @@ pub(crate) fn replace<B: Board>(
     commit_bytes(b, slot, bytes, area)
 }
 
-/// Replaces `out` by the bytes that stand for the region: by none where it is empty.
+/// Replaces `out` by the bytes that stand for the region: by no bytes if it is empty.
 fn region_bytes(region: &Region, out: &mut Vec<u8>)
     requires stored { HasRegionRecord region.now }
-    requires room { 4096 ≤ vec_capacity out.old }
+    requires room { AREA_LENGTH ≤ vec_capacity out.old }
     ensures spelled { SpellsRegion out.new.items region.now }
-    ensures short { length out.new.items ≤ 4094 }
+    ensures short { length out.new.items ≤ RECORD_LIMIT }
     ensures capacity { vec_capacity out.old ≤ vec_capacity out.new }
 {
     out.clear();
@@ -96,9 +102,11 @@ pub(crate) fn store_region<B: Board>(
     requires can_use { CanUse (B.seen b.old) slot }
     requires slot { IsRegionSlot slot }
     requires stored { HasRegionRecord region.now }
-    ensures done { OnOk result (ReplacesRegion slot region.now (B.seen b.old).memory (B.seen b.new).memory) }
+    ensures done { OnOk result (ReplacesRegion slot region.now (B.seen b.old).memory
+        (B.seen b.new).memory) }
     ensures either { KeepsOrReplaces slot region.now (B.seen b.old).memory (B.seen b.new).memory }
-    ensures left { OnOk result (other (B.seen b.new).memory.bbram slot ≡ current (B.seen b.old).memory.bbram slot) }
+    ensures left { OnOk result (other (B.seen b.new).memory.bbram slot
+        ≡ current (B.seen b.old).memory.bbram slot) }
     ensures besides { AgreeBesides slot (B.seen b.old).memory.bbram (B.seen b.new).memory.bbram }
     ensures rest { IsSameBut slot (B.seen b.old).memory.bbram (B.seen b.new).memory.bbram }
     ensures flash { (B.seen b.new).memory.flash ≡ (B.seen b.old).memory.flash }
@@ -109,10 +117,10 @@ pub(crate) fn store_region<B: Board>(
     replace(b, slot, &room.other, &mut room.area)
 }
 
-/// Replaces `area` by the area that is in force in the slot.
+/// Replaces `area` by the current area of the slot.
 pub fn read_area<B: Board>(b: &B, slot: u16, area: &mut Vec<u8>)
     requires can_use { CanUse (B.seen b.now) slot }
-    requires room { 4096 ≤ vec_capacity area.old }
+    requires room { AREA_LENGTH ≤ vec_capacity area.old }
     ensures read { area.new.items ≡ current (B.seen b.now).memory.bbram slot }
     ensures bytes { IsBytes area.new.items }
     ensures capacity { vec_capacity area.old ≤ vec_capacity area.new }
@@ -121,13 +129,14 @@ pub fn read_area<B: Board>(b: &B, slot: u16, area: &mut Vec<u8>)
     read_current(b, slot, area);
 }
 
-/// Replaces `other` of the room by the bytes that stand for the region in the slot after its fate.
+/// Replaces `room.other` by the bytes that stand for the region in the slot after its fate.
 fn fate_bytes<B: Board>(b: &B, slot: u16, fate: &Fate, room: &mut Room)
     requires can_use { CanUse (B.seen b.now) slot }
     requires held { CanBeFated fate.now (current (B.seen b.now).memory.bbram slot) }
-    ensures spelled { (region : Region) → HoldsRegion (current (B.seen b.now).memory.bbram slot) region
+    ensures spelled { (region : Region)
+        → HoldsRegion (current (B.seen b.now).memory.bbram slot) region
         → SpellsRegion room.new.other.items (fated fate.now region) }
-    ensures short { length room.new.other.items ≤ 4094 }
+    ensures short { length room.new.other.items ≤ RECORD_LIMIT }
     ensures public { room.new.public ≡ room.old.public }
 {
     read_area(b, slot, &mut room.area);
@@ -137,7 +146,7 @@ fn fate_bytes<B: Board>(b: &B, slot: u16, fate: &Fate, room: &mut Room)
     fate_record(bytes, fate, &mut room.other);
 }
 
-/// Does to the region in the slot what is pending for it.
+/// Applies the fate that is pending for the region in the slot.
 pub(crate) fn finish_fate<B: Board>(
     b: &mut B,
     slot: u16,
@@ -147,10 +156,12 @@ pub(crate) fn finish_fate<B: Board>(
     requires can_use { CanUse (B.seen b.old) slot }
     requires slot { IsRegionSlot slot }
     requires pending { IsPending slot fate.now (B.seen b.old).memory }
-    ensures done { OnOk result (AppliesFate slot fate.now (B.seen b.old).memory (B.seen b.new).memory) }
+    ensures done { OnOk result (AppliesFate slot fate.now (B.seen b.old).memory
+        (B.seen b.new).memory) }
     ensures either { KeepsOrApplies slot fate.now (B.seen b.old).memory (B.seen b.new).memory }
     ensures idle { fate.now ≡ Keep
-        → (result ≡ Ok tt) × ((B.seen b.new).memory ≡ (B.seen b.old).memory) × ((B.seen b.new).meter ≡ (B.seen b.old).meter) }
+        → (result ≡ Ok tt) × ((B.seen b.new).memory ≡ (B.seen b.old).memory)
+        × ((B.seen b.new).meter ≡ (B.seen b.old).meter) }
     ensures besides { AgreeBesides slot (B.seen b.old).memory.bbram (B.seen b.new).memory.bbram }
     ensures rest { IsSameBut slot (B.seen b.old).memory.bbram (B.seen b.new).memory.bbram }
     ensures flash { (B.seen b.new).memory.flash ≡ (B.seen b.old).memory.flash }
@@ -164,7 +175,7 @@ pub(crate) fn finish_fate<B: Board>(
     replace(b, slot, &room.other, &mut room.area)
 }
 
-/// The region in the slot. `NoMemory` where an allocation fails.
+/// Reads the region in the slot. `NoMemory` if an allocation fails.
 pub(crate) fn load_region<B: Board>(
     alloc: Global,
     b: &B,
@@ -173,13 +184,33 @@ pub(crate) fn load_region<B: Board>(
 ) -> Result<Region, NoMemory>
     requires can_use { CanUse (B.seen b.now) slot }
     requires held { HoldsSomeRegion (current (B.seen b.now).memory.bbram slot) }
-    ensures region { (region : Region) → HoldsRegion (current (B.seen b.now).memory.bbram slot) region
+    ensures region { (region : Region)
+        → HoldsRegion (current (B.seen b.now).memory.bbram slot) region
         → IfOk result (λ it. it ≡ region) }
     ensures public { room.new.public ≡ room.old.public }
 {
     read_area(b, slot, &mut room.area);
     match region_in(alloc, &room.area)? {
         Some(region) => Ok(region),
+        None => unreachable!(),
+    }
+}
+
+/// Counts the keys of the region in the slot.
+pub(crate) fn count_keys_in<B: Board>(b: &B, slot: u16, room: &mut Room) -> u32
+    requires can_use { CanUse (B.seen b.now) slot }
+    requires held { HoldsSomeRegion (current (B.seen b.now).memory.bbram slot) }
+    ensures count { (region : Region)
+        → HoldsRegion (current (B.seen b.now).memory.bbram slot) region
+        → result ≡ length region.keys }
+    ensures public { room.new.public ≡ room.old.public }
+{
+    read_area(b, slot, &mut room.area);
+    let Some(bytes) = record_in(&room.area) else {
+        unreachable!()
+    };
+    match count_keys(bytes) {
+        Some(count) => count,
         None => unreachable!(),
     }
 }

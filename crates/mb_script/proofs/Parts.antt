@@ -1,14 +1,16 @@
 -- Parts of a line: each is what stands there in one way only.
-use Rattle.std.proofs.Common.{◌≡◌, ◌≢◌, ℕ, ◌-◌, ◌*◌, ◌/◌, ◌≤◌, inl, inr, List, [], ◌∷◌, ◌++◌, length, take, drop, replicate, sym, ap, ◌∙◌, arith, Bool, true, not, ◌&&◌, eq-eqb}
-use Rattle.std.specs.Prelude.{◌==◌, codes, IsTrue, Result, Ok, Err}
+use Rattle.std.proofs.Common.{◌≡◌, ◌≢◌, ℕ, ◌-◌, ◌*◌, ◌/◌, ◌≤◌, inl, inr, List, [], ◌∷◌, ◌++◌, length, take, drop, replicate, refl, sym, ap, ◌∙◌, ◌↔◌, arith, Bool, true, not, ◌&&◌, eq-eqb}
+use Rattle.std.specs.Prelude.{◌==◌, nat_le, All, codes, IsTrue, Result, Ok, Err}
 use Rattle.std.specs.Fmt.{decimal}
-use Rattle.std.proofs.lemmas.Bool.{and_parts}
+use Rattle.std.proofs.lemmas.Bool.{and_parts, le-leb, leb-true}
 use Rattle.std.specs.Result.{MatchResult}
 use Rattle.std.proofs.lemmas.List.{append_cancel_left, length-take, length-replicate, drop-replicate}
-use Rattle.std.proofs.lemmas.List.Elements.{All-nil, All-cons}
+use Rattle.std.proofs.lemmas.List.Elements.{All-nil, All-cons, All-head, All-tail}
 use Rattle.hex.specs.Hex.{decode_of, decode_sized}
 use Rattle.hex.specs.declared.error.FromHexError.{FromHexError}
 use Rattle.hex.proofs.HexLemmas.{decode_of-ok, decode_sized-ok, decode_sized-twice}
+use Rattle.mb_model.specs.declared.limits.TheConstants.{NAME_LIMIT}
+use Rattle.mb_model.specs.RegionFormat.{is_name, is_name_byte}
 use Rattle.mb_model.specs.Layers.{is_upper}
 use Rattle.mb_model.specs.Lines.{IsNumber, number_limit}
 use Rattle.mb_model.specs.declared.event.Tear.{Tear}
@@ -158,3 +160,28 @@ tail_none text remaining rest keep first second number third n word (kept_some m
     let same = append_cancel_left (codes "keep ") remaining (decimal n ++ 32 ∷ (codes "fill " ++ word)) (sym second ∙ whole) in
     third word (number_same 1048576 remaining keep n rest (codes "fill " ++ word) (omega arith) number (record { within = most; whole = same })).1
 tail_none text remaining rest keep first second number third n word (none zero whole) = first word whole
+
+-- ---- names
+
+name_bytes : (name : List ℕ) → All (λ byte. (0x21 ≤ byte) × (byte ≤ 0x7E)) name → is_name name ≡ true
+name_bytes [] all = refl
+name_bytes (x ∷ xs) all =
+    let P : ℕ → Type 0 = λ byte. (0x21 ≤ byte) × (byte ≤ 0x7E) in
+    let here = All-head P x xs all in
+    let low : nat_le 0x21 x ≡ true = le-leb 0x21 x here.0 in
+    let high : nat_le x 0x7E ≡ true = le-leb x 0x7E here.1 in
+    rw (low, high) (name_bytes xs (All-tail P x xs all))
+
+bytes_name : (name : List ℕ) → is_name name ≡ true → All (λ byte. (0x21 ≤ byte) × (byte ≤ 0x7E)) name
+bytes_name [] e = All-nil (λ byte. (0x21 ≤ byte) × (byte ≤ 0x7E))
+bytes_name (x ∷ xs) e =
+    let parts = and_parts (is_name_byte x) (is_name xs) e in
+    let ends = and_parts (nat_le 0x21 x) (nat_le x 0x7E) parts.0 in
+    All-cons (λ byte. (0x21 ≤ byte) × (byte ≤ 0x7E)) x xs (leb-true 0x21 x ends.0, leb-true x 0x7E ends.1) (bytes_name xs parts.1)
+
+-- a word that is no longer than a name is one exactly if all its bytes print
+pub name_exactly : (word : List ℕ) (is : Bool) → 1 ≤ length word → length word ≤ NAME_LIMIT → is ≡ is_name word → IsTrue is ↔ IsName word
+name_exactly word is some most same = (
+  (λ true_is. record { some = some; most = most; printed = bytes_name word (sym same ∙ true_is) }),
+  (λ name. same ∙ name_bytes word name.printed),
+)

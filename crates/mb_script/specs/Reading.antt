@@ -1,6 +1,7 @@
 -- What the readers of a script give. Is what is read exactly what stands there?
 use Rattle.std.specs.Prelude.{◌≡◌, ℕ, ◌≤◌, List, ◌∷◌, ◌++◌, length, codes, IsTrue, Result, Ok, Err}
 use Rattle.std.specs.Fmt.{decimal}
+use Rattle.mb_model.specs.declared.limits.TheConstants.{FILL_LIMIT, FLASH_LENGTH}
 use Rattle.mb_model.specs.declared.event.Event.{Event}
 use Rattle.mb_model.specs.Layers.{is_upper}
 use Rattle.mb_model.specs.Texts.{IsHex}
@@ -39,7 +40,7 @@ pub record HasNameFirst (text name rest : List ℕ) : Type 0 where
 pub record IsFill (word fill : List ℕ) : Type 0 where
   pub spelled : IsHex word fill
   pub some : 1 ≤ length fill
-  pub most : length fill ≤ 16
+  pub most : length fill ≤ FILL_LIMIT
 
 -- a text is the number of a region, a space, and a name
 pub record SaysSecret (text : List ℕ) (region : ℕ) (name : List ℕ) : Type 0 where
@@ -50,6 +51,6 @@ pub record SaysSecret (text : List ℕ) (region : ℕ) (name : List ℕ) : Type 
 -- What stands after the count of a cut: how many bytes are kept, where that is said, and the word of the bytes that
 -- fill.
 pub data SaysTail (text : List ℕ) (keep : ℕ) (word : List ℕ) : Type 0 where
-  kept_some : keep ≤ 1048576 → text ≡ codes "keep " ++ decimal keep ++ 32 ∷ (codes "fill " ++ word)
+  kept_some : keep ≤ FLASH_LENGTH → text ≡ codes "keep " ++ decimal keep ++ 32 ∷ (codes "fill " ++ word)
       → SaysTail text keep word
   none : keep ≡ 0 → text ≡ codes "fill " ++ word → SaysTail text keep word

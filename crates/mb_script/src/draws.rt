@@ -1,26 +1,25 @@
-//! The draws of a script's commands, which its noise gives.
+//! The draws of a script's commands, which come from its noise.
 
 ghost use Rattle.std.specs.Prelude.{◌≡◌, ◌*◌, ◌<◌, ◌≤◌, ◌^◌, [], ◌∷◌, length, drop, IsTrue};
+ghost use Rattle.mb_model.specs.declared.limits.TheConstants.{DRAW_LENGTH};
 ghost use Rattle.mb_model.specs.Script.{is_command, commands_in, drawn_event};
 ghost use Rattle.mb_script.specs.Drawing.{PlacesDraws};
 
-use mb_model::{Event, Events};
-
-/// How many bytes a draw has.
-const DRAW: usize = 32;
+use mb_model::{DRAW_LENGTH, Event, Events};
 
 /// The noise has fewer than 32 bytes for each command.
 #[derive(Clone, Copy, Debug, PartialEq, Eq)]
 pub struct ShortNoise;
 
 /// Gives each command its draw: the i-th, from 0, has the bytes 32 i to 32 i + 31 of the noise, and further noise is not
-/// used. Where the noise has fewer than 32 bytes for each command, the events stay as they were. It takes no memory.
-/// Condition: the events are numbered by a `u32`.
+/// used. It takes no memory. The number of events is a `u32`.
+///
+/// Errors: `ShortNoise` if the noise has fewer than 32 bytes for each command; the events are then as before.
 pub fn place_draws(events: &mut Events, noise: &[u8]) -> Result<(), ShortNoise>
     requires { length events.old < 2 ^ 32 }
     ensures { PlacesDraws events.old noise.now result events.new }
 {
-    if noise.len() / DRAW < count_commands(events.as_slice()) {
+    if noise.len() / DRAW_LENGTH < count_commands(events.as_slice()) {
         return Err(ShortNoise);
     }
     let count = events.as_slice().len() as u32;
@@ -35,7 +34,7 @@ pub fn place_draws(events: &mut Events, noise: &[u8]) -> Result<(), ShortNoise>
     Ok(())
 }
 
-/// How many of the events are commands.
+/// The number of commands among the events.
 #[tactic(auto, unfolding(mb_model::specs::Script::commands_in))]
 fn count_commands(events: &[Event]) -> usize
     ensures { result ≡ commands_in events.now }
@@ -46,17 +45,17 @@ fn count_commands(events: &[Event]) -> usize
         .count()
 }
 
-/// The event with its draw, the first bytes of the noise where it is a command; and the noise that is left.
+/// The event with its draw, which a command takes from the front of the noise; and the noise that is left.
 #[tactic(auto, unfolding(mb_model::specs::Script::commands_in))]
 fn draw_event(event: Event, noise: &[u8]) -> (Event, &[u8])
-    requires { IsTrue (is_command event) → 32 ≤ length noise.now }
+    requires { IsTrue (is_command event) → DRAW_LENGTH ≤ length noise.now }
     ensures drawn { result.0 ≡ drawn_event noise.now [] event }
-    ensures left { result.1.now ≡ drop (32 * commands_in (event ∷ [])) noise.now }
+    ensures left { result.1.now ≡ drop (DRAW_LENGTH * commands_in (event ∷ [])) noise.now }
 {
     match event {
         Event::Command { text, draw: _ } => {
-            let (front, remaining) = noise.split_at(DRAW);
-            let mut draw = [0; DRAW];
+            let (front, remaining) = noise.split_at(DRAW_LENGTH);
+            let mut draw = [0; DRAW_LENGTH];
             draw.copy_from_slice(front);
             (Event::Command { text, draw }, remaining)
         }

@@ -1,4 +1,4 @@
-//! The events that the lines of a script say.
+//! The events of a script, each read from its line.
 
 ghost use Rattle.std.specs.Prelude.{◌≢◌, ◌++◌, ◌∷◌, ℕ, List, All, MatchOption, codes};
 ghost use Rattle.mb_model.specs.Script.{SaysEvent};
@@ -6,17 +6,11 @@ ghost use Rattle.mb_words.specs.Words.{Finds, FindsSome};
 ghost use Rattle.mb_script.specs.Reading.{SaysTail, SaysSecret};
 
 use crate::words::{is_name, read_short, read_tear, split_name, split_number, split_region};
-use mb_model::{Bytes, Event};
+use mb_model::{Bytes, CUT_LIMIT, DRAW_LENGTH, Event, FLASH_LENGTH};
 use mb_words::{NotSaid, after_word, read_hex, split_at_byte};
 use std::alloc::Global;
 
-/// The largest count of a cut.
-const MOST_OF_COUNT: u32 = 100_000;
-
-/// The most bytes that a tear keeps: the length of the flash.
-const MOST_KEPT: u32 = 1_048_576;
-
-/// The event that a line says; a command's draw is all zeros.
+/// Reads the event of a line. The draw of a command is all zeros.
 pub(crate) fn read_event(alloc: Global, line: &[u8]) -> Result<Event, NotSaid>
     ensures { Finds (SaysEvent line.now) result }
 {
@@ -26,7 +20,7 @@ pub(crate) fn read_event(alloc: Global, line: &[u8]) -> Result<Event, NotSaid>
     }
 }
 
-/// The event of a line of one word.
+/// Reads the event of a line of one word.
 fn read_lone_word(word: &[u8]) -> Option<Event>
     requires { All (λ byte. byte ≢ 32) word.now }
     ensures { FindsSome (SaysEvent word.now) result }
@@ -49,7 +43,7 @@ fn read_lone_word(word: &[u8]) -> Option<Event>
     None
 }
 
-/// The event of a line of several words, the first of which is `word`.
+/// Reads the event of a line of several words; `word` is the first.
 fn read_words(alloc: Global, word: &[u8], rest: &[u8]) -> Result<Event, NotSaid>
     requires { All (λ byte. byte ≢ 32) word.now }
     ensures { Finds (SaysEvent (word.now ++ 32 ∷ rest.now)) result }
@@ -75,11 +69,11 @@ fn read_words(alloc: Global, word: &[u8], rest: &[u8]) -> Result<Event, NotSaid>
     Err(NotSaid::Form)
 }
 
-/// The cut of a line, without its first word.
+/// Reads a `cut` from its line without the first word.
 fn read_cut(words: &[u8]) -> Option<Event>
     ensures { FindsSome (SaysEvent (codes "cut " ++ words.now)) result }
 {
-    let Some((count, tail)) = split_number(words, MOST_OF_COUNT) else {
+    let Some((count, tail)) = split_number(words, CUT_LIMIT) else {
         return None;
     };
     if count == 0 {
@@ -94,7 +88,7 @@ fn read_cut(words: &[u8]) -> Option<Event>
     }
 }
 
-/// How many bytes a tear keeps, and the word of those that fill.
+/// Reads how many bytes a tear keeps, and gives the word of the bytes that fill.
 fn split_kept(words: &[u8]) -> Option<(u32, &[u8])>
     ensures { MatchOption result ((keep : ℕ) (word : List ℕ) → SaysTail words.now keep word → ⊥) (λ parts. SaysTail words.now parts.0 parts.1.now) }
 {
@@ -104,7 +98,7 @@ fn split_kept(words: &[u8]) -> Option<(u32, &[u8])>
     let Some(number) = after_word(words, b"keep ") else {
         return None;
     };
-    let Some((keep, rest)) = split_number(number, MOST_KEPT) else {
+    let Some((keep, rest)) = split_number(number, FLASH_LENGTH as u32) else {
         return None;
     };
     match after_word(rest, b"fill ") {
@@ -113,18 +107,18 @@ fn split_kept(words: &[u8]) -> Option<(u32, &[u8])>
     }
 }
 
-/// The command of a line, without its first word.
+/// Reads a `command` from its line without the first word.
 fn read_command(alloc: Global, word: &[u8]) -> Result<Event, NotSaid>
     ensures { Finds (SaysEvent (codes "command " ++ word.now)) result }
 {
     let text = read_hex(alloc, word)?;
     Ok(Event::Command {
         text,
-        draw: [0; 32],
+        draw: [0; DRAW_LENGTH],
     })
 }
 
-/// The `put` of a line, without its first word.
+/// Reads a `put` from its line without the first word.
 fn read_put(alloc: Global, words: &[u8]) -> Result<Event, NotSaid>
     ensures { Finds (SaysEvent (codes "put " ++ words.now)) result }
 {
@@ -143,7 +137,7 @@ fn read_put(alloc: Global, words: &[u8]) -> Result<Event, NotSaid>
     })
 }
 
-/// The `get` of a line, without its first word.
+/// Reads a `get` from its line without the first word.
 fn read_get(alloc: Global, words: &[u8]) -> Result<Event, NotSaid>
     ensures { Finds (SaysEvent (codes "get " ++ words.now)) result }
 {
@@ -151,7 +145,7 @@ fn read_get(alloc: Global, words: &[u8]) -> Result<Event, NotSaid>
     Ok(Event::Get { region, name })
 }
 
-/// The `drop` of a line, without its first word.
+/// Reads a `drop` from its line without the first word.
 fn read_drop(alloc: Global, words: &[u8]) -> Result<Event, NotSaid>
     ensures { Finds (SaysEvent (codes "drop " ++ words.now)) result }
 {
@@ -159,7 +153,7 @@ fn read_drop(alloc: Global, words: &[u8]) -> Result<Event, NotSaid>
     Ok(Event::Drop { region, name })
 }
 
-/// A region, and a name at the end of a line.
+/// Reads a region, and a name at the end of a line.
 fn read_secret(alloc: Global, words: &[u8]) -> Result<(u8, Bytes), NotSaid>
     ensures { Finds (λ secret. SaysSecret words.now secret.0 secret.1) result }
 {
@@ -172,7 +166,7 @@ fn read_secret(alloc: Global, words: &[u8]) -> Result<(u8, Bytes), NotSaid>
     Ok((region, Bytes::copy(alloc, name)?))
 }
 
-/// The `sign` of a line, without its first word.
+/// Reads a `sign` from its line without the first word.
 fn read_sign(alloc: Global, words: &[u8]) -> Result<Event, NotSaid>
     ensures { Finds (SaysEvent (codes "sign " ++ words.now)) result }
 {

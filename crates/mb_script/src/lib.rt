@@ -1,7 +1,7 @@
 //! Scripts and replies as text.
 //!
-//! This crate owns the text of a script, which is read into events, the draws that its noise gives them, and the
-//! line of each reply, which is written.
+//! This crate owns the reading of a script into events, the draws of its commands, and the writing of replies, a line
+//! each.
 #![tactic(auto)]
 
 mod draws;

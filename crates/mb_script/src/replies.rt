@@ -11,8 +11,8 @@ ghost use Rattle.mb_bytes.specs.Puts.{Puts, Writes};
 use mb_bytes::put_slice;
 use mb_model::{NoMemory, Reply, Standing};
 
-/// Appends the line of a reply and its LF, or leaves `out` as it was; where the capacity holds them, the answer is Ok. A
-/// refusal whose number no device gives has no words after the number.
+/// Appends the line of a reply and its LF, or leaves `out` as it was. The answer is Ok if the capacity holds them. The
+/// line of a refusal whose number no device gives ends after the number and a space.
 pub fn write_reply(reply: &Reply, out: &mut Vec<u8>) -> Result<(), NoMemory>
     ensures { Writes (ended (reply_line reply.now)) out.old result out.new }
 {
@@ -68,7 +68,7 @@ fn put_reply(reply: &Reply, out: &mut Vec<u8>) -> Result<(), NoMemory>
     }
 }
 
-/// Appends the line of a layer that runs.
+/// Appends the line of the layer that runs now.
 fn put_at(layer: u8, out: &mut Vec<u8>) -> Result<(), NoMemory>
     ensures { Puts (reply_line (Reply.At layer)) out.old result out.new }
 {
@@ -113,8 +113,7 @@ fn put_refused(number: u8, out: &mut Vec<u8>) -> Result<(), NoMemory>
     put_slice(out, reason(number).as_bytes())
 }
 
-/// Appends the line of how the layers stand: the serial, the configuration number and the length of the log, and a word
-/// for each layer.
+/// Appends the line of a status: the serial, the configuration number, the length of the log, and how each layer stands.
 fn put_status(
     serial: &[u8; 16],
     numbers: (u32, u32),
@@ -151,7 +150,7 @@ fn put_standing(layer: Standing, out: &mut Vec<u8>) -> Result<(), NoMemory>
     }
 }
 
-/// The words of a refusal; a number that no device gives has none.
+/// The words for the number of a refusal; empty for a number that no device gives.
 fn reason(number: u8) -> &'static str
     ensures { result.now ≡ unwrap_or (refusal_words number) [] }
 {

@@ -1,6 +1,7 @@
 //! The text of a script, read line by line.
 
 ghost use Rattle.std.specs.Prelude.{◌≡◌, ◌≤◌, length};
+ghost use Rattle.mb_model.specs.declared.limits.TheConstants.{FILE_LIMIT};
 ghost use Rattle.mb_model.specs.Script.{is_skipped};
 ghost use Rattle.mb_script.specs.Reading.{ReadsScript};
 
@@ -12,7 +13,7 @@ use std::alloc::Global;
 /// Why a script was not read.
 #[derive(Clone, Copy, Debug, PartialEq, Eq)]
 pub enum ScriptEnd {
-    /// A line is not in the grammar, or says an event too many.
+    /// A line is not in the grammar, or has an event too many.
     BadLine {
         /// The number of the first such line, from 1.
         line: u32,
@@ -31,13 +32,12 @@ impl From<NoMemory> for ScriptEnd {
     }
 }
 
-/// The events of a script, in order; the draw of each command is all zeros. A line ends with LF, which the last may
-/// lack; empty lines and lines that begin with `#` are skipped. Condition: the text has at most 4,194,304 bytes.
+/// Reads the events of a script of at most 4,194,304 bytes, in order. The draw of each command is all zeros. A line ends
+/// with LF, which the last may lack; empty lines and lines that begin with `#` are skipped.
 ///
-/// Errors: `BadLine` with the first line that is not in the grammar or that says the 65,537th event, and `NoMemory`, of
-/// which no clause says when it comes.
+/// Errors: `BadLine` with the first line that is not in the grammar or has the 65,537th event, and `NoMemory`.
 pub fn read_script(alloc: Global, text: &[u8]) -> Result<Events, ScriptEnd>
-    requires { length text.now ≤ 4194304 }
+    requires { length text.now ≤ FILE_LIMIT }
     ensures { ReadsScript text.now result }
 {
     let mut events = Events::new(alloc);
@@ -63,7 +63,7 @@ pub fn read_script(alloc: Global, text: &[u8]) -> Result<Events, ScriptEnd>
     Ok(events)
 }
 
-/// Whether a line says nothing.
+/// Whether a line is skipped: it is empty, or a comment.
 fn is_skipped(line: &[u8]) -> bool
     ensures { result ≡ is_skipped line.now }
 {

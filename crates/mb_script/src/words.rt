@@ -6,20 +6,11 @@ ghost use Rattle.mb_model.specs.Script.{IsName, FitsMessage, tear_of};
 ghost use Rattle.mb_words.specs.Words.{Finds};
 ghost use Rattle.mb_script.specs.Reading.{HasNumberFirst, HasRegionFirst, HasNameFirst, IsFill};
 
-use mb_model::{Bytes, Tear};
+use mb_model::{Bytes, FILL_LIMIT, MESSAGE_LIMIT, NAME_LIMIT, Tear};
 use mb_words::{NotSaid, read_hex, read_number, split_at_byte};
 use std::alloc::Global;
 
-/// The most bytes of a name.
-const MOST_OF_NAME: usize = 32;
-
-/// The most bytes of a value or a message.
-const MOST_OF_SHORT: usize = 128;
-
-/// The most bytes that fill.
-const MOST_OF_FILL: usize = 16;
-
-/// The number that the first word is, at most `most`, and what stands after it.
+/// Reads a number, at most `most`, and a space, and gives what follows too.
 pub(crate) fn split_number(text: &[u8], most: u32) -> Option<(u32, &[u8])>
     ensures { MatchOption result ((number : ℕ) (rest : List ℕ) → HasNumberFirst most text.now number rest → ⊥) (λ parts. HasNumberFirst most text.now parts.0 parts.1.now) }
 {
@@ -32,7 +23,7 @@ pub(crate) fn split_number(text: &[u8], most: u32) -> Option<(u32, &[u8])>
     }
 }
 
-/// The region that the first word is, 2 or 3, and what stands after it.
+/// Reads a region, 2 or 3, and a space, and gives what follows too.
 pub(crate) fn split_region(text: &[u8]) -> Option<(u8, &[u8])>
     ensures { MatchOption result ((region : ℕ) (rest : List ℕ) → HasRegionFirst text.now region rest → ⊥) (λ parts. HasRegionFirst text.now parts.0 parts.1.now) }
 {
@@ -42,7 +33,7 @@ pub(crate) fn split_region(text: &[u8]) -> Option<(u8, &[u8])>
     }
 }
 
-/// The name that the first word is, and what stands after it.
+/// Reads a name and a space, and gives what follows too.
 pub(crate) fn split_name(text: &[u8]) -> Option<(&[u8], &[u8])>
     ensures { MatchOption result ((name rest : List ℕ) → HasNameFirst text.now name rest → ⊥) (λ parts. HasNameFirst text.now parts.0.now parts.1.now) }
 {
@@ -60,31 +51,35 @@ pub(crate) fn split_name(text: &[u8]) -> Option<(&[u8], &[u8])>
 pub(crate) fn is_name(word: &[u8]) -> bool
     ensures { IsTrue result ↔ IsName word.now }
 {
-    !word.is_empty()
-        && word.len() <= MOST_OF_NAME
-        && word.iter().all(|byte| 0x21 <= *byte && *byte <= 0x7E)
+    if word.is_empty() {
+        return false;
+    }
+    if word.len() > NAME_LIMIT as usize {
+        return false;
+    }
+    mb_bytes::is_name(word)
 }
 
-/// The bytes of a hexadecimal word, which are at most 128: those of a value or a message.
+/// Reads a value or a message, at most 128 bytes, from a whole hexadecimal word.
 pub(crate) fn read_short(alloc: Global, word: &[u8]) -> Result<Bytes, NotSaid>
     ensures { Finds (λ bytes. IsHex word.now bytes × FitsMessage bytes) result }
 {
     let bytes = read_hex(alloc, word)?;
-    if bytes.as_slice().len() > MOST_OF_SHORT {
+    if bytes.as_slice().len() > MESSAGE_LIMIT as usize {
         return Err(NotSaid::Form);
     }
     Ok(bytes)
 }
 
-/// The tear that keeps so many bytes and fills with the 1 to 16 bytes of a hexadecimal word.
+/// Reads the tear that keeps `keep` bytes from a whole hexadecimal word of the 1 to 16 bytes that fill.
 pub(crate) fn read_tear(keep: u32, word: &[u8]) -> Option<Tear>
     ensures { MatchOption result ((fill : List ℕ) → IsFill word.now fill → ⊥) (λ tear. (fill : List ℕ) × IsFill word.now fill × (tear ≡ tear_of keep fill)) }
 {
     let length = word.len() / 2;
-    if length == 0 || length > MOST_OF_FILL {
+    if length == 0 || length > FILL_LIMIT as usize {
         return None;
     }
-    let mut fill = [0; MOST_OF_FILL];
+    let mut fill = [0; 16];
     match hex::decode_to_slice(word, &mut fill[..length]) {
         Ok(()) => {
             let fill_length = length as u8;

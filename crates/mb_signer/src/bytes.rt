@@ -1,11 +1,11 @@
-//! What a hash begins with.
+//! The first bytes of a hashed text.
 
 ghost use Rattle.std.specs.Prelude.{◌≡◌, ◌++◌};
 ghost use Rattle.std.specs.Int.{w32, to_be_bytes};
 
 use mb_bytes::put_at;
 
-/// What a hash begins with: the identifier, a number, and the mark of what is hashed (RFC 8554, section 7.1).
+/// The first bytes of a hashed text: the identifier, a number and a mark (RFC 8554, section 7.1).
 pub(crate) fn marked(identifier: &[u8; 16], number: u32, mark: [u8; 2]) -> [u8; 22]
     ensures { result ≡ identifier.now ++ to_be_bytes w32 number ++ mark }
 {

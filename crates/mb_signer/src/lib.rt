@@ -1,4 +1,4 @@
-//! Signing by LMS keys of types 5 and 3, whose every value is made of a seed (RFC 8554, sections 4 and 5, and
+//! Signing by LMS keys of types 5 and 3, whose values are all derived from a seed (RFC 8554, sections 4 and 5, and
 //! appendix A).
 //!
 //! This crate owns the rights to sign, each of which serves one signature; the tree of a key, which may be kept;

@@ -9,24 +9,19 @@ use crate::bytes::marked;
 use mb_bytes::put_at;
 use mb_lms::{HashCount, chain_prefix, hash};
 use mb_model::KeySeed;
+use mb_model::separators::{MESSAGE_MARK, ONE_TIME_KEY_MARK};
 use std::sync::ledger::Ledger;
 
-/// D_PBLC (RFC 8554, section 7.1).
-const ONE_TIME_KEY_MARK: [u8; 2] = [0x80, 0x80];
-
-/// D_MESG (RFC 8554, section 7.1).
-const MESSAGE_MARK: [u8; 2] = [0x81, 0x81];
-
-/// How many chains a one-time key has.
+/// The number of chains of a one-time key.
 pub(crate) const CHAINS: u16 = 67;
 
-/// How many steps a chain has.
+/// The number of steps of a chain.
 const CHAIN_STEPS: u8 = 15;
 
-/// The number that stands for the chain's where a signature's randomizer is made.
+/// The number in place of a chain's by which the randomizer of a signature is derived.
 const RANDOMIZER: u16 = 0xfffd;
 
-/// The number that stands for the step's where a private value is made of the seed (RFC 8554, appendix A).
+/// The number in place of a step's by which a private value is derived from the seed (RFC 8554, appendix A).
 const SEED: u8 = 0xff;
 
 /// One step of a chain, whose text of 55 bytes is hashed at once (RFC 8554, section 4.3).
@@ -47,7 +42,7 @@ fn chain_step<L: Ledger>(
     hash(&text, &[], &[], hashes)
 }
 
-/// The private value with the number `number` of leaf `q` (RFC 8554, appendix A).
+/// Private value `number` of leaf `q` (RFC 8554, appendix A).
 #[tactic(auto, unfolding(mb_model::specs::Winternitz::chain_step, mb_model::specs::Signing::private_value))]
 fn private_value<L: Ledger>(
     seed: &KeySeed,
@@ -79,7 +74,7 @@ pub(crate) fn randomizer_at<L: Ledger>(
     private_value(seed, q, RANDOMIZER, hashes)
 }
 
-/// A chain's private value, taken through its first `last` steps (RFC 8554, sections 4.3 and 4.5).
+/// The value of a chain after its first `last` steps (RFC 8554, sections 4.3 and 4.5).
 #[tactic(auto, using(crate::proofs::Chains::chain_rules))]
 pub(crate) fn chain_value<L: Ledger>(
     seed: &KeySeed,

@@ -8,33 +8,27 @@ ghost use Rattle.mb_signer.specs.Tree.{IsTreeOf};
 use crate::one_time::{CHAINS, chain_value, message_hash, randomizer_at};
 use crate::tree::{KeptTree, LEAVES};
 use crate::uses::OneUse;
-use mb_bytes::put_at;
+use mb_bytes::{chains_type, put_at, tree_type};
 use mb_lms::{HashCount, digit, digits_of};
-use mb_model::{Chains, KeySeed, PublicKey, Tree};
+use mb_model::{Chains, KeySeed, PublicKey, SIGNATURE_LENGTH, Tree};
 use std::sync::ledger::Ledger;
 
-/// The LM-OTS type of each signature (RFC 8554, section 4.1).
-const CHAINS_TYPE: u32 = 3;
-
-/// The LMS type of each signature (RFC 8554, section 5.1).
-const TREE_TYPE: u32 = 5;
-
-/// Where the LM-OTS type stands in a signature, after the index.
+/// The offset of the LM-OTS type in a signature, after the index.
 const CHAINS_TYPE_AT: usize = 4;
 
-/// Where C begins in a signature.
+/// The offset of C in a signature.
 const RANDOMIZER_AT: usize = 8;
 
-/// Where the chain values begin in a signature.
+/// The offset of the chain values in a signature.
 const VALUES_AT: usize = 40;
 
-/// Where the LMS type stands in a signature.
+/// The offset of the LMS type in a signature.
 const TREE_TYPE_AT: usize = 2184;
 
-/// Where the path begins in a signature.
+/// The offset of the path in a signature.
 const PATH_AT: usize = 2188;
 
-/// The public key that belongs to the seed, in as many hashes as its tree takes (RFC 8554, section 5.3).
+/// The public key of the seed, in 34,399 hashes: those of its tree (RFC 8554, section 5.3).
 pub fn public<L: Ledger>(seed: &KeySeed, hashes: &mut HashCount<L>) -> PublicKey
     ensures key { result ≡ public_of seed.now }
     ensures counted { hashes.new ≡ hashes.old + 34399 }
@@ -42,7 +36,7 @@ pub fn public<L: Ledger>(seed: &KeySeed, hashes: &mut HashCount<L>) -> PublicKey
     public_kept(&KeptTree::build(seed, hashes), seed)
 }
 
-/// The public key that belongs to the seed, by the key's tree, in no step (RFC 8554, section 5.3).
+/// The public key of the seed, by the key's tree, in no hash (RFC 8554, section 5.3).
 #[tactic(auto, unfolding(mb_model::specs::Signing::public_of))]
 pub fn public_kept(tree: &KeptTree, seed: &KeySeed) -> PublicKey
     requires { IsTreeOf seed.now tree.now }
@@ -63,7 +57,7 @@ pub fn sign<L: Ledger>(
     seed: &KeySeed,
     head: &[u8],
     body: &[u8],
-    out: &mut [u8; 2348],
+    out: &mut [u8; SIGNATURE_LENGTH],
     hashes: &mut HashCount<L>,
 )
     ensures signature { out.new ≡ signature_of seed.now right (head.now ++ body.now) }
@@ -77,17 +71,16 @@ pub fn sign<L: Ledger>(
 /// hashes: 67 private values, at most 1,005 steps of chains, C, and the hash of the text (RFC 8554, section 5.4.1).
 ///
 /// Each hash is a `mb_lms::hash` on the caller's count, and this crate makes hashes by no other call. So the clause
-/// `cost` excludes a body that builds a tree again, which takes 34,399. A body can't begin a count beside the
-/// caller's: `HashCount::begin` wants an allocator, and no call here is given one. The clause doesn't exclude a SHA-256
-/// that is written out here, nor a call of `verify` or `key_hash`, which count nothing and can't give a node of a
-/// tree.
+/// `cost` excludes a body that builds a tree again, which takes 34,399. A body cannot begin a count beside the
+/// caller's: `HashCount::begin` takes an allocator, and no call here is given one. The clause does not exclude a SHA-256
+/// that is written out here, nor a call of `verify` or `key_hash`, which count nothing and cannot give a node of a tree.
 pub fn sign_kept<L: Ledger>(
     right: OneUse,
     tree: &KeptTree,
     seed: &KeySeed,
     head: &[u8],
     body: &[u8],
-    out: &mut [u8; 2348],
+    out: &mut [u8; SIGNATURE_LENGTH],
     hashes: &mut HashCount<L>,
 )
     requires { IsTreeOf seed.now tree.now }
@@ -98,16 +91,16 @@ pub fn sign_kept<L: Ledger>(
     let randomizer = randomizer_at(seed, q, hashes);
     let hash = message_hash(seed, q, &randomizer, head, body, hashes);
     put_at(out, 0, &q.to_be_bytes());
-    put_at(out, CHAINS_TYPE_AT, &CHAINS_TYPE.to_be_bytes());
+    put_at(out, CHAINS_TYPE_AT, &chains_type(Chains::W4).to_be_bytes());
     put_at(out, RANDOMIZER_AT, &randomizer);
     put_values(out, seed, q, &digits_of(Chains::W4, &hash), hashes);
-    put_at(out, TREE_TYPE_AT, &TREE_TYPE.to_be_bytes());
+    put_at(out, TREE_TYPE_AT, &tree_type(Tree::H5).to_be_bytes());
     put_path(out, tree, q);
 }
 
 /// Writes the values of all chains, each taken through as many steps as its digit says (RFC 8554, section 4.5).
 fn put_values<L: Ledger>(
-    out: &mut [u8; 2348],
+    out: &mut [u8; SIGNATURE_LENGTH],
     seed: &KeySeed,
     q: u32,
     digits: &[u8; 34],
@@ -139,7 +132,7 @@ fn sibling(number: u32) -> u32
 
 /// Writes the siblings of the nodes on the way up from a leaf (RFC 8554, section 5.4.1).
 #[tactic(auto, using(crate::proofs::Paths::path_bounds))]
-fn put_path(out: &mut [u8; 2348], tree: &KeptTree, q: u32)
+fn put_path(out: &mut [u8; SIGNATURE_LENGTH], tree: &KeptTree, q: u32)
     requires { q < LEAVES }
     ensures { (key : KeySeed) → IsTreeOf key tree.now → out.new ≡ take PATH_AT out.old ++ path_from key (32 + q) 5 }
 {

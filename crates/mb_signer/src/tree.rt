@@ -1,5 +1,5 @@
-//! The tree of a key: its leaves come one after another, and each node joins upward while it is a right child
-//! (RFC 8554, section 5.3).
+//! The tree of a key. Its leaves come one after another, and each right child is joined with its sibling at once (RFC
+//! 8554, section 5.3).
 
 ghost use Rattle.std.specs.Prelude.{◌≡◌, ℕ, ◌+◌, ◌*◌, ◌/◌, ◌^◌, ◌<◌, ◌≤◌, List};
 ghost use Rattle.mb_model.specs.Merkle.{inner_node};
@@ -10,16 +10,11 @@ use crate::bytes::marked;
 use crate::one_time::one_time_public;
 use mb_lms::{HashCount, hash};
 use mb_model::KeySeed;
+use mb_model::separators::{INNER_MARK, LEAF_MARK};
 use std::marker::Model;
 use std::sync::ledger::Ledger;
 
-/// D_LEAF (RFC 8554, section 7.1).
-const LEAF_MARK: [u8; 2] = [0x82, 0x82];
-
-/// D_INTR (RFC 8554, section 7.1).
-const INNER_MARK: [u8; 2] = [0x83, 0x83];
-
-/// How many leaves a tree has.
+/// The number of leaves of a tree.
 pub(crate) const LEAVES: u32 = 32;
 
 /// The 63 nodes of a key's tree, from the root to the last leaf. They are public: no seed is among them.
@@ -53,7 +48,7 @@ impl KeptTree {
         KeptTree { nodes }
     }
 
-    /// The node with the number `number`, from the root 1 to the last leaf 63.
+    /// Node `number`, from the root 1 to the last leaf 63.
     pub(crate) fn node(&self, number: u32) -> [u8; 32]
         requires first { 1 ≤ number }
         requires last { number < 64 }
@@ -68,7 +63,7 @@ fn no_nodes() -> [[u8; 32]; 63] {
     [[0; 32]; 63]
 }
 
-/// Leaf `q`, as the node with the number 32 + q.
+/// Leaf `q`, which is node 32 + q.
 fn leaf_node<L: Ledger>(seed: &KeySeed, q: u32, hashes: &mut HashCount<L>) -> [u8; 32]
     requires { q < LEAVES }
     ensures value { result ≡ node_of seed.now (32 + q) }
@@ -83,7 +78,7 @@ fn leaf_node<L: Ledger>(seed: &KeySeed, q: u32, hashes: &mut HashCount<L>) -> [u
     )
 }
 
-/// The node with the number `number`, over the two nodes under it.
+/// Node `number`, the parent of two nodes.
 #[tactic(auto, unfolding(mb_model::specs::Merkle::inner_node))]
 fn inner_node<L: Ledger>(
     seed: &KeySeed,
@@ -103,7 +98,7 @@ fn inner_node<L: Ledger>(
     )
 }
 
-/// Puts a node into the table, and with it each node upward that is then whole.
+/// Puts a node into the table, and each node above it whose two children then stand there.
 fn place<L: Ledger>(
     seed: &KeySeed,
     nodes: &mut [[u8; 32]; 63],

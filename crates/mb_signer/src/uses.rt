@@ -1,10 +1,12 @@
 //! The rights to sign: each index of a key serves one signature.
 
 ghost use Rattle.std.specs.Prelude.{◌≡◌, ◌↔◌, ◌+◌, ◌≤◌, IsNone, IfSome, OnSome};
+ghost use Rattle.mb_model.specs.declared.limits.TheConstants.{KEY_USES, LAST_INDEX};
 
+use mb_model::KEY_USES;
 use std::marker::Model;
 
-/// How many indices of a key are used, 0 to 32.
+/// The number of used indices of a key, 0 to 32.
 #[derive(Drop)]
 pub struct Uses {
     count: u32,
@@ -12,66 +14,68 @@ pub struct Uses {
 
 impl Model for Uses {
     ghost use Rattle.std.specs.Prelude.{ℕ, ◌≤◌};
+    ghost use Rattle.mb_model.specs.declared.limits.TheConstants.{KEY_USES};
 
     ghost Value = { ℕ };
 
     ghost view = { λ uses. uses.count };
 
-    ghost invariant = { λ uses. uses.count ≤ 32 };
+    ghost invariant = { λ uses. uses.count ≤ KEY_USES };
 }
 
 impl Uses {
-    /// The count that was stored of a key.
+    /// The count that is stored for a key.
     pub fn stored(n: u32) -> Uses
-        requires { n ≤ 32 }
+        requires { n ≤ KEY_USES }
         ensures { result ≡ n }
     {
         Uses { count: n }
     }
 }
 
-/// The right to one signature, at an index from 0 to 31. It can't be copied, and has to be spent.
+/// The right to one signature, at an index from 0 to 31. It cannot be copied, and has to be spent.
 pub struct OneUse {
     index: u32,
 }
 
 impl Model for OneUse {
     ghost use Rattle.std.specs.Prelude.{ℕ, ◌≤◌};
+    ghost use Rattle.mb_model.specs.declared.limits.TheConstants.{LAST_INDEX};
 
     ghost Value = { ℕ };
 
     ghost view = { λ right. right.index };
 
-    ghost invariant = { λ right. right.index ≤ 31 };
+    ghost invariant = { λ right. right.index ≤ LAST_INDEX };
 }
 
 impl OneUse {
-    /// The index at which it lets sign.
+    /// The index of the signature.
     pub fn index(&self) -> u32
         ensures value { result ≡ self.now }
-        ensures bound { result ≤ 31 }
+        ensures bound { result ≤ LAST_INDEX }
     {
         self.index
     }
 
-    /// Spends the right for its index.
+    /// Spends the right, and answers its index.
     pub(crate) fn spent(self) -> u32
         ensures value { result ≡ self }
-        ensures bound { result ≤ 31 }
+        ensures bound { result ≤ LAST_INDEX }
     {
         let OneUse { index } = self;
         index
     }
 }
 
-/// Takes the next index for one signature; none where all 32 are used.
+/// Takes the next index for one signature; `None` exactly if all 32 are used.
 pub fn take_index(uses: &mut Uses) -> Option<OneUse>
-    ensures spent { IsNone result ↔ (uses.old ≡ 32) }
+    ensures spent { IsNone result ↔ (uses.old ≡ KEY_USES) }
     ensures unchanged { IsNone result → uses.new ≡ uses.old }
     ensures index { IfSome result (λ right. right ≡ uses.old) }
     ensures counted { OnSome result (uses.new ≡ uses.old + 1) }
 {
-    if uses.count == 32 {
+    if uses.count == KEY_USES as u32 {
         return None;
     }
     let index = uses.count;

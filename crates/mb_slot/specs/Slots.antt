@@ -2,7 +2,7 @@
 -- another?
 use Rattle.std.specs.Prelude.{◌≡◌, ◌≢◌, ℕ, ◌+◌, ◌<◌, ◌≤◌, ◌%◌, ◌==◌, ◌⊎◌, List, length, slice_index}
 use Rattle.std.specs.Prelude.{Bool, true, not, if◌then◌else◌}
-use Rattle.mb_model.specs.declared.limits.TheConstants.{AREA_LENGTH}
+use Rattle.mb_model.specs.declared.limits.TheConstants.{AREA_LENGTH, BBRAM_LENGTH}
 use Rattle.mb_model.specs.Memory.{slots, selector_of, current, other}
 use Rattle.mb_board.specs.Reach.{Reached}
 use Rattle.mb_model.specs.Board.{IsLoaded}
@@ -36,8 +36,8 @@ other_offset bbram slot = area_offset slot (not (is_first_in_force bbram slot))
 -- this is the offset wanted, and an area stands there that the level reaches
 pub record IsAreaAt (level wanted at : ℕ) : Type 0 where
   pub same : at ≡ wanted
-  pub within : at + 4096 ≤ 28672
-  pub reached : Reached level at 4096
+  pub within : at + AREA_LENGTH ≤ BBRAM_LENGTH
+  pub reached : Reached level at AREA_LENGTH
 
 -- the area that was in force is the other one now, and the other one is in force
 pub record AreExchanged (slot : ℕ) (before after : List ℕ) : Type 0 where

@@ -3,12 +3,14 @@
 ghost use Rattle.std.specs.Prelude.{◌≡◌, ◌≢◌, ℕ, ◌≤◌, ◌%◌, ◌==◌, ◌⊎◌, ◌↔◌, length, IsTrue, OnOk, Ok};
 ghost use Rattle.mb_model.specs.Memory.{IsBlank, current, other};
 ghost use Rattle.mb_board.specs.Calls.{Ran};
+ghost use Rattle.mb_model.specs.declared.limits.TheConstants.{AREA_LENGTH};
 ghost use Rattle.mb_model_memory.specs.InForce.{AgreeBesides};
 ghost use Rattle.mb_slot.specs.Slots.{CanUse, is_first_in_force, area_offset, current_offset, other_offset, IsAreaAt, AreExchanged, IsSameBut, IsSameButOther};
 
 use mb_board::{Board, Stopped};
+use mb_model::AREA_LENGTH;
 
-/// Whether the first area of the slot is in force.
+/// Whether the first area of the slot is the current one.
 fn is_first_in_force<B: Board>(b: &B, slot: u16) -> bool
     requires { CanUse (B.seen b.now) slot }
     ensures { result ≡ is_first_in_force (B.seen b.now).memory.bbram slot }
@@ -24,22 +26,24 @@ fn offset_of(slot: u16, is_first: bool) -> u16
     requires most { slot ≤ 3 }
     ensures { result ≡ area_offset slot is_first }
 {
+    let second = 2 * AREA_LENGTH as u16 * slot;
     if is_first {
-        8192 * slot - 4096
+        second - AREA_LENGTH as u16
     } else {
-        8192 * slot
+        second
     }
 }
 
-/// The offset of the area that is in force in the slot.
+/// The offset of the current area of the slot.
 fn current_at<B: Board>(b: &B, slot: u16) -> u16
     requires { CanUse (B.seen b.now) slot }
-    ensures { IsAreaAt (B.seen b.now).level (current_offset (B.seen b.now).memory.bbram slot) result }
+    ensures { IsAreaAt (B.seen b.now).level (current_offset
+        (B.seen b.now).memory.bbram slot) result }
 {
     offset_of(slot, is_first_in_force(b, slot))
 }
 
-/// The offset of the area that is not in force in the slot.
+/// The offset of the inactive area of the slot.
 fn other_at<B: Board>(b: &B, slot: u16) -> u16
     requires { CanUse (B.seen b.now) slot }
     ensures { IsAreaAt (B.seen b.now).level (other_offset (B.seen b.now).memory.bbram slot) result }
@@ -47,12 +51,13 @@ fn other_at<B: Board>(b: &B, slot: u16) -> u16
     offset_of(slot, !is_first_in_force(b, slot))
 }
 
-/// Replaces the area that is not in force by these 4,096 bytes.
+/// Replaces the inactive area by these 4,096 bytes.
 fn write_other<B: Board>(b: &mut B, slot: u16, area: &[u8]) -> Result<(), Stopped>
     requires can_use { CanUse (B.seen b.old) slot }
-    requires area { length area.now ≡ 4096 }
+    requires area { length area.now ≡ AREA_LENGTH }
     ensures done { OnOk result (other (B.seen b.new).memory.bbram slot ≡ area.now) }
-    ensures current { current (B.seen b.new).memory.bbram slot ≡ current (B.seen b.old).memory.bbram slot }
+    ensures current { current (B.seen b.new).memory.bbram slot
+        ≡ current (B.seen b.old).memory.bbram slot }
     ensures rest { IsSameButOther slot (B.seen b.old).memory.bbram (B.seen b.new).memory.bbram }
     ensures flash { (B.seen b.new).memory.flash ≡ (B.seen b.old).memory.flash }
     ensures ran { Ran 1 result (B.seen b.old) (B.seen b.new) }
@@ -60,18 +65,20 @@ fn write_other<B: Board>(b: &mut B, slot: u16, area: &[u8]) -> Result<(), Stoppe
     b.bbram_write(other_at(b, slot), area)
 }
 
-/// A selector by which the first or the second area of a slot is in force.
+/// A selector that makes the first or the second area of a slot the current one.
 fn selector_for(is_first: bool) -> u8
     ensures { (result % 2 == 0) ≡ is_first }
 {
     if is_first { 0 } else { 1 }
 }
 
-/// Puts the other area in force.
+/// Makes the inactive area the current one.
 fn flip<B: Board>(b: &mut B, slot: u16) -> Result<(), Stopped>
     requires can_use { CanUse (B.seen b.old) slot }
-    ensures done { OnOk result (AreExchanged slot (B.seen b.old).memory.bbram (B.seen b.new).memory.bbram) }
-    ensures either { (current (B.seen b.new).memory.bbram slot ≡ current (B.seen b.old).memory.bbram slot)
+    ensures done { OnOk result (AreExchanged slot (B.seen b.old).memory.bbram
+        (B.seen b.new).memory.bbram) }
+    ensures either { (current (B.seen b.new).memory.bbram slot
+        ≡ current (B.seen b.old).memory.bbram slot)
         ⊎ (current (B.seen b.new).memory.bbram slot ≡ other (B.seen b.old).memory.bbram slot) }
     ensures rest { IsSameBut slot (B.seen b.old).memory.bbram (B.seen b.new).memory.bbram }
     ensures flash { (B.seen b.new).memory.flash ≡ (B.seen b.old).memory.flash }
@@ -81,42 +88,44 @@ fn flip<B: Board>(b: &mut B, slot: u16) -> Result<(), Stopped>
     b.bbram_write(slot, &[selector])
 }
 
-/// The area of 4,096 bytes that is in force in the slot.
+/// Reads the current area of the slot, 4,096 bytes.
 pub fn read_current<B: Board>(b: &B, slot: u16, out: &mut [u8])
     requires can_use { CanUse (B.seen b.now) slot }
-    requires room { length out.old ≡ 4096 }
+    requires room { length out.old ≡ AREA_LENGTH }
     ensures { out.new ≡ current (B.seen b.now).memory.bbram slot }
 {
     b.bbram_read(current_at(b, slot), out);
 }
 
-/// The area of 4,096 bytes that is not in force in the slot.
+/// Reads the inactive area of the slot, 4,096 bytes.
 fn read_other<B: Board>(b: &B, slot: u16, out: &mut [u8])
     requires can_use { CanUse (B.seen b.now) slot }
-    requires room { length out.old ≡ 4096 }
+    requires room { length out.old ≡ AREA_LENGTH }
     ensures { out.new ≡ other (B.seen b.now).memory.bbram slot }
 {
     b.bbram_read(other_at(b, slot), out);
 }
 
-/// Whether each byte of the area that is not in force is zero.
+/// Whether each byte of the inactive area is zero.
 pub fn is_other_blank<B: Board>(b: &B, slot: u16) -> bool
     requires can_use { CanUse (B.seen b.now) slot }
     ensures { IsTrue result ↔ IsBlank (other (B.seen b.now).memory.bbram slot) }
 {
-    let mut area = [0; 4096];
+    let mut area = [0; AREA_LENGTH];
     read_other(b, slot, &mut area);
     area.iter().all(|byte| *byte == 0)
 }
 
-/// Puts an area of 4,096 bytes in force in the slot; the one that was in force becomes the other. Where power fails, the
-/// one or the other of them is in force, whole. There are at most two write calls.
+/// Makes an area of 4,096 bytes the current one of the slot; the one before becomes the inactive one. If power fails,
+/// one of the two is current, whole. There are at most two write calls.
 pub fn commit<B: Board>(b: &mut B, slot: u16, area: &[u8]) -> Result<(), Stopped>
     requires can_use { CanUse (B.seen b.old) slot }
-    requires area { length area.now ≡ 4096 }
+    requires area { length area.now ≡ AREA_LENGTH }
     ensures done { OnOk result (current (B.seen b.new).memory.bbram slot ≡ area.now) }
-    ensures left { OnOk result (other (B.seen b.new).memory.bbram slot ≡ current (B.seen b.old).memory.bbram slot) }
-    ensures either { (current (B.seen b.new).memory.bbram slot ≡ current (B.seen b.old).memory.bbram slot)
+    ensures left { OnOk result (other (B.seen b.new).memory.bbram slot
+        ≡ current (B.seen b.old).memory.bbram slot) }
+    ensures either { (current (B.seen b.new).memory.bbram slot
+        ≡ current (B.seen b.old).memory.bbram slot)
         ⊎ (current (B.seen b.new).memory.bbram slot ≡ area.now) }
     ensures besides { AgreeBesides slot (B.seen b.old).memory.bbram (B.seen b.new).memory.bbram }
     ensures rest { IsSameBut slot (B.seen b.old).memory.bbram (B.seen b.new).memory.bbram }
@@ -127,13 +136,16 @@ pub fn commit<B: Board>(b: &mut B, slot: u16, area: &[u8]) -> Result<(), Stopped
     flip(b, slot)
 }
 
-/// Sets each byte of the area that is not in force to zero, where one is not. There is at most one write call.
+/// Sets each byte of the inactive area to zero, and writes nothing if each is zero already. There is at most one write
+/// call.
 pub fn wipe_other<B: Board>(b: &mut B, slot: u16) -> Result<(), Stopped>
     requires can_use { CanUse (B.seen b.old) slot }
     ensures blank { OnOk result (IsBlank (other (B.seen b.new).memory.bbram slot)) }
-    ensures current { current (B.seen b.new).memory.bbram slot ≡ current (B.seen b.old).memory.bbram slot }
+    ensures current { current (B.seen b.new).memory.bbram slot
+        ≡ current (B.seen b.old).memory.bbram slot }
     ensures idle { IsBlank (other (B.seen b.old).memory.bbram slot)
-        → (result ≡ Ok tt) × ((B.seen b.new).memory ≡ (B.seen b.old).memory) × ((B.seen b.new).meter ≡ (B.seen b.old).meter) }
+        → (result ≡ Ok tt) × ((B.seen b.new).memory ≡ (B.seen b.old).memory)
+        × ((B.seen b.new).meter ≡ (B.seen b.old).meter) }
     ensures others { (m : ℕ) → 1 ≤ m → m ≤ 3 → m ≢ slot
         → other (B.seen b.new).memory.bbram m ≡ other (B.seen b.old).memory.bbram m }
     ensures besides { AgreeBesides slot (B.seen b.old).memory.bbram (B.seen b.new).memory.bbram }
@@ -144,5 +156,5 @@ pub fn wipe_other<B: Board>(b: &mut B, slot: u16) -> Result<(), Stopped>
     if is_other_blank(b, slot) {
         return Ok(());
     }
-    write_other(b, slot, &[0; 4096])
+    write_other(b, slot, &[0; AREA_LENGTH])
 }

@@ -1,6 +1,7 @@
-//! Whether a chain is accepted, and what it then says of a key.
+//! The verdict on a chain, and the report on a key by a chain that is accepted.
 
 ghost use Rattle.std.specs.Prelude.{◌≡◌, ◌≤◌, ℕ, List, length, IfOk, IfErr, IfSome, Some};
+ghost use Rattle.mb_model.specs.declared.limits.TheConstants.{FILE_LIMIT};
 ghost use Rattle.mb_model.specs.declared.entry.Chain.{Chain};
 ghost use Rattle.mb_model.specs.ChainFormat.{chain_format};
 ghost use Rattle.mb_model.specs.Log.{entries_of, RuledLog};
@@ -16,8 +17,9 @@ use mb_cert::{ChainEnd, read_chain};
 use mb_model::{Bytes, Chain, PublicKey, Report, Statement};
 use std::alloc::Global;
 
-/// What a chain of at most 4,194,304 bytes says of the key with the number `key`, where it is accepted under the maker's
-/// key `root`. Each signature is checked once, and the text of one entry at a time is in memory; no clause says so.
+/// The report on the key with the number `key` by a chain of at most 4,194,304 bytes, if the chain is accepted under the
+/// maker's key `root`. Each signature is checked once, and the text of one entry at a time is in memory; no clause says
+/// so.
 ///
 /// Errors: those of `ChainRefusal`.
 pub fn verify(
@@ -26,7 +28,7 @@ pub fn verify(
     chain: &[u8],
     key: u32,
 ) -> Result<Report, ChainRefusal>
-    requires { length chain.now ≤ 4194304 }
+    requires { length chain.now ≤ FILE_LIMIT }
     ensures accepted { IfOk result (Accepts root.now chain.now key) }
     ensures refused { IfErr result (λ why. (refusal : acceptance.ChainRefusal) → chain_refusal_of why ≡ Some refusal → IsRefused root.now chain.now key refusal) }
     ensures ruled { IfOk result (λ report. (whole : Chain) → Spells chain_format chain.now whole → RuledLog (entries_of whole.entries)) }
@@ -38,7 +40,7 @@ pub fn verify(
     }
 }
 
-/// What the chain says of the key with the number `key`, where it is accepted; else why it is refused.
+/// The report on the key with the number `key`, if the chain is accepted; else why it is refused.
 fn report_on(
     alloc: Global,
     root: &PublicKey,
@@ -67,7 +69,7 @@ fn report_on(
     })
 }
 
-/// The message of a statement.
+/// The message of a statement, if there is one.
 fn message_of(statement: Option<Statement>) -> Option<Bytes>
     ensures { result ≡ message_of statement }
 {

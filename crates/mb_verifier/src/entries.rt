@@ -1,6 +1,7 @@
-//! Whether each entry of a chain is good: signed by the key in charge, in its place, and within the rules.
+//! The checks of the entries of a chain: signed by the key in charge, in order, and within the rules.
 
 ghost use Rattle.std.specs.Prelude.{◌≡◌, ◌↔◌, ◌≤◌, List, length, All, IfOk, IfErr, IfSome, OnOk, IsTrue};
+ghost use Rattle.mb_model.specs.declared.limits.TheConstants.{ENTRY_LIMIT};
 ghost use Rattle.mb_model.specs.EntryFormat.{entry_format};
 ghost use Rattle.mb_model.specs.Log.{figures_of, entries_of};
 ghost use Rattle.mb_model.specs.Acceptance.{in_charge, IsCertified, IsGood, AreGood};
@@ -14,17 +15,17 @@ use mb_log::{Life, add_entry, follows_figures, no_figures};
 use mb_model::{Figures, Follow, NoMemory, PublicKey, SignedEntry};
 use std::alloc::Global;
 
-/// What good entries say.
+/// The results of a log with good entries.
 #[derive(Drop)]
 pub(crate) struct Judged {
-    /// What they say together.
+    /// The figures of the log.
     pub figures: Figures,
-    /// What they say of the key.
+    /// The life of the key by the log.
     pub life: Life,
 }
 
-/// What the entries say together, and of the key with the number `key`, where each is good; else why the first that is
-/// not is refused. Each signature is checked once.
+/// The figures of the log and the life of the key with the number `key`, if each entry is good; else why the first entry
+/// that is not good is refused. Each signature is checked once.
 pub(crate) fn judge(
     alloc: Global,
     maker: &PublicKey,
@@ -32,7 +33,7 @@ pub(crate) fn judge(
     key: u32,
 ) -> Result<Judged, ChainRefusal>
     requires spelled { All (λ signed. entry_format.Allowed signed.entry) log.now }
-    requires short { length log.now ≤ 128 }
+    requires short { length log.now ≤ ENTRY_LIMIT }
     ensures good { IfOk result (λ judged. AreGood maker.now log.now) }
     ensures figures { IfOk result (λ judged. judged.figures ≡ figures_of (entries_of log.now)) }
     ensures life { IfOk result (λ judged. IsLifeOf (entries_of log.now) key judged.life) }
@@ -48,7 +49,7 @@ pub(crate) fn judge(
     Ok(Judged { figures, life })
 }
 
-/// Nothing where the entry is good after a log with these figures; else why it is refused.
+/// Checks that the entry is good after a log with these figures; else answers why it is refused.
 fn check(
     alloc: Global,
     maker: &PublicKey,
@@ -87,7 +88,7 @@ fn is_certified(
 }
 
 /// The key in charge after a log with these figures: the maker's before the first entry, and then the device key that
-/// is named last.
+/// the entries name last.
 fn in_charge(maker: &PublicKey, figures: &Figures) -> Option<PublicKey>
     ensures { result ≡ in_charge maker.now figures.now }
 {

@@ -3,7 +3,7 @@
 ghost use Rattle.std.specs.Prelude.{◌≡◌, [], ◌++◌, IfOk, OnOk, flat_map};
 ghost use Rattle.std.specs.String.{string_bytes};
 ghost use Rattle.mb_model.specs.Texts.{ended};
-ghost use Rattle.mb_model.specs.Lines.{hex_word, spaced, text_of};
+ghost use Rattle.mb_model.specs.Lines.{spaced, text_of};
 ghost use Rattle.mb_model.specs.Drafts.{kind_word, trust_word};
 ghost use Rattle.mb_model.specs.Listing.{trust_words, life_word, reliable_word, owner_word, code_words, layer_line, configuration_lines, statement_lines, listing};
 ghost use Rattle.mb_verifier.specs.Lines.{key_line, line_upto};
@@ -12,12 +12,11 @@ use mb_lms::key_hash;
 use mb_model::{
     Bytes, CodeName, Configuration, KeyKind, Layer, NoMemory, PublicKey, Report, Trust, Trusts,
 };
+use mb_words::hex_word;
 use std::alloc::Global;
 
 /// The listing of the report on the key with the number `key`: the line of the key, the lines of each configuration in
-/// which it lived, and the line of the statement, where the chain has one. Each ends with an LF.
-///
-/// Errors: `NoMemory`. Nothing is said of when memory is found: the tests write a listing where there is enough.
+/// which it lived, and the line of the statement, if the chain has one. Each ends with an LF.
 pub fn write_listing(alloc: Global, key: u32, report: &Report) -> Result<Vec<u8>, NoMemory>
     ensures { IfOk result (λ text. text.items ≡ text_of (listing key report.now)) }
 {
@@ -47,7 +46,7 @@ fn put_lives(alloc: Global, lives: &[Configuration], out: &mut Vec<u8>) -> Resul
     Ok(())
 }
 
-/// Appends the line of a configuration, and those of its layers.
+/// Appends the line of a configuration, and the lines of its layers.
 fn put_configuration(alloc: Global, item: &Configuration, out: &mut Vec<u8>) -> Result<(), NoMemory>
     ensures { OnOk result (out.new.items ≡ out.old.items ++ text_of (configuration_lines item.now)) }
 {
@@ -59,7 +58,7 @@ fn put_configuration(alloc: Global, item: &Configuration, out: &mut Vec<u8>) -> 
     put_layer(alloc, item.upto, 3, &item.layers.three, out)
 }
 
-/// Appends the line of the layer with the number `number`, where that is at most `last`.
+/// Appends the line of layer `number`, if that is at most `last`.
 fn put_layer(
     alloc: Global,
     last: u8,
@@ -76,7 +75,7 @@ fn put_layer(
     Ok(())
 }
 
-/// The line of the layer with the number `number`, with its LF.
+/// The line of layer `number`, with its LF.
 fn layer_line(alloc: Global, number: u8, layer: &Layer) -> Result<String, NoMemory>
     ensures { IfOk result (λ line. string_bytes line ≡ ended (layer_line number layer.now)) }
 {
@@ -87,7 +86,7 @@ fn layer_line(alloc: Global, number: u8, layer: &Layer) -> Result<String, NoMemo
     Ok(format!(in alloc; "layer {number} {owner} {code} {reliable} {trust}\n")?)
 }
 
-/// Appends the line of a statement with this message, where there is one.
+/// Appends the line of a statement with this message, if there is one.
 fn put_statement(alloc: Global, message: &Option<Bytes>, out: &mut Vec<u8>) -> Result<(), NoMemory>
     ensures { OnOk result (out.new.items ≡ out.old.items ++ text_of (statement_lines message.now)) }
 {
@@ -123,16 +122,6 @@ fn code_words(alloc: Global, code: &Option<CodeName>) -> Result<String, NoMemory
     }
 }
 
-/// Bytes in hexadecimal, or a dash for none.
-fn hex_word(alloc: Global, bytes: &[u8]) -> Result<String, NoMemory>
-    ensures { IfOk result (λ word. string_bytes word ≡ hex_word bytes.now) }
-{
-    if bytes.is_empty() {
-        return Ok(format!(in alloc; "-")?);
-    }
-    Ok(hex::encode(alloc, bytes)?)
-}
-
 /// The word for the kind of a key.
 fn kind_word(kind: KeyKind) -> &'static str
     ensures { result.now ≡ kind_word kind }
@@ -143,7 +132,7 @@ fn kind_word(kind: KeyKind) -> &'static str
     }
 }
 
-/// The words for what a layer trusts: one where it trusts changes of layer 1 and of layer 2 alike.
+/// The words for the trusts of a layer: one word if it trusts changes of layer 1 and of layer 2 alike.
 fn trust_words(alloc: Global, trusts: Trusts) -> Result<String, NoMemory>
     ensures { IfOk result (λ words. string_bytes words ≡ spaced (trust_words trusts)) }
 {
@@ -155,7 +144,7 @@ fn trust_words(alloc: Global, trusts: Trusts) -> Result<String, NoMemory>
     Ok(format!(in alloc; "{one} {two}")?)
 }
 
-/// The word for when a layer keeps its secrets over a change beneath it.
+/// The word for a trust.
 fn trust_word(trust: Trust) -> &'static str
     ensures { result.now ≡ trust_word trust }
 {
@@ -173,7 +162,7 @@ fn life_word(alive: bool) -> &'static str
     if alive { "alive" } else { "ended" }
 }
 
-/// The word for whether a layer's code is to be relied on.
+/// The word for whether a layer is reliable.
 fn reliable_word(reliable: bool) -> &'static str
     ensures { result.now ≡ reliable_word reliable }
 {

@@ -1,4 +1,4 @@
-//! Whether a statement is of the key, of the chain's last configuration, and of a key that is alive.
+//! The checks of a statement: by the key, of the chain's last configuration, and by a key that is alive.
 
 ghost use Rattle.std.specs.Prelude.{◌≡◌, ◌↔◌, IfErr, IfSome, OnOk, IsTrue, Some};
 ghost use Rattle.mb_model.specs.Log.{figures_of, entries_of};
@@ -13,13 +13,11 @@ use crate::entries::Judged;
 use crate::refusal::ChainRefusal;
 use mb_lms::Checker;
 use mb_log::{BornKey, serial_of};
+use mb_model::separators::STATEMENT_TEXT;
 use mb_model::{PublicKey, SignedEntry, Statement};
 
-/// What the text begins with that the key of a region signs.
-const STATEMENT: u8 = 4;
-
-/// Nothing where the statement is current, of the key that was born as given; else why it is refused. The log has good
-/// entries, which say what was judged.
+/// Checks that the statement is by the key that was born as given, of the chain's last configuration, and that the key
+/// is alive; else answers why it is refused. `judged` has the results of the log.
 pub(crate) fn check_statement(
     log: &[SignedEntry],
     judged: &Judged,
@@ -48,7 +46,7 @@ pub(crate) fn check_statement(
     Ok(())
 }
 
-/// Whether the key with the number `number` signed the statement, in the device whose log this is.
+/// Whether the key with the number `number` signed the statement, in the device with this log.
 fn is_stated(log: &[SignedEntry], number: u32, key: &PublicKey, statement: &Statement) -> bool
     ensures { IsTrue result ↔ IsStated (entries_of log.now) number key.now statement.now }
 {
@@ -66,7 +64,7 @@ fn states(serial: &[u8; 16], number: u32, key: &PublicKey, statement: &Statement
     let Some(mut checker) = Checker::begin(key, &statement.signature) else {
         return false;
     };
-    checker.feed(&[STATEMENT]);
+    checker.feed(&[STATEMENT_TEXT]);
     checker.feed(serial);
     checker.feed(&number.to_be_bytes());
     checker.feed(&statement.number.to_be_bytes());

@@ -1,18 +1,19 @@
 //! Bytes in hexadecimal.
 
-ghost use Rattle.std.specs.Prelude.{◌≡◌, ◌<◌, length};
+ghost use Rattle.std.specs.Prelude.{◌≡◌, ◌<◌, length, IfOk};
+ghost use Rattle.std.specs.String.{string_bytes};
 ghost use Rattle.mb_model.specs.Texts.{IsHex};
+ghost use Rattle.mb_model.specs.Lines.{hex_word};
 ghost use Rattle.mb_words.specs.Words.{Finds, FindsSome};
 
 use crate::said::NotSaid;
 use hex::FromHexError;
-use mb_model::Bytes;
+use mb_model::{Bytes, NoMemory};
 use std::alloc::Global;
 
 /// The bytes of a hexadecimal word: two digits of either case for each, or a dash for none.
 ///
-/// Errors: `Form` where the word is none, and `NoMemory`, of which no clause says when it comes: the tests read words
-/// where there is enough.
+/// `Form` if the word is not hexadecimal.
 pub fn read_hex(alloc: Global, word: &[u8]) -> Result<Bytes, NotSaid>
     ensures { Finds (IsHex word.now) result }
 {
@@ -29,7 +30,17 @@ pub fn read_hex(alloc: Global, word: &[u8]) -> Result<Bytes, NotSaid>
     }
 }
 
-/// The N bytes of a hexadecimal word; `None` where it is none, or of more bytes or fewer. N is not 0.
+/// The bytes in lowercase hexadecimal, or a dash for none.
+pub fn hex_word(alloc: Global, bytes: &[u8]) -> Result<String, NoMemory>
+    ensures { IfOk result (λ word. string_bytes word ≡ hex_word bytes.now) }
+{
+    if bytes.is_empty() {
+        return Ok(String::from_str(alloc, "-")?);
+    }
+    Ok(hex::encode(alloc, bytes)?)
+}
+
+/// The N bytes of a hexadecimal word; `None` if it is not hexadecimal, or has more or fewer bytes. N is not 0.
 pub fn read_array<const N: usize>(word: &[u8]) -> Option<[u8; N]>
     requires { 0 < N }
     ensures { FindsSome (λ bytes. (length bytes ≡ N) × IsHex word.now bytes) result }

@@ -3,7 +3,7 @@
 ghost use Rattle.std.specs.Prelude.{◌≡◌, ◌≢◌, ◌++◌, ℕ, List, All, MatchOption};
 ghost use Rattle.mb_words.specs.Words.{IsSplit, SplitsLine};
 
-/// What stands before the first of this byte, and what after it; `None` where the text has no such byte.
+/// The text before the first of this byte, and the text after it; `None` if the text has no such byte.
 pub fn split_at_byte(text: &[u8], byte: u8) -> Option<(&[u8], &[u8])>
     ensures { MatchOption result (All (λ b. b ≢ byte) text.now) (λ parts. IsSplit byte text.now parts.0.now parts.1.now) }
 {
@@ -13,7 +13,7 @@ pub fn split_at_byte(text: &[u8], byte: u8) -> Option<(&[u8], &[u8])>
     }
 }
 
-/// The first line of a text without its LF, and what stands after that; the last line may lack its LF.
+/// The first line of a text without its LF, and the rest of the text; the last line may lack its LF.
 pub fn split_line(text: &[u8]) -> (&[u8], &[u8])
     ensures { SplitsLine text.now result.0.now result.1.now }
 {
@@ -23,7 +23,7 @@ pub fn split_line(text: &[u8]) -> (&[u8], &[u8])
     }
 }
 
-/// What stands after the word, where the line begins with it.
+/// The rest of a line after the word with which it begins; `None` if the line does not begin with the word.
 pub fn after_word<'a>(line: &'a [u8], word: &[u8]) -> Option<&'a [u8]>
     ensures { MatchOption result ((rest : List ℕ) → line.now ≡ word.now ++ rest → ⊥) (λ rest. line.now ≡ word.now ++ rest.now) }
 {

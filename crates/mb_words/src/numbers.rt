@@ -7,7 +7,7 @@ ghost use Rattle.mb_words.specs.Words.{FindsSome};
 /// The most digits of a number.
 const MOST_DIGITS: usize = 10;
 
-/// The number that the word is, in decimal without leading zeros; `None` where it is no number, or one above `most`.
+/// The number that the word is, in decimal without leading zeros; `None` if it is no number, or above `most`.
 pub fn read_number(word: &[u8], most: u32) -> Option<u32>
     ensures { FindsSome (IsNumber most word.now) result }
 {
@@ -44,7 +44,7 @@ fn read_digits(word: &[u8]) -> Option<u32>
     add_digit(tens, digit)
 }
 
-/// The number with one digit more after it, which is below 10.
+/// The number with one more digit after it, from 0 to 9; `None` if it does not fit.
 fn add_digit(tens: u32, digit: u32) -> Option<u32>
     ensures { SomeIff result (10 * tens + digit < 2 ^ 32) (10 * tens + digit) }
 {

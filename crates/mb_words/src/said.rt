@@ -7,7 +7,7 @@ use mb_model::NoMemory;
 /// Why a word, or a line, was not read.
 #[derive(Clone, Copy, Debug, PartialEq, Eq)]
 pub enum NotSaid {
-    /// It is not in the grammar.
+    /// The word or line is not in the grammar.
     Form,
     /// An allocation failed.
     NoMemory,

@@ -1,4 +1,4 @@
-use Rattle.std.proofs.Common.{lit≤, ◌*◌, length, arith, rules}
+use Rattle.std.proofs.Common.{lit≤, ◌*◌, arith, rules}
 use Rattle.mb_slot.proofs.Slotted.{on_ok}
 use Rattle.mb_flash.proofs.Sectored.{sized_still, torn_sector, erased_start}
 use Rattle.mb_flash.proofs.sector.erase.Goals as goal

@@ -5,5 +5,5 @@ use Rattle.mb_image.proofs.memory.root_of.Goals as goal
 
 pub returns : goal.returns
 returns c =
-    root_found c.args.bbram.now c.area_in_force.result.now c.root_in.result c.area_in_force.ensures c.if-bbram.false
+    root_found c.args.bbram.now c.current_area.result.now c.root_in.result c.current_area.ensures c.if-bbram.false
     (subst IsBlank c.spare.ensures (c.is_blank.ensures.0 c.if-not-is_blank.false)) c.root_in.ensures

@@ -11,7 +11,7 @@ returns-in_default-2-clause-err c =
       c.args.root,
       c.requires.root,
       (c.in-Some.public.codes, c.in-Some.public.signed, c.in-Some.public.unsigned, public),
-      none_holds _ c.area_in_force.result.now c.in_ok-two.field-0 c.area_in_force.ensures c.in_ok-two.ensures c.in_default-2.is,
+      none_holds _ c.current_area.result.now c.in_ok-two.field-0 c.current_area.ensures c.in_ok-two.ensures c.in_default-2.is,
     )
 
 pub returns-in_default-3-clause-err : goal.returns-in_default-3-clause-err
@@ -20,6 +20,6 @@ returns-in_default-3-clause-err c =
       c.args.root,
       c.requires.root,
       (c.in-Some.public.codes, c.in-Some.public.signed, c.in-Some.public.unsigned, public),
-      (c.in-Some-2.two, some_holds _ c.area_in_force.result.now c.in_ok-two.field-0 c.in-Some-2.two c.area_in_force.ensures c.in_ok-two.ensures c.in-Some-2.is),
-      none_holds _ c.area_in_force-2.result.now c.in_ok-three.field-0 c.area_in_force-2.ensures c.in_ok-three.ensures c.in_default-3.is,
+      (c.in-Some-2.two, some_holds _ c.current_area.result.now c.in_ok-two.field-0 c.in-Some-2.two c.current_area.ensures c.in_ok-two.ensures c.in-Some-2.is),
+      none_holds _ c.current_area-2.result.now c.in_ok-three.field-0 c.current_area-2.ensures c.in_ok-three.ensures c.in_default-3.is,
     )

@@ -4,8 +4,8 @@ use Rattle.mb_layout.specs.Edits.{region_with_use}
 use Rattle.mb_layout.proofs.RegionParts.{uses_fit}
 use Rattle.mb_layout.proofs.usage.use_in_record.Goals as goal
 
-pub returns-then-key-ge-INDICES-clause-used : goal.returns-then-key-ge-INDICES-clause-used
-returns-then-key-ge-INDICES-clause-used c = λ region h. (
+pub returns-then-key-clause-used : goal.returns-then-key-clause-used
+returns-then-key-clause-used c = λ region h. (
     let stands = c.in-Some.ensures region h in
     record {
       key = c.in-Some-key_of.key;

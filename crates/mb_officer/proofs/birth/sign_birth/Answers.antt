@@ -11,5 +11,5 @@ unreachable-requires g c =
 
 pub returns-clause-signed : goal.returns-clause-signed
 returns-clause-signed g c =
-    birth_signed c.args.k.now.seed c.args.k.now.next c.args.birth c.sign_next.result c.deref.result.now c.args.text.items c.sign_next.ensures.signature
+    birth_signed c.args.seed.now c.args.index c.args.birth c.sign_at.result c.deref.result.now c.args.text.items c.sign_at.ensures.signature
     (c.deref.ensures.value ∙ c.in-Ok.ensures.items) c.requires.empty

@@ -1,4 +1,5 @@
 use Rattle.std.proofs.Common.{rules, ◌≡◌, length, ℕ, List, ◌++◌, take, arith, ap, ◌∙◌}
+use Rattle.std.specs.Int.{w32, to_be_bytes}
 use Rattle.mb_model.specs.KeyFormat.{keyfile_word, key_seed_format, keyfile_format}
 use Rattle.mb_format.specs.Combinators.{number_bytes}
 use Rattle.mb_bytes.proofs.InPlace.{joined, whole}
@@ -18,4 +19,4 @@ returns c =
     let three : take 52 c.put_at-3.new.out ≡ keyfile_word ++ id ++ seed = joined c.put_at-2.new.out c.put_at-3.new.out (keyfile_word ++ id) seed 20 52 c.put_at-3.ensures.written (omega (arith, seed_long)) two in
     let four : take 56 c.put_at-4.new.out ≡ keyfile_word ++ id ++ seed ++ next = joined c.put_at-3.new.out c.put_at-4.new.out (keyfile_word ++ id ++ seed) next 52 56 c.put_at-4.ensures.written (omega (arith, next_long)) three in
     let long : length c.put_at-4.new.out ≡ 56 = search rules in
-    whole c.put_at-4.new.out _ 56 (omega (arith, long)) four ∙ ap (λ (n : List ℕ). keyfile_word ++ id ++ seed ++ n) c.to_be_bytes.ensures
+    whole c.put_at-4.new.out _ 56 (omega (arith, long)) four ∙ ap (λ (n : List ℕ). keyfile_word ++ id ++ seed ++ n) (c.to_be_bytes.ensures ∙ ap (to_be_bytes w32) c.number.ensures.number)

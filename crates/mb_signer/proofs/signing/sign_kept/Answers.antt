@@ -1,4 +1,5 @@
-use Rattle.std.proofs.Common.{rules, ◌++◌}
+use Rattle.std.proofs.Common.{rules, ap, ◌∙◌, ◌++◌}
+use Rattle.std.specs.Int.{w32, to_be_bytes}
 use Rattle.mb_signer.proofs.Signed.{signed_by}
 use Rattle.mb_signer.proofs.signing.sign_kept.Goals as goal
 
@@ -6,7 +7,8 @@ pub returns-clause-signature : goal.returns-clause-signature
 returns-clause-signature g c =
     signed_by c.args.seed.now c.args.right c.spent-q.result (c.args.head.now ++ c.args.body.now) c.to_be_bytes.result c.to_be_bytes-2.result
     c.randomizer_at-randomizer.result c.message_hash-hash.result c.digits_of.result c.to_be_bytes-3.result c.put_path.new.out c.spent-q.ensures.value
-    c.to_be_bytes.ensures c.to_be_bytes-2.ensures c.to_be_bytes-3.ensures c.randomizer_at-randomizer.ensures.value c.message_hash-hash.ensures.value
+    c.to_be_bytes.ensures (c.to_be_bytes-2.ensures ∙ ap (to_be_bytes w32) c.chains_type.ensures)
+    (c.to_be_bytes-3.ensures ∙ ap (to_be_bytes w32) c.tree_type.ensures) c.randomizer_at-randomizer.ensures.value c.message_hash-hash.ensures.value
     c.digits_of.ensures
     (record {
       old = c.args.out.now;

@@ -1,4 +1,4 @@
-use Rattle.std.proofs.Common.{not, length, ap, ◌∙◌, arith, rules}
+use Rattle.std.proofs.Common.{not, ap, ◌∙◌, arith, rules}
 use Rattle.mb_slot.proofs.Slotted.{sized_still, selector_reached, on_ok, but_selector, either_in_force, exchanged, flipped}
 use Rattle.mb_slot.proofs.slot.flip.Goals as goal
 

@@ -2,7 +2,7 @@ use Rattle.std.proofs.Common.{Some, ap, ◌∙◌, length, arith}
 use Rattle.std.proofs.lemmas.Result.{err_from_is_err_and}
 use Rattle.mb_bytes.proofs.Exactly.{whole_read, whole_left, whole_failed_at}
 use Rattle.mb_model.proofs.KeyFormatLaws.{public_key_exact}
-use Rattle.mb_officer.proofs.public_key.read_public_key.Goals as goal
+use Rattle.mb_bytes.proofs.keys.read_public_key.Goals as goal
 
 pub returns-in_err-key : goal.returns-in_err-key
 returns-in_err-key c =

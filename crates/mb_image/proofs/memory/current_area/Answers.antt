@@ -1,7 +1,7 @@
 use Rattle.std.proofs.Common.{true, false, eq-eqb, ne_eqb}
 use Rattle.mb_image.proofs.Areas.{area_at}
-use Rattle.mb_image.proofs.memory.area_in_force.Goals as goal
-use Rattle.mb_image.proofs.memory.area_in_force.Goals.{then-bbram-slot-eq0, else-bbram-slot-eq0}
+use Rattle.mb_image.proofs.memory.current_area.Goals as goal
+use Rattle.mb_image.proofs.memory.current_area.Goals.{then-bbram-slot-eq0, else-bbram-slot-eq0}
 
 pub returns : goal.returns
 returns c =
