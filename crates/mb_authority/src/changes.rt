@@ -32,8 +32,8 @@ fn trust_for(layer: &Layer, k: u8) -> Trust
     }
 }
 
-/// Whether layer `m` admits a change of the kind at `layer`, which is `m` or beneath it. A layer admits its own ordinary
-/// load, and each load beneath it that it trusts. The layers are those before the change.
+/// Whether layer `m` admits a change of the kind at `layer`, which is `m` or beneath it. A layer admits its own
+/// ordinary load, and each load beneath it that it trusts. The layers are those before the change.
 pub fn admits(layers: &Layers, kind: ChangeKind, layer: u8, cosigned: Pair, m: u8) -> bool
     ensures { result ≡ admits layers.now kind layer cosigned m }
 {
@@ -125,8 +125,8 @@ fn layer_after(
     }
 }
 
-/// The layers after a change of the kind that puts `placed` in place of `layer`. A layer above it stays reliable only if
-/// it admits the change; all else stays.
+/// The layers after a change of the kind that puts `placed` in place of `layer`. A layer above it stays reliable only
+/// if it admits the change; all else stays.
 #[tactic(auto, unfolding(mb_model::specs::Rules::after))]
 pub fn after(layers: &Layers, kind: ChangeKind, layer: u8, cosigned: Pair, placed: &Layer) -> Layers
     ensures { result ≡ after layers.now kind layer cosigned placed.now }

@@ -67,7 +67,8 @@ impl<'a> Cursor<'a> {
         Ok(u8::from_be_bytes(self.take_array()?))
     }
 
-    /// The number in the next two bytes, big-endian; `Short` exactly if fewer are left, and the cursor is then unchanged.
+    /// The number in the next two bytes, big-endian; `Short` exactly if fewer are left, and the cursor is then
+    /// unchanged.
     pub fn take_u16(&mut self) -> Result<u16, Short>
         ensures reads { Reads short_at (number w16) self.old result self.new }
         ensures exactly { ReadsExactly short_at (number w16) self.old result self.new }
@@ -75,7 +76,8 @@ impl<'a> Cursor<'a> {
         Ok(u16::from_be_bytes(self.take_array()?))
     }
 
-    /// The number in the next four bytes, big-endian; `Short` exactly if fewer are left, and the cursor is then unchanged.
+    /// The number in the next four bytes, big-endian; `Short` exactly if fewer are left, and the cursor is then
+    /// unchanged.
     pub fn take_u32(&mut self) -> Result<u32, Short>
         ensures reads { Reads short_at (number w32) self.old result self.new }
         ensures exactly { ReadsExactly short_at (number w32) self.old result self.new }

@@ -1,7 +1,7 @@
 //! A record of a number, raw bytes and a counted list, read and written.
 //!
-//! The example shows how the contracts of this crate are composed. It is checked with the crate, so that a change of the
-//! contracts that would leave readers and writers above unproved is seen here first.
+//! The example shows how the contracts of this crate are composed. It is checked with the crate, so that a change of
+//! the contracts that would leave readers and writers above unproved is seen here first.
 
 ghost use Rattle.std.specs.Prelude.{◌≡◌, ◌<◌, ◌≤◌, length};
 ghost use Rattle.mb_model.specs.declared.limits.TheConstants.{FILE_LIMIT};

@@ -10,8 +10,8 @@ use mb_model::{BadRecord, NoMemory};
 pub enum ChainEnd {
     /// The bytes spell no chain or statement.
     BadChain {
-        /// The offset, from 0, of the first field that lacks bytes or is not allowed, or of the first byte after the last
-        /// field.
+        /// The offset, from 0, of the first field that lacks bytes or is not allowed, or of the first byte after the
+        /// last field.
         at: u32,
     },
     /// An allocation failed. No clause of a reader says when, so that a reader that always answers this would be proved

@@ -15,8 +15,8 @@ use mb_signer::{KeptTree, Uses, sign_kept, take_index};
 use std::alloc::Global;
 use std::sync::ledger::Ledger;
 
-/// The log that the entries of a memory mean. The unsigned entries, at most two, get their signatures by the outgoing key
-/// and by the device key; `tree` is the tree of the device key.
+/// The log that the entries of a memory mean. The unsigned entries, at most two, get their signatures by the outgoing
+/// key and by the device key; `tree` is the tree of the device key.
 #[tactic(auto, unfolding(mb_model::specs::StoredLog::completed))]
 pub(crate) fn completed<L: Ledger>(
     alloc: Global,

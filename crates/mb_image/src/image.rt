@@ -45,9 +45,9 @@ impl From<NoMemory> for ImageEnd {
     }
 }
 
-/// The state that an image of arbitrary bytes means, `None` for a dead device, or the first fault of the image. It takes
-/// at most 621,330 hashes: those of the public keys of the device and of sixteen keys of regions, each derived once, and
-/// of the signatures that are still to be made.
+/// The state that an image of arbitrary bytes means, `None` for a dead device, or the first fault of the image. It
+/// takes at most 621,330 hashes: those of the public keys of the device and of sixteen keys of regions, each derived
+/// once, and of the signatures that are still to be made.
 ///
 /// Errors: those of `ImageEnd`.
 pub fn stand_for<L: Ledger>(

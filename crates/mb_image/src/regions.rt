@@ -18,8 +18,8 @@ use mb_signer::public;
 use std::alloc::Global;
 use std::sync::ledger::Ledger;
 
-/// Whether this can be the region of the layer (2 or 3) in a device with this log. The log obeys the rules, and `figures`
-/// are its figures. The public key of each key of the region is derived once.
+/// Whether this can be the region of the layer (2 or 3) in a device with this log. The log obeys the rules, and
+/// `figures` are its figures. The public key of each key of the region is derived once.
 pub(crate) fn is_valid_region<L: Ledger>(
     alloc: Global,
     log: &[SignedEntry],

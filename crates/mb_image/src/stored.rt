@@ -73,8 +73,8 @@ struct PublicParts {
     unsigned: Entries,
 }
 
-/// The contents of the area of the flash that the root names; `None` if it holds no public record, or not one as the root
-/// says.
+/// The contents of the area of the flash that the root names; `None` if it holds no public record, or not one as the
+/// root says.
 fn public_in(alloc: Global, flash: &[u8], root: &Root) -> Result<Option<PublicParts>, NoMemory>
     requires sized { length flash.now ≡ FLASH_LENGTH }
     requires area { root.now.area ≤ 1 }

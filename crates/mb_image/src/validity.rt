@@ -15,8 +15,8 @@ use mb_model::{Figures, NoMemory, PublicKey, SignedEntry, State};
 use std::alloc::Global;
 use std::sync::ledger::Ledger;
 
-/// Whether a live device can have the state. The layers of the state are those of its log, and `device` is the public key
-/// of its device key.
+/// Whether a live device can have the state. The layers of the state are those of its log, and `device` is the public
+/// key of its device key.
 pub(crate) fn is_valid<L: Ledger>(
     alloc: Global,
     state: &State,

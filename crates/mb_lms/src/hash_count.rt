@@ -27,9 +27,9 @@ impl<L: Ledger> Model for HashCount<L> {
 }
 
 impl<L: Ledger> HashCount<L> {
-    /// A count of no hashes, over a ledger of at least one part. It takes no memory. The allocator is a permission, which
-    /// a function has only if its caller gives it: no call that hashes is given one, here or in `mb_signer`, so that
-    /// none can begin a count of its own beside its caller's.
+    /// A count of no hashes, over a ledger of at least one part. It takes no memory. The allocator is a permission,
+    /// which a function has only if its caller gives it: no call that hashes is given one, here or in `mb_signer`, so
+    /// that none can begin a count of its own beside its caller's.
     pub fn begin(_permission: Global, blank: Blank) -> HashCount<L>
         requires name { blank.name ≡ L.name }
         requires parts { blank.parts ≡ L.parts }

@@ -68,7 +68,8 @@ pub fn digits_of(chains: Chains, hash: &[u8; 32]) -> [u8; 34]
     digits
 }
 
-/// The first bytes that every step of a chain hashes: the identifier, the leaf's number and the chain's (RFC 8554, section 4.3).
+/// The first bytes that every step of a chain hashes: the identifier, the leaf's number and the chain's (RFC 8554,
+/// section 4.3).
 pub fn chain_prefix(identifier: &[u8; 16], q: u32, chain: u16) -> [u8; 22]
     ensures { result ≡ identifier.now ++ to_be_bytes w32 q ++ to_be_bytes w16 chain }
 {

@@ -94,7 +94,7 @@ fn key_of(spelling: &str) -> Result<PublicKey, Fail> {
     Ok(parse_key(&bytes).ok_or("a type is unknown")?)
 }
 
-/// The signature verifies, and does not where it or the text is changed.
+/// The signature verifies, and does not if it or the text is changed.
 fn expect_signature(rt: &impl Abort, alloc: Global, vector: &Vector) -> Result<(), Fail> {
     let key = key_of(vector.key)?;
     let mut text = hex::decode(alloc, vector.text)?;
@@ -199,7 +199,7 @@ fn all_pairs_of_types(rt: HostRuntime) -> Result<(), Fail> {
     expect_chains(&rt, alloc, Tree::H25)
 }
 
-/// The bytes of a key of these type numbers, of which the first has this high byte.
+/// The bytes of a key with these type numbers; the first of them has this high byte.
 fn key_typed(high: u8, tree: u8, chains: u8) -> Option<PublicKey> {
     let mut bytes = [0; 56];
     bytes[0] = high;

@@ -34,8 +34,8 @@ pub fn needed(uses: u32, names_next: bool) -> u32
     }
 }
 
-/// The entries and keys that the fact adds to a device, in at most 68,798 hashes: those of two public keys. New keys are
-/// derived from the draw.
+/// The entries and keys that the fact adds to a device, in at most 68,798 hashes: those of two public keys. New keys
+/// are derived from the draw.
 ///
 /// No hash is taken if an allocation fails.
 pub fn bodies<L: Ledger>(

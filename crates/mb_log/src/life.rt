@@ -1,5 +1,5 @@
-//! The life of one key of a region by the entries of a log: whether the key is alive, and the configurations in which it
-//! lived.
+//! The life of one key of a region by the entries of a log: whether the key is alive, and the configurations in which
+//! it lived.
 
 ghost use Rattle.std.specs.Prelude.{◌≡◌, ℕ, ◌≤◌, not, ◌&&◌, List, [], ◌∷◌, ◌++◌, length, IfOk, OnOk, OnErr, if◌then◌else◌};
 ghost use Rattle.std.specs.Option.{option_to_list};
@@ -129,8 +129,8 @@ pub fn lives(alloc: Global, log: &[SignedEntry], key: u32) -> Result<Lives, NoMe
     Ok(life.lives)
 }
 
-/// Whether the entry ends each key of this kind and layer that was born before it. A change ends an epoch key if it does
-/// not keep the region, and a configuration key if it is at the layer or beneath.
+/// Whether the entry ends each key of this kind and layer that was born before it. A change ends an epoch key if it
+/// does not keep the region, and a configuration key if it is at the layer or beneath.
 pub fn ends(kind: KeyKind, layer: u8, entry: &Entry) -> bool
     ensures { result ≡ ends kind layer entry.now }
 {

@@ -14,9 +14,9 @@ use mb_model::{
     ChangeKind, Entry, Figures, Follow, LAST_INDEX, Layer, Layers, Pair, PublicKey, SignedEntry,
 };
 
-/// Whether the entry, with this index of its signature, may follow the at most 128 entries before it: `Order` exactly if
-/// there are entries before it and its position or index is wrong, else `Rules` exactly if it breaks the rules of the
-/// log.
+/// Whether the entry, with this index of its signature, may follow the at most 128 entries before it: `Order` exactly
+/// if there are entries before it and its position or index is wrong, else `Rules` exactly if it breaks the rules of
+/// the log.
 pub fn follows(before: &[SignedEntry], entry: &Entry, index: u32) -> Follow
     requires { length before.now ≤ ENTRY_LIMIT }
     ensures { FollowSays (figures_of (entries_of before.now)) entry.now index result }

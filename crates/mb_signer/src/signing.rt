@@ -72,8 +72,9 @@ pub fn sign<L: Ledger>(
 ///
 /// Each hash is a `mb_lms::hash` on the caller's count, and this crate makes hashes by no other call. So the clause
 /// `cost` excludes a body that builds a tree again, which takes 34,399. A body cannot begin a count beside the
-/// caller's: `HashCount::begin` takes an allocator, and no call here is given one. The clause does not exclude a SHA-256
-/// that is written out here, nor a call of `verify` or `key_hash`, which count nothing and cannot give a node of a tree.
+/// caller's: `HashCount::begin` takes an allocator, and no call here is given one. The clause does not exclude a
+/// SHA-256 that is written out here, nor a call of `verify` or `key_hash`, which count nothing and cannot give a node
+/// of a tree.
 pub fn sign_kept<L: Ledger>(
     right: OneUse,
     tree: &KeptTree,

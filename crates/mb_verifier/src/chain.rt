@@ -17,9 +17,9 @@ use mb_cert::{ChainEnd, read_chain};
 use mb_model::{Bytes, Chain, PublicKey, Report, Statement};
 use std::alloc::Global;
 
-/// The report on the key with the number `key` by a chain of at most 4,194,304 bytes, if the chain is accepted under the
-/// maker's key `root`. Each signature is checked once, and the text of one entry at a time is in memory; no clause says
-/// so.
+/// The report on the key with the number `key` by a chain of at most 4,194,304 bytes, if the chain is accepted under
+/// the maker's key `root`. Each signature is checked once, and the text of one entry at a time is in memory; no clause
+/// says so.
 ///
 /// Errors: those of `ChainRefusal`.
 pub fn verify(

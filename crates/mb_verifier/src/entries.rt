@@ -24,8 +24,8 @@ pub(crate) struct Judged {
     pub life: Life,
 }
 
-/// The figures of the log and the life of the key with the number `key`, if each entry is good; else why the first entry
-/// that is not good is refused. Each signature is checked once.
+/// The figures of the log and the life of the key with the number `key`, if each entry is good; else why the first
+/// entry that is not good is refused. Each signature is checked once.
 pub(crate) fn judge(
     alloc: Global,
     maker: &PublicKey,
