@@ -2,7 +2,7 @@
 use Rattle.std.specs.Prelude.{ℕ, List}
 use Rattle.mb_model.specs.Flash.{BeginsArea}
 
--- an area begins with bytes after their length, of which nothing more is said
+-- an area begins with some bytes after their length
 pub record BeginsSome (area : List ℕ) : Type 0 where
   pub bytes : List ℕ
   pub begins : BeginsArea area bytes

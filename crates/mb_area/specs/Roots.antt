@@ -1,4 +1,4 @@
--- What becomes of the contents of a memory as a root is put in force. Is an order wholly obeyed or not at all, and its
+-- The contents of a memory after a root record is committed. Is an order wholly obeyed or not at all, and its
 -- work wholly finished or still pending?
 use Rattle.std.specs.Prelude.{◌≡◌, ℕ, ◌-◌, ◌⊎◌, List, [], None}
 use Rattle.mb_model.specs.declared.entry.Entry.{Entry}
@@ -15,25 +15,25 @@ use Rattle.mb_model_memory.specs.Commits.{both_done, at_rest}
 use Rattle.mb_model.specs.StoredLog.{HasIndex}
 use Rattle.mb_model_memory.specs.Holding.{Holds, Means, KeepsContents, KeepsMeaning}
 
--- an area holds some root
+-- an area holds some root record
 pub record HoldsSomeRoot (area : List ℕ) : Type 0 where
   pub root : Root
   pub holds : HoldsRecord root_format area root
 
--- some root is in force
+-- there is a current root record
 pub record HasSomeRoot (memory : Memory) : Type 0 where
   pub root : Root
   pub holds : RootIn memory.bbram root
 
--- Whatever the memory held, it holds with this root, and with the codes and entries that the flash holds for the root.
+-- Whatever the memory held, it holds with this root record, and with the codes and entries that the flash holds for it.
 pub record CommitsRoot (new_root : Root) (before after : Memory) : Type 0 where
   pub committed : (contents : Contents) (codes : Codes) (signed : List SignedEntry) (unsigned : List Entry)
       → Holds before contents → HoldsPublic before.flash new_root codes signed unsigned
       → Holds after
       (record contents { root = new_root; codes = codes; signed = signed; unsigned = unsigned })
 
--- Whatever the memory held, it stands for what that means with this root, and with the codes and entries that the flash
--- holds for the root.
+-- Whatever the memory held, it stands for what that means with this root record, and with the codes and entries that
+-- the flash holds for it.
 pub record MeansByRoot (new_root : Root) (before after : Memory) : Type 0 where
   pub means : (contents : Contents) (codes : Codes) (signed : List SignedEntry) (unsigned : List Entry)
       → Holds before contents → HoldsPublic before.flash new_root codes signed unsigned
@@ -42,12 +42,12 @@ pub record MeansByRoot (new_root : Root) (before after : Memory) : Type 0 where
       after
       (meant (record contents { root = new_root; codes = codes; signed = signed; unsigned = unsigned }))
 
--- the root of a device with nothing pending, with the public record in the flash area that this root does not name
+-- the root record of the same device with nothing pending, and with its public record in the other area of the flash
 abbrev pub settled_root : Root → Root
 settled_root root = record root { area = 1 - root.area; pending = None }
 
--- The memory holds these contents, what is to be done to both regions is done, and the public record with every entry
--- signed stands in the area of the flash that the root does not name.
+-- The memory holds these contents, the fates of both regions have been applied, and the public record with every entry
+-- signed stands in the inactive area of the flash.
 pub record IsReadyToFinish (memory : Memory) (contents : Contents) : Type 0 where
   pub holds : Holds memory contents
   pub applied : both_done contents ≡ contents
@@ -58,7 +58,7 @@ pub record IsReadyToFinish (memory : Memory) (contents : Contents) : Type 0 wher
       (meant contents).log
       []
 
--- The state for which contents that were ready to be finished stood is that for which the memory stands.
+-- The memory stands for the state for which contents that were ready to be finished stood.
 pub record MeansAsReady (before after : Memory) : Type 0 where
   pub means : (contents : Contents) → IsReadyToFinish before contents → Means before (meant contents)
       → Means after (meant contents)
@@ -75,6 +75,6 @@ pub record Finishes (before after : Memory) : Type 0 where
 abbrev pub KeepsOrFinishes : Memory → Memory → Type 0
 KeepsOrFinishes before after = KeepsContents before after ⊎ Finishes before after
 
--- each state for which the memory stood it stands for, or it stands for what this root makes of it
+-- the memory still means every state that it meant, or means what this root record makes of it
 abbrev pub KeepsOrMeansByRoot : Root → Memory → Memory → Type 0
 KeepsOrMeansByRoot new_root before after = KeepsMeaning before after ⊎ MeansByRoot new_root before after

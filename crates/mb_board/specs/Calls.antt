@@ -13,7 +13,7 @@ abbrev pub level_of : {A E : Type 0} → Result A E → ℕ → ℕ
 level_of (Ok value) level = level
 level_of (Err stop) level = 0
 
--- one more write call, of which no more than 1,000 are counted
+-- one more write call; the count saturates at 1,000
 abbrev pub counted_write : ℕ → ℕ
 counted_write writes = if nat_lt writes 1000 then writes + 1 else writes
 
@@ -23,7 +23,7 @@ metered (Ok value) meter = record meter { writes = counted_write meter.writes }
 metered (Err stop) meter =
     record { armed = false; stops = meter.stops + 1; writes = counted_write meter.writes }
 
--- Of a range of a memory any bytes were written; all others are as before.
+-- A range of a memory holds arbitrary bytes; all others are as before.
 pub record Torn (at n : ℕ) (before after : List ℕ) : Type 0 where
   pub written : List ℕ
   pub sized : length written ≡ n
@@ -45,7 +45,7 @@ abbrev pub stops_by : {A E : Type 0} → Result A E → ℕ → ℕ
 stops_by (Ok value) stops = stops
 stops_by (Err stop) stops = stops + 1
 
--- Calls of which at most n write came to this result: they were stopped only by a power loss that was armed, and then
+-- Calls, at most n of them write calls, had this result: they were stopped only by an armed power loss, and then
 -- the count of stops rose by one.
 pub record IsMetered (n : ℕ) {A E : Type 0} (result : Result A E) (before after : Meter) : Type 0 where
   pub armed : after.armed ≡ armed_by result before.armed

@@ -16,7 +16,7 @@ pub record HasFill (tear : Tear) : Type 0 where
   pub some : 1 ≤ tear.fill_length
   pub most : tear.fill_length ≤ FILL_LIMIT
 
--- the power loss that is armed, how many calls were stopped, and how many write calls were made since the last event
+-- the armed power loss, the number of stopped calls, and the number of write calls since the last event
 pub record Armed : Type 0 where
   pub cut : Option Cut
   pub stops : ℕ
@@ -39,8 +39,7 @@ meter_of fuse = record { armed = is_armed fuse.cut; stops = fuse.stops; writes =
 abbrev pub last_count : ℕ
 last_count = 18446744073709551615
 
--- A write call passes, or fails with the tear of a power loss: the one that is armed, where this is the call for which
--- it was set.
+-- A write call passes, or fails with the tear of the armed power loss, if this is the call for which it was set.
 abbrev pub passes_by : Option Cut → ℕ → Result (Unit {0}) Tear
 passes_by None stops = Ok tt
 passes_by (Some cut) stops = if cut.count == 1 && nat_lt stops last_count then Err cut.tear else Ok tt
@@ -64,7 +63,7 @@ abbrev pub cut_after : Option Event → Option Cut → Option Cut
 cut_after (Some (event.Cut count tear)) cut = Some (record { count = count; tear = tear })
 cut_after _ cut = cut
 
--- the one that is armed after one call that passed, and after so many
+-- the power loss that is armed after one call that passed, and after n
 abbrev pub passed_one : Option Cut → Option Cut
 passed_one cut = cut_left {A = Unit {0}} {E = Tear} (Ok tt) cut
 
@@ -73,7 +72,7 @@ cut_in zero cut = cut
 cut_in (suc n) cut = cut_in n (passed_one cut)
 
 -- A power loss falls into the call for which it was set: those before it pass, and it fails. None falls into a call
--- where the count of stops is at its last value.
+-- if the count of stops is at its last value.
 pub record FallsInItsCall (cut : Cut) : Type 0 where
   pub before : (n stops : ℕ) → n + 1 < cut.count → passes_by (cut_in n (Some cut)) stops ≡ Ok tt
   pub there : (n stops : ℕ) → n + 1 ≡ cut.count → stops < last_count
@@ -82,7 +81,7 @@ pub record FallsInItsCall (cut : Cut) : Type 0 where
 
 -- ---- what the range of a call holds
 
--- so many bytes, which are those that the tear fills with, repeated from the first
+-- n bytes of the tear's filling, repeated from the first
 unfoldable pub filling : Tear → ℕ → List ℕ
 filling tear n = map (λ offset. slice_index tear.fill (offset % tear.fill_length)) (range_with_len 0 n)
 

@@ -1,4 +1,4 @@
--- What holds of the fields of a memory: a sector in which nothing was written since the bytes were kept is as it was.
+-- What holds of the fields of a memory: a sector without a write since the bytes were kept is as it was.
 use Rattle.std.specs.Prelude.{◌≡◌, ℕ, ◌*◌, ◌<◌, Bool, false, List, length, get_or}
 use Rattle.mb_model.specs.declared.limits.TheConstants.{SECTOR_LENGTH}
 use Rattle.mb_model.specs.Pieces.{part}

@@ -11,7 +11,7 @@ pub record ReachesSlot (level slot : ℕ) : Type 0 where
   pub most : slot ≤ 3
   pub reached : level ≤ slot
 
--- so many bytes from an offset on lie in the selector or in one area of a slot that the level reaches
+-- n bytes from an offset on lie in the selector or in one area of a slot that the level reaches
 pub data Reached (level at n : ℕ) : Type 0 where
   selector : (slot : ℕ) → ReachesSlot level slot → at ≡ (slots slot).selector → n ≡ 1 → Reached level at n
   in_first_area : (slot : ℕ) → ReachesSlot level slot → (slots slot).first ≤ at

@@ -52,8 +52,8 @@ pub struct SimBoard {
     is_on: bool,
     level: u8,
     fuse: Fuse,
-    /// The flash. Both memories and `standing` were last kept at the last answer, or at the load if nothing was answered
-    /// since.
+    /// The flash. Both memories and `standing` were last kept at the last answer, or at the load if nothing was
+    /// answered since.
     flash: Bank,
     bbram: Bank,
     standing: Standing,
@@ -181,10 +181,12 @@ impl Board for SimBoard {
         requires within { SECTOR_LENGTH * sector + SECTOR_LENGTH ≤ length self.old.memory.flash }
         ensures passes { is_ok result ≡ is_ok (passes self.old.fuse) }
         ensures left { self.new.memory ≡ record self.old.memory {
-          flash = put (SECTOR_LENGTH * sector) (left_by (passes self.old.fuse) (erased SECTOR_LENGTH)) self.old.memory.flash;
+          flash = put (SECTOR_LENGTH * sector)
+              (left_by (passes self.old.fuse) (erased SECTOR_LENGTH)) self.old.memory.flash;
         } }
         ensures after { self.new ≡ board_after result self.new.memory self.old }
-        ensures torn { Torn (SECTOR_LENGTH * sector) SECTOR_LENGTH self.old.memory.flash self.new.memory.flash }
+        ensures torn { Torn (SECTOR_LENGTH * sector) SECTOR_LENGTH
+            self.old.memory.flash self.new.memory.flash }
     {
         match self.fuse.pass() {
             Ok(()) => {

@@ -1,4 +1,4 @@
--- What becomes of a memory as its device comes up. Is it clean then, and does it stand for the same state?
+-- The memory of a device that has come up. Is it clean, and does it stand for the same state?
 use Rattle.std.specs.Prelude.{◌≡◌, ℕ, List, Bool, true, false, Option, Some, Result, Ok, Err}
 use Rattle.mb_model.specs.declared.state.State.{State}
 use Rattle.mb_model.specs.declared.stored.Root.{Root}
@@ -20,37 +20,36 @@ pub record StandsForValid (memory : Memory) : Type 0 where
   pub stands : StandsFor memory.flash memory.bbram state
   pub valid : Valid state
 
--- whatever it stood for, it stands for
+-- the memory stands for whatever it stood for
 pub record KeepsState (before after : Memory) : Type 0 where
   pub kept : (state : Option State) → StandsFor before.flash before.bbram state
       → StandsFor after.flash after.bbram state
 
--- what was found is what is left to be done by the root in force and its other area
+-- the work found is the work that is left, by the current root record and the root's inactive area
 pub record IsFoundAs (looked : Looked) (bbram : List ℕ) : Type 0 where
   pub found : (root : Root) → RootIn bbram root → IsLooked looked root (other bbram 1)
 
--- whatever state the memory stood for, it holds with nothing pending, and the area of the root that is not in force is
--- all zero
+-- the memory holds whatever state it stood for, with nothing pending, and the root's inactive area is all zero
 pub record Rests (before after : Memory) : Type 0 where
   pub rests : (state : State) → Means before state → IsAtRest after state
   pub blank : IsBlank (other after.bbram 1)
 
--- the areas of the regions that are not in force are all zero
+-- the inactive areas of both regions are all zero
 pub record IsWiped (bbram : List ℕ) : Type 0 where
   pub two : IsBlank (other bbram 2)
   pub three : IsBlank (other bbram 3)
 
--- whatever state the memory stood for, it is clean for
+-- the memory is clean for whatever state it stood for
 pub record Cleans (before after : Memory) : Type 0 where
   pub cleans : (state : State) → Means before state → Clean after.bbram (Some state)
 
--- where the memory was clean, nothing was written
+-- if the memory was clean, nothing was written
 pub record IsQuiet (before after : Memory) (counted counted_after : Meter) : Type 0 where
   pub quiet : (state : State) → Clean before.bbram (Some state) → (after ≡ before) × (counted_after ≡ counted)
 
 -- ---- how a boot ends
 
--- whether power failed, of which alone the counts tell
+-- whether power failed, which is all that the counts show
 abbrev pub stop_of : {A : Type 0} → Result A BootEnd → Result (Unit {0}) (Unit {0})
 stop_of (Ok up) = Ok tt
 stop_of (Err (Stopped off)) = Err tt
@@ -77,7 +76,7 @@ is_zeroised (Err (Stopped off)) = false
 is_zeroised (Err (Zeroised dead)) = true
 is_zeroised (Err (NoMemory off)) = false
 
--- where a device was found dead, and where an allocation failed, both hold
+-- if the device was found dead, or an allocation failed, both hold
 abbrev pub IfUnwritten : {A : Type 0} → Result A BootEnd → Type 0 → Type 0 → Type 0
 IfUnwritten (Ok up) P Q = Unit {0}
 IfUnwritten (Err (Stopped off)) P Q = Unit {0}

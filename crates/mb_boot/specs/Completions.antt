@@ -1,4 +1,4 @@
--- What the bytes of a public record spell once its last entries are signed. Is it the log for which they stood before?
+-- The bytes of a public record after its last entries are signed. Do they spell the log for which they stood before?
 use Rattle.std.specs.Prelude.{ℕ, ◌≤◌, List, [], ◌∷◌, ◌++◌}
 use Rattle.std.specs.Global.{Vec}
 use Rattle.std.specs.Vec.{vec_capacity}
@@ -17,21 +17,21 @@ pub record HasLog (codes : Codes) (log : List SignedEntry) (old new : Vec ℕ) :
   pub spelled : Spells public_format new.items (public_of_parts codes log [])
   pub room : vec_capacity old ≤ vec_capacity new
 
--- where one entry was unsigned, the key has signed it at the index
+-- if one entry was unsigned, the key has signed it at the index
 abbrev pub LastIsSigned : KeySeed → ℕ → Vec ℕ → Vec ℕ → Type 0
 LastIsSigned key index old new =
     (codes : Codes) (signed : List SignedEntry) (entry : Entry)
     → Spells public_format old.items (public_of_parts codes signed (entry ∷ []))
     → HasLog codes (signed ++ signed_by key index entry ∷ []) old new
 
--- where two were, the one key has signed the first at the index, and the other the second at its first index
+-- if two were, the outgoing key has signed the first at the index, and the device key the second at its first index
 abbrev pub LastTwoAreSigned : KeySeed → ℕ → KeySeed → Vec ℕ → Vec ℕ → Type 0
 LastTwoAreSigned outgoing index device old new =
     (codes : Codes) (signed : List SignedEntry) (entry next : Entry)
     → Spells public_format old.items (public_of_parts codes signed (entry ∷ next ∷ []))
     → HasLog codes (signed ++ signed_by outgoing index entry ∷ signed_by device 0 next ∷ []) old new
 
--- where as many were as the root says, the bytes spell the log for which they stood
+-- if as many were as the root record says, the bytes spell the log for which they stood
 abbrev pub PendingIsSigned : Root → Vec ℕ → Vec ℕ → Type 0
 PendingIsSigned root old new =
     (codes : Codes) (signed : List SignedEntry) (unsigned : List Entry) → AreCounted root.pending unsigned

@@ -1,4 +1,4 @@
--- What becomes of a memory as the work of an order is done. Does it stand for one state wherever power fails?
+-- A memory while the work of an order is done. Does it stand for one state wherever power fails?
 use Rattle.std.specs.Prelude.{◌≡◌, ℕ, ◌-◌, List, []}
 use Rattle.mb_format.specs.Format.{Spells}
 use Rattle.mb_model.specs.declared.state.State.{State}
@@ -17,12 +17,12 @@ pub record IsLive (memory : Memory) : Type 0 where
   pub means : Means memory state
   pub valid : IsValidState state
 
--- this root is the one in force
+-- this is the current root record, and there is no other
 pub record IsOnlyRoot (bbram : List ℕ) (root : Root) : Type 0 where
   pub holds : RootIn bbram root
   pub only : (any : Root) → RootIn bbram any → any ≡ root
 
--- whatever the memory held, it holds with what is to be done to both regions done
+-- whatever the memory held, it holds after the fates of both regions
 pub record AppliesBoth (before after : Memory) : Type 0 where
   pub applied : (contents : Contents) → Holds before contents → Holds after (both_done contents)
 
@@ -31,8 +31,7 @@ pub record SpellsSigned (memory : Memory) (bytes : List ℕ) : Type 0 where
   pub spelled : (contents : Contents) → Holds memory contents
       → Spells public_format bytes (public_of_parts contents.codes (meant contents).log [])
 
--- whatever the memory held, the area of the flash that the root does not name holds its public record with every entry
--- signed
+-- whatever the memory held, the inactive area of the flash holds its public record with every entry signed
 pub record SignsRecord (before after : Memory) : Type 0 where
   pub signed : (contents : Contents) → Holds before contents
       → HoldsPublic
@@ -47,6 +46,6 @@ pub record IsAtRest (memory : Memory) (state : State) : Type 0 where
   pub area : ℕ
   pub holds : Holds memory (at_rest state area)
 
--- whatever state the memory stood for, it holds with nothing pending
+-- the memory holds whatever state it stood for, with nothing pending
 pub record Settles (before after : Memory) : Type 0 where
   pub settled : (state : State) → Means before state → IsAtRest after state

@@ -131,8 +131,8 @@ fn come_up<B: Board, L: Ledger>(
 }
 
 /// Does the pending work of a committed order, and wipes what it replaced. The memory has to stand for a state that a
-/// device can have. It stands for the same state wherever power fails, and afterwards it is clean. There are at most 239
-/// write calls, and 70,946 hashes.
+/// device can have. It stands for the same state wherever power fails, and afterwards it is clean. There are at most
+/// 239 write calls, and 70,946 hashes.
 #[tactic(auto, using(crate::proofs::Booted::cleaned, mb_model_memory::proofs::HoldingLemmas::contents_keep, mb_model_memory::proofs::HoldingLemmas::keeps_then))]
 pub fn finish_order<B: Board, L: Ledger>(
     u: Unsettled,
@@ -191,8 +191,8 @@ fn give_up<B: Board>(up: Up<R1>, b: &mut B) -> Off
 /// which it works. Wherever power fails, the memory stands for what it stood for. Nothing is written to a clean memory.
 /// There are at most 239 write calls, and 70,946 hashes.
 ///
-/// Errors: `Zeroised` exactly if the device is dead; `Stopped` if power failed; `NoMemory` if an allocation failed, before
-/// anything was written.
+/// Errors: `Zeroised` exactly if the device is dead; `Stopped` if power failed; `NoMemory` if an allocation failed,
+/// before anything was written.
 #[tactic(auto, using(crate::proofs::Booted::live_from, crate::proofs::Booted::dead_from, crate::proofs::Booted::alive_from, crate::proofs::Booted::state_kept_from, crate::proofs::Booted::cleans_from, crate::proofs::Booted::quiet_from, crate::proofs::Booted::state_same, crate::proofs::Booted::same_quiet, crate::proofs::Booted::loaded_as))]
 pub fn boot<B: Board, L: Ledger>(
     alloc: Global,

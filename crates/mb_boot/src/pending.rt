@@ -52,8 +52,8 @@ fn sign_last<L: Ledger>(key: &KeySeed, index: u32, bytes: &mut Vec<u8>, hashes: 
     complete_record(bytes, &signatures);
 }
 
-/// Signs the two unsigned entries of the record: the first with the outgoing key at the index, the second with the device
-/// key at its first index.
+/// Signs the two unsigned entries of the record: the first with the outgoing key at the index, the second with the
+/// device key at its first index.
 fn sign_last_two<L: Ledger>(
     outgoing: &KeySeed,
     index: u32,
@@ -74,9 +74,9 @@ fn sign_last_two<L: Ledger>(
     complete_record(bytes, &signatures);
 }
 
-/// Completes the public record in place: signs each entry that the root record leaves unsigned once, with the key and at
-/// the index that the root record names, in at most 70,946 hashes. Nothing is said if the bytes are no public record with
-/// as many unsigned entries as the root record says. There is room for the signatures.
+/// Completes the public record in place: signs each entry that the root record leaves unsigned once, with the key and
+/// at the index that the root record names, in at most 70,946 hashes. Nothing is said if the bytes are no public record
+/// with as many unsigned entries as the root record says. There is room for the signatures.
 pub(crate) fn sign_pending<L: Ledger>(root: &Root, bytes: &mut Vec<u8>, hashes: &mut HashCount<L>)
     requires uses { root.now.uses ≤ KEY_USES }
     requires outgoing { IfSome (outgoing_of root.now.pending)

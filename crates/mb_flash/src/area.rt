@@ -30,8 +30,8 @@ fn fill_first(count: u32, head: &[u8], piece: &mut [u8])
     put_at(piece, PREFIX, head);
 }
 
-/// Makes the area, 0 or 1, begin with this record, of at most 470,000 bytes: its length, and the record. What follows it
-/// is arbitrary. If power fails, the other area is as it was. There are at most two write calls for each sector that
+/// Makes the area, 0 or 1, begin with this record, of at most 470,000 bytes: its length, and the record. What follows
+/// it is arbitrary. If power fails, the other area is as it was. There are at most two write calls for each sector that
 /// the record needs, and none for a sector that holds its bytes already.
 #[tactic(auto, using(crate::proofs::Areas::begins, crate::proofs::Areas::other_kept, crate::proofs::Areas::stands_there))]
 pub fn write_area<B: Board>(b: &mut B, area: u16, bytes: &[u8]) -> Result<(), Stopped>

@@ -1,11 +1,11 @@
--- What a host in memory shows: its files, what was printed, which of its calls fail, and its counts.
+-- The contents of a host in memory: its files, what was printed, which of its calls fail, and its counts.
 use Rattle.std.specs.Prelude.{◌≡◌, ◌≢◌, ◌==◌, ℕ, Bool, List, [], Option, Some, option_map}
 use Rattle.std.specs.List.{find, list_any}
 use Rattle.std.specs.Str.{bytes_eq}
 use Rattle.mb_model.specs.declared.items.File.{File}
 use Rattle.mb_model.specs.Outside.{Outside, raised}
 
--- where two files have one name the first counts
+-- if two files have one name, the first counts
 pub record HostShown : Type 0 where
   pub files : List File
   pub printed : List ℕ
@@ -51,7 +51,7 @@ is_named name file = bytes_eq file.name name
 abbrev pub content_of : List File → List ℕ → Option (List ℕ)
 content_of files name = option_map (λ file. file.bytes) (find (is_named name) files)
 
--- a host in memory tells all that it shows
+-- contracts see all contents of a host in memory
 abbrev pub told : HostShown → Outside
 told shown = record {
   files = Some (content_of shown.files);

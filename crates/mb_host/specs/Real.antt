@@ -1,11 +1,11 @@
--- What a host tells that tells no content, and how its counts change.
+-- A host with contents that no contract sees, and how its counts change.
 use Rattle.std.specs.Prelude.{ℕ, List, Option, None, Result, Ok, Err}
 use Rattle.mb_model.specs.Outside.{Outside, raised}
 use Rattle.mb_host.specs.declared.faults.Faults.{Faults}
 use Rattle.mb_host.specs.declared.whole.ReadCounts.{ReadCounts}
 use Rattle.mb_host.specs.declared.whole.WriteCounts.{WriteCounts}
 
--- such a host tells its counts alone; it cannot know that a file is absent
+-- contracts see the counts of such a host alone; it cannot know that a file is absent
 abbrev pub untold : ReadCounts → WriteCounts → Outside
 untold reads writes = record {
   files = None;

@@ -1,9 +1,9 @@
-//! Counts that stand still at their last value.
+//! Counts that saturate.
 
 ghost use Rattle.std.specs.Prelude.{◌≡◌};
 ghost use Rattle.mb_model.specs.Outside.{raised as raised_count};
 
-// One more than the count, which stands still at its last value.
+// One more than the count; saturates at its last value.
 #[tactic(auto, unfolding(mb_model::specs::Outside::raised))]
 pub(crate) fn raised(count: u64) -> u64
     ensures { result ≡ raised_count count }

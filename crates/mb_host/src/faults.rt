@@ -1,7 +1,7 @@
-//! What the system gives, call by call, with each of its errors counted.
+//! Sources and sinks of the system, with each of their errors counted.
 //!
-//! Whole reads and writes see a source and a sink through the traits here alone. So an error that is not counted does
-//! not reach them, and they count no fault where the system gave no error.
+//! Whole reads and writes see a source and a sink only through the traits here: no error reaches them uncounted, and
+//! they count no fault without an error of the system.
 
 ghost use Rattle.std.specs.Prelude.{◌≡◌, ℕ, ◌<◌, ◌≤◌, List, Option, length, take, IfSome, MatchOption, MatchResult};
 ghost use Rattle.std.specs.Io.KnownBytes.{Appends, Consumes, IsAtEnd, Keeps};
@@ -11,7 +11,7 @@ use crate::count::raised;
 use std::io;
 use std::io::{Read, Write};
 
-/// How many errors the system gave.
+/// The number of errors that the system gave.
 #[derive(Drop)]
 pub(crate) struct Faults {
     count: u64,
@@ -25,9 +25,10 @@ impl Faults {
         Faults { count: 0 }
     }
 
-    // Counts what a call of the system gave, where that is an error.
+    // Counts the result of a call of the system, if it is an error.
     pub(crate) fn note<T>(&mut self, given: &io::Result<T>)
-        ensures { MatchResult given.now (λ _. self.new ≡ self.old) (λ _. self.new ≡ one_fault_more self.old) }
+        ensures { MatchResult given.now (λ _. self.new ≡ self.old)
+            (λ _. self.new ≡ one_fault_more self.old) }
     {
         if given.is_err() {
             self.count = raised(self.count);
@@ -35,20 +36,22 @@ impl Faults {
     }
 }
 
-/// Where bytes come from.
+/// A source of bytes.
 pub(crate) trait Source {
-    // The bytes that it has left, where they are known.
+    // The bytes left in it, if they are known.
     ghost left: { Self → Option (List ℕ) };
 
-    /// Fills the front of `piece`, and says how many bytes it gave; `None` after an error, which is counted. A piece
-    /// that is not empty gets none at the end alone.
+    /// Fills the front of `piece`, and returns the number of bytes; `None` after an error, which is counted. A nonempty
+    /// piece gets no bytes only at the end.
     fn give(&mut self, faults: &mut Faults, piece: &mut [u8]) -> Option<usize>
-        ensures counted { MatchOption result (faults.new ≡ one_fault_more faults.old) (λ _. faults.new ≡ faults.old) }
+        ensures counted { MatchOption result (faults.new ≡ one_fault_more faults.old)
+            (λ _. faults.new ≡ faults.old) }
         ensures bound { IfSome result (λ count. count ≤ length piece.new) }
         ensures bytes { MatchOption result
             (Keeps (left self.old) (left self.new))
             (λ count. Consumes (left self.old) (left self.new) (take count piece.new)) }
-        ensures end { IfSome result (λ count. count ≡ 0 → 0 < length piece.new → IsAtEnd (left self.new)) };
+        ensures end { IfSome result (λ count. count ≡ 0 → 0 < length piece.new
+            → IsAtEnd (left self.new)) };
 }
 
 impl<S: Read> Source for S {
@@ -61,15 +64,16 @@ impl<S: Read> Source for S {
     }
 }
 
-/// Where bytes go.
+/// A sink of bytes.
 pub(crate) trait Sink {
-    // The bytes that it holds, where they are known.
+    // The bytes that it holds, if they are known.
     ghost held: { Self → Option (List ℕ) };
 
-    /// Appends the first of `bytes`, at least one of them, and says how many it took; `None` after an error, which is
-    /// counted. To take nothing is an error.
+    /// Appends the first of `bytes`, at least one of them, and returns how many it took; `None` after an error, which
+    /// is counted. Taking nothing is an error.
     fn take(&mut self, faults: &mut Faults, bytes: &[u8]) -> Option<usize>
-        ensures counted { MatchOption result (faults.new ≡ one_fault_more faults.old) (λ _. faults.new ≡ faults.old) }
+        ensures counted { MatchOption result (faults.new ≡ one_fault_more faults.old)
+            (λ _. faults.new ≡ faults.old) }
         ensures bound { IfSome result (λ count. count ≤ length bytes.now) }
         ensures some { IfSome result (λ count. 0 < count) }
         ensures bytes { MatchOption result

@@ -1,7 +1,8 @@
-//! A host whose files and whose output are in memory, and whose calls fail where they are told to.
+//! A host with its files and its output in memory, and with calls that fail by number.
 
 ghost use Rattle.std.specs.Prelude.{◌≡◌, ◌≤◌, Some, true, false, IfOk, OnOk, OnErr, IsErr, IsErrOf, vec_len, option_copied};
 ghost use Rattle.std.specs.List.{position};
+ghost use Rattle.mb_model.specs.declared.limits.TheConstants.{FILE_LIMIT};
 ghost use Rattle.mb_model.specs.Outside.{HoldsFile, HoldsTooMuch, read_once, FailsToRead};
 ghost use Rattle.mb_model.specs.Outside.{WritesFile, FailsToWrite, Prints, FailsToPrint, raised as raised_count};
 ghost use Rattle.mb_host.specs.Memory.{IsNumbered, Stores, content_of, host_of, is_named, next_fails, told};
@@ -12,7 +13,7 @@ use mb_model::{Bytes, Calls, FILE_LIMIT, File, Files, NoMemory};
 use std::alloc::Global;
 use std::marker::Model;
 
-/// Files and output in memory, for tests. It tells everything.
+/// Files and output in memory, for tests. Contracts see all of its contents.
 #[derive(Drop)]
 pub struct MemoryHost {
     alloc: Global,
@@ -49,9 +50,9 @@ impl Model for MemoryHost {
 
 impl MemoryHost {
     /// A host with these files and nothing printed, which grows by `alloc`. The calls of `read`, `write` and `print`
-    /// whose numbers are in `failing` fail; they are numbered together, from 0.
+    /// are numbered together, from 0; those with a number in `failing` fail.
     ///
-    /// `NoMemory` where an allocation fails, which no clause rules out: the tests show that a host is made.
+    /// `NoMemory` if an allocation fails. No clause rules that out: the tests show that a host is made.
     pub fn new(alloc: Global, files: Files, failing: Calls) -> Result<MemoryHost, NoMemory>
         ensures { IfOk result (λ host. host ≡ host_of files failing) }
     {
@@ -70,7 +71,7 @@ impl MemoryHost {
         })
     }
 
-    /// What was printed so far.
+    /// The bytes printed so far.
     pub fn printed(&self) -> &[u8]
         ensures { (told self.now).printed ≡ Some result.now }
     {
@@ -79,54 +80,55 @@ impl MemoryHost {
 
     /// The content of the file of this name.
     pub fn file(&self, name: &str) -> Option<&[u8]>
-        ensures { (files : _) → (told self.now).files ≡ Some files → option_copied result ≡ files name.now }
+        ensures { (files : _) → (told self.now).files ≡ Some files
+            → option_copied result ≡ files name.now }
     {
         content(self.files.as_slice(), name)
     }
 
-    /// How many reads have failed of themselves.
+    /// The number of reads that failed although they could have been served.
     pub fn read_faults(&self) -> u64
         ensures { result ≡ (told self.now).read_faults }
     {
         self.read_faults
     }
 
-    /// How many reads were of names that are not there.
+    /// The number of reads of absent names.
     pub fn absences(&self) -> u64
         ensures { result ≡ (told self.now).absences }
     {
         self.absences
     }
 
-    /// How many writes and prints have failed.
+    /// The number of writes and prints that failed.
     pub fn write_faults(&self) -> u64
         ensures { result ≡ (told self.now).write_faults }
     {
         self.write_faults
     }
 
-    /// How many calls of `read` there were.
+    /// The number of calls of `read`.
     pub fn reads(&self) -> u64
         ensures { result ≡ (told self.now).reads }
     {
         self.reads
     }
 
-    /// How many calls of `write` there were.
+    /// The number of calls of `write`.
     pub fn writes(&self) -> u64
         ensures { result ≡ (told self.now).writes }
     {
         self.writes
     }
 
-    /// How many calls of `print` there were.
+    /// The number of calls of `print`.
     pub fn prints(&self) -> u64
         ensures { result ≡ (told self.now).prints }
     {
         self.prints
     }
 
-    // Numbers a call, and says whether it is one of those that fail.
+    // Numbers a call, and returns whether it fails.
     fn call_fails(&mut self) -> bool
         ensures fails { result ≡ next_fails self.old }
         ensures numbered { self.new ≡ record self.old { calls = raised_count self.old.calls } }
@@ -142,13 +144,16 @@ impl Host for MemoryHost {
 
     fn read(&mut self, alloc: Global, name: &str) -> Result<Vec<u8>, HostEnd>
         ensures listed { next_fails self.old ≡ true → IsErrOf result HostEnd.Failed }
-        ensures unlisted { next_fails self.old ≡ false → self.new.read_faults ≡ self.old.read_faults }
+        ensures unlisted { next_fails self.old ≡ false
+            → self.new.read_faults ≡ self.old.read_faults }
         ensures numbered { IsNumbered self.old self.new }
         ensures whole { IfOk result (λ bytes. HoldsFile (told self.old) name.now bytes.items) }
-        ensures short { IfOk result (λ bytes. vec_len bytes ≤ 4194304) }
+        ensures short { IfOk result (λ bytes. vec_len bytes ≤ FILE_LIMIT) }
         ensures too_long { IsErrOf result HostEnd.TooLong → HoldsTooMuch (told self.old) name.now }
-        ensures failed { IsErrOf result HostEnd.Failed → FailsToRead name.now (told self.old) (told self.new) }
-        ensures counted { (IsErrOf result HostEnd.Failed → ⊥) → told self.new ≡ read_once (told self.old) }
+        ensures failed { IsErrOf result HostEnd.Failed
+            → FailsToRead name.now (told self.old) (told self.new) }
+        ensures counted { (IsErrOf result HostEnd.Failed → ⊥)
+            → told self.new ≡ read_once (told self.old) }
     {
         let fails = self.call_fails();
         self.reads = raised(self.reads);

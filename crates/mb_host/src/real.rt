@@ -11,7 +11,7 @@ use std::io;
 use std::io::Print;
 use std::rt::Files;
 
-/// The files and the standard output of a runtime. It tells no content.
+/// The files and the standard output of a runtime. Contracts see its counts alone, and none of its contents.
 #[derive(Drop)]
 pub struct RealHost<'a, R> {
     runtime: &'a R,
@@ -41,8 +41,8 @@ impl<'a, R: Files + Print> RealHost<'a, R> {
     }
 }
 
-// No clause says which file the system opens, what its files hold or what it prints. The answers and the counts are
-// those of the calls below, which are proved over any source and sink.
+// No clause says which file the system opens, what its files hold or what it prints. The results and the counts are
+// those of the calls in `whole.rt`, which are proved over any source and sink.
 impl<'a, R: Files + Print> Host for RealHost<'a, R> {
     ghost outside = { λ host. untold host.reads host.writes };
 

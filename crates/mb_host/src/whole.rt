@@ -1,7 +1,8 @@
-//! Whole reads and writes over any source and any sink: what they answer, and how they are counted.
+//! Whole reads and writes over any source and any sink: their results, and how they are counted.
 
 ghost use Rattle.std.specs.Prelude.{◌≡◌, ℕ, ◌<◌, ◌≤◌, IfOk, IfSome, IsErr, IsErrOf, OnErr, OnOk, length, take, vec_len};
 ghost use Rattle.std.specs.Io.KnownBytes.{Appends, Consumes, IsAtEnd};
+ghost use Rattle.mb_model.specs.declared.limits.TheConstants.{FILE_LIMIT};
 ghost use Rattle.mb_model.specs.Outside.{raised as raised_count};
 ghost use Rattle.mb_host.specs.Real.{one_fault_more, known};
 
@@ -12,10 +13,10 @@ use mb_model::FILE_LIMIT;
 use std::alloc::Global;
 use std::io;
 
-// The most bytes that one read asks for.
+// The most bytes of one read.
 const PIECE_LENGTH: usize = 65_536;
 
-/// How many reads there were, and how many of them failed. Nothing but a read raises these.
+/// The number of reads, and of reads that failed. Only a read raises them.
 #[derive(Drop)]
 pub(crate) struct ReadCounts {
     calls: u64,
@@ -33,7 +34,7 @@ impl ReadCounts {
         }
     }
 
-    // All that the source gives, where it was opened.
+    // Reads all of the source, if it was opened.
     pub(crate) fn read<S: Source + Drop>(
         &mut self,
         alloc: Global,
@@ -42,11 +43,14 @@ impl ReadCounts {
         ensures unopened { OnErr opened (IsErrOf result HostEnd.Failed) }
         ensures whole { IfOk opened (λ source. IfSome (S.left source) (λ all.
             IfOk result (λ bytes. bytes.items ≡ all))) }
-        ensures short { IfOk result (λ bytes. vec_len bytes ≤ 4194304) }
-        ensures too_long { IsErrOf result HostEnd.TooLong → IfOk opened (λ source. IfSome (S.left source) (λ all.
-            4194304 < length all)) }
+        ensures short { IfOk result (λ bytes. vec_len bytes ≤ FILE_LIMIT) }
+        ensures too_long { IsErrOf result HostEnd.TooLong
+            → IfOk opened (λ source. IfSome (S.left source) (λ all. FILE_LIMIT < length all)) }
         ensures failed { IsErrOf result HostEnd.Failed →
-            self.new ≡ record { calls = raised_count self.old.calls; faults = one_fault_more self.old.faults } }
+            self.new ≡ record {
+              calls = raised_count self.old.calls;
+              faults = one_fault_more self.old.faults;
+            } }
         ensures counted { (IsErrOf result HostEnd.Failed → ⊥) →
             self.new ≡ record { calls = raised_count self.old.calls; faults = self.old.faults } }
     {
@@ -57,7 +61,7 @@ impl ReadCounts {
     }
 }
 
-/// How many writes of files and how many prints there were, and how many of both failed. Nothing but these raises them.
+/// The number of writes of files, of prints, and of failures of both. Only a write or a print raises them.
 #[derive(Drop)]
 pub(crate) struct WriteCounts {
     files: u64,
@@ -77,19 +81,24 @@ impl WriteCounts {
         }
     }
 
-    // Writes all of these bytes to a file, where it was opened.
+    // Writes all of these bytes to a file, if it was opened.
     pub(crate) fn write<S: Sink>(
         &mut self,
         opened: &mut io::Result<S>,
         bytes: &[u8],
     ) -> Result<(), HostFailed>
         ensures unopened { OnErr opened.old (IsErr result) }
-        ensures whole { OnOk result (Appends (known S.held opened.old) (known S.held opened.new) bytes.now) }
+        ensures whole { OnOk result (Appends (known S.held opened.old)
+            (known S.held opened.new) bytes.now) }
         ensures part { OnErr result ((n : ℕ) ×
             Appends (known S.held opened.old) (known S.held opened.new) (take n bytes.now)) }
-        ensures done { OnOk result (self.new ≡ record self.old { files = raised_count self.old.files }) }
+        ensures done { OnOk result (self.new
+            ≡ record self.old { files = raised_count self.old.files }) }
         ensures failed { OnErr result
-            (self.new ≡ record self.old { files = raised_count self.old.files; faults = one_fault_more self.old.faults }) }
+            (self.new ≡ record self.old {
+              files = raised_count self.old.files;
+              faults = one_fault_more self.old.faults;
+            }) }
     {
         self.files = raised(self.files);
         self.faults.note(opened);
@@ -102,26 +111,33 @@ impl WriteCounts {
     // Prints all of these bytes.
     pub(crate) fn print<S: Sink>(&mut self, output: &mut S, bytes: &[u8]) -> Result<(), HostFailed>
         ensures whole { OnOk result (Appends (S.held output.old) (S.held output.new) bytes.now) }
-        ensures part { OnErr result ((n : ℕ) × Appends (S.held output.old) (S.held output.new) (take n bytes.now)) }
-        ensures done { OnOk result (self.new ≡ record self.old { prints = raised_count self.old.prints }) }
+        ensures part { OnErr result ((n : ℕ)
+            × Appends (S.held output.old) (S.held output.new) (take n bytes.now)) }
+        ensures done { OnOk result (self.new
+            ≡ record self.old { prints = raised_count self.old.prints }) }
         ensures failed { OnErr result
-            (self.new ≡ record self.old { prints = raised_count self.old.prints; faults = one_fault_more self.old.faults }) }
+            (self.new ≡ record self.old {
+              prints = raised_count self.old.prints;
+              faults = one_fault_more self.old.faults;
+            }) }
     {
         self.prints = raised(self.prints);
         write_whole(output, &mut self.faults, bytes)
     }
 }
 
-// All that is left of a source. A read that gives nothing is its end.
+// Reads all that is left of a source. A read of no bytes is its end.
 fn read_whole<S: Source>(
     source: &mut S,
     faults: &mut Faults,
     alloc: Global,
 ) -> Result<Vec<u8>, HostEnd>
-    ensures whole { IfOk result (λ bytes. Consumes (S.left source.old) (S.left source.new) bytes.items) }
+    ensures whole { IfOk result (λ bytes. Consumes (S.left source.old)
+        (S.left source.new) bytes.items) }
     ensures end { OnOk result (IsAtEnd (S.left source.new)) }
-    ensures short { IfOk result (λ bytes. vec_len bytes ≤ 4194304) }
-    ensures too_long { IsErrOf result HostEnd.TooLong → IfSome (S.left source.old) (λ all. 4194304 < length all) }
+    ensures short { IfOk result (λ bytes. vec_len bytes ≤ FILE_LIMIT) }
+    ensures too_long { IsErrOf result HostEnd.TooLong
+        → IfSome (S.left source.old) (λ all. FILE_LIMIT < length all) }
     ensures failed { IsErrOf result HostEnd.Failed → faults.new ≡ one_fault_more faults.old }
     ensures fine { (IsErrOf result HostEnd.Failed → ⊥) → faults.new ≡ faults.old }
 {
@@ -142,7 +158,8 @@ fn read_whole<S: Source>(
 // Writes all of these bytes.
 fn write_whole<S: Sink>(sink: &mut S, faults: &mut Faults, bytes: &[u8]) -> Result<(), HostFailed>
     ensures whole { OnOk result (Appends (S.held sink.old) (S.held sink.new) bytes.now) }
-    ensures part { OnErr result ((n : ℕ) × Appends (S.held sink.old) (S.held sink.new) (take n bytes.now)) }
+    ensures part { OnErr result ((n : ℕ)
+        × Appends (S.held sink.old) (S.held sink.new) (take n bytes.now)) }
     ensures done { OnOk result (faults.new ≡ faults.old) }
     ensures failed { OnErr result (faults.new ≡ one_fault_more faults.old) }
 {

@@ -1,4 +1,4 @@
--- What becomes of stored bytes where a record is edited and no memory is taken. Which record stands there afterwards?
+-- What an edit of a stored record, without memory, leaves. Which record do the bytes spell afterwards?
 use Rattle.std.specs.Prelude.{◌≡◌, ℕ, ◌<◌, ◌≤◌, ◌⊎◌, List, [], ◌∷◌, ◌++◌, length, find}
 use Rattle.std.specs.Prelude.{Some, None, Result, Ok, Err}
 use Rattle.std.specs.Global.{Vec}
@@ -23,7 +23,7 @@ use Rattle.mb_layout.specs.declared.usage.NotUsed.TheVariants.{NoKey, Spent}
 abbrev pub CanBeStored : Region → Type 0
 CanBeStored region = (region ≡ empty_region) ⊎ region_format.Allowed region
 
--- Where the old bytes stood for a region, the new ones stand for it after its fate, if that can be stored.
+-- If the old bytes stood for a region, the new ones stand for it after its fate, provided that can be stored.
 abbrev pub IsFated : Fate → List ℕ → List ℕ → Type 0
 IsFated fate old new =
     (region : Region) → SpellsRegion old region → CanBeStored (fated fate region) → SpellsRegion new (fated fate region)
@@ -58,14 +58,14 @@ signed_each (entry ∷ entries) [] = []
 signed_each (entry ∷ entries) (signature ∷ signatures) =
     record { entry = entry; signature = signature } ∷ signed_each entries signatures
 
--- Where the old bytes spelled a public record with as many unsigned entries as there are signatures, their buffer keeps
+-- If the old bytes spelled a public record with as many unsigned entries as there are signatures, their buffer keeps
 -- its room.
 abbrev pub KeepsRoom : List (List ℕ) → Vec ℕ → Vec ℕ → Type 0
 KeepsRoom signatures old new =
     (codes : Codes) (signed : List SignedEntry) (unsigned : List Entry) → length unsigned ≡ length signatures
     → Spells public_format old.items (public_of_parts codes signed unsigned) → vec_capacity old ≤ vec_capacity new
 
--- Where the old bytes spelled a public record with as many unsigned entries as there are signatures, the new ones spell
+-- If the old bytes spelled a public record with as many unsigned entries as there are signatures, the new ones spell
 -- it with each of them signed.
 abbrev pub IsCompleted : List (List ℕ) → List ℕ → List ℕ → Type 0
 IsCompleted signatures old new =

@@ -14,7 +14,7 @@ pub record StandsBefore (bytes : List ℕ) (cursor : Cursor) (unsigned : List En
   pub same : cursor.bytes.now ≡ bytes
   pub rest : drop cursor.offset bytes ≡ entries_bytes (map without_signature unsigned)
 
--- where the bytes spell a record with so many unsigned entries, the cursor stands before them
+-- if the bytes spell a record with as many unsigned entries as `last`, the cursor stands before them
 abbrev pub FindsLast : List ℕ → ℕ → Result Cursor BadRecord → Type 0
 FindsLast bytes last (Ok cursor) =
     (codes : Codes) (signed : List SignedEntry) (unsigned : List Entry) → length unsigned ≡ last

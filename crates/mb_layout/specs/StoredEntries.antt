@@ -1,4 +1,4 @@
--- The entries of a public record where they stand. Which comes next?
+-- The entries of a public record in place. Which comes next?
 use Rattle.std.specs.Prelude.{◌≡◌, ℕ, ◌+◌, List, [], length, map, drop, Result, Ok, Err}
 use Rattle.std.specs.Option.{option_copied}
 use Rattle.mb_format.specs.Format.{Spells}
@@ -23,7 +23,7 @@ pub record AreNext (stored : StoredEntries) (log : List SignedEntry) : Type 0 wh
   pub rest : drop stored.cursor.offset stored.cursor.bytes.now ≡ entries_bytes (map with_signature log)
   pub allowed : (times (length (map with_signature log)) public_entry_format).Allowed (map with_signature log)
 
--- where the bytes spell a record whose every entry is signed, its entries come next
+-- if the bytes spell a record with every entry signed, its entries come next
 abbrev pub FindsEntries : List ℕ → Result StoredEntries BadRecord → Type 0
 FindsEntries bytes (Ok stored) =
     (codes : Codes) (log : List SignedEntry) → Spells public_format bytes (public_of_parts codes log [])
@@ -31,7 +31,7 @@ FindsEntries bytes (Ok stored) =
 FindsEntries bytes (Err bad) =
     (codes : Codes) (log : List SignedEntry) → Spells public_format bytes (public_of_parts codes log []) → ⊥
 
--- where the bytes spell a record, so many entries stand in it
+-- if the bytes spell a record, it has this many entries
 abbrev pub CountsEntries : List ℕ → Result ℕ BadRecord → Type 0
 CountsEntries bytes (Ok count) =
     (codes : Codes) (signed : List SignedEntry) (unsigned : List Entry)

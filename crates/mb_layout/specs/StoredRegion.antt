@@ -22,12 +22,12 @@ abbrev pub Walks : List ℕ → Result StoredRegion BadRecord → Type 0
 Walks bytes (Ok stored) = IsWalked bytes stored
 Walks bytes (Err bad) = region_format.reads bytes 0 ≡ Err bad.at
 
--- it stands for the region for which the bytes stand; where it is none, they stand for none
+-- it stands for the region for which the bytes stand; if there is none, they stand for none
 abbrev pub TakesApart : List ℕ → Option StoredRegion → Type 0
 TakesApart bytes (Some stored) = (region : Region) → SpellsRegion bytes region → IsStoredAs stored region
 TakesApart bytes None = (region : Region) → SpellsRegion bytes region → ⊥
 
--- so many keys has the region for which the bytes stand; where it is none, they stand for none
+-- the region for which the bytes stand has this many keys; if there is no count, they stand for none
 abbrev pub CountsKeys : List ℕ → Option ℕ → Type 0
 CountsKeys bytes (Some count) = (region : Region) → SpellsRegion bytes region → count ≡ length region.keys
 CountsKeys bytes None = (region : Region) → SpellsRegion bytes region → ⊥

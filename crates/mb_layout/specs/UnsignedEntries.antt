@@ -9,7 +9,7 @@ use Rattle.mb_model.specs.Flash.{public_format, public_of_parts, without_signatu
 use Rattle.mb_bytes.specs.declared.cursor.Cursor.{Cursor}
 use Rattle.mb_layout.specs.Parts.{entries_bytes}
 
--- the cursor stands before these entries, none of which is signed
+-- the cursor stands before these unsigned entries
 abbrev pub IsBeforeUnsigned : Cursor → List Entry → Type 0
 IsBeforeUnsigned cursor entries = drop cursor.offset cursor.bytes.now ≡ entries_bytes (map without_signature entries)
 
@@ -24,7 +24,7 @@ PassesEntry old found new =
     (entry : Entry) (others : List Entry) → IsBeforeUnsigned old (entry ∷ others) → entry_format.Allowed entry
     → IsPassed found new entry others
 
--- where the bytes spell a public record of which one entry is not signed, these are the bytes of that entry
+-- if the bytes spell a public record with one unsigned entry, these are the bytes of that entry
 abbrev pub FindsUnsigned : List ℕ → List ℕ → Type 0
 FindsUnsigned bytes found =
     (codes : Codes) (signed : List SignedEntry) (entry : Entry)
@@ -35,7 +35,7 @@ pub record AreSpelled (found found_next : List ℕ) (entry next : Entry) : Type 
   pub first : found ≡ entry_format.spelling entry
   pub second : found_next ≡ entry_format.spelling next
 
--- where they spell one of which two are not, these are the bytes of those
+-- if they spell one with two unsigned entries, these are the bytes of those
 abbrev pub FindsTwoUnsigned : List ℕ → List ℕ → List ℕ → Type 0
 FindsTwoUnsigned bytes found found_next =
     (codes : Codes) (signed : List SignedEntry) (entry next : Entry)

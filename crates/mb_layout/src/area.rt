@@ -26,8 +26,8 @@ pub fn is_blank(bytes: &[u8]) -> bool
     bytes.iter().all(|byte| *byte == 0)
 }
 
-/// The record that an area of the battery-backed memory holds, after its length in two bytes and before zeros. `None` if
-/// it has more than 4,094 bytes or more than the area, or if a byte after it is not zero.
+/// The record that an area of the battery-backed memory holds, after its length in two bytes and before zeros. `None`
+/// if it has more than 4,094 bytes or more than the area, or if a byte after it is not zero.
 pub fn record_in(area: &[u8]) -> Option<&[u8]>
     ensures { FindsBy (λ bytes. bytes.now) (HoldsInArea area.now) result }
 {
@@ -40,8 +40,8 @@ pub fn record_in(area: &[u8]) -> Option<&[u8]>
     if is_blank(blank) { Some(bytes) } else { None }
 }
 
-/// The record with which an area of the flash begins, after its length in four bytes and before arbitrary ones. `None` if
-/// it has more than 470,000 bytes or more than the area.
+/// The record with which an area of the flash begins, after its length in four bytes and before arbitrary ones. `None`
+/// if it has more than 470,000 bytes or more than the area.
 pub fn record_at_start(area: &[u8]) -> Option<&[u8]>
     ensures { FindsBy (λ bytes. bytes.now) (BeginsArea area.now) result }
 {

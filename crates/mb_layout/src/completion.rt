@@ -51,8 +51,8 @@ fn entry_bytes_at<'a>(cursor: &mut Cursor<'a>) -> &'a [u8]
     bytes
 }
 
-/// The bytes of the one unsigned entry of the public record, without the byte that says so. Nothing is said if the bytes
-/// are no public record with one such entry.
+/// The bytes of the one unsigned entry of the public record, without the byte that says so. Nothing is said if the
+/// bytes are no public record with one such entry.
 pub fn unsigned_entry(bytes: &[u8]) -> &[u8]
     requires { length bytes.now ≤ FILE_LIMIT }
     ensures { FindsUnsigned bytes.now result.now }
@@ -63,8 +63,8 @@ pub fn unsigned_entry(bytes: &[u8]) -> &[u8]
     entry_bytes_at(&mut cursor)
 }
 
-/// The bytes of the two unsigned entries of the public record, each without the byte that says so. Nothing is said if the
-/// bytes are no public record with two such entries.
+/// The bytes of the two unsigned entries of the public record, each without the byte that says so. Nothing is said if
+/// the bytes are no public record with two such entries.
 pub fn two_unsigned_entries(bytes: &[u8]) -> (&[u8], &[u8])
     requires { length bytes.now ≤ FILE_LIMIT }
     ensures { FindsTwoUnsigned bytes.now result.0.now result.1.now }
@@ -123,7 +123,8 @@ fn complete_two(
 /// order, at most two. Nothing is said if the bytes are no public record with as many unsigned entries as there are
 /// signatures. There is room for the signatures.
 pub fn complete_record(bytes: &mut Vec<u8>, signatures: &[[u8; SIGNATURE_LENGTH]])
-    requires room { vec_len bytes.old + SIGNATURE_LENGTH * length signatures.now ≤ vec_capacity bytes.old }
+    requires room { vec_len bytes.old + SIGNATURE_LENGTH * length signatures.now
+        ≤ vec_capacity bytes.old }
     requires short { vec_len bytes.old ≤ FILE_LIMIT }
     requires count { length signatures.now ≤ 2 }
     ensures completed { IsCompleted signatures.now bytes.old.items bytes.new.items }

@@ -231,7 +231,8 @@ fn put_changed(
     layers: &Layers,
     next: &Option<PublicKey>,
 ) -> Result<(), NoMemory>
-    ensures { Puts (changed_bytes version kind layer cosigned kept layers.now next.now) out.old result out.new }
+    ensures { Puts (changed_bytes version kind layer cosigned kept layers.now next.now)
+        out.old result out.new }
 {
     put_u8(out, kind_number(kind))?;
     put_u8(out, layer)?;

@@ -213,8 +213,8 @@ pub fn put_layers(out: &mut Vec<u8>, layers: &Layers, version: u8) -> Result<(),
     put_layer(out, &layers.three, version)
 }
 
-/// The layer spelled at the cursor's offset in the form of entries of this version, 1 or 2. The cursor then stands after
-/// it. Else the offset of the first field that lacks bytes or is not allowed, and the cursor is unchanged.
+/// The layer spelled at the cursor's offset in the form of entries of this version, 1 or 2. The cursor then stands
+/// after it. Else the offset of the first field that lacks bytes or is not allowed, and the cursor is unchanged.
 pub fn read_layer(c: &mut Cursor<'_>, version: u8) -> Result<Layer, BadRecord>
     requires { (version ≡ 1) ⊎ (version ≡ 2) }
     ensures { ReadsExactly bad_at (layer_format version) c.old result c.new }
@@ -226,8 +226,8 @@ pub fn read_layer(c: &mut Cursor<'_>, version: u8) -> Result<Layer, BadRecord>
 }
 
 /// Appends the layer's spelling in the form of entries of this version, 1 or 2; it has to have one. Version 1 spells a
-/// layer only if its trusts are equal. `Ok` if the capacity of `out` holds the bytes; else memory may lack, and `out` is
-/// then as it was.
+/// layer only if its trusts are equal. `Ok` if the capacity of `out` holds the bytes; else memory may lack, and `out`
+/// is then as it was.
 pub fn write_layer(layer: &Layer, out: &mut Vec<u8>, version: u8) -> Result<(), NoMemory>
     requires version { (version ≡ 1) ⊎ (version ≡ 2) }
     requires spelled { (layer_format version).Allowed layer.now }

@@ -221,7 +221,8 @@ fn put_parts(
 ) -> Result<(), NoMemory>
     requires codes { CodesFit codes.now }
     requires entries { length signed.now + length unsigned.now < 65536 }
-    ensures { Puts (public_format.spelling (public_of_parts codes.now signed.now unsigned.now)) out.old result out.new }
+    ensures { Puts (public_format.spelling (public_of_parts codes.now signed.now unsigned.now))
+        out.old result out.new }
 {
     put_slice(out, &[1])?;
     put_codes(out, codes)?;
@@ -284,8 +285,8 @@ pub fn write_public_record(public: &Public, out: &mut Vec<u8>) -> Result<(), NoM
     write_record(public, out)
 }
 
-/// Appends the spelling of the public record of these codes and entries, the last of them unsigned, without copying any;
-/// or leaves `out` as it was. `Ok` if the capacity of `out` holds it.
+/// Appends the spelling of the public record of these codes and entries, the last of them unsigned, without copying
+/// any; or leaves `out` as it was. `Ok` if the capacity of `out` holds it.
 pub fn write_public_parts(
     codes: &Codes,
     signed: &[SignedEntry],

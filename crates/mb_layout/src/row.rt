@@ -114,8 +114,8 @@ pub fn epoch_keys(keys: &[RegionKey]) -> KeyRow
 
 fn used_once(key: &RegionKey, number: u32) -> RegionKey
     ensures { HasByteUses key.now
-        → result
-        ≡ (if has_number number key.now then record key.now { uses = key.now.uses + 1 } else key.now) }
+        → result ≡ (if has_number number key.now then record key.now { uses = key.now.uses + 1 }
+        else key.now) }
 {
     let mut used = *key;
     if used.number == number {

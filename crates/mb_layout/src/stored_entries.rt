@@ -35,7 +35,8 @@ pub struct StoredEntries<'a> {
 
 /// Reads a signature, if there is one, and does not copy it.
 fn stored_signature_at<'a>(cursor: &mut Cursor<'a>) -> Result<Option<&'a [u8]>, BadRecord>
-    ensures { ReadsAs option_copied bad_at (optional signature_format) cursor.old result cursor.new }
+    ensures { ReadsAs option_copied bad_at (optional signature_format)
+        cursor.old result cursor.new }
 {
     if flag_at(cursor)? {
         Ok(Some(cursor.take_slice(SIGNATURE_LENGTH as u32)?))
@@ -92,8 +93,8 @@ fn counted_entries(bytes: &[u8]) -> Result<u16, BadRecord>
 }
 
 impl<'a> StoredEntries<'a> {
-    /// The entries of the public record that the bytes spell, each of them signed. Nothing is said if the bytes spell no
-    /// such record.
+    /// The entries of the public record that the bytes spell, each of them signed. Nothing is said if the bytes spell
+    /// no such record.
     pub fn of(bytes: &'a [u8]) -> StoredEntries<'a>
         requires { length bytes.now ≤ FILE_LIMIT }
         ensures { (codes : Codes) (log : List SignedEntry)

@@ -1,4 +1,4 @@
--- What it means that a key of a region is bound: one more use of it is stored before its right is handed out. Can two
+-- Binding a key of a region: one more use of it is stored before the right to sign is returned. Can two
 -- statements be signed with one index?
 use Rattle.std.specs.Prelude.{◌≡◌, ℕ, ◌<◌, ◌⊎◌, List, find, AllPairs, None, Some, Result, Ok, Err}
 use Rattle.mb_model.specs.declared.key.KeySeed.{KeySeed}
@@ -47,7 +47,7 @@ power_in (Err (NoKey state)) = Ok tt
 power_in (Err (Spent state)) = Ok tt
 power_in (Err (Stopped off)) = Err tt
 
--- where the key is missing or spent, nothing was written
+-- if the key is missing or spent, nothing was written
 abbrev pub StaysUnbound : {A S : Type 0} → Result A (BindEnd S) → Memory → Memory → Meter → Meter → Type 0
 StaysUnbound (Ok bound) before after old new = Unit {0}
 StaysUnbound (Err (NoKey state)) before after old new = (after ≡ before) × (new ≡ old)

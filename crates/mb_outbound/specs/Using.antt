@@ -1,4 +1,4 @@
--- What is found where a key of a stored region is to be used.
+-- Finding the next use of a key of a stored region.
 use Rattle.std.specs.Prelude.{◌≡◌, ℕ, List, find, None, Result, Ok, Err}
 use Rattle.mb_model.specs.declared.region.Region.{Region}
 use Rattle.mb_model.specs.declared.region.RegionKey.{RegionKey}
@@ -14,7 +14,7 @@ pub record IsUsable (region : Region) (number : ℕ) (key : RegionKey) (bytes : 
   pub has_use : HasUse region number key
   pub stands : SpellsRegion bytes (region_with_use number region)
 
--- what looking for the use of a key comes to
+-- the result of looking for the next use of a key
 abbrev pub FindsUse : Region → ℕ → Result RegionKey NotUsed → List ℕ → Type 0
 FindsUse region number (Ok key) bytes = IsUsable region number key bytes
 FindsUse region number (Err NoKey) bytes = find (has_number number) region.keys ≡ None

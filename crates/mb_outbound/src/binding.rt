@@ -32,8 +32,8 @@ pub enum BindEnd<S> {
     Stopped(Off),
 }
 
-/// The first key of this number in the region of the slot, as it is stored. Replaces `room.other` by the bytes that stand
-/// for the region with one more use of the key.
+/// The first key of this number in the region of the slot, as it is stored. Replaces `room.other` by the bytes that
+/// stand for the region with one more use of the key.
 fn next_use<B: Board>(b: &B, slot: u16, key: u32, room: &mut Room) -> Result<RegionKey, NotUsed>
     requires can_use { CanUse (B.seen b.now) slot }
     requires held { HoldsOrdered (current (B.seen b.now).memory.bbram slot) }

@@ -13,8 +13,8 @@ use mb_model::{KeySeed, SIGNATURE_LENGTH};
 use mb_signer::{OneUse, sign};
 use std::sync::ledger::Ledger;
 
-/// The text of a statement before the message: the domain separator, the device's serial, the number of the key, and the
-/// configuration number.
+/// The text of a statement before the message: the domain separator, the device's serial, the number of the key, and
+/// the configuration number.
 fn statement_head(serial: &[u8; 16], key: u32, number: u32) -> [u8; 25]
     ensures { result
         ≡ STATEMENT_TEXT ∷ serial.now ++ to_be_bytes w32 key ++ to_be_bytes w32 number }

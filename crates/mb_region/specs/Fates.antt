@@ -1,4 +1,4 @@
--- What is needed to do to a stored region what is pending for it, and what it comes to.
+-- The fate of a stored region: what applying it needs, and what it leaves.
 use Rattle.std.specs.Prelude.{◌≡◌, ℕ, ◌⊎◌, List}
 use Rattle.mb_model.specs.declared.region.Region.{Region}
 use Rattle.mb_model.specs.declared.stored.Fate.{Fate}

@@ -1,4 +1,4 @@
--- What becomes of the contents of a memory as a region is replaced. Can a power loss leave a part of the new region?
+-- The contents of a memory after a region is replaced. Can a power loss leave a part of the new region?
 use Rattle.std.specs.Prelude.{◌≡◌, ℕ, ◌⊎◌, List}
 use Rattle.mb_model.specs.declared.region.Region.{Region}
 use Rattle.mb_model.specs.declared.stored.Fate.TheVariants.{Keep}

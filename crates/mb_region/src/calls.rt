@@ -119,8 +119,8 @@ pub fn commit_region<S: Reaches<L>, L: Named, B: Board>(
     }
 }
 
-/// Applies the fate that is pending for the stored region. The meaning of the memory stays, wherever power fails. A fate
-/// applied twice leaves what it leaves once, and `Keep` writes nothing. There are at most two write calls.
+/// Applies the fate that is pending for the stored region. The meaning of the memory stays, wherever power fails. A
+/// fate applied twice leaves what it leaves once, and `Keep` writes nothing. There are at most two write calls.
 pub fn apply_fate<S: Reaches<L>, L: Named, B: Board>(
     s: S,
     b: &mut B,

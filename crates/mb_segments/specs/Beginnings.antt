@@ -1,4 +1,4 @@
--- What a reader gives that looks at the beginning of bytes alone. Which value stands there?
+-- A reader of the beginning of bytes. Which value stands there?
 use Rattle.std.specs.Prelude.{ℕ, List, Option, Some, None, Result, Ok, Err}
 use Rattle.mb_format.specs.Format.{Format}
 use Rattle.mb_model.specs.Sectors.{BeginsAs}
@@ -8,7 +8,7 @@ abbrev pub FindsBeginning : {A X : Type 0} → (X → A) → Format A → List �
 FindsBeginning view f bytes (Some x) = BeginsAs f bytes (view x)
 FindsBeginning {A} view f bytes None = (a : A) → BeginsAs f bytes a → ⊥
 
--- where an error points at an offset, the bytes fail there from their beginning on
+-- if an error points at an offset, the bytes fail there, read from their beginning
 abbrev pub FailsBeginningAt : {A : Type 0} → Format A → List ℕ → Option ℕ → Type 0
 FailsBeginningAt f bytes (Some at) = f.FailsAt bytes 0 at
 FailsBeginningAt f bytes None = Unit {0}

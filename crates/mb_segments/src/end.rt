@@ -9,8 +9,8 @@ use mb_model::{BadRecord, NoMemory};
 pub enum HeaderEnd {
     /// The bytes begin with no header.
     Bad(BadRecord),
-    /// An allocation failed. No clause says when, so a reader that always answers this is proved too: the tests read
-    /// headers where there is enough memory.
+    /// An allocation failed. No clause says when, so a reader that always returns this is proved too: the tests read
+    /// headers with enough memory.
     NoMemory,
 }
 

@@ -1,8 +1,8 @@
-//! Headers of the flash as bytes.
+//! Headers of a flash in segments, read from bytes and written to bytes.
 
 ghost use Rattle.std.specs.Prelude.{◌≡◌, ◌≤◌, length, IfOk};
-ghost use Rattle.mb_format.specs.Combinators.{mark};
-ghost use Rattle.mb_model.specs.HeaderFormat.{code_length_format, slot_format, entry_bytes_format, most_unsigned, unsigned_format, header_word, header_format};
+ghost use Rattle.mb_model.specs.declared.limits.TheConstants.{ENTRY_LIMIT, FILE_LIMIT};
+ghost use Rattle.mb_model.specs.HeaderFormat.{code_length_format, slot_format, entry_bytes_format, most_unsigned, unsigned_format, header_format};
 ghost use Rattle.mb_bytes.specs.Reads.{bad_at, Reads, ReadsAs};
 ghost use Rattle.mb_bytes.specs.Puts.{Puts, Writes};
 ghost use Rattle.std.specs.Option.{option_copied};
@@ -14,31 +14,25 @@ ghost use Rattle.mb_segments.specs.Uncopied.{texts_of, header_of};
 use crate::end::HeaderEnd;
 use mb_bytes::{
     Cursor, bytes_after_u16, put_after_u16, put_slice, put_u8, put_u16, put_u32, u8_between,
-    u16_between, u32_between,
+    u16_between, u32_between, word_at,
 };
-use mb_model::{BadRecord, Bytes, Header, NoMemory, Slot};
+use mb_model::{BadRecord, Bytes, CODE_LIMIT, ENTRY_LIMIT, Header, NoMemory, Slot};
 use std::alloc::Global;
 
 /// The word by which a header is known.
 const WORD: [u8; 4] = *b"MBH1";
 
-/// The most bytes of a layer's code.
-const CODE_LIMIT: u32 = 32_768;
+/// The longest entry, in bytes.
+const TEXT_LIMIT: u16 = 400;
 
-/// The most bytes of an entry.
-const ENTRY_LIMIT: u16 = 400;
-
-/// The most entries of a log.
-const ENTRIES: u16 = 128;
-
-/// The unsigned entries of a header as bytes, where they stand.
+/// The unsigned entries of a header as bytes, in place.
 #[derive(Clone, Copy)]
 pub struct StoredTexts<'a> {
     pub first: Option<&'a [u8]>,
     pub second: Option<&'a [u8]>,
 }
 
-/// A header whose unsigned entries are not copied, but borrowed from the bytes that were read.
+/// A header whose unsigned entries are borrowed from the bytes that were read.
 #[derive(Clone, Copy)]
 pub struct StoredHeader<'a> {
     /// Where the code of layer 1 stands.
@@ -57,18 +51,7 @@ pub struct StoredHeader<'a> {
 
 // ---- reading
 
-fn word_at(cursor: &mut Cursor<'_>) -> Result<(), BadRecord>
-    ensures { Reads bad_at (mark header_word) cursor.old result cursor.new }
-{
-    let at = cursor.offset();
-    let word = cursor.take_array::<4>()?;
-    if word != WORD {
-        return Err(BadRecord { at });
-    }
-    Ok(())
-}
-
-/// The length of the code in a slot: 0 where no slot is named.
+/// Reads the length of the code in a slot: 0 if no slot is named.
 #[tactic(auto, unfolding(mb_model::specs::HeaderFormat::code_length_format))]
 fn code_length_at(cursor: &mut Cursor<'_>, which: u8) -> Result<u32, BadRecord>
     ensures { Reads bad_at (code_length_format which) cursor.old result cursor.new }
@@ -89,29 +72,29 @@ fn slot_at(cursor: &mut Cursor<'_>) -> Result<Slot, BadRecord>
     Ok(Slot { which, length })
 }
 
-/// The bytes of an entry after their number.
+/// Reads the bytes of an entry, after their number.
 #[tactic(auto, unfolding(mb_model::specs::HeaderFormat::entry_bytes_format))]
 pub(crate) fn text_at<'a>(cursor: &mut Cursor<'a>) -> Result<&'a [u8], BadRecord>
     ensures { ReadsAs (λ text. text.now) bad_at entry_bytes_format cursor.old result cursor.new }
 {
-    bytes_after_u16(cursor, 1, ENTRY_LIMIT)
+    bytes_after_u16(cursor, 1, TEXT_LIMIT)
 }
 
-/// How many entries may be unsigned beside so many that are signed.
+/// The most unsigned entries beside this many signed ones.
 fn most_unsigned(signed: u16) -> u8
-    requires { signed ≤ 128 }
+    requires { signed ≤ ENTRY_LIMIT }
     ensures { result ≡ most_unsigned signed }
 {
-    if signed <= ENTRIES - 2 {
+    if signed <= ENTRY_LIMIT - 2 {
         2
     } else {
-        (ENTRIES - signed) as u8
+        (ENTRY_LIMIT - signed) as u8
     }
 }
 
 #[tactic(auto, unfolding(mb_model::specs::HeaderFormat::unsigned_format, mb_format::specs::Combinators::items))]
 fn texts_at<'a>(cursor: &mut Cursor<'a>, signed: u16) -> Result<StoredTexts<'a>, BadRecord>
-    requires { signed ≤ 128 }
+    requires { signed ≤ ENTRY_LIMIT }
     ensures { ReadsAs texts_of bad_at (unsigned_format signed) cursor.old result cursor.new }
 {
     let count = u8_between(cursor, 0, most_unsigned(signed))?;
@@ -139,11 +122,11 @@ fn texts_at<'a>(cursor: &mut Cursor<'a>, signed: u16) -> Result<StoredTexts<'a>,
 fn stored_header_at<'a>(cursor: &mut Cursor<'a>) -> Result<StoredHeader<'a>, BadRecord>
     ensures { ReadsAs header_of bad_at header_format cursor.old result cursor.new }
 {
-    word_at(cursor)?;
+    word_at(cursor, &WORD)?;
     let one = slot_at(cursor)?;
     let two = slot_at(cursor)?;
     let three = slot_at(cursor)?;
-    let signed = u16_between(cursor, 1, ENTRIES)?;
+    let signed = u16_between(cursor, 1, ENTRY_LIMIT)?;
     let texts = texts_at(cursor, signed)?;
     Ok(StoredHeader {
         one,
@@ -158,7 +141,7 @@ fn stored_header_at<'a>(cursor: &mut Cursor<'a>) -> Result<StoredHeader<'a>, Bad
 /// Finds the header at the beginning of a sector, whatever bytes follow it; `None` exactly if there is none. Takes no
 /// memory: the unsigned entries are borrowed from the sector, which has at most 4,194,304 bytes.
 pub fn header_at(sector: &[u8]) -> Option<StoredHeader<'_>>
-    requires { length sector.now ≤ 4194304 }
+    requires { length sector.now ≤ FILE_LIMIT }
     ensures { FindsBeginning header_of header_format sector.now result }
 {
     let mut cursor = Cursor::new(sector);
@@ -190,10 +173,10 @@ fn copy_header(alloc: Global, stored: StoredHeader<'_>) -> Result<Header, NoMemo
     })
 }
 
-/// Reads the header at the beginning of a sector, whatever bytes follow it. Else `Bad` with the offset of the first field
-/// that lacks bytes or is not allowed, or `NoMemory`. The sector has at most 4,194,304 bytes.
+/// Reads the header at the beginning of a sector, whatever bytes follow it. Else `Bad` with the offset of the first
+/// field that lacks bytes or is not allowed, or `NoMemory`. The sector has at most 4,194,304 bytes.
 pub fn read_header(alloc: Global, sector: &[u8]) -> Result<Header, HeaderEnd>
-    requires { length sector.now ≤ 4194304 }
+    requires { length sector.now ≤ FILE_LIMIT }
     ensures { ReadsBeginning end_at header_format sector.now result }
 {
     let mut cursor = Cursor::new(sector);
@@ -223,7 +206,8 @@ pub(crate) fn put_text(out: &mut Vec<u8>, text: &[u8]) -> Result<(), NoMemory>
 #[tactic(auto, unfolding(mb_model::specs::HeaderFormat::unsigned_format, mb_format::specs::Combinators::items))]
 fn put_texts(out: &mut Vec<u8>, header: &Header) -> Result<(), NoMemory>
     requires { TextsFit header.now.first header.now.second }
-    ensures { Puts ((unsigned_format header.now.signed).spelling (header.now.first, header.now.second))
+    ensures { Puts ((unsigned_format header.now.signed).spelling
+        (header.now.first, header.now.second))
         out.old result out.new }
 {
     match (&header.first, &header.second) {
@@ -253,8 +237,8 @@ fn put_header(out: &mut Vec<u8>, header: &Header) -> Result<(), NoMemory>
     put_texts(out, header)
 }
 
-/// Appends the bytes of a header that has a spelling, at most 826, or leaves `out` as it was. The answer is Ok if the
-/// capacity of `out` holds them.
+/// Appends the bytes of a header that has a spelling, at most 826, or leaves `out` as it was. `Ok` if the capacity of
+/// `out` holds them.
 pub fn write_header(header: &Header, out: &mut Vec<u8>) -> Result<(), NoMemory>
     requires { header_format.Allowed header.now }
     ensures { Writes (header_format.spelling header.now) out.old result out.new }

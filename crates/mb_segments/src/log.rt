@@ -1,6 +1,7 @@
-//! Sectors of the log as bytes.
+//! Sectors of the log, read from bytes and written to bytes.
 
 ghost use Rattle.std.specs.Prelude.{◌≤◌, length};
+ghost use Rattle.mb_model.specs.declared.limits.TheConstants.{FILE_LIMIT};
 ghost use Rattle.mb_model.specs.HeaderFormat.{log_format};
 ghost use Rattle.mb_bytes.specs.Reads.{bad_at, ReadsAs};
 ghost use Rattle.mb_bytes.specs.Puts.{Puts, Writes};
@@ -9,15 +10,15 @@ ghost use Rattle.mb_segments.specs.Uncopied.{log_of};
 
 use crate::header::{put_text, text_at};
 use mb_bytes::{Cursor, put_slice};
-use mb_model::{BadRecord, NoMemory};
+use mb_model::{BadRecord, NoMemory, SIGNATURE_LENGTH};
 
-/// What a sector of the log holds. The entry is not copied, but borrowed from the bytes that were read.
+/// The content of a sector of the log. The entry is borrowed from the bytes that were read.
 #[derive(Clone, Copy)]
 pub struct LogSector<'a> {
     /// The entry as bytes, 1 to 400 of them.
     pub text: &'a [u8],
     /// The signature of the entry (RFC 8554, section 5.4), of types 5 and 3.
-    pub signature: [u8; 2348],
+    pub signature: [u8; SIGNATURE_LENGTH],
 }
 
 #[tactic(auto, unfolding(mb_model::specs::HeaderFormat::log_format))]
@@ -32,7 +33,7 @@ fn log_sector_at<'a>(cursor: &mut Cursor<'a>) -> Result<LogSector<'a>, BadRecord
 /// Finds the entry and signature at the beginning of a sector, whatever bytes follow them; `None` exactly if there are
 /// none. Takes no memory: the entry is borrowed from the sector, which has at most 4,194,304 bytes.
 pub fn log_at(sector: &[u8]) -> Option<LogSector<'_>>
-    requires { length sector.now ≤ 4194304 }
+    requires { length sector.now ≤ FILE_LIMIT }
     ensures { FindsBeginning log_of log_format sector.now result }
 {
     let mut cursor = Cursor::new(sector);
@@ -43,7 +44,11 @@ pub fn log_at(sector: &[u8]) -> Option<LogSector<'_>>
 }
 
 #[tactic(auto, unfolding(mb_model::specs::HeaderFormat::log_format))]
-fn put_parts(out: &mut Vec<u8>, text: &[u8], signature: &[u8; 2348]) -> Result<(), NoMemory>
+fn put_parts(
+    out: &mut Vec<u8>,
+    text: &[u8],
+    signature: &[u8; SIGNATURE_LENGTH],
+) -> Result<(), NoMemory>
     requires { length text.now ≤ 400 }
     ensures { Puts (log_format.spelling (text.now, signature.now)) out.old result out.new }
 {
@@ -51,9 +56,13 @@ fn put_parts(out: &mut Vec<u8>, text: &[u8], signature: &[u8; 2348]) -> Result<(
     put_slice(out, signature)
 }
 
-/// Appends what a sector of the log holds, at most 2,750 bytes, or leaves `out` as it was: the length of the entry, its
-/// bytes, 1 to 400, and its signature. The answer is Ok if the capacity of `out` holds them.
-pub fn put_log(text: &[u8], signature: &[u8; 2348], out: &mut Vec<u8>) -> Result<(), NoMemory>
+/// Appends the content of a sector of the log, at most 2,750 bytes, or leaves `out` as it was: the length of the entry,
+/// its bytes, 1 to 400, and its signature. `Ok` if the capacity of `out` holds them.
+pub fn put_log(
+    text: &[u8],
+    signature: &[u8; SIGNATURE_LENGTH],
+    out: &mut Vec<u8>,
+) -> Result<(), NoMemory>
     requires { (1 ≤ length text.now) × (length text.now ≤ 400) }
     ensures { Writes (log_format.spelling (text.now, signature.now)) out.old result out.new }
 {

@@ -1,12 +1,13 @@
 //! Numbers of sectors.
 
 ghost use Rattle.std.specs.Prelude.{◌≡◌, ◌<◌, ◌≤◌};
+ghost use Rattle.mb_model.specs.declared.limits.TheConstants.{ENTRY_LIMIT};
 ghost use Rattle.mb_model.specs.Sectors.{header_sector, code_sector, log_sector};
 
-/// The first sector in which code stands.
+/// The first sector that holds code.
 const CODE: u16 = 2;
 
-/// The sectors of a code slot, of which each layer has two.
+/// The number of sectors of a code slot. Each layer has two slots.
 const SLOT: u16 = 8;
 
 /// The sector of the log's first entry.
@@ -31,7 +32,7 @@ pub fn code_sector(layer: u8, slot: u8) -> u16
 
 /// The number of the sector that holds the log's entry at a position, 0 to 127.
 pub fn log_sector(position: u32) -> u16
-    requires { position < 128 }
+    requires { position < ENTRY_LIMIT }
     ensures { result ≡ log_sector position }
 {
     LOG + position as u16

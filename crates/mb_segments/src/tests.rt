@@ -1,8 +1,10 @@
-//! Headers and a sector of the log that another program spelled, and bytes that it says are none.
+//! Headers and a sector of the log that another program spelled, and bytes that it refuses.
 
 ghost use Rattle.std.specs.Prelude.{◌≤◌, vec_len, IfOk};
+ghost use Rattle.mb_model.specs.declared.limits.TheConstants.{SECTOR_LENGTH};
 
 use crate::*;
+use mb_model::SECTOR_LENGTH;
 use std::alloc::Global;
 use std::process::Abort;
 use std::test::Fail;
@@ -11,7 +13,7 @@ mod headers;
 mod log;
 mod numbers;
 
-/// What the texts spell one after another.
+/// The bytes that the texts spell one after another.
 fn bytes_of(alloc: Global, texts: &[&str]) -> Result<Vec<u8>, Fail> {
     let mut bytes = Vec::new(alloc);
     for text in texts {
@@ -23,10 +25,10 @@ fn bytes_of(alloc: Global, texts: &[&str]) -> Result<Vec<u8>, Fail> {
 
 /// A sector that begins with these bytes, and is 0xFF after them.
 fn sector_of(alloc: Global, bytes: &[u8]) -> Result<Vec<u8>, Fail>
-    ensures { IfOk result (λ sector. vec_len sector ≤ 4096) }
+    ensures { IfOk result (λ sector. vec_len sector ≤ SECTOR_LENGTH) }
 {
     let mut sector = Vec::from_slice(alloc, bytes)?;
-    sector.resize(4_096, 0xFF)?;
-    sector.truncate(4_096);
+    sector.resize(SECTOR_LENGTH, 0xFF)?;
+    sector.truncate(SECTOR_LENGTH);
     Ok(sector)
 }

@@ -8,7 +8,7 @@ use Rattle.mb_board.specs.Reach.{Reached}
 use Rattle.mb_model.specs.Board.{IsLoaded}
 use Rattle.mb_board.specs.Calls.{Seen}
 
--- A slot can be used where power is on, the level of the ratchet reaches it, and a memory is loaded.
+-- A slot can be used if power is on, the level of the ratchet reaches it, and a memory is loaded.
 pub record CanUse (seen : Seen) (slot : ℕ) : Type 0 where
   pub on : seen.power ≡ true
   pub least : 1 ≤ slot
@@ -18,7 +18,7 @@ pub record CanUse (seen : Seen) (slot : ℕ) : Type 0 where
 
 -- ---- where the areas of a slot stand
 
--- the first area is in force, by the parity of the selector
+-- the first area is the current one, by the parity of the selector
 abbrev pub is_first_in_force : List ℕ → ℕ → Bool
 is_first_in_force bbram slot = selector_of bbram slot % 2 == 0
 
@@ -26,7 +26,7 @@ is_first_in_force bbram slot = selector_of bbram slot % 2 == 0
 abbrev pub area_offset : ℕ → Bool → ℕ
 area_offset slot is_first = if is_first then (slots slot).first else (slots slot).second
 
--- the offset of the area in force, and that of the other
+-- the offset of the current area, and of the inactive one
 abbrev pub current_offset : List ℕ → ℕ → ℕ
 current_offset bbram slot = area_offset slot (is_first_in_force bbram slot)
 
@@ -39,18 +39,18 @@ pub record IsAreaAt (level wanted at : ℕ) : Type 0 where
   pub within : at + AREA_LENGTH ≤ BBRAM_LENGTH
   pub reached : Reached level at AREA_LENGTH
 
--- the area that was in force is the other one now, and the other one is in force
+-- the current area has become the inactive one, and the inactive one the current one
 pub record AreExchanged (slot : ℕ) (before after : List ℕ) : Type 0 where
   pub in_force : current after slot ≡ other before slot
   pub not_in_force : other after slot ≡ current before slot
 
 -- ---- what stays
 
--- an offset is outside of so many bytes from another on
+-- an offset is outside of n bytes from another on
 abbrev pub IsOutside : ℕ → ℕ → ℕ → Type 0
 IsOutside at n offset = (offset < at) ⊎ (at + n ≤ offset)
 
--- two memories of one length are the same outside of so many bytes
+-- two memories of one length are the same outside of n bytes
 pub record IsSameOutside (at n : ℕ) (before after : List ℕ) : Type 0 where
   pub sized : length after ≡ length before
   pub bytes : (offset : ℕ) → IsOutside at n offset → slice_index after offset ≡ slice_index before offset
@@ -61,6 +61,6 @@ pub record IsSameBut (slot : ℕ) (before after : List ℕ) : Type 0 where
   pub bytes : (offset : ℕ) → offset ≢ (slots slot).selector → IsOutside (slots slot).first AREA_LENGTH offset
       → IsOutside (slots slot).second AREA_LENGTH offset → slice_index after offset ≡ slice_index before offset
 
--- they are the same but for the area of a slot that is not in force
+-- they are the same but for the inactive area of a slot
 abbrev pub IsSameButOther : ℕ → List ℕ → List ℕ → Type 0
 IsSameButOther slot before after = IsSameOutside (other_offset before slot) AREA_LENGTH before after

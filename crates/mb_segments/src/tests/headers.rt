@@ -2,7 +2,7 @@
 
 use super::*;
 
-/// The fields of a header; the unsigned entries are in hexadecimal, and `-` where there is none.
+/// The fields of a header; an unsigned entry is in hexadecimal, or `-` if there is none.
 #[derive(Clone, Copy)]
 struct Fields {
     one: Slot,
@@ -41,7 +41,7 @@ const CHANGE: &str = "\
     121212121212121212121212121212121212121212121212121212121213131313131313131313131313\
     13131313131313131313131313131313131313000001020001000100";
 
-/// Whether this is the entry that the text spells, or there is none and the text is `-`.
+/// Whether this is the entry that the text spells; no entry is `-`.
 fn is_text(alloc: Global, text: Option<&[u8]>, expected: &str) -> Result<bool, Fail> {
     match text {
         Some(text) => Ok(hex::decode(alloc, expected)?.as_slice() == text),
@@ -49,7 +49,7 @@ fn is_text(alloc: Global, text: Option<&[u8]>, expected: &str) -> Result<bool, F
     }
 }
 
-/// The header has these fields.
+/// Whether the header has these fields.
 fn has_fields(alloc: Global, header: &StoredHeader<'_>, fields: &Fields) -> Result<bool, Fail> {
     Ok(
         header.one == fields.one
@@ -61,7 +61,7 @@ fn has_fields(alloc: Global, header: &StoredHeader<'_>, fields: &Fields) -> Resu
     )
 }
 
-/// The header where it stands, its entries borrowed.
+/// The header, with its entries borrowed.
 fn borrowed(header: &Header) -> StoredHeader<'_> {
     StoredHeader {
         one: header.one,
@@ -73,7 +73,8 @@ fn borrowed(header: &Header) -> StoredHeader<'_> {
     }
 }
 
-/// A sector that begins with the bytes begins with the header of these fields, and this is written as the bytes.
+/// Expects that a sector that begins with these bytes begins with the header of these fields, and that writing this
+/// header gives the bytes.
 fn expect_header(
     rt: &impl Abort,
     alloc: Global,
@@ -94,7 +95,7 @@ fn expect_header(
     Ok(())
 }
 
-/// A sector that begins with the bytes begins with no header, and fails at the offset.
+/// Expects that a sector that begins with these bytes begins with no header, and fails at the offset.
 fn expect_bad_header(rt: &impl Abort, alloc: Global, at: u32, texts: &[&str]) -> Result<(), Fail> {
     let bytes = bytes_of(alloc, texts)?;
     let sector = sector_of(alloc, bytes.as_slice())?;

@@ -2,6 +2,7 @@
 
 use super::*;
 use hex::FromHex;
+use mb_model::SIGNATURE_LENGTH;
 use sha2::{Digest, Sha256};
 
 /// An entry: a birth.
@@ -12,15 +13,15 @@ const BIRTH: &str = "\
     121212121213131313131313131313131313131313131313131313131313131313131313130000010200\
     010001";
 
-/// How a sector of the log begins that holds the birth with a signature of bytes 0x61.
+/// The first bytes of a sector of the log that holds the birth with a signature of bytes 0x61.
 const START: &str =
     "00ab0041414141414141414141414141414141000000050000000343434343434343434343434343";
 
-/// The SHA-256 of all bytes of that sector that count.
+/// The SHA-256 of the bytes of that sector up to the end of the signature.
 const HASH: &str = "9f340373a0885fd3421fe2e978467988e0a014796e510fb169e1e5cc8f74a15d";
 
 /// A signature of bytes 0x61.
-const SIGNATURE: [u8; 2348] = [0x61; 2348];
+const SIGNATURE: [u8; SIGNATURE_LENGTH] = [0x61; SIGNATURE_LENGTH];
 
 #[test]
 fn a_sector_of_the_log(rt: HostRuntime) -> Result<(), Fail> {
