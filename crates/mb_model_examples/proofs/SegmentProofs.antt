@@ -19,7 +19,9 @@ use Rattle.mb_model.specs.Segments.{sector, code_slot, HoldsHeader, HoldsEntry, 
 use Rattle.mb_model.specs.StoredLog.{unsigned_by}
 use Rattle.mb_model.proofs.EntryFormatLaws.{entry_exact}
 use Rattle.mb_model.proofs.HeaderFormatLaws.{header_exact, log_exact}
-use Rattle.mb_model_lemmas.specs.SegmentLaws.{CodesFitSlots, SpellsLog}
+use Rattle.mb_model.specs.WrittenFlash.{CodesFitSlots}
+use Rattle.mb_model_lemmas.specs.SegmentLaws.{SpellsLog}
+use Rattle.mb_model_lemmas.proofs.WrittenLemmas.{written_is_whole}
 use Rattle.mb_model_memory.specs.FlashInForce.{AgreeInSlots}
 use Rattle.mb_model_lemmas.proofs.HeldSegments.{holds_entry}
 use Rattle.mb_model_lemmas.proofs.OneFlash.{one_entry}
@@ -208,12 +210,17 @@ no_log_for : (signed : List SignedEntry) → length signed ≡ 1 → HoldsLog on
 no_log_for [] one holds = omega (arith, one)
 no_log_for (s ∷ rest) one holds = no_log s rest holds
 
+length-only_header : length only_header ≡ 22
+unfolding decode_pairs
+length-only_header = refl
+
 pub holding : (root : Root) (codes : Codes) (signed : List SignedEntry) (unsigned : List Entry) → counter.HoldingCounterExamples root codes signed unsigned
 holding root codes signed unsigned = record {
   no_log = λ area holds. no_log_for signed (holds.count ∙ signed_one holds.header (subst (λ n. HoldsHeader only_header n holds.header) area holds.begins)) holds.log;
   other_area = λ area holds. no_header holds.header (subst (λ n. HoldsHeader only_header n holds.header) area holds.begins);
   uncounted = λ flash entry none holds. omega (arith, holds.counted.counted, ap unsigned_by none);
   empty = λ fit. omega (arith, fit.log_fits.some);
+  unwritten = λ is. omega (arith, written_is_whole only_header codes signed is, length-only_header);
 }
 
 -- ---- agreement
