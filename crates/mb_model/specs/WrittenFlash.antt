@@ -1,13 +1,13 @@
 -- A flash in segments that is written from nothing, for a device with these codes, this log and no pending work.
 -- Which bytes does the factory write?
-use Rattle.std.specs.Prelude.{ℕ, ◌*◌, ◌-◌, List, [], ◌∷◌, ◌++◌, length, Option, None, Some}
-use Rattle.mb_model.specs.declared.limits.TheConstants.{SECTOR_LENGTH}
+use Rattle.std.specs.Prelude.{◌≡◌, ℕ, ◌*◌, ◌-◌, ◌≤◌, List, [], ◌∷◌, ◌++◌, length, All, IfSome, Option, None, Some}
+use Rattle.mb_model.specs.declared.limits.TheConstants.{SECTOR_LENGTH, CODE_LIMIT, ENTRY_LIMIT}
 use Rattle.mb_model.specs.declared.entry.SignedEntry.{SignedEntry}
 use Rattle.mb_model.specs.declared.state.Codes.{Codes}
 use Rattle.mb_model.specs.declared.stored.Slot.{Slot}
 use Rattle.mb_model.specs.declared.stored.Header.{Header}
 use Rattle.mb_model.specs.Board.{erased}
-use Rattle.mb_model.specs.EntryFormat.{entry_format}
+use Rattle.mb_model.specs.EntryFormat.{entry_format, signed_entry_format}
 use Rattle.mb_model.specs.HeaderFormat.{header_format, log_format}
 
 -- bytes at the start of n sectors, and erased bytes after them
@@ -58,3 +58,23 @@ written_flash codes log =
     ++ (in_sectors 14 []  -- 50 to 63
     ++ (in_sectors 128 (sectors_of log)  -- 64 to 191
     ++ in_sectors 64 [])))))  -- 192 to 255
+
+-- ---- what can be written
+
+-- each code fits its slot
+pub record CodesFitSlots (codes : Codes) : Type 0 where
+  pub one : IfSome codes.one (λ code. length code ≤ CODE_LIMIT)
+  pub two : IfSome codes.two (λ code. length code ≤ CODE_LIMIT)
+  pub three : IfSome codes.three (λ code. length code ≤ CODE_LIMIT)
+
+-- a log of 1 to 128 entries that have spellings
+pub record LogFitsSectors (log : List SignedEntry) : Type 0 where
+  pub some : 1 ≤ length log
+  pub few : length log ≤ ENTRY_LIMIT
+  pub allowed : All signed_entry_format.Allowed log
+
+-- A flash was written from nothing, for codes and a log that fit it.
+pub record IsWrittenFlash (flash : List ℕ) (codes : Codes) (log : List SignedEntry) : Type 0 where
+  pub codes_fit : CodesFitSlots codes
+  pub log_fits : LogFitsSectors log
+  pub written : flash ≡ written_flash codes log

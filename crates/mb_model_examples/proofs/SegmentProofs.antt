@@ -3,7 +3,7 @@ use Rattle.std.proofs.Common.{◌≡◌, ◌≢◌, ◌≤◌, ℕ, List, [], �
 use Rattle.std.specs.Prelude.{slice_index, codes, IfSome}
 use Rattle.hex.specs.Hex.{decode_pairs}
 use Rattle.mb_format.specs.Format.{Format, IsBytes, Spells}
-use Rattle.mb_format.specs.Combinators.{items}
+use Rattle.mb_format.specs.Combinators.{number_bytes, items}
 use Rattle.mb_format.specs.Reading.{IsExact, raw_at, number_at}
 use Rattle.mb_format.proofs.Whole.{IsClearWhole-from_exact}
 use Rattle.mb_model.specs.declared.entry.Entry.{Entry}
@@ -12,21 +12,27 @@ use Rattle.mb_model.specs.declared.state.Codes.{Codes}
 use Rattle.mb_model.specs.declared.stored.Root.{Root}
 use Rattle.mb_model.specs.declared.stored.Header.{Header}
 use Rattle.mb_model.specs.Board.{Memory}
-use Rattle.mb_model.specs.EntryFormat.{entry_format}
+use Rattle.mb_model.specs.Board.{erased}
+use Rattle.mb_model.specs.WrittenFlash.{in_sectors, slots_with, sectors_of, written_flash}
+use Rattle.mb_model.specs.KeyFormat.{public_key_format}
+use Rattle.mb_model.specs.LayerFormat.{trust_format, code_name_format, layer_format, layers_format}
+use Rattle.mb_model.specs.EntryFormat.{birth_format, entry_format}
 use Rattle.mb_model.specs.HeaderFormat.{code_length_format, slot_format, entry_bytes_format, unsigned_format, header_format, log_format}
 use Rattle.mb_model.specs.Sectors.{BeginsAs}
 use Rattle.mb_model.specs.Segments.{sector, code_slot, HoldsHeader, HoldsEntry, HoldsLog, AreBytesOf}
 use Rattle.mb_model.specs.StoredLog.{unsigned_by}
 use Rattle.mb_model.proofs.EntryFormatLaws.{entry_exact}
 use Rattle.mb_model.proofs.HeaderFormatLaws.{header_exact, log_exact}
-use Rattle.mb_model_lemmas.specs.SegmentLaws.{CodesFitSlots, SpellsLog}
+use Rattle.mb_model.specs.WrittenFlash.{CodesFitSlots}
+use Rattle.mb_model_lemmas.specs.SegmentLaws.{SpellsLog}
+use Rattle.mb_model_lemmas.proofs.WrittenLemmas.{written_is_whole}
 use Rattle.mb_model_memory.specs.FlashInForce.{AgreeInSlots}
 use Rattle.mb_model_lemmas.proofs.HeldSegments.{holds_entry}
 use Rattle.mb_model_lemmas.proofs.OneFlash.{one_entry}
 use Rattle.mb_model_examples.specs.RecordValues.{bytes_of, birth, birth_digits, succession}
 use Rattle.mb_model_examples.specs.RecordExamples.{with_byte}
 use Rattle.mb_model_examples.specs.HeaderExamples.{header_of_one, log_bytes}
-use Rattle.mb_model_examples.specs.SegmentExamples.{only_header, only_code, nine_bytes, signed_by_byte, SegmentExamples}
+use Rattle.mb_model_examples.specs.SegmentExamples.{WrittenExamples, only_header, only_code, nine_bytes, signed_by_byte, SegmentExamples}
 use Rattle.mb_model_examples.specs.SegmentCounterExamples as counter
 use Rattle.mb_model_examples.proofs.RecordProofs.{byte_test, are_bytes, entries}
 use Rattle.mb_model_examples.proofs.HeaderProofs.{logs}
@@ -208,12 +214,17 @@ no_log_for : (signed : List SignedEntry) → length signed ≡ 1 → HoldsLog on
 no_log_for [] one holds = omega (arith, one)
 no_log_for (s ∷ rest) one holds = no_log s rest holds
 
+length-only_header : length only_header ≡ 22
+unfolding decode_pairs
+length-only_header = refl
+
 pub holding : (root : Root) (codes : Codes) (signed : List SignedEntry) (unsigned : List Entry) → counter.HoldingCounterExamples root codes signed unsigned
 holding root codes signed unsigned = record {
   no_log = λ area holds. no_log_for signed (holds.count ∙ signed_one holds.header (subst (λ n. HoldsHeader only_header n holds.header) area holds.begins)) holds.log;
   other_area = λ area holds. no_header holds.header (subst (λ n. HoldsHeader only_header n holds.header) area holds.begins);
   uncounted = λ flash entry none holds. omega (arith, holds.counted.counted, ap unsigned_by none);
   empty = λ fit. omega (arith, fit.log_fits.some);
+  unwritten = λ is. omega (arith, written_is_whole only_header codes signed is, length-only_header);
 }
 
 -- ---- agreement
@@ -277,3 +288,7 @@ examples = record {
   entry = entry_then;
   texts = (entries.of_birth, entries.of_succession);
 }
+
+pub written : WrittenExamples
+unfolding decode_pairs number_bytes items erased code_length_format slot_format entry_bytes_format unsigned_format header_format log_format public_key_format trust_format code_name_format layer_format layers_format birth_format entry_format in_sectors slots_with sectors_of written_flash
+written = record { header = refl; code = refl; log = refl }

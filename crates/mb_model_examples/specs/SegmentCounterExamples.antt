@@ -12,8 +12,8 @@ use Rattle.mb_model.specs.Board.{Memory}
 use Rattle.mb_model.specs.Meaning.{RootIn}
 use Rattle.mb_model.specs.Segments.{sector, code_slot, HoldsHeader, HoldsCode, HoldsEntry, HoldsLog, AreBytesOf}
 use Rattle.mb_model.specs.Segments.{HoldsSegments}
-use Rattle.mb_model_lemmas.specs.SegmentLaws.{IsOnlyHeader, HoldsNoEntry, IsSmallHeader, CodesFitSlots, LogFitsSectors}
-use Rattle.mb_model_lemmas.specs.SegmentLaws.{SegmentsFit, SpellsLog}
+use Rattle.mb_model.specs.WrittenFlash.{CodesFitSlots, LogFitsSectors, IsWrittenFlash}
+use Rattle.mb_model_lemmas.specs.SegmentLaws.{IsOnlyHeader, HoldsNoEntry, IsSmallHeader, SegmentsFit, SpellsLog}
 use Rattle.mb_model_memory.specs.FlashInForce.{AgreeInSlots, AgreeForArea, KeepsSignedLog, IsUncounted, IsFreeSlot}
 use Rattle.mb_model_memory.specs.FlashInForce.{DiffersOnlyIn, BeginsWithBytes, IsSectorWritten}
 use Rattle.mb_model_memory.specs.NextHeaders.{HasNewCode, IsCodeWritten}
@@ -80,6 +80,8 @@ pub record HoldingCounterExamples (root : Root) (codes : Codes) (signed : List S
   pub uncounted : (flash : List ℕ) (entry : Entry) → root.pending ≡ None
       → HoldsSegments flash root codes signed (entry ∷ unsigned) → ⊥
   pub empty : SegmentsFit codes [] unsigned → ⊥
+  -- a flash of nothing but a header was not written from nothing, which gives every byte of a flash
+  pub unwritten : IsWrittenFlash only_header codes signed → ⊥
 
 -- ---- what does not stay
 

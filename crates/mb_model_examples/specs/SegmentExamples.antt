@@ -1,8 +1,10 @@
 -- What small flashes in segments hold; the checker computes each line. Do the definitions hold of anything?
-use Rattle.std.specs.Prelude.{ℕ, List, [], ◌∷◌, ◌++◌, replicate, codes, None, Some}
+use Rattle.std.specs.Prelude.{◌≡◌, ℕ, List, [], ◌∷◌, ◌++◌, take, replicate, codes, None, Some}
 use Rattle.mb_model.specs.declared.entry.Entry.{Entry}
 use Rattle.mb_model.specs.declared.entry.SignedEntry.{SignedEntry}
 use Rattle.mb_model.specs.declared.stored.Slot.{Slot}
+use Rattle.mb_model.specs.Pieces.{part}
+use Rattle.mb_model.specs.WrittenFlash.{written_flash}
 use Rattle.mb_model.specs.Segments.{HoldsHeader, HoldsCode, HoldsEntry, AreBytesOf}
 use Rattle.mb_model_examples.specs.RecordValues.{bytes_of, birth, birth_digits, succession, succession_digits}
 use Rattle.mb_model_examples.specs.HeaderExamples.{header_of_one, log_bytes}
@@ -32,3 +34,14 @@ pub record SegmentExamples : Type 0 where
   pub more_code : HoldsCode (only_code (nine_bytes ++ 7 ∷ [])) 1 (slot_one 9) (Some nine_bytes)
   pub entry : HoldsEntry (log_bytes ++ 7 ∷ []) (signed_by_byte 0x61 birth)
   pub texts : AreBytesOf (Some (bytes_of birth_digits)) (Some (bytes_of succession_digits)) (birth ∷ succession ∷ [])
+
+-- the flash of a device with nine bytes of code in layer 1, and with its birth
+abbrev pub small_flash : List ℕ
+small_flash =
+    written_flash (record { one = Some nine_bytes; two = None; three = None }) (signed_by_byte 0x61 birth ∷ [])
+
+-- what stands in it, at the offsets of header, code and log
+pub record WrittenExamples : Type 0 where
+  pub header : take 24 small_flash ≡ only_header ++ 0xFF ∷ 0xFF ∷ []
+  pub code : part 8192 11 small_flash ≡ nine_bytes ++ 0xFF ∷ 0xFF ∷ []
+  pub log : part 262144 2521 small_flash ≡ log_bytes

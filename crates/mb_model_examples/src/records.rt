@@ -1,7 +1,7 @@
 //! Records: values and their bytes, and bytes that fail.
 
 ghost use Rattle.mb_model_examples.specs.RecordExamples.{KeyRecords, LayerRecords, EntryRecords, RootRecords, RegionRecords, StatementRecords, ChainRecords, PublicRecords, BodyRecords, FailingRecords};
-ghost use Rattle.mb_model_examples.specs.SegmentExamples.{SegmentExamples};
+ghost use Rattle.mb_model_examples.specs.SegmentExamples.{SegmentExamples, WrittenExamples};
 ghost use Rattle.mb_model_examples.specs.HeaderExamples.{HeaderRecords, LogRecords, FailingHeaders};
 
 /// How keys, layers, entries, roots, regions, statements, chains, the public record and the signed part of orders are
@@ -34,7 +34,8 @@ pub fn failing_headers()
     ensures { FailingHeaders }
 {}
 
-/// What small flashes in segments hold.
+/// What small flashes in segments hold, and what stands in a flash that is written from nothing.
 pub fn segments_are_held()
-    ensures { SegmentExamples }
+    ensures held { SegmentExamples }
+    ensures written { WrittenExamples }
 {}

@@ -17,10 +17,10 @@ use Rattle.mb_model.specs.Pieces.{part}
 use Rattle.mb_model.specs.Sectors.{code_sector, log_sector}
 use Rattle.mb_model.specs.Segments.{sector, code_slot, HoldsHeader, HoldsCode, HoldsLog, HoldsSegments}
 use Rattle.mb_model.specs.StoredLog.{AreCounted}
-use Rattle.mb_model.specs.WrittenFlash.{in_sectors, first_slot, slots_with, entry_in_log, sectors_of, first_header, written_flash}
+use Rattle.mb_model.specs.WrittenFlash.{in_sectors, first_slot, slots_with, entry_in_log, sectors_of, first_header, written_flash, CodesFitSlots, LogFitsSectors}
 use Rattle.mb_model.proofs.FormatBounds.{entry_short, header_short, log_short}
 use Rattle.mb_model.proofs.Places.{length-erased}
-use Rattle.mb_model_lemmas.specs.SegmentLaws.{CodesFitSlots, LogFitsSectors, EntriesFitTheirSectors}
+use Rattle.mb_model_lemmas.specs.SegmentLaws.{EntriesFitTheirSectors, WrittenFlashIsWhole, WrittenFlashHolds}
 use Rattle.mb_model_lemmas.proofs.HeldSegments.{begins_with, front_of_sector, holds_entry}
 use Rattle.mb_model_lemmas.proofs.PublicLemmas.{entry_from_signed}
 
@@ -232,3 +232,10 @@ module _ (codes : Codes) (log : List SignedEntry) (fit : CodesFitSlots codes) (f
         unsigned_are = tt;
         counted = subst (λ p. AreCounted p []) (sym none) (record { counted = refl; can_sign = tt });
       }
+
+pub written_is_whole : WrittenFlashIsWhole
+written_is_whole flash codes log is = ap length is.written ∙ length-written codes log is.codes_fit is.log_fits
+
+pub written_holds : WrittenFlashHolds
+written_holds flash codes log root is first none =
+    subst (λ (bytes : List ℕ). HoldsSegments bytes root codes log []) (sym is.written) (written_segments codes log is.codes_fit is.log_fits root first none)

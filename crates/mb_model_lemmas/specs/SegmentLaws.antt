@@ -1,6 +1,6 @@
 -- Laws of a flash in segments. Does it hold one list of codes and one log, and does a flash that is written from
 -- nothing hold what was written?
-use Rattle.std.specs.Prelude.{◌≡◌, ◌<◌, ◌≤◌, ◌+◌, ℕ, List, [], length, take, All, IfSome, Option, None, Some}
+use Rattle.std.specs.Prelude.{◌≡◌, ◌<◌, ◌≤◌, ◌+◌, ℕ, List, [], length, take, All, Option, None, Some}
 use Rattle.mb_format.specs.Format.{IsBytes, Spells}
 use Rattle.mb_model.specs.declared.limits.TheConstants.{SECTOR_LENGTH, CODE_LIMIT, ENTRY_LIMIT, FLASH_LENGTH}
 use Rattle.mb_model.specs.declared.entry.Entry.{Entry}
@@ -13,7 +13,7 @@ use Rattle.mb_model.specs.EntryFormat.{entry_format, signed_entry_format}
 use Rattle.mb_model.specs.HeaderFormat.{log_format}
 use Rattle.mb_model.specs.Sectors.{log_sector}
 use Rattle.mb_model.specs.Segments.{sector, HoldsHeader, HoldsCode, HoldsEntry, HoldsLog, AreBytesOf, HoldsSegments}
-use Rattle.mb_model.specs.WrittenFlash.{entry_in_log, written_flash}
+use Rattle.mb_model.specs.WrittenFlash.{entry_in_log, CodesFitSlots, LogFitsSectors, IsWrittenFlash}
 
 -- ---- one value
 
@@ -80,18 +80,6 @@ HeldCodesAreShort =
     (flash : List ℕ) (layer : ℕ) (slot : Slot) (code : List ℕ) → HoldsCode flash layer slot (Some code)
     → length code ≤ CODE_LIMIT
 
--- each code fits its slot
-pub record CodesFitSlots (codes : Codes) : Type 0 where
-  pub one : IfSome codes.one (λ code. length code ≤ CODE_LIMIT)
-  pub two : IfSome codes.two (λ code. length code ≤ CODE_LIMIT)
-  pub three : IfSome codes.three (λ code. length code ≤ CODE_LIMIT)
-
--- a log of 1 to 128 entries that have spellings
-pub record LogFitsSectors (log : List SignedEntry) : Type 0 where
-  pub some : 1 ≤ length log
-  pub few : length log ≤ ENTRY_LIMIT
-  pub allowed : All signed_entry_format.Allowed log
-
 -- What a flash holds for a root fits a flash: its codes and its log do, the unsigned entries have spellings, and the
 -- log has room for them.
 pub record SegmentsFit (codes : Codes) (signed : List SignedEntry) (unsigned : List Entry) : Type 0 where
@@ -130,11 +118,11 @@ EntriesFitTheirSectors =
 -- a written flash is as long as a flash
 abbrev pub WrittenFlashIsWhole : Type 0
 WrittenFlashIsWhole =
-    (codes : Codes) (log : List SignedEntry) → CodesFitSlots codes → LogFitsSectors log
-    → length (written_flash codes log) ≡ FLASH_LENGTH
+    (flash : List ℕ) (codes : Codes) (log : List SignedEntry) → IsWrittenFlash flash codes log
+    → length flash ≡ FLASH_LENGTH
 
 -- it holds its codes and its log for a root that names area 0 and has no pending work
 abbrev pub WrittenFlashHolds : Type 0
 WrittenFlashHolds =
-    (codes : Codes) (log : List SignedEntry) (root : Root) → CodesFitSlots codes → LogFitsSectors log → root.area ≡ 0
-    → root.pending ≡ None → HoldsSegments (written_flash codes log) root codes log []
+    (flash : List ℕ) (codes : Codes) (log : List SignedEntry) (root : Root) → IsWrittenFlash flash codes log
+    → root.area ≡ 0 → root.pending ≡ None → HoldsSegments flash root codes log []

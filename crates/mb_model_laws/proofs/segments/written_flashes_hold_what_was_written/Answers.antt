@@ -9,7 +9,7 @@ pub returns-clause-bytes : goal.returns-clause-bytes
 returns-clause-bytes c = written.entry_has_bytes
 
 pub returns-clause-whole : goal.returns-clause-whole
-returns-clause-whole c = written.length-written
+returns-clause-whole c = written.written_is_whole
 
 pub returns-clause-holds : goal.returns-clause-holds
-returns-clause-holds c = λ codes log root fit fits. written.written_segments codes log fit fits root
+returns-clause-holds c = written.written_holds
