@@ -1,5 +1,5 @@
 -- A region whose keys alone were decoded. For which region does it stand?
-use Rattle.std.specs.Prelude.{◌≡◌, ℕ, List, Option, Some, None, Result, Ok, Err}
+use Rattle.std.specs.Prelude.{◌≡◌, ℕ, List, length, Option, Some, None, Result, Ok, Err}
 use Rattle.mb_model.specs.declared.tools.BadRecord.{BadRecord}
 use Rattle.mb_model.specs.declared.region.Region.{Region}
 use Rattle.mb_model.specs.RegionFormat.{least_keys, secrets_format, region_format, SpellsRegion}
@@ -26,3 +26,8 @@ Walks bytes (Err bad) = region_format.reads bytes 0 ≡ Err bad.at
 abbrev pub TakesApart : List ℕ → Option StoredRegion → Type 0
 TakesApart bytes (Some stored) = (region : Region) → SpellsRegion bytes region → IsStoredAs stored region
 TakesApart bytes None = (region : Region) → SpellsRegion bytes region → ⊥
+
+-- so many keys has the region for which the bytes stand; where it is none, they stand for none
+abbrev pub CountsKeys : List ℕ → Option ℕ → Type 0
+CountsKeys bytes (Some count) = (region : Region) → SpellsRegion bytes region → count ≡ length region.keys
+CountsKeys bytes None = (region : Region) → SpellsRegion bytes region → ⊥

@@ -21,7 +21,8 @@ const RECORD_LIMIT: usize = 4_094;
 /// The most bytes of a record in an area of the flash.
 const PUBLIC_LIMIT: usize = 470_000;
 
-fn is_blank(bytes: &[u8]) -> bool
+/// Whether all bytes are zero.
+pub fn is_blank(bytes: &[u8]) -> bool
     ensures { IsTrue result ↔ IsBlank bytes.now }
 {
     bytes.iter().all(|byte| *byte == 0)

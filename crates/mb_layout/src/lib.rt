@@ -22,7 +22,9 @@ mod stored;
 mod stored_entries;
 mod usage;
 
-pub use area::{fill_area, public_at_start, record_at_start, record_in, region_in, root_in};
+pub use area::{
+    fill_area, is_blank, public_at_start, record_at_start, record_in, region_in, root_in,
+};
 pub use completion::{complete_record, two_unsigned_entries, unsigned_entry};
 pub use end::LayoutEnd;
 pub use entry::{read_entry, write_entry};
@@ -33,5 +35,6 @@ pub use public::{public_of_bytes, read_public, write_public_parts, write_public_
 pub use region::{read_region, region_of_bytes, write_region};
 pub use room::{Room, make_area};
 pub use root::{read_root, root_of_bytes, write_root};
+pub use stored::count_keys;
 pub use stored_entries::{StoredEntries, entry_count};
 pub use usage::{NotUsed, use_in_record};

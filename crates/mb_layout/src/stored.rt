@@ -7,7 +7,7 @@ ghost use Rattle.mb_model.specs.RegionFormat.{least_keys, secrets_format, keys_f
 ghost use Rattle.mb_bytes.specs.Puts.{Puts};
 ghost use Rattle.mb_layout.specs.Edits.{CanBeStored};
 ghost use Rattle.mb_layout.specs.Walks.{PassesOver};
-ghost use Rattle.mb_layout.specs.StoredRegion.{IsStoredAs, Walks, TakesApart};
+ghost use Rattle.mb_layout.specs.StoredRegion.{IsStoredAs, Walks, TakesApart, CountsKeys};
 
 use crate::region::{SECRETS, put_keys, stored_secret_at};
 use crate::root::version_at;
@@ -87,6 +87,15 @@ pub fn stored_region(bytes: &[u8]) -> Option<StoredRegion<'_>>
         Ok(stored) => Some(stored),
         Err(_) => None,
     }
+}
+
+/// How many keys the region has for which the bytes stand; `None` only where they stand for none.
+pub fn count_keys(bytes: &[u8]) -> Option<u32>
+    requires { length bytes.now ≤ 4194304 }
+    ensures { CountsKeys bytes.now result }
+{
+    let stored = stored_region(bytes)?;
+    Some(stored.keys.as_slice().len() as u32)
 }
 
 fn put_stored(out: &mut Vec<u8>, secrets: &[u8], keys: &[RegionKey]) -> Result<(), NoMemory>

@@ -28,7 +28,7 @@ pub enum NotUsed {
 pub fn use_in_record(bytes: &[u8], number: u32, out: &mut Vec<u8>) -> Result<RegionKey, NotUsed>
     requires room { 3091 ≤ vec_capacity out.old }
     requires short { length bytes.now ≤ 4194304 }
-    ensures region_with_use { (region : Region) → SpellsRegion bytes.now region → UseOf region number result out.new.items }
+    ensures used { (region : Region) → SpellsRegion bytes.now region → UseOf region number result out.new.items }
     ensures capacity { (region : Region) → SpellsRegion bytes.now region → CanBeStored (region_with_use number region)
         → vec_capacity out.old ≤ vec_capacity out.new }
     ensures refused { OnErr result (out.new.items ≡ []) }

@@ -7,7 +7,7 @@ use Rattle.mb_model.specs.Board.{Memory, IsLoaded, put}
 use Rattle.mb_model.specs.declared.limits.TheConstants.{AREA_LENGTH}
 use Rattle.mb_model.specs.Memory.{slots, life_byte, spare, selector_of, first_area, second_area, current, other}
 use Rattle.mb_model.proofs.Places.{part-put}
-use Rattle.mb_board.specs.Reach.{Reached, selector as in_selector, first_area as in_first, second_area as in_second}
+use Rattle.mb_board.specs.Reach.{Reached, selector as in_selector, in_first_area as in_first, in_second_area as in_second}
 use Rattle.mb_board.specs.Calls.{Torn}
 use Rattle.mb_model_memory.specs.InForce.{AgreeBesides}
 use Rattle.mb_slot.specs.Slots.{is_first_in_force, area_offset, current_offset, other_offset, IsOutside, IsSameOutside, IsSameBut, IsSameButOther, IsAreaAt, AreExchanged}
