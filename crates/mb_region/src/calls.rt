@@ -17,11 +17,11 @@ ghost use Rattle.mb_region.specs.Regions.{HoldsSomeRegion, HasNoFate, ReplacesRe
 ghost use Rattle.mb_region.specs.Fates.{IsPending, AppliesFate, KeepsOrApplies};
 
 use crate::named::Named;
-use crate::stored::{finish_fate, load_region, replace, store_region};
+use crate::stored::{count_keys_in, finish_fate, load_region, replace, store_region};
 use mb_board::{Board, Stopped};
 use mb_layout::Room;
 use mb_model::{Fate, NoMemory, Region};
-use mb_ratchet::{Off, Reaches};
+use mb_ratchet::{Off, R1, Reaches, Up};
 use mb_slot::wipe_other;
 use std::alloc::Global;
 
@@ -39,6 +39,17 @@ pub fn read_stored<S: Reaches<L>, L: Named, B: Board>(
     ensures public { room.new.public ≡ room.old.public }
 {
     load_region(alloc, b, L::number(), room)
+}
+
+/// Counts the keys of the stored region, without memory. The work space of `room` is replaced.
+pub fn count_stored_keys<L: Named, B: Board>(_up: &Up<R1>, b: &B, room: &mut Room) -> u32
+    requires up { IsUp 1 (B.seen b.now) }
+    requires held { HoldsSomeRegion (current (B.seen b.now).memory.bbram L.place) }
+    ensures count { (region : Region) → HoldsRegion (current (B.seen b.now).memory.bbram L.place) region
+        → result ≡ length region.keys }
+    ensures public { room.new.public ≡ room.old.public }
+{
+    count_keys_in(b, L::number(), room)
 }
 
 /// Replaces the stored region by the one for which these bytes stand, of which there are at most 4,094. Where power

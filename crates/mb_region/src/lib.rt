@@ -10,6 +10,8 @@ mod calls;
 mod named;
 mod stored;
 
-pub use calls::{apply_fate, commit_record, commit_region, read_stored, wipe_region};
+pub use calls::{
+    apply_fate, commit_record, commit_region, count_stored_keys, read_stored, wipe_region,
+};
 pub use named::Named;
 pub use stored::read_area;

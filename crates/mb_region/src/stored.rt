@@ -15,7 +15,9 @@ ghost use Rattle.mb_region.specs.Regions.{IsRegionSlot, HoldsSomeRegion, Replace
 ghost use Rattle.mb_region.specs.Fates.{CanBeFated, IsPending, AppliesFate, KeepsOrApplies};
 
 use mb_board::{Board, Stopped};
-use mb_layout::{Room, fate_record, fill_area, make_area, record_in, region_in, write_region};
+use mb_layout::{
+    Room, count_keys, fate_record, fill_area, make_area, record_in, region_in, write_region,
+};
 use mb_model::{Fate, NoMemory, Region};
 use mb_slot::{commit, read_current};
 use std::alloc::Global;
@@ -180,6 +182,24 @@ pub(crate) fn load_region<B: Board>(
     read_area(b, slot, &mut room.area);
     match region_in(alloc, &room.area)? {
         Some(region) => Ok(region),
+        None => unreachable!(),
+    }
+}
+
+/// The number of keys of the region in the slot.
+pub(crate) fn count_keys_in<B: Board>(b: &B, slot: u16, room: &mut Room) -> u32
+    requires can_use { CanUse (B.seen b.now) slot }
+    requires held { HoldsSomeRegion (current (B.seen b.now).memory.bbram slot) }
+    ensures count { (region : Region) → HoldsRegion (current (B.seen b.now).memory.bbram slot) region
+        → result ≡ length region.keys }
+    ensures public { room.new.public ≡ room.old.public }
+{
+    read_area(b, slot, &mut room.area);
+    let Some(bytes) = record_in(&room.area) else {
+        unreachable!()
+    };
+    match count_keys(bytes) {
+        Some(count) => count,
         None => unreachable!(),
     }
 }
