@@ -12,7 +12,7 @@ use Rattle.mb_model.specs.declared.state.State.{State}
 use Rattle.mb_model.specs.Acknowledged.{HoldsNoOther, HasToBeClean, powered, zeroed, left, AreWiping}
 use Rattle.mb_model.specs.Board.{Memory, Held, AreBytes, memory_after}
 use Rattle.mb_model.specs.Clean.{Clean}
-use Rattle.mb_model.specs.Machine.{World, Step, off, may_be_cut}
+use Rattle.mb_model.specs.Machine.{World, Step, may_be_cut}
 use Rattle.mb_model.specs.Meaning.{HasMeaning, is_dead, is_live, StandsFor}
 use Rattle.mb_model_memory.specs.Answering.{may_have_written}
 use Rattle.mb_model_lemmas.proofs.LineLemmas.{cons_same}
@@ -20,7 +20,7 @@ use Rattle.mb_model_lemmas.proofs.MeaningLemmas.{one_meaning}
 use Rattle.mb_model_lemmas.proofs.RefusalLemmas.{written_is_on, tampered_is_dead}
 use Rattle.mb_model_lemmas.proofs.Splits.{two_splits}
 use Rattle.mb_device.specs.declared.device.Device.{Device}
-use Rattle.mb_device.specs.Sound.{IsSoundDevice, Steps}
+use Rattle.mb_device.specs.Sound.{Steps}
 
 -- ---- one event
 

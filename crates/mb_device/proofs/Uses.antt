@@ -1,6 +1,6 @@
 -- A layer's use of its region, as a step of the machine.
 use Rattle.std.proofs.Common.{◌≡◌, ℕ, ◌≤◌, Bool, true, false, Option, None, Some, refl, sym, ap, subst, ◌∙◌, inl, inr, arith, List, length}
-use Rattle.std.specs.Prelude.{IfOk, find, filter, ◌&&◌, nat_le, Result, Ok, Err, IsTrue, ◌⊎◌, not, ◌||◌, nat_lt, if◌then◌else◌}
+use Rattle.std.specs.Prelude.{find, filter, ◌&&◌, nat_le, Result, Ok, Err, IsTrue, ◌⊎◌, not, ◌||◌, nat_lt, if◌then◌else◌}
 use Rattle.std.proofs.lemmas.Bool.{le-ltb}
 use mathlib.Core.Bool.{or-true}
 use Rattle.mb_ratchet.specs.declared.state.Off.{Off}
@@ -24,18 +24,18 @@ use Rattle.mb_model.specs.declared.reply.Refusal.{Refusal}
 use Rattle.mb_model.specs.declared.reply.Refusal.TheVariants.{WrongLayer, RegionFull, KeySpent}
 use Rattle.mb_model.specs.Refusals.{refused}
 use Rattle.mb_model.specs.Valid.{Valid, IsValidState}
-use Rattle.mb_board.specs.Calls.{held_by, power_of, level_of, IsMetered}
+use Rattle.mb_board.specs.Calls.{held_by, held_in, IsMetered, IsUp, Seen}
 use Rattle.mb_model_lemmas.proofs.ValidSteps.{machine_valid}
 use Rattle.mb_model_memory.specs.Holding.{IsReady}
-use Rattle.mb_model_memory.specs.Answering.{IsAnswered, lacks, tells, IsCutShort, ComesTo}
-use Rattle.mb_device_orders.specs.Remembering.{Knows}
+use Rattle.mb_model_memory.specs.Answering.{IsAnswered, lacks, tells, IsCutShort}
+use Rattle.mb_device_orders.specs.Remembering.{Knows, IsRemembered}
 use Rattle.mb_device_orders.specs.declared.remembering.Known.{Known}
 use Rattle.mb_device.specs.declared.device.Device.{Device}
 use Rattle.mb_device.specs.declared.device.Device.TheVariants as device
 use Rattle.mb_device.specs.declared.device.Running.{Running}
 use Rattle.mb_device.specs.Sound.{IsSoundDevice, IsRunning, Fits, Steps}
 use Rattle.mb_device.specs.Stepping.{stop_told}
-use Rattle.mb_device.specs.Regions.{IsLayerEvent, region_named, layer_outcome, IsUseStep}
+use Rattle.mb_device.specs.Regions.{IsLayerEvent, region_named, layer_outcome}
 use Rattle.mb_device.proofs.Worlds.{at_ratchet, by_region}
 use Rattle.mb_device.proofs.Taken.{same_parts}
 use Rattle.mb_device.proofs.Steps as steps
@@ -199,16 +199,6 @@ module _ (r L : ℕ) (before : Device) (running : Running) (e : Event) (old : Me
             (inr refl) after_it (machine_valid world e (layer_outcome L e use_is.own.state).0 whole use_is.sound.valid machine) gone disarmed
       ]
 
-  -- what comes of it
-  pub use_comes : {S : Type 0} (after : Device) (running_new : Running) (result : Result (S × Reply) Off) (new : Memory) (power_new : Bool) (level_new : ℕ) (meter_new : Meter)
-      → ComesTo use_is.own.state (layer_outcome L e use_is.own.state) old new result → power_new ≡ power_of result → level_new ≡ level_of result level → IsMetered 3 result meter meter_new
-      → power ≡ true → level ≡ r → ((w : World) → IsRunning r running_new w → Fits after w) → running_new.known ≡ running.known
-      → IsUseStep world e after result (held_by new power_new level_new meter_new)
-  use_comes {S} after running_new (Ok told) new power_new level_new meter_new comes is_power is_level metered on at fits known =
-      use_told after running_new told.1 new power_new level_new meter_new comes (is_power ∙ sym on) is_level metered.armed on at fits known
-  use_comes {S} after running_new (Err state) new power_new level_new meter_new comes is_power is_level metered on at fits known =
-      use_cut state new power_new level_new meter_new comes is_power metered.armed metered.cut
-
 -- a device that is not awake refuses it
 pub use_asleep : (world : World) (e : Event) (refusal : Refusal) → IsLayerEvent e → awake_in world ≡ Err refusal → Machine world e (refused refusal) world
 use_asleep world e refusal is asleep =
@@ -292,8 +282,12 @@ pub running_on : (device : Device) (r : ℕ) (memory : Memory) (power : Bool) (l
     → world.phase ≡ ratchet r → (power ≡ true) × (level ≡ r)
 running_on device r memory power level meter world sound is = at_ratchet power level r (sym is ∙ sound.shown.phase)
 
--- an answer that was given is no stop
-pub told_goes_on : {S : Type 0} (L : ℕ) (e : Event) (state : State) (result : Result (S × Reply) Off) (old new : Memory) → IsLayerEvent e → ComesTo state (layer_outcome L e state) old new result
-    → IfOk result (λ used. stop_told used.1 ≡ Ok tt)
-told_goes_on {S} L e state (Ok told) old new is comes = answer_goes_on L e state told.1 old new is comes
-told_goes_on {S} L e state (Err stop) old new is comes = tt
+pub is_up : (device : Device) (r : ℕ) (seen : Seen) (world : World) → IsSoundDevice device (held_in seen) world → world.phase ≡ ratchet r → IsUp r seen
+is_up device r seen world sound is =
+    let on = running_on device r seen.memory seen.power seen.level seen.meter world sound is in
+    record { on = on.0; at_level = on.1; loaded = sound.shown.stands.sized }
+
+-- the memory is ready with the state that is remembered
+pub remembers : (device : Device) (r : ℕ) (seen : Seen) (running : Running) (world : World) → IsSoundDevice device (held_in seen) world → IsRunning r running world → IsRemembered running.known seen.memory
+remembers device r seen running world sound own =
+    record { state = own.state; ready = running_ready device r (held_in seen) world own.state sound own.phase own.live; knows = own.knows }

@@ -1,28 +1,17 @@
--- How single events are answered. Is nothing written that is not told?
+-- How single events are answered. Does an answer tell of everything that was written?
 use Rattle.std.specs.Prelude.{◌≡◌, false, Result, Ok, Err}
 use Rattle.mb_model.specs.declared.event.Event.{Event}
 use Rattle.mb_model.specs.declared.event.Event.TheVariants as event
 use Rattle.mb_model.specs.declared.reply.Reply.{Reply}
 use Rattle.mb_model.specs.declared.reply.Reply.TheVariants as reply
 use Rattle.mb_model.specs.Layers.{standing}
-use Rattle.mb_model.specs.declared.reply.Refusal.{Refusal}
-use Rattle.mb_model.specs.declared.reply.Refusal.TheVariants.{PoweredOff, WrongPhase, Zeroised, WrongLayer}
 use Rattle.mb_model.specs.Board.{Memory, Meter}
 use Rattle.mb_model_memory.specs.Answering.{may_have_written}
 use Rattle.mb_device_orders.specs.declared.remembering.Known.{Known}
 use Rattle.mb_device.specs.declared.device.Device.{Device}
 use Rattle.mb_device.specs.declared.device.Device.TheVariants as device
-use Rattle.mb_device.specs.declared.refusal.Refusal.{Refusal as Why}
-use Rattle.mb_device.specs.declared.refusal.Refusal.TheVariants as why
 
--- the refusal that is told
-abbrev pub refusal_told : Why → Refusal
-refusal_told why.Off = PoweredOff
-refusal_told why.Phase = WrongPhase
-refusal_told why.Zeroised = Zeroised
-refusal_told why.Layer = WrongLayer
-
--- what is told of how a device stands that remembers this
+-- the answer to a status event of a device that remembers this
 abbrev pub status_known : Known → Reply
 status_known known =
     let layers = known.figures.layers in
@@ -36,7 +25,7 @@ abbrev pub stop_told : Reply → Result (Unit {0}) (Unit {0})
 stop_told reply.Stopped = Err tt
 stop_told other = Ok tt
 
--- Where the answer is none to an event that writes, and power did not fail, nothing was written.
+-- If the answer is not one to an event that writes, and power did not fail, nothing was written.
 abbrev pub IfNothingTold : Reply → Memory → Memory → Meter → Meter → Type 0
 IfNothingTold answer before after old new = may_have_written answer ≡ false → (after ≡ before) × (new ≡ old)
 

@@ -1,4 +1,4 @@
-//! Control that goes from a layer to the next.
+//! How control passes from a layer to the next.
 
 ghost use Rattle.std.specs.Prelude.{◌≡◌, Ok};
 ghost use Rattle.mb_model.specs.declared.event.Event.TheVariants as event;
@@ -8,10 +8,9 @@ ghost use Rattle.mb_device.specs.Sound.{HasSound, StepsFrom};
 ghost use Rattle.mb_device.specs.Stepping.{stop_told};
 
 use crate::device::{Device, Running};
-use crate::refusal::Refusal;
 use mb_authority::is_runnable;
 use mb_board::Board;
-use mb_model::Reply;
+use mb_model::{Refusal, Reply};
 
 impl Running {
     /// Whether the layer may run.
@@ -23,7 +22,7 @@ impl Running {
 }
 
 impl Device {
-    /// Answers `go`: the next layer runs, where it may. There is no way back but a boot.
+    /// Answers `go`: the next layer runs, if it may. Only a boot leads back.
     pub(crate) fn go<B: Board>(self, b: &mut B) -> (Device, Reply)
         requires sound { HasSound self (held_in (B.seen b.old)) }
         ensures steps { StepsFrom self (held_in (B.seen b.old)) event.Go result
@@ -34,23 +33,25 @@ impl Device {
         ensures meter { (B.seen b.new).meter ≡ (B.seen b.old).meter }
     {
         match self {
-            Device::Off(off) => (Device::Off(off), Refusal::Off.reply()),
+            Device::Off(off) => (Device::Off(off), Refusal::PoweredOff.reply()),
             Device::Dead(dead) => (Device::Dead(dead), Refusal::Zeroised.reply()),
             Device::One(up, running) => {
                 if running.may_run(2) {
                     (Device::Two(up.advance(b), running), Reply::At(2))
                 } else {
-                    (Device::One(up, running), Refusal::Layer.reply())
+                    (Device::One(up, running), Refusal::WrongLayer.reply())
                 }
             }
             Device::Two(up, running) => {
                 if running.may_run(3) {
                     (Device::Three(up.advance(b), running), Reply::At(3))
                 } else {
-                    (Device::Two(up, running), Refusal::Layer.reply())
+                    (Device::Two(up, running), Refusal::WrongLayer.reply())
                 }
             }
-            Device::Three(up, running) => { (Device::Three(up, running), Refusal::Phase.reply()) }
+            Device::Three(up, running) => {
+                (Device::Three(up, running), Refusal::WrongPhase.reply())
+            }
         }
     }
 }

@@ -12,16 +12,16 @@ use mb_device_orders::Known;
 use mb_layout::Room;
 use mb_ratchet::{Dead, Off, R1, R2, R3, Up};
 
-/// What a device has while a layer runs.
+/// What a device holds while a layer runs.
 #[derive(Drop)]
 pub struct Running {
-    /// What it remembers of its state.
+    /// What the device remembers of its state.
     pub known: Known,
-    /// The buffers in which it works.
+    /// Working space.
     pub room: Room,
 }
 
-/// A device between two events: where control is, and what is remembered.
+/// A device between two events: the layer that has control, and what the device remembers.
 #[derive(Drop)]
 pub enum Device {
     /// Power is off.
@@ -37,7 +37,7 @@ pub enum Device {
 }
 
 impl Device {
-    /// The device on a board whose power is off.
+    /// A device on a board whose power is off.
     pub fn start<B: Board>(b: &B) -> Device
         requires off { (B.seen b.now).power ≡ false }
         ensures started { (world : World) → Shows (held_in (B.seen b.now)) world

@@ -1,6 +1,6 @@
 //! The device: from one event to the next.
 //!
-//! This crate owns what a device is between two events, what each event comes to in each phase, and the serving of
+//! This crate owns what a device is between two events, the answer to each event in each phase, and the serving of
 //! all events of a board, each by one step of the machine. A device is taken by value and given back, since its
 //! state cannot be copied.
 #![tactic(auto)]
@@ -9,8 +9,8 @@ mod control;
 mod device;
 mod orders;
 mod power;
-mod refusal;
 mod regions;
+mod runs;
 mod status;
 mod step;
 

@@ -1,18 +1,17 @@
-//! Orders.
+//! How a device answers orders.
 
 ghost use Rattle.std.specs.Prelude.{◌≡◌, ◌+◌, ◌≤◌};
-ghost use Rattle.mb_format.specs.Format.{IsBytes};
 ghost use Rattle.mb_model.specs.declared.event.Event.TheVariants as event;
+ghost use Rattle.mb_model.specs.Board.{AreBytes};
 ghost use Rattle.mb_board.specs.Calls.{held_in, IsMetered};
 ghost use Rattle.mb_device.specs.Sound.{HasSound, StepsFrom};
 ghost use Rattle.mb_device.specs.Stepping.{stop_told, IfNothingTold};
 
 use crate::device::{Device, Running};
-use crate::refusal::Refusal;
 use mb_board::Board;
 use mb_device_orders::obey;
 use mb_lms::HashCount;
-use mb_model::Reply;
+use mb_model::{Refusal, Reply};
 use mb_ratchet::{R1, Up};
 use std::alloc::Global;
 use std::sync::ledger::Ledger;
@@ -27,8 +26,7 @@ fn take_order<B: Board, L: Ledger>(
     draw: &[u8; 32],
     hashes: &mut HashCount<L>,
 ) -> (Device, Reply)
-    requires flash_bytes { IsBytes (B.seen b.old).memory.flash }
-    requires bbram_bytes { IsBytes (B.seen b.old).memory.bbram }
+    requires bytes { AreBytes (B.seen b.old).memory }
     requires sound { HasSound (Device.One up running) (held_in (B.seen b.old)) }
     ensures steps { StepsFrom (Device.One up running) (held_in (B.seen b.old)) (event.Command text.now draw.now) result
         (held_in (B.seen b.new)) }
@@ -55,8 +53,7 @@ impl Device {
         draw: &[u8; 32],
         hashes: &mut HashCount<L>,
     ) -> (Device, Reply)
-        requires flash_bytes { IsBytes (B.seen b.old).memory.flash }
-        requires bbram_bytes { IsBytes (B.seen b.old).memory.bbram }
+        requires bytes { AreBytes (B.seen b.old).memory }
         requires sound { HasSound self (held_in (B.seen b.old)) }
         ensures steps { StepsFrom self (held_in (B.seen b.old)) (event.Command text.now draw.now) result
             (held_in (B.seen b.new)) }
@@ -66,11 +63,11 @@ impl Device {
         ensures cost { hashes.new ≤ hashes.old + 139744 }
     {
         match self {
-            Device::Off(off) => (Device::Off(off), Refusal::Off.reply()),
+            Device::Off(off) => (Device::Off(off), Refusal::PoweredOff.reply()),
             Device::Dead(dead) => (Device::Dead(dead), Refusal::Zeroised.reply()),
             Device::One(up, running) => take_order(alloc, up, running, b, text, draw, hashes),
-            Device::Two(up, running) => (Device::Two(up, running), Refusal::Phase.reply()),
-            Device::Three(up, running) => (Device::Three(up, running), Refusal::Phase.reply()),
+            Device::Two(up, running) => (Device::Two(up, running), Refusal::WrongPhase.reply()),
+            Device::Three(up, running) => (Device::Three(up, running), Refusal::WrongPhase.reply()),
         }
     }
 }

@@ -1,4 +1,4 @@
-//! Power that comes on and goes.
+//! How a device boots, and how its power goes.
 
 ghost use Rattle.std.specs.Prelude.{◌≡◌, ◌+◌, ◌≤◌, false};
 ghost use Rattle.mb_model.specs.declared.event.Event.TheVariants as event;
@@ -8,12 +8,11 @@ ghost use Rattle.mb_device.specs.Sound.{HasSound, StepsFrom};
 ghost use Rattle.mb_device.specs.Stepping.{stop_told, IfNothingTold, IsOff};
 
 use crate::device::{Device, Running};
-use crate::refusal::Refusal;
 use mb_board::Board;
 use mb_boot::{BootEnd, boot};
 use mb_device_orders::remember;
 use mb_lms::HashCount;
-use mb_model::Reply;
+use mb_model::{Refusal, Reply};
 use mb_ratchet::Off;
 use std::alloc::Global;
 use std::sync::ledger::Ledger;
@@ -47,7 +46,7 @@ fn come_up<B: Board, L: Ledger>(
 }
 
 impl Device {
-    /// Answers `boot`: power comes on, and what an order has left to be done is done. A dead device stays on and dead.
+    /// Answers `boot`: power comes on, and the pending work of an order is completed. A dead device stays on and dead.
     pub(crate) fn boot<B: Board, L: Ledger>(
         self,
         alloc: Global,
@@ -66,9 +65,9 @@ impl Device {
         match self {
             Device::Off(off) => come_up(alloc, off, b, hashes),
             Device::Dead(dead) => (Device::Dead(dead), Refusal::Zeroised.reply()),
-            Device::One(up, running) => (Device::One(up, running), Refusal::Phase.reply()),
-            Device::Two(up, running) => (Device::Two(up, running), Refusal::Phase.reply()),
-            Device::Three(up, running) => (Device::Three(up, running), Refusal::Phase.reply()),
+            Device::One(up, running) => (Device::One(up, running), Refusal::WrongPhase.reply()),
+            Device::Two(up, running) => (Device::Two(up, running), Refusal::WrongPhase.reply()),
+            Device::Three(up, running) => (Device::Three(up, running), Refusal::WrongPhase.reply()),
         }
     }
 

@@ -1,4 +1,4 @@
-//! How a device stands.
+//! The status of a device.
 
 ghost use Rattle.std.specs.Prelude.{◌≡◌, ◌≤◌, Ok};
 ghost use Rattle.mb_model.specs.Layers.{standing};
@@ -8,9 +8,8 @@ ghost use Rattle.mb_device.specs.Sound.{Fits};
 ghost use Rattle.mb_device.specs.Stepping.{status_known, stop_told};
 
 use crate::device::{Device, Running};
-use crate::refusal::Refusal;
 use mb_authority::{is_owned, is_runnable, layer_of};
-use mb_model::{Layers, Reply, Standing};
+use mb_model::{Layers, Refusal, Reply, Standing};
 
 /// How a layer stands.
 fn standing(layers: &Layers, layer: u8) -> Standing
@@ -30,7 +29,7 @@ fn standing(layers: &Layers, layer: u8) -> Standing
 }
 
 impl Running {
-    /// What is told of how the device stands.
+    /// The answer to a status event.
     fn status(&self) -> Reply
         ensures { result ≡ status_known self.now.known }
     {
@@ -47,13 +46,13 @@ impl Running {
 }
 
 impl Device {
-    /// Answers `status`, from what is remembered.
+    /// Answers `status`, from what the device remembers.
     pub(crate) fn status(&self) -> Reply
         ensures told { (world : World) → Fits self.now world → Valid world.state → (result, world) ≡ status_event world (awake_in world) }
         ensures goes_on { stop_told result ≡ Ok tt }
     {
         match self {
-            Device::Off(_) => Refusal::Off.reply(),
+            Device::Off(_) => Refusal::PoweredOff.reply(),
             Device::Dead(_) => Refusal::Zeroised.reply(),
             Device::One(_, running) => running.status(),
             Device::Two(_, running) => running.status(),

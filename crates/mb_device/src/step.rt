@@ -1,8 +1,7 @@
-//! From one event to the next.
+//! How a device answers the events of its board.
 
 ghost use Rattle.std.specs.Prelude.{◌≡◌, ◌+◌, ◌≤◌, All, None};
-ghost use Rattle.mb_format.specs.Format.{IsBytes};
-ghost use Rattle.mb_model.specs.Board.{Held, IsLoaded};
+ghost use Rattle.mb_model.specs.Board.{AreBytes, Held, IsLoaded};
 ghost use Rattle.mb_model.specs.Machine.{World};
 ghost use Rattle.mb_model.specs.Script.{IsScriptEvent};
 ghost use Rattle.mb_board.specs.Calls.{held_in, IsMetered};
@@ -20,9 +19,9 @@ use std::sync::ledger::Ledger;
 
 impl Device {
     /// Answers an event that the board has handed out. Together with the handing out, the answer is one step of the
-    /// machine, from the world that the board held before. Nothing is written for an event that is refused, for which an
-    /// allocation fails, or whose answer tells of no change; and nothing for the boot of a clean memory. There are at most
-    /// 471 write calls, and 139,744 hashes. `Stopped` is answered exactly where a write call was stopped.
+    /// machine, from the world that the board held before. Nothing is written if the event is refused, if an allocation
+    /// fails, or if the answer tells of no change; and nothing at the boot of a clean memory. There are at most 471 write
+    /// calls and 139,744 hashes. The answer is `Stopped` exactly if a write call was stopped.
     pub fn step<B: Board, L: Ledger>(
         self,
         alloc: Global,
@@ -30,8 +29,7 @@ impl Device {
         event: &Event,
         hashes: &mut HashCount<L>,
     ) -> (Device, Reply)
-        requires flash_bytes { IsBytes (B.seen b.old).memory.flash }
-        requires bbram_bytes { IsBytes (B.seen b.old).memory.bbram }
+        requires bytes { AreBytes (B.seen b.old).memory }
         requires can_step { CanStep self event.now (held_in (B.seen b.old)) }
         ensures steps { (before : Held) (world : World) → IsSoundDevice self before world
             → held_in (B.seen b.old) ≡ taken event.now before
@@ -60,8 +58,8 @@ impl Device {
         }
     }
 
-    /// Answers every event that waits, in order, each by one step of the machine from the world that the board held at
-    /// the answer before.
+    /// Answers all waiting events in order, each by one step of the machine from the world that the board held at the
+    /// previous answer.
     pub fn serve<B: Board, L: Ledger>(
         self,
         alloc: Global,

@@ -7,9 +7,10 @@ use Rattle.mb_bytes.specs.Reads.{FailsWholeAt}
 use Rattle.mb_command.specs.declared.end.OrderEnd.{OrderEnd}
 use Rattle.mb_command.specs.declared.end.OrderEnd.TheVariants.{BadText}
 use Rattle.mb_command.specs.Ends.{order_text_at}
+use Rattle.mb_model.specs.declared.limits.TheConstants.{LAST_INDEX, ENTRY_LIMIT}
+use Rattle.mb_model.specs.declared.entry.Entry.{Entry}
 use Rattle.mb_model.specs.declared.entry.SignedEntry.{SignedEntry}
 use Rattle.mb_model.specs.declared.order.Order.{Order}
-use Rattle.mb_model.specs.declared.region.Region.{Region}
 use Rattle.mb_model.specs.declared.reply.Reply.{Reply}
 use Rattle.mb_model.specs.declared.reply.Reply.TheVariants as reply
 use Rattle.mb_model.specs.declared.state.State.{State}
@@ -18,7 +19,6 @@ use Rattle.mb_model.specs.declared.stored.Root.{Root}
 use Rattle.mb_model.specs.Board.{Memory}
 use Rattle.mb_model.specs.Clean.{root_of}
 use Rattle.mb_model.specs.Log.{entries_of, number_of, used, made}
-use Rattle.mb_model.specs.Meaning.{HoldsRegion}
 use Rattle.mb_model.specs.Memory.{current}
 use Rattle.mb_model.specs.OrderFormat.{order_format}
 use Rattle.mb_model.specs.declared.reply.Refusal.{Refusal}
@@ -32,7 +32,7 @@ use Rattle.mb_orders.specs.declared.end.JudgeEnd.{JudgeEnd}
 use Rattle.mb_orders.specs.Judging.{refusal_of, FailsFor}
 use Rattle.mb_model_memory.specs.Holding.{IsReady}
 use Rattle.mb_model_memory.specs.Storable.{IsStorableState}
-use Rattle.mb_model_memory.proofs.StorableMemories.{spelled_storable, stands_storable}
+use Rattle.mb_model_memory.proofs.StorableMemories.{stands_storable}
 use Rattle.mb_region.specs.Regions.{HoldsSomeRegion}
 use Rattle.mb_boot.specs.Settling.{IsOnlyRoot}
 use Rattle.mb_device_orders.specs.declared.remembering.Known.{Known}
@@ -62,11 +62,6 @@ none_step state text draw answer (inl lacks) = inl lacks
 none_step state text draw answer (inr none) = inr (spells_none (record { none = none.1; answered = none.0; stays = refl }))
 
 -- ---- regions
-
-pub few_keys : (area : List ℕ) (region : Region) → HoldsSomeRegion area → ((any : Region) → HoldsRegion area any → region ≡ any) → length region.keys ≤ 8
-few_keys area region some only =
-    let few = (spelled_storable some.holds.bytes some.region some.holds.spelled).few_keys in
-    omega (arith, few, ap (λ (r : Region). length r.keys) (only some.region some.holds))
 
 pub region_two : (known : Known) (memory : Memory) → IsRemembered known memory → HoldsSomeRegion (current memory.bbram 2)
 region_two known memory is = record { region = is.state.two; holds = is.ready.clean.two }
@@ -101,26 +96,19 @@ view_is memory state known root two three ready knows only is_two is_three =
 storable : (known : Known) (memory : Memory) (is : IsRemembered known memory) → IsStorableState is.state
 storable known memory is = stands_storable memory.flash memory.bbram is.state is.ready.means is.ready.valid
 
-pub few_uses : (known : Known) (memory : Memory) → IsRemembered known memory → known.figures.uses ≤ 31
-few_uses known memory is =
-    omega (arith, ap (λ (f : Figures). f.uses) is.knows.figures, used-bound (entries_of is.state.log) (valid_is_ruled is.state is.ready.valid))
+-- the figures are in the ranges in which orders are judged
+pub record AreInRange (figures : Figures) : Type 0 where
+  pub uses : figures.uses ≤ LAST_INDEX
+  pub number : figures.number ≤ ENTRY_LIMIT
+  pub keys_made : figures.keys_made ≤ ENTRY_LIMIT
 
-pub few_changes : (known : Known) (memory : Memory) → IsRemembered known memory → known.figures.number ≤ 128
-few_changes known memory is =
-    omega (
-      arith,
-      ap (λ (f : Figures). f.number) is.knows.figures,
-      number_of-le-length (entries_of is.state.log),
-      length-map is.state.log (λ (signed : SignedEntry). signed.entry),
-      (storable known memory is).few,
-    )
-
-pub few_made : (known : Known) (memory : Memory) → IsRemembered known memory → known.figures.keys_made ≤ 128
-few_made known memory is =
-    omega (
-      arith,
-      ap (λ (f : Figures). f.keys_made) is.knows.figures,
-      made-le-length (entries_of is.state.log),
-      length-map is.state.log (λ (signed : SignedEntry). signed.entry),
-      (storable known memory is).few,
-    )
+pub in_range : (known : Known) (memory : Memory) → IsRemembered known memory → AreInRange known.figures
+in_range known memory is =
+    let entries : List Entry = entries_of is.state.log in
+    let figures = is.knows.figures in
+    let few : length entries ≤ ENTRY_LIMIT = omega (arith, length-map is.state.log (λ (signed : SignedEntry). signed.entry), (storable known memory is).few) in
+    record {
+      uses = omega (arith, ap (λ (f : Figures). f.uses) figures, used-bound entries (valid_is_ruled is.state is.ready.valid));
+      number = omega (arith, ap (λ (f : Figures). f.number) figures, number_of-le-length entries);
+      keys_made = omega (arith, ap (λ (f : Figures). f.keys_made) figures, made-le-length entries);
+    }

@@ -1,4 +1,4 @@
--- How an order is answered, and what a power loss leaves of it. Is it obeyed wholly or not at all?
+-- How an order is answered, and what a power loss leaves of it. Is an order obeyed wholly or not at all?
 use Rattle.std.specs.Prelude.{◌≡◌, ℕ, ◌⊎◌, List, Result, Ok, Err}
 use Rattle.mb_model.specs.declared.reply.Reply.{Reply}
 use Rattle.mb_model.specs.declared.reply.Reply.TheVariants as reply
@@ -15,7 +15,7 @@ pub data IsOrderAnswered
   -- an allocation failed, and nothing has changed
   answer_lacks : answer ≡ reply.NoMemory → after ≡ before → Knows known state →
       IsOrderAnswered state text draw known answer before after
-  -- the bytes are answered so, and the memory is ready with the state to which they lead
+  -- the answer is that of a step of the machine, and the memory is ready with the state after it
   answer_tells : (next : State) → OrderStep state text draw answer next → IsReady after next → Knows known next →
       IsOrderAnswered state text draw known answer before after
 
@@ -27,7 +27,7 @@ pub record IsOrderCut (state : State) (text draw : List ℕ) (after : Memory) : 
   pub step : OrderStep state text draw (reply.Done number size) next
   pub counts : Means after state ⊎ Means after next
 
--- what comes of these bytes in this state
+-- the result of answering these bytes in this state
 abbrev pub Obeys : {S E : Type 0} → State → List ℕ → List ℕ → Known → Memory → Memory → Result (S × Reply) E → Type 0
 Obeys state text draw known before after (Ok told) = IsOrderAnswered state text draw known told.1 before after
 Obeys state text draw known before after (Err stop) = IsOrderCut state text draw after

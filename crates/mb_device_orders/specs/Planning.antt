@@ -1,4 +1,4 @@
--- How bytes are judged, and the commit that is planned of an order. Is all that is written fixed before any write?
+-- How the bytes of an order are judged, and how its commit is planned. Is all that is written fixed before any write?
 use Rattle.std.specs.Prelude.{◌≡◌, ℕ, ◌-◌, ◌⊎◌, List, ◌++◌, map, Option, None, Some, Result, Ok, Err}
 use Rattle.mb_format.specs.Format.{Spells}
 use Rattle.mb_model.specs.declared.entry.Entry.{Entry}
@@ -26,24 +26,24 @@ use Rattle.mb_device_orders.specs.declared.judging.Judged.{Judged}
 
 -- ---- judging
 
--- the answer to bytes that are not obeyed: a refusal, or that memory is wanting
+-- the answer to an order that is not obeyed: a refusal, or that an allocation failed
 abbrev pub reply_for : Option Refusal → Reply
 reply_for (Some refusal) = refused refusal
 reply_for None = reply.NoMemory
 
--- the order that the bytes spell; else they spell none and are refused for that, or memory is wanting
+-- the order that the bytes spell; else they spell none and are refused for that, or an allocation failed
 abbrev pub ReadsText : List ℕ → Result Order Reply → Type 0
 ReadsText text (Ok order) = Spells order_format text order
 ReadsText text (Err answer) =
     (answer ≡ reply.NoMemory) ⊎ ((answer ≡ refused BadText) × ((order : Order) → Spells order_format text order → ⊥))
 
--- the bytes spell an order that passes in this state, and this is what it comes to
+-- the bytes spell an order that passes in this state, and this is its effect
 pub record PassesAs (state : State) (text draw : List ℕ) (judged : Judged) : Type 0 where
   pub spelled : Spells order_format text judged.order
   pub passes : Passes (view_of state) judged.order
   pub plan : judged.plan ≡ plan_by (view_of state) judged.order draw
 
--- what judging bytes in this state comes to: an order that passes, or an answer by which nothing changes
+-- the result of judging bytes in this state: an order that passes, or an answer by which nothing changes
 abbrev pub JudgesText : State → List ℕ → List ℕ → Result Judged Reply → Type 0
 JudgesText state text draw (Ok judged) = PassesAs state text draw judged
 JudgesText state text draw (Err answer) = (answer ≡ reply.NoMemory) ⊎ OrderStep state text draw answer state
@@ -59,10 +59,10 @@ pub record HasPassed (memory : Memory) (judged : Judged) : Type 0 where
 
 -- ---- planning
 
--- a public record with the codes that an order of layer k leaves, and with more entries, not signed yet
+-- a public record after an order that does `act` to the layer, with more entries, not signed yet
 abbrev pub with_order : ℕ → Act → List Entry → Public → Public
-with_order k does entries public = record {
-  codes = codes_after public.codes k does;
+with_order layer act entries public = record {
+  codes = codes_after public.codes layer act;
   entries = public.entries ++ map without_signature entries;
 }
 
@@ -71,14 +71,14 @@ pub record SpellsRecord (bytes : List ℕ) : Type 0 where
   pub public : Public
   pub spelled : Spells public_format bytes public
 
--- a public record is spelled that has a spelling with the codes and entries of an order of layer k too
-pub record CanTake (k : ℕ) (does : Act) (entries : List Entry) (bytes : List ℕ) : Type 0 where
+-- a public record is spelled, and the record after the order has a spelling, too
+pub record CanTake (layer : ℕ) (act : Act) (entries : List Entry) (bytes : List ℕ) : Type 0 where
   pub public : Public
   pub spelled : Spells public_format bytes public
-  pub allowed : public_format.Allowed (with_order k does entries public)
+  pub allowed : public_format.Allowed (with_order layer act entries public)
 
 -- The memory is ready with this state, in which the order passes. The root commits the order, with the public record in
--- the flash area that is not in force, and the bytes spell that record.
+-- the inactive flash area, and the bytes spell that record.
 pub record IsCommit
     (memory : Memory) (root : Root) (bytes : List ℕ) (state : State) (order : Order) (draw : List ℕ) : Type 0 where
   pub ready : IsReady memory state
@@ -92,7 +92,7 @@ pub record IsCommit
       bytes
       (public_of_parts (obeyed state order draw).codes state.log (new_entries state order draw))
 
--- so it is of some order
+-- it is the commit of some order
 pub record HasCommit (memory : Memory) (root : Root) (bytes : List ℕ) : Type 0 where
   pub state : State
   pub order : Order

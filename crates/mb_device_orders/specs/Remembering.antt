@@ -6,7 +6,7 @@ use Rattle.mb_model.specs.Log.{figures_of, entries_of}
 use Rattle.mb_model_memory.specs.Holding.{IsReady}
 use Rattle.mb_device_orders.specs.declared.remembering.Known.{Known}
 
--- what a device remembers is so in this state
+-- what a device remembers is true of this state
 pub record Knows (known : Known) (state : State) : Type 0 where
   pub serial : known.serial ≡ state.serial
   pub figures : known.figures ≡ figures_of (entries_of state.log)

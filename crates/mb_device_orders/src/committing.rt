@@ -1,4 +1,4 @@
-//! Orders committed.
+//! The commit of an order.
 
 ghost use Rattle.std.specs.Prelude.{◌≡◌, ℕ, ◌≤◌, ◌+◌, ◌⊎◌, List, OnOk};
 ghost use Rattle.mb_model.specs.declared.order.Order.{Order};
@@ -17,10 +17,10 @@ use mb_model::Root;
 use mb_ratchet::{Off, R1, Up};
 use std::sync::ledger::Ledger;
 
-/// Commits an order whose root this is and whose public record stands in the room, and does all that it leaves to be
-/// done: the record is written into the flash area that is not in force, the root is put in force, and then the order
-/// counts. Where power fails, the memory stands for the state before the order or for the state after it. There are at
-/// most 471 write calls, and 70,946 hashes. No memory is taken.
+/// Commits an order: writes its public record, which `public` of the room holds, into the inactive flash area, makes its
+/// root record current, which is when the order counts, and completes the order's pending work. If power fails, the
+/// memory stands for the state before the order or for the state after it. There are at most 471 write calls and 70,946
+/// hashes. Takes no memory.
 #[tactic(auto, using(crate::proofs::Committed::root_there))]
 pub fn commit<B: Board, L: Ledger>(
     up: Up<R1>,

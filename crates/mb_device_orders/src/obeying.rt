@@ -1,4 +1,4 @@
-//! Orders answered.
+//! How an order is answered.
 
 ghost use Rattle.std.specs.Prelude.{◌≡◌, ◌≤◌, ◌+◌};
 ghost use Rattle.mb_format.specs.Format.{IsBytes};
@@ -21,11 +21,10 @@ use mb_ratchet::{Off, R1, Up};
 use std::alloc::Global;
 use std::sync::ledger::Ledger;
 
-/// Answers an order, which these bytes spell or do not spell: refuses it, or obeys it, with a draw of which the keys
-/// are made that it makes. A device that has answered is ready, and remembers its state. Where power fails, the memory
-/// stands for the state before the order or for the state after it. Nothing is written of an order that is refused, and
-/// nothing where an allocation fails, which is answered so. There are at most 471 write calls, and 139,744 hashes.
-/// `NoMemory` where an allocation fails, of which no clause says when.
+/// Answers the bytes of an order: obeys it, or refuses it (bytes that are no order included). New keys are derived from
+/// `draw`. A device that has answered is ready and remembers its state. If power fails, the memory stands for the state
+/// before the order or for the state after it. Nothing is written for an order that is refused, nor if an allocation
+/// fails, which is an answer of its own. There are at most 471 write calls and 139,744 hashes.
 #[tactic(auto, using(crate::proofs::Answered::has_passed))]
 pub fn obey<B: Board, L: Ledger>(
     alloc: Global,

@@ -1,7 +1,8 @@
-//! What will be written of an order.
+//! The commit of an order, planned in full before anything is written.
 
 ghost use Rattle.std.specs.Prelude.{◌≡◌, ℕ, ◌≤◌, ◌+◌, ◌-◌, ◌++◌, List, length, map, IfOk, OnOk};
 ghost use Rattle.mb_format.specs.Format.{IsBytes, Spells};
+ghost use Rattle.mb_model.specs.declared.limits.TheConstants.{FILE_LIMIT};
 ghost use Rattle.mb_model.specs.declared.entry.Entry.{Entry};
 ghost use Rattle.mb_model.specs.declared.order.Order.{Order};
 ghost use Rattle.mb_model.specs.declared.state.State.{State};
@@ -30,16 +31,16 @@ use mb_model::{
 use mb_orders::Plan;
 use std::alloc::Global;
 
-/// The commit of an order, whose public record stands in the room.
+/// The commit of an order, for the public record that `public` of the room holds.
 #[derive(Drop)]
 pub struct Planned {
-    /// The root that commits the order.
+    /// The root record that commits the order.
     pub root: Root,
     /// What the device remembers once the order is done.
     pub known: Known,
 }
 
-/// The code that an order leaves of its layer, which is moved out of the order and not copied.
+/// The code of a layer after an order that does `act` to it. New code is moved out of the order, not copied.
 fn code_after(old: Option<Bytes>, act: Act) -> Option<Bytes>
     ensures { result ≡ code_after old act }
 {
@@ -50,7 +51,7 @@ fn code_after(old: Option<Bytes>, act: Act) -> Option<Bytes>
     }
 }
 
-/// The codes that an order of the layer leaves.
+/// The codes after an order that does `act` to the layer.
 fn codes_after(codes: Codes, layer: u8, act: Act) -> Codes
     ensures { result ≡ codes_after codes layer act }
 {
@@ -75,7 +76,7 @@ fn codes_after(codes: Codes, layer: u8, act: Act) -> Codes
     }
 }
 
-/// The stored entries with more of them, which are not signed yet.
+/// The stored entries followed by more, which are not signed yet.
 fn with_entries(stored: PublicEntries, entries: &[Entry]) -> Result<PublicEntries, NoMemory>
     ensures { IfOk result (λ all. all ≡ stored ++ map without_signature entries.now) }
 {
@@ -89,9 +90,9 @@ fn with_entries(stored: PublicEntries, entries: &[Entry]) -> Result<PublicEntrie
     Ok(all)
 }
 
-/// The public record that the bytes spell, and they spell one.
+/// Decodes the public record that the bytes spell.
 fn stored_record(alloc: Global, bytes: &[u8]) -> Result<Public, NoMemory>
-    requires short { length bytes.now ≤ 4194304 }
+    requires short { length bytes.now ≤ FILE_LIMIT }
     requires some { SpellsRecord bytes.now }
     ensures { (public : Public) → Spells public_format bytes.now public → IfOk result (λ it. it ≡ public) }
 {
@@ -102,7 +103,7 @@ fn stored_record(alloc: Global, bytes: &[u8]) -> Result<Public, NoMemory>
     }
 }
 
-/// The public record with the codes that the order leaves and with the entries that it appends.
+/// The public record after an order that appends these entries.
 fn with_order(public: Public, order: Order, entries: &[Entry]) -> Result<Public, NoMemory>
     ensures { IfOk result (λ it. it ≡ with_order order.layer order.act entries.now public) }
 {
@@ -112,15 +113,15 @@ fn with_order(public: Public, order: Order, entries: &[Entry]) -> Result<Public,
     })
 }
 
-/// Replaces `public` of the room by the record with the order's codes and entries. The memory for the decoded record is
-/// given back.
+/// Replaces `public` of the room by the record after the order, which appends these entries. The memory of the decoded
+/// record is freed.
 fn next_record(
     alloc: Global,
     order: Order,
     entries: &[Entry],
     room: &mut Room,
 ) -> Result<(), NoMemory>
-    requires short { length room.old.public.items ≤ 4194304 }
+    requires short { length room.old.public.items ≤ FILE_LIMIT }
     requires takes { CanTake order.layer order.act entries.now room.old.public.items }
     ensures spelled { (public : Public) → Spells public_format room.old.public.items public
         → OnOk result (Spells public_format room.new.public.items (with_order order.layer order.act entries.now public)) }
@@ -132,7 +133,7 @@ fn next_record(
     Ok(())
 }
 
-/// The root that commits the plan, with the public record in the flash area that is not in force.
+/// The root record that commits the plan, with the public record in the inactive flash area.
 fn next_root(root: &Root, plan: &Plan) -> Root
     requires area { root.now.area ≤ 1 }
     requires few { length plan.now.bodies.entries ≤ 2 }
@@ -170,8 +171,8 @@ fn knows_more(known: &Known, entries: &[Entry]) -> Known
     }
 }
 
-/// The commit of the order, with its public record in `public` of the room. All memory is taken that the order needs,
-/// and nothing is written. `NoMemory` where an allocation fails, of which no clause says when.
+/// Plans the commit of the order, and leaves its public record in `public` of the room. Takes all memory that the order
+/// needs, and writes nothing.
 pub fn plan_commit<B: Board>(
     alloc: Global,
     b: &B,

@@ -1,7 +1,8 @@
-//! What a device remembers.
+//! What a device remembers of its state.
 
 ghost use Rattle.std.specs.Prelude.{◌≡◌, ◌≤◌, [], List, length};
 ghost use Rattle.mb_format.specs.Format.{Spells};
+ghost use Rattle.mb_model.specs.declared.limits.TheConstants.{FILE_LIMIT};
 ghost use Rattle.mb_model.specs.declared.entry.SignedEntry.{SignedEntry};
 ghost use Rattle.mb_model.specs.declared.state.Codes.{Codes};
 ghost use Rattle.mb_model.specs.declared.state.State.{State};
@@ -27,9 +28,10 @@ pub struct Known {
     pub figures: Figures,
 }
 
-/// The figures of the log in a public record whose every entry is signed. Nothing is said where the bytes spell none.
+/// The figures of the log in a public record whose every entry is signed. Bytes that spell no such record give arbitrary
+/// figures.
 fn figures_in(bytes: &[u8]) -> Figures
-    requires { length bytes.now ≤ 4194304 }
+    requires { length bytes.now ≤ FILE_LIMIT }
     ensures { (codes : Codes) (log : List SignedEntry) → Spells public_format bytes.now (public_of_parts codes log [])
         → result ≡ figures_of (entries_of log) }
 {
@@ -43,7 +45,7 @@ fn figures_in(bytes: &[u8]) -> Figures
     figures
 }
 
-/// What the memory of a device that is ready tells of its state. Nothing is written, and no memory is taken.
+/// Reads what the device remembers from its memory, which is ready. Takes no memory.
 #[tactic(auto, using(crate::proofs::Remembered::ready_root, crate::proofs::Remembered::some_begins))]
 pub fn remember<B: Board>(_up: &Up<R1>, b: &B, room: &mut Room) -> Known
     requires up { IsUp 1 (B.seen b.now) }

@@ -95,9 +95,9 @@ put_valid L name value number state new is same runs valid =
     valid_with state L now valid (λ upper. valid_over_put (entries_of state.log) state.layers L name value (region_of state L) (valid_is_ruled state valid) upper runs (region_is_valid state L upper valid)) in
     subst (λ (r : Region). IsValidState (with_region state L r)) (ap (λ (n : ℕ). region_with_secret (secret_of name value n) (region_of state L)) (sym same) ∙ sym is.is) next
 
-pub put_refused : (L : ℕ) (name value : List ℕ) (state : State) (memory : Memory) → is_full_for name (region_of state L) ≡ true → IsReady memory state
-    → IsAnswered (put_event L name value state) (reply.Refused 5) memory memory
-put_refused L name value state memory full ready = answered_as (put_full L name value state full) (tells refl ready)
+pub put_refused : (L : ℕ) (name value : List ℕ) (state : State) (answer : Reply) (memory : Memory) → answer ≡ refused RegionFull → is_full_for name (region_of state L) ≡ true → IsReady memory state
+    → IsAnswered (put_event L name value state) answer memory memory
+put_refused L name value state answer memory told full ready = answered_as (put_full L name value state full) (tells told ready)
 
 pub put_told : (L : ℕ) (name value : List ℕ) (number : ℕ) (state : State) (new : Region) (before after : Memory) → IsPut (region_of state L) (secret_of name value number) new → number ≡ number_of (entries_of state.log)
     → Runnable state.layers L → IsReady before state → (IsValidState (with_region state L new) → IsReady after (with_region state L new))

@@ -5,6 +5,7 @@ use Rattle.std.proofs.lemmas.Bool.{le-leb}
 use Rattle.mb_format.specs.Format.{IsBytes}
 use Rattle.mb_model.specs.declared.key.KeySeed.{KeySeed}
 use Rattle.mb_model.specs.declared.region.RegionKey.{RegionKey}
+use Rattle.mb_model.specs.declared.reply.Reply.{Reply}
 use Rattle.mb_model.specs.declared.reply.Reply.TheVariants as reply
 use Rattle.mb_model.specs.declared.state.State.{State}
 use Rattle.mb_model.specs.Board.{Memory, IsLoaded}
@@ -60,13 +61,13 @@ spent_key L number message state is =
 still_ready : (before after : Memory) (state : State) → after ≡ before → IsReady before state → IsReady after state
 still_ready before after state same ready = subst (λ (m : Memory). IsReady m state) (sym same) ready
 
-pub no_key_told : (L number : ℕ) (message : List ℕ) (state : State) (before after : Memory) → find (has_number number) (region_of state L).keys ≡ None → after ≡ before → IsReady before state
-    → IsAnswered (sign_event L number message state) (reply.Refused 6) before after
-no_key_told L number message state before after none same ready = answered_as (no_key L number message state none) (tells refl (still_ready before after state same ready))
+pub no_key_told : (L number : ℕ) (message : List ℕ) (state : State) (answer : Reply) (before after : Memory) → answer ≡ refused NoSuchKey → find (has_number number) (region_of state L).keys ≡ None → after ≡ before → IsReady before state
+    → IsAnswered (sign_event L number message state) answer before after
+no_key_told L number message state answer before after told none same ready = answered_as (no_key L number message state none) (tells told (still_ready before after state same ready))
 
-pub spent_told : (L number : ℕ) (message : List ℕ) (state : State) (before after : Memory) → IsSpent (region_of state L) number → after ≡ before → IsReady before state
-    → IsAnswered (sign_event L number message state) (reply.Refused 7) before after
-spent_told L number message state before after is same ready = answered_as (spent_key L number message state is) (tells refl (still_ready before after state same ready))
+pub spent_told : (L number : ℕ) (message : List ℕ) (state : State) (answer : Reply) (before after : Memory) → answer ≡ refused KeySpent → IsSpent (region_of state L) number → after ≡ before → IsReady before state
+    → IsAnswered (sign_event L number message state) answer before after
+spent_told L number message state answer before after told is same ready = answered_as (spent_key L number message state is) (tells told (still_ready before after state same ready))
 
 -- ---- a signature
 

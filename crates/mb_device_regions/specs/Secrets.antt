@@ -1,7 +1,8 @@
--- What becomes of the secrets of a region in memory. Is a secret of another name ever lost?
+-- How secrets are put into a region and dropped from it. Is a secret of another name ever lost?
 use Rattle.std.specs.Prelude.{◌≡◌, ◌≢◌, ℕ, nat_le, Bool, true, false, not, ◌&&◌, List, length, AllPairs}
 use Rattle.std.specs.Prelude.{Result, Ok, Err, Option, Some, None}
 use Rattle.std.specs.List.{list_any}
+use Rattle.mb_model.specs.declared.limits.TheConstants.{SECRET_LIMIT}
 use Rattle.mb_model.specs.declared.region.Region.{Region}
 use Rattle.mb_model.specs.declared.region.Secret.{Secret}
 use Rattle.mb_model.specs.LayerEvents.{has_name, with_secret}
@@ -17,7 +18,7 @@ pub record IsKeptRegion (region : Region) : Type 0 where
 
 -- the region has no secret of this name, and as many as it can have
 abbrev pub is_full_for : List ℕ → Region → Bool
-is_full_for name region = not (list_any (has_name name) region.secrets) && nat_le 16 (length region.secrets)
+is_full_for name region = not (list_any (has_name name) region.secrets) && nat_le SECRET_LIMIT (length region.secrets)
 
 -- the region with the secret in place of the one that has its name, or after the others
 abbrev pub region_with_secret : Secret → Region → Region
@@ -28,18 +29,18 @@ pub record IsPut (old : Region) (secret : Secret) (new : Region) : Type 0 where
   pub room : is_full_for secret.name old ≡ false
   pub is : new ≡ region_with_secret secret old
 
--- what putting a secret comes to
+-- the result of putting a secret
 abbrev pub PutOf : Region → Secret → Result (Unit {0}) NotPut → Region → Type 0
 PutOf old secret (Ok u) new = IsPut old secret new
 PutOf old secret (Err Full) new = is_full_for secret.name old ≡ true
 PutOf old secret (Err NoMemory) new = Unit {0}
 
--- there was such a secret, and it was taken out
+-- there was such a secret, and it was removed
 pub record IsDropped (old : Region) (name : List ℕ) (new : Region) : Type 0 where
   pub there : list_any (has_name name) old.secrets ≡ true
   pub is : new ≡ without_secret name old
 
--- what dropping a secret comes to
+-- the result of dropping a secret
 abbrev pub DropOf : Region → List ℕ → Bool → Region → Type 0
 DropOf old name true new = IsDropped old name new
 DropOf old name false new = list_any (has_name name) old.secrets ≡ false
@@ -49,13 +50,13 @@ DropOf old name false new = list_any (has_name name) old.secrets ≡ false
 abbrev pub secret_of : List ℕ → List ℕ → ℕ → Secret
 secret_of name value number = record { name = name; value = value; born = number }
 
--- what putting a secret into a copy of the region comes to
+-- the result of putting a secret into a copy of the region
 abbrev pub PutsInto : Region → Secret → Result Region NotPut → Type 0
 PutsInto old secret (Ok new) = IsPut old secret new
 PutsInto old secret (Err Full) = is_full_for secret.name old ≡ true
 PutsInto old secret (Err NoMemory) = Unit {0}
 
--- what dropping a secret from a copy of the region comes to
+-- the result of dropping a secret from a copy of the region
 abbrev pub DropsFrom : {E : Type 0} → Region → List ℕ → Result (Option Region) E → Type 0
 DropsFrom old name (Ok (Some new)) = IsDropped old name new
 DropsFrom old name (Ok None) = list_any (has_name name) old.secrets ≡ false

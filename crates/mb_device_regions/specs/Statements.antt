@@ -6,13 +6,14 @@ use Rattle.mb_model.specs.ChainFormat.{statement_format}
 use Rattle.mb_model.specs.Signing.{signature_of}
 use Rattle.mb_model.specs.SignedTexts.{statement_text}
 use Rattle.mb_device_regions.specs.declared.signing.Prepared.{Prepared}
+use Rattle.mb_device_regions.specs.declared.signing.TheConstants.{STATEMENT_LENGTH}
 
 -- the message is copied, and there is room for the longest statement
 pub record IsPreparedMessage (message : List ℕ) (prepared : Prepared) : Type 0 where
   pub copied : prepared.message ≡ message
   pub empty : prepared.bytes.items ≡ []
   pub none : vec_len prepared.bytes ≡ 0
-  pub room : 2481 ≤ vec_capacity prepared.bytes
+  pub room : STATEMENT_LENGTH ≤ vec_capacity prepared.bytes
 
 -- the bytes of the statement that this key signs at the index, in the device with this serial
 abbrev pub signed_statement_bytes : KeySeed → ℕ → ℕ → List ℕ → ℕ → List ℕ → List ℕ

@@ -1,12 +1,12 @@
-//! Why no secret was put.
+//! Why a secret was not put.
 
 ghost use Rattle.std.specs.Prelude.{◌≡◌};
 
 use mb_model::NoMemory;
 
-/// Why no secret was put.
+/// Why a secret was not put into a region.
 pub(crate) enum NotPut {
-    /// The region has 16 secrets of other names.
+    /// The region holds as many secrets as it can, all of other names.
     Full,
     /// An allocation failed.
     NoMemory,

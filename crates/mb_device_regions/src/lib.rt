@@ -1,9 +1,9 @@
-//! What layers do with their regions: they keep secrets, tell them and forget them, and sign messages.
+//! What layers do with their regions: they keep, read and drop secrets, and sign messages.
 //!
-//! This crate owns how an event of a layer is answered whose layer may run and is reached: from the stored region,
-//! in memory that is all taken before anything is written, with the region replaced wholly or not at all and the
-//! area before it wiped before the answer. What each event comes to is defined in `mb_model` (`LayerEvents`), and
-//! what an answer says of the memory in `mb_model_memory` (`Answering`).
+//! This crate owns the answers to the events by which a layer uses its region, once the layer may run and is reached.
+//! An answer is made from the stored region. All memory is taken before anything is written; the region is replaced
+//! wholly or not at all, and its old area is wiped before the answer. The outcome of each event is defined in
+//! `mb_model` (`LayerEvents`), and what an answer says of the memory in `mb_model_memory` (`Answering`).
 #![tactic(auto)]
 
 mod end;

@@ -20,13 +20,10 @@ use crate::named::{drop_in, put_in, value_in};
 use crate::stored::{load, replace};
 use mb_board::Board;
 use mb_layout::Room;
-use mb_model::{Bytes, NoMemory, Region, Reply, Secret};
+use mb_model::{Bytes, NoMemory, Refusal, Region, Reply, Secret};
 use mb_ratchet::{Off, Reaches};
 use mb_region::Named;
 use std::alloc::Global;
-
-/// The number of the refusal where a region has no room for a secret.
-const REGION_FULL: u8 = 5;
 
 /// The stored region with this secret.
 fn region_with<S: Reaches<L>, L: Named, B: Board>(
@@ -57,9 +54,9 @@ fn region_with<S: Reaches<L>, L: Named, B: Board>(
     Ok(region)
 }
 
-/// Answers a put: the secret is kept, or refused where the region has 16 secrets of other names. The layer may run, and
-/// the number is the configuration number. Where power fails the secret is kept or not, as a whole. There are at most
-/// three write calls. `NoMemory` where an allocation fails, of which no clause says when.
+/// Answers a put: the secret is kept, or refused if the region is full of secrets of other names. The layer may run, and
+/// `number` is the configuration number. If power fails, the secret is kept as a whole or not at all. There are at most
+/// three write calls.
 pub fn put_secret<S: Reaches<L>, L: Named, B: Board>(
     alloc: Global,
     s: S,
@@ -82,15 +79,14 @@ pub fn put_secret<S: Reaches<L>, L: Named, B: Board>(
 {
     let region = match region_with::<S, L, B>(alloc, &s, b, name, value, number, room) {
         Ok(region) => region,
-        Err(NotPut::Full) => return Ok((s, Reply::Refused(REGION_FULL))),
+        Err(NotPut::Full) => return Ok((s, Refusal::RegionFull.reply())),
         Err(NotPut::NoMemory) => return Ok((s, Reply::NoMemory)),
     };
     let s = replace::<S, L, B>(s, b, &region, room)?;
     Ok((s, Reply::Kept))
 }
 
-/// Answers a get: the value of the secret with the name, or that there is none. Nothing is written. `NoMemory` where an
-/// allocation fails, of which no clause says when.
+/// Answers a get: the value of the secret with the name, or that there is none. Writes nothing.
 pub fn get_secret<S: Reaches<L>, L: Named, B: Board>(
     alloc: Global,
     s: &S,
@@ -110,7 +106,7 @@ pub fn get_secret<S: Reaches<L>, L: Named, B: Board>(
     }
 }
 
-/// The stored region without the secret of the name; none where there is no such secret.
+/// The stored region without the secret with the name; none if there is no such secret.
 fn region_without<S: Reaches<L>, L: Named, B: Board>(
     alloc: Global,
     s: &S,
@@ -133,9 +129,8 @@ fn region_without<S: Reaches<L>, L: Named, B: Board>(
     }
 }
 
-/// Answers a drop: the secret with the name is forgotten, or there is none and nothing is written. The layer may run.
-/// Where power fails the secret is forgotten or not, as a whole. There are at most three write calls. `NoMemory` where
-/// an allocation fails, of which no clause says when.
+/// Answers a drop: the secret with the name is dropped, or there is none and nothing is written. The layer may run. If
+/// power fails, the secret is dropped as a whole or not at all. There are at most three write calls.
 pub fn drop_secret<S: Reaches<L>, L: Named, B: Board>(
     alloc: Global,
     s: S,

@@ -1,4 +1,4 @@
-//! Messages that a layer has signed.
+//! Statements: messages that a key of a region signs.
 
 ghost use Rattle.std.specs.Prelude.{◌≡◌, ◌+◌, ◌≤◌, ◌<◌, length, IfOk};
 ghost use Rattle.mb_model.specs.declared.state.State.{State};
@@ -16,7 +16,7 @@ use mb_board::Board;
 use mb_cert::{Statement, write_statement};
 use mb_layout::Room;
 use mb_lms::HashCount;
-use mb_model::{Bytes, KeySeed, NoMemory, Reply};
+use mb_model::{Bytes, KeySeed, MESSAGE_LIMIT, NoMemory, Refusal, Reply, SIGNATURE_LENGTH};
 use mb_outbound::{BindEnd, bind, state_text};
 use mb_ratchet::{Off, Reaches};
 use mb_region::Named;
@@ -24,21 +24,14 @@ use mb_signer::OneUse;
 use std::alloc::Global;
 use std::sync::ledger::Ledger;
 
-/// The number of the refusal where a region has no such key.
-const NO_SUCH_KEY: u8 = 6;
-
-/// The number of the refusal where the indices of a key are used.
-const KEY_SPENT: u8 = 7;
-
-/// The most bytes of a statement.
-const STATEMENT_LENGTH: usize = 2481;
+/// The longest statement, in bytes: a configuration number, a message after its length, and a signature.
+const STATEMENT_LENGTH: usize = 5 + MESSAGE_LIMIT as usize + SIGNATURE_LENGTH;
 
 /// The memory that a statement takes.
 #[derive(Drop)]
 struct Prepared {
-    /// The message.
     message: Bytes,
-    /// Room for the statement, 2,481 bytes.
+    /// Room for the longest statement.
     bytes: Vec<u8>,
 }
 
@@ -53,8 +46,8 @@ fn prepare(alloc: Global, message: &Bytes) -> Result<Prepared, NoMemory>
     })
 }
 
-/// The bytes of the statement that the key with this number signs. The right is spent, and no memory is taken.
-fn state<Lg: Ledger>(
+/// Signs a statement with the key of this number, and spells it. The right is spent. Takes no memory.
+fn make_statement<Lg: Ledger>(
     right: OneUse,
     seed: &KeySeed,
     key: u32,
@@ -63,12 +56,12 @@ fn state<Lg: Ledger>(
     prepared: Prepared,
     hashes: &mut HashCount<Lg>,
 ) -> Bytes
-    requires short { length prepared.message ≤ 128 }
+    requires short { length prepared.message ≤ MESSAGE_LIMIT }
     requires prepared { IsPreparedMessage prepared.message prepared }
     ensures statement { result ≡ signed_statement_bytes seed.now right key serial.now number prepared.message }
     ensures cost { hashes.new ≤ hashes.old + 35473 }
 {
-    let mut signature = [0; 2348];
+    let mut signature = [0; SIGNATURE_LENGTH];
     let Prepared { message, mut bytes } = prepared;
     state_text(
         right,
@@ -91,11 +84,10 @@ fn state<Lg: Ledger>(
     }
 }
 
-/// Answers a request to sign: the statement of the message by the key with this number at its next index, or a refusal
-/// where the region has no such key or none of its indices is left. The layer may run, and serial and number are those
-/// of the device. One more use of the key is stored before it signs, so no index signs twice; where power fails, the
-/// use is stored or not. There are at most three write calls, and 35,473 hashes. `NoMemory` where an allocation fails,
-/// of which no clause says when.
+/// Answers a request to sign: a statement of the message, signed by the key with number `key` at its next index, or a
+/// refusal if the region has no such key or the key has no index left. The layer may run, and `serial` and `number` are
+/// the device's serial and configuration number. One more use of the key is stored before it signs, so that no index
+/// signs twice; if power fails, the use is stored or not. There are at most three write calls and 35,473 hashes.
 pub fn sign_message<S: Reaches<L>, L: Named, B: Board, Lg: Ledger>(
     alloc: Global,
     s: S,
@@ -125,7 +117,7 @@ pub fn sign_message<S: Reaches<L>, L: Named, B: Board, Lg: Ledger>(
     match bind::<S, L, B>(s, b, key, room) {
         Ok((s, right, seed)) => {
             let index = right.index();
-            let statement = state(right, &seed, key, serial, number, prepared, hashes);
+            let statement = make_statement(right, &seed, key, serial, number, prepared, hashes);
             Ok((
                 s,
                 Reply::Signed {
@@ -135,8 +127,8 @@ pub fn sign_message<S: Reaches<L>, L: Named, B: Board, Lg: Ledger>(
                 },
             ))
         }
-        Err(BindEnd::NoKey(s)) => Ok((s, Reply::Refused(NO_SUCH_KEY))),
-        Err(BindEnd::Spent(s)) => Ok((s, Reply::Refused(KEY_SPENT))),
+        Err(BindEnd::NoKey(s)) => Ok((s, Refusal::NoSuchKey.reply())),
+        Err(BindEnd::Spent(s)) => Ok((s, Refusal::KeySpent.reply())),
         Err(BindEnd::Stopped(off)) => Err(off),
     }
 }

@@ -21,7 +21,7 @@ use mb_ratchet::{Off, Reaches};
 use mb_region::{Named, commit_region, read_stored, wipe_region};
 use std::alloc::Global;
 
-/// The stored region. `NoMemory` where an allocation fails.
+/// Reads the stored region.
 pub(crate) fn load<S: Reaches<L>, L: Named, B: Board>(
     alloc: Global,
     s: &S,
@@ -38,7 +38,7 @@ pub(crate) fn load<S: Reaches<L>, L: Named, B: Board>(
     read_stored::<S, L, B>(alloc, s, b, room)
 }
 
-/// Replaces the stored region by this one, and then wipes the area before it.
+/// Replaces the stored region by this one, and then wipes its old area.
 fn exchange<S: Reaches<L>, L: Named, B: Board>(
     s: S,
     b: &mut B,
@@ -59,8 +59,8 @@ fn exchange<S: Reaches<L>, L: Named, B: Board>(
     wipe_region::<S, L, B>(s, b)
 }
 
-/// Makes this the region of the state for which the memory stands, which it stays where power fails too early. There are
-/// at most three write calls.
+/// Makes this the region of the state for which the memory stands. If power fails, the memory stands for the state with
+/// the old region or with this one. There are at most three write calls.
 pub(crate) fn replace<S: Reaches<L>, L: Named, B: Board>(
     s: S,
     b: &mut B,

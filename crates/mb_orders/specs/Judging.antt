@@ -1,4 +1,4 @@
--- What judging an order comes to: a plan, or the first check that the order fails. Is it what the rules say?
+-- The result of judging an order: a plan, or the first check that the order fails. Is it what the rules say?
 use Rattle.std.specs.Prelude.{◌≡◌, List, ℕ, Option, None, Some, Result, Ok, Err}
 use Rattle.mb_model.specs.declared.layer.Layers.{Layers}
 use Rattle.mb_model.specs.declared.order.Countersignature.{Countersignature}
@@ -22,12 +22,12 @@ abbrev pub IsSignedOver : Layers → Order → List ℕ → Type 0
 IsSignedOver layers order body =
     IsSignedBy (authority layers (change_by order) order.layer) (order_text body) order.signature
 
--- the owner of its layer gave a countersignature of the order with this body
+-- the owner of its layer gave this countersignature of the order with this body
 abbrev pub IsCountersignedOver : Layers → List ℕ → Countersignature → Type 0
 IsCountersignedOver layers body by =
     IsSignedBy (layer_of layers by.layer).owner (countersigned_text by.layer body) by.signature
 
--- the refusal that an end tells: want of memory tells none
+-- the device's refusal for an end: none where an allocation failed
 abbrev pub refusal_of : JudgeEnd → Option Refusal
 refusal_of (end.Target i) = Some (WrongTarget i)
 refusal_of end.State = Some WrongState
@@ -42,12 +42,12 @@ abbrev pub FailsFor : View → Order → Option Refusal → Type 0
 FailsFor view order (Some refusal) = Fails view order refusal
 FailsFor view order None = Unit {0}
 
--- what the checks come to
+-- the result of the checks
 abbrev pub ChecksBy : View → Order → Result (Unit {0}) JudgeEnd → Type 0
 ChecksBy view order (Ok passed) = Passes view order
 ChecksBy view order (Err end) = FailsFor view order (refusal_of end)
 
--- what an order comes to that passes every check
+-- the effect of an order that passes every check
 unfoldable pub plan_by : View → Order → List ℕ → Plan
 plan_by view order draw =
     let fact = fact_of view.layers order order.act in
@@ -59,7 +59,7 @@ plan_by view order draw =
       three = region_fate view.layers fact bodies.key 3;
     }
 
--- what judging the order by these figures, with this draw, comes to
+-- the result of judging the order by these figures, with this draw
 abbrev pub Judges : View → Order → List ℕ → Result Plan JudgeEnd → Type 0
 Judges view order draw (Ok plan) = Passes view order × (plan ≡ plan_by view order draw)
 Judges view order draw (Err end) = FailsFor view order (refusal_of end)

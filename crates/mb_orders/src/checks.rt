@@ -11,8 +11,7 @@ use mb_command::signed_part;
 use mb_model::{Order, View};
 use std::alloc::Global;
 
-/// Whether the order passes every check. The error tells the first check that it fails. `NoMemory` where an allocation
-/// fails, of which no clause says when.
+/// Tries every check on the order, which has a spelling. The error is the first check that it fails.
 pub fn check(alloc: Global, view: &View, order: &Order) -> Result<(), JudgeEnd>
     requires { order_format.Allowed order.now }
     ensures { ChecksBy view.now order.now result }

@@ -2,6 +2,7 @@
 
 ghost use Rattle.std.specs.Prelude.{◌≡◌, ◌+◌, ◌≤◌, OnErr};
 ghost use Rattle.mb_model.specs.OrderFormat.{order_format};
+ghost use Rattle.mb_log.specs.Additions.{IsInRange};
 ghost use Rattle.mb_orders.specs.Judging.{Judges};
 
 use crate::checks::check;
@@ -12,11 +13,10 @@ use mb_model::{Order, View};
 use std::alloc::Global;
 use std::sync::ledger::Ledger;
 
-/// What the order comes to in a device with these figures, with a draw of which its keys are made, in at most 68,798
-/// hashes: those of two public keys. The order has a spelling.
+/// Judges the order, which has a spelling, by the figures of a device. The plan of an order that passes every check
+/// derives new keys from `draw`, in at most 68,798 hashes: those of two public keys.
 ///
-/// Errors: the first check that the order fails; and `NoMemory`, of which no clause says when it comes. No step is
-/// taken then.
+/// Errors: the first check that the order fails. Nothing is hashed then.
 pub fn judge<L: Ledger>(
     alloc: Global,
     view: &View,
@@ -25,9 +25,7 @@ pub fn judge<L: Ledger>(
     hashes: &mut HashCount<L>,
 ) -> Result<Plan, JudgeEnd>
     requires spelled { order_format.Allowed order.now }
-    requires uses { view.now.uses ≤ 31 }
-    requires number { view.now.number ≤ 128 }
-    requires keys_made { view.now.keys_made ≤ 128 }
+    requires range { IsInRange view.now }
     ensures judged { Judges view.now order.now draw.now result }
     ensures cost { hashes.new ≤ hashes.old + 68798 }
     ensures unhashed { OnErr result (hashes.new ≡ hashes.old) }

@@ -1,7 +1,7 @@
 //! Whether an order is obeyed, and what it comes to.
 //!
-//! This crate owns the checks of an order in the order in which they are tried, and the plan of an order that
-//! passes: the layers afterwards, the entries and keys that it adds, and what becomes of each region.
+//! This crate owns the checks of an order, which are tried in a fixed sequence, and the plan of an order that passes:
+//! the layers afterwards, the entries and keys that it adds, and what becomes of each region.
 #![tactic(auto)]
 
 mod checks;

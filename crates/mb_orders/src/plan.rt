@@ -1,4 +1,4 @@
-//! What an order comes to that passes every check.
+//! The effect of an order that passes every check.
 
 ghost use Rattle.std.specs.Prelude.{◌≡◌, ◌+◌, ◌≤◌, ◌==◌, IfOk, OnErr};
 ghost use Rattle.std.specs.List.{list_any};
@@ -6,6 +6,7 @@ ghost use Rattle.mb_model.specs.OrderChecks.{LogHasRoom};
 ghost use Rattle.mb_model.specs.OrderEffects.{cosigned_by, change_fact, fact_of, layers_after};
 ghost use Rattle.mb_model.specs.Fates.{change_fate};
 ghost use Rattle.mb_model.specs.Work.{region_fate};
+ghost use Rattle.mb_log.specs.Additions.{IsInRange};
 ghost use Rattle.mb_orders.specs.Judging.{plan_by};
 
 use mb_authority::{admits, after, kept_regions, layer_of, placed};
@@ -17,12 +18,12 @@ use mb_model::{
 use std::alloc::Global;
 use std::sync::ledger::Ledger;
 
-/// What an order comes to.
+/// The effect of an order.
 #[derive(Drop)]
 pub struct Plan {
     /// The layers afterwards.
     pub layers: Layers,
-    /// The entries that are appended, and the keys that are made.
+    /// The entries that the order appends, and the keys that it makes.
     pub bodies: Bodies,
     /// What becomes of region 2.
     pub two: Fate,
@@ -48,7 +49,7 @@ fn cosigned_by(order: &Order) -> Pair
     }
 }
 
-/// What the order makes true, which makes a change of the kind.
+/// The fact of an order that makes a change of the kind.
 fn change_fact(layers: &Layers, kind: ChangeKind, order: &Order) -> Fact
     ensures { result ≡ change_fact layers.now kind order.now }
 {
@@ -63,7 +64,7 @@ fn change_fact(layers: &Layers, kind: ChangeKind, order: &Order) -> Fact
     }
 }
 
-/// What the order makes true.
+/// The fact that the order makes true.
 fn fact_of(layers: &Layers, order: &Order) -> Fact
     ensures { result ≡ fact_of layers.now order.now order.now.act }
 {
@@ -79,7 +80,7 @@ fn fact_of(layers: &Layers, order: &Order) -> Fact
     }
 }
 
-/// The layers after what an order makes true.
+/// The layers after the fact.
 fn layers_after(layers: &Layers, fact: &Fact) -> Layers
     ensures { result ≡ layers_after layers.now fact.now }
 {
@@ -102,7 +103,7 @@ fn change_fate(layers: &Layers, kind: ChangeKind, layer: u8, cosigned: Pair, reg
     }
 }
 
-/// What becomes of a region by what an order makes true, with the key that the order makes.
+/// What the fact does to a region. `key` is the key that the order makes.
 fn fate_of(layers: &Layers, fact: &Fact, key: Option<RegionKey>, region: u8) -> Fate
     ensures { result ≡ region_fate layers.now fact.now key region }
 {
@@ -121,8 +122,7 @@ fn fate_of(layers: &Layers, fact: &Fact, key: Option<RegionKey>, region: u8) -> 
     }
 }
 
-/// What the order comes to, which passes every check, with a draw of which its keys are made. `NoMemory` where an
-/// allocation fails, of which no clause says when.
+/// Plans an order that passes every check. New keys are derived from `draw`.
 pub fn make_plan<L: Ledger>(
     alloc: Global,
     view: &View,
@@ -130,9 +130,7 @@ pub fn make_plan<L: Ledger>(
     draw: &[u8; 32],
     hashes: &mut HashCount<L>,
 ) -> Result<Plan, NoMemory>
-    requires uses { view.now.uses ≤ 31 }
-    requires number { view.now.number ≤ 128 }
-    requires keys_made { view.now.keys_made ≤ 128 }
+    requires range { IsInRange view.now }
     requires room { LogHasRoom view.now order.now }
     ensures planned { IfOk result (λ plan. plan ≡ plan_by view.now order.now draw.now) }
     ensures cost { hashes.new ≤ hashes.old + 68798 }

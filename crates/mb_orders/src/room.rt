@@ -5,20 +5,14 @@ ghost use Rattle.mb_model.specs.OrderChecks.{region_keys, LogHasRoom, RegionHasR
 
 use mb_authority::{change_by, renews};
 use mb_log::needed;
-use mb_model::{Act, Order, View};
-
-/// The most entries of a log.
-const LOG_LIMIT: u32 = 128;
-
-/// The most keys of a region.
-const KEY_LIMIT: u32 = 8;
+use mb_model::{Act, ENTRY_LIMIT, KEY_LIMIT, Order, View};
 
 /// Whether the log has room for the order's entries.
 pub fn log_has_room(view: &View, order: &Order) -> bool
     ensures { IsTrue result ↔ LogHasRoom view.now order.now }
 {
     let renews = renews(change_by(order), order.layer);
-    view.length <= LOG_LIMIT - needed(view.uses, renews)
+    view.length <= ENTRY_LIMIT as u32 - needed(view.uses, renews)
 }
 
 /// How many keys the layer's region has; only layers 2 and 3 have one.
@@ -32,12 +26,12 @@ fn keys_in(view: &View, layer: u8) -> u32
     }
 }
 
-/// Whether the region has room for a key, where the order makes one.
+/// Whether the layer's region has room for the key that the order makes; true for an order that makes none.
 pub fn region_has_room(view: &View, order: &Order) -> bool
     ensures { IsTrue result ↔ RegionHasRoom view.now order.now.layer order.now.act }
 {
     match &order.act {
-        Act::NewKey { .. } => keys_in(view, order.layer) < KEY_LIMIT,
+        Act::NewKey { .. } => keys_in(view, order.layer) < KEY_LIMIT as u32,
         Act::Establish { .. } | Act::Surrender | Act::Load(_) | Act::Emergency(_) => true,
     }
 }

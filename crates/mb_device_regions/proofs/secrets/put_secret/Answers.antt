@@ -4,7 +4,7 @@ use Rattle.mb_device_regions.proofs.secrets.put_secret.Goals as goal
 
 pub returns-in-Err-Full-clause-told : goal.returns-in-Err-Full-clause-told
 returns-in-Err-Full-clause-told g c = λ state ready runs same.
-    put_refused g.L.Place.place c.args.name.now c.args.value.now state _ (rw c.in-Err-Full.field-0-is at (c.in-Err-Full.ensures.put state ready)) ready
+    put_refused g.L.Place.place c.args.name.now c.args.value.now state c.reply.result _ c.reply.ensures (rw c.in-Err-Full.field-0-is at (c.in-Err-Full.ensures.put state ready)) ready
 
 pub returns-in_err-s-clause-told : goal.returns-in_err-s-clause-told
 returns-in_err-s-clause-told g c = λ state ready runs same. (

@@ -9,7 +9,7 @@ bind-requires-clause-held g c = held_ordered g.L.Place.place _ g.met.L.Named.nam
 pub returns-in-Ok-bind-clause-told : goal.returns-in-Ok-bind-clause-told
 returns-in-Ok-bind-clause-told g c = λ state ready runs serial_is number_is. (
     let held = region_held g.L.Place.place _ state g.met.L.Named.named ready in
-    signed_told g.L.Place.place c.args.key c.in-Ok-bind.right c.index-index.result c.in-Ok-bind.seed c.args.serial.now c.args.number c.in-Ok.prepared.message c.args.message.now c.state-statement.result state _ _ g.met.L.Named.named
+    signed_told g.L.Place.place c.args.key c.in-Ok-bind.right c.index-index.result c.in-Ok-bind.seed c.args.serial.now c.args.number c.in-Ok.prepared.message c.args.message.now c.make_statement-statement.result state _ _ g.met.L.Named.named
     (c.in-Ok-bind.ensures.bound (region_of state g.L.Place.place) held)
     (record {
       bytes = c.requires.can_answer.bytes;
@@ -19,18 +19,18 @@ returns-in-Ok-bind-clause-told g c = λ state ready runs serial_is number_is. (
       blank = c.in-Ok-bind.ensures.blank;
       rest = c.in-Ok-bind.ensures.rest;
     })
-    (record { serial_is = serial_is; number_is = number_is }) c.in-Ok.ensures.copied c.index-index.ensures.value c.state-statement.ensures.statement runs ready)
+    (record { serial_is = serial_is; number_is = number_is }) c.in-Ok.ensures.copied c.index-index.ensures.value c.make_statement-statement.ensures.statement runs ready)
 
 pub returns-in-Err-NoKey-clause-told : goal.returns-in-Err-NoKey-clause-told
 returns-in-Err-NoKey-clause-told g c = λ state ready runs serial_is number_is. (
     let held = region_held g.L.Place.place _ state g.met.L.Named.named ready in
-    no_key_told g.L.Place.place c.args.key c.args.message.now state _ _
+    no_key_told g.L.Place.place c.args.key c.args.message.now state c.reply.result _ _ c.reply.ensures
     (rw c.in-Err-NoKey.field-0-is at (c.in-Err-NoKey.ensures.bound (region_of state g.L.Place.place) held)) (rw c.in-Err-NoKey.field-0-is at c.in-Err-NoKey.ensures.unwritten).0 ready)
 
 pub returns-in-Err-Spent-clause-told : goal.returns-in-Err-Spent-clause-told
 returns-in-Err-Spent-clause-told g c = λ state ready runs serial_is number_is. (
     let held = region_held g.L.Place.place _ state g.met.L.Named.named ready in
-    spent_told g.L.Place.place c.args.key c.args.message.now state _ _
+    spent_told g.L.Place.place c.args.key c.args.message.now state c.reply-in-Err-Spent.result _ _ c.reply-in-Err-Spent.ensures
     (rw c.in-Err-Spent.field-0-is at (c.in-Err-Spent.ensures.bound (region_of state g.L.Place.place) held)) (rw c.in-Err-Spent.field-0-is at c.in-Err-Spent.ensures.unwritten).0 ready)
 
 pub returns-clause-told : goal.returns-clause-told

@@ -1,0 +1,74 @@
+use Rattle.std.proofs.Common.{◌≡◌, ℕ, ◌≤◌, ◌∙◌, true, false, sym, subst, inr}
+use Rattle.mb_model.specs.Layers.{is_runnable}
+use Rattle.mb_board.specs.Calls.{held_in, IsUp}
+use Rattle.mb_device.specs.declared.device.Device.{Device}
+use Rattle.mb_device.specs.Sound.{Fits, Steps}
+use Rattle.mb_device.proofs.Uses.{IsUse, is_up, remembers, use_ready, use_told, use_cut, use_refused, answer_goes_on, metered_by}
+use Rattle.mb_device.proofs.regions.use_at.Goals as goal
+
+pub ask-requires-clause-can_answer : goal.ask-requires-clause-can_answer
+ask-requires-clause-can_answer g c =
+    let has = c.requires.sound in
+    let own = g.met.S.Runs.runs c.args.s c.args.running has.world has.sound.fits in
+    let knows = remembers (g.S.Runs.holder c.args.s c.args.running) g.S.Runs.level (g.B.Board.seen c.args.b.now) c.args.running has.world has.sound own in
+    record {
+      up = subst (λ (n : ℕ). IsUp n (g.B.Board.seen c.args.b.now)) (sym c.requires.level) (is_up (g.S.Runs.holder c.args.s c.args.running) g.S.Runs.level (g.B.Board.seen c.args.b.now) has.world has.sound own.phase);
+      bytes = c.requires.bytes;
+      ready = record { state = knows.state; ready = knows.ready };
+    }
+
+pub ask-requires-clause-remembered : goal.ask-requires-clause-remembered
+ask-requires-clause-remembered g c =
+    let has = c.requires.sound in
+    remembers (g.S.Runs.holder c.args.s c.args.running) g.S.Runs.level (g.B.Board.seen c.args.b.now) c.args.running has.world has.sound (g.met.S.Runs.runs c.args.s c.args.running has.world has.sound.fits)
+
+pub returns-then-not-may_run-clause-steps : goal.returns-then-not-may_run-clause-steps
+returns-then-not-may_run-clause-steps g c = λ world sound.
+    let own = g.met.S.Runs.runs c.args.s c.args.running world sound.fits in
+    let barred : is_runnable c.args.running.known.figures.layers g.L.Place.place ≡ false = subst (λ (n : ℕ). is_runnable c.args.running.known.figures.layers n ≡ false) c.number.ensures (sym c.if-not-may_run.ensures) in
+    subst (λ (d : Device). Steps world c.args.event.now c.reply.result d (held_in (g.B.Board.seen c.args.b.now))) (sym c.into_device.ensures)
+    (use_refused (g.S.Runs.holder c.args.s c.args.running) g.S.Runs.level g.L.Place.place c.args.running (held_in (g.B.Board.seen c.args.b.now)) world c.args.event.now c.reply.result c.requires.event c.requires.region c.reply.ensures sound own sound.fits (inr barred))
+
+pub returns-in-Ok-clause-steps : goal.returns-in-Ok-clause-steps
+returns-in-Ok-clause-steps g c = λ world sound.
+    let own = g.met.S.Runs.runs c.args.s c.args.running world sound.fits in
+    let up = is_up (g.S.Runs.holder c.args.s c.args.running) g.S.Runs.level (g.B.Board.seen c.args.b.now) world sound own.phase in
+    let used : IsUse g.S.Runs.level g.L.Place.place (g.S.Runs.holder c.args.s c.args.running) c.args.running c.args.event.now (g.B.Board.seen c.args.b.now).memory (g.B.Board.seen c.args.b.now).power (g.B.Board.seen c.args.b.now).level (g.B.Board.seen c.args.b.now).meter world = record {
+      sound = sound;
+      own = own;
+      layer = c.requires.event;
+      named = c.requires.region;
+      here = subst (λ (n : ℕ). n ≤ g.L.Place.place) c.requires.level g.met.S.Reaches.within;
+      some = subst (λ (n : ℕ). 1 ≤ n) c.requires.level g.met.S.Reaches.raised;
+      runs = subst (λ (n : ℕ). is_runnable c.args.running.known.figures.layers n ≡ true) c.number.ensures (sym c.if-not-may_run.ensures);
+    } in
+    let ready = use_ready g.S.Runs.level g.L.Place.place (g.S.Runs.holder c.args.s c.args.running) c.args.running c.args.event.now (g.B.Board.seen c.args.b.now).memory (g.B.Board.seen c.args.b.now).power (g.B.Board.seen c.args.b.now).level (g.B.Board.seen c.args.b.now).meter world used in
+    use_told g.S.Runs.level g.L.Place.place (g.S.Runs.holder c.args.s c.args.running) c.args.running c.args.event.now (g.B.Board.seen c.args.b.now).memory (g.B.Board.seen c.args.b.now).power (g.B.Board.seen c.args.b.now).level (g.B.Board.seen c.args.b.now).meter world used
+    c.into_device-in-Ok.result c.ask.new.running c.in-Ok.reply (g.B.Board.seen c.ask.new.b).memory (g.B.Board.seen c.ask.new.b).power (g.B.Board.seen c.ask.new.b).level (g.B.Board.seen c.ask.new.b).meter
+    (c.in-Ok.ensures.told own.state ready own.knows) (c.in-Ok.ensures.ran.power ∙ sym up.on) c.in-Ok.ensures.ran.level c.in-Ok.ensures.ran.meter.armed up.on up.at_level
+    (λ w is. subst (λ (d : Device). Fits d w) (sym c.into_device-in-Ok.ensures) (g.met.S.Runs.fits c.in-Ok.s c.ask.new.running w is)) c.in-Ok.ensures.known
+
+pub returns-in-Err-clause-steps : goal.returns-in-Err-clause-steps
+returns-in-Err-clause-steps g c = λ world sound.
+    let own = g.met.S.Runs.runs c.args.s c.args.running world sound.fits in
+    let up = is_up (g.S.Runs.holder c.args.s c.args.running) g.S.Runs.level (g.B.Board.seen c.args.b.now) world sound own.phase in
+    let used : IsUse g.S.Runs.level g.L.Place.place (g.S.Runs.holder c.args.s c.args.running) c.args.running c.args.event.now (g.B.Board.seen c.args.b.now).memory (g.B.Board.seen c.args.b.now).power (g.B.Board.seen c.args.b.now).level (g.B.Board.seen c.args.b.now).meter world = record {
+      sound = sound;
+      own = own;
+      layer = c.requires.event;
+      named = c.requires.region;
+      here = subst (λ (n : ℕ). n ≤ g.L.Place.place) c.requires.level g.met.S.Reaches.within;
+      some = subst (λ (n : ℕ). 1 ≤ n) c.requires.level g.met.S.Reaches.raised;
+      runs = subst (λ (n : ℕ). is_runnable c.args.running.known.figures.layers n ≡ true) c.number.ensures (sym c.if-not-may_run.ensures);
+    } in
+    let ready = use_ready g.S.Runs.level g.L.Place.place (g.S.Runs.holder c.args.s c.args.running) c.args.running c.args.event.now (g.B.Board.seen c.args.b.now).memory (g.B.Board.seen c.args.b.now).power (g.B.Board.seen c.args.b.now).level (g.B.Board.seen c.args.b.now).meter world used in
+    use_cut g.S.Runs.level g.L.Place.place (g.S.Runs.holder c.args.s c.args.running) c.args.running c.args.event.now (g.B.Board.seen c.args.b.now).memory (g.B.Board.seen c.args.b.now).power (g.B.Board.seen c.args.b.now).level (g.B.Board.seen c.args.b.now).meter world used
+    c.in-Err.off (g.B.Board.seen c.ask.new.b).memory (g.B.Board.seen c.ask.new.b).power (g.B.Board.seen c.ask.new.b).level (g.B.Board.seen c.ask.new.b).meter (c.in-Err.ensures.told own.state ready own.knows) c.in-Err.ensures.ran.power c.in-Err.ensures.ran.meter.armed c.in-Err.ensures.ran.meter.cut
+
+pub returns-in-Ok-clause-meter : goal.returns-in-Ok-clause-meter
+returns-in-Ok-clause-meter g c =
+    let has = c.requires.sound in
+    let knows = remembers (g.S.Runs.holder c.args.s c.args.running) g.S.Runs.level (g.B.Board.seen c.args.b.now) c.args.running has.world has.sound (g.met.S.Runs.runs c.args.s c.args.running has.world has.sound.fits) in
+    metered_by 3 (c.in-Ok.s, c.in-Ok.reply) c.in-Ok.reply (g.B.Board.seen c.args.b.now).meter (g.B.Board.seen c.ask.new.b).meter
+    (answer_goes_on g.L.Place.place c.args.event.now knows.state c.in-Ok.reply (g.B.Board.seen c.args.b.now).memory (g.B.Board.seen c.ask.new.b).memory c.requires.event (c.in-Ok.ensures.told knows.state knows.ready knows.knows))
+    c.in-Ok.ensures.ran.meter
