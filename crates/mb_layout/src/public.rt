@@ -3,7 +3,8 @@
 ghost use Rattle.std.specs.Prelude.{◌≤◌, ◌<◌, ◌+◌, length, map};
 ghost use Rattle.mb_format.specs.Combinators.{optional};
 ghost use Rattle.mb_model.specs.EntryFormat.{signature_format};
-ghost use Rattle.mb_model.specs.Flash.{code_format, codes_format, public_entry_format, public_format, public_of_parts, with_signature, without_signature};
+ghost use Rattle.mb_model.specs.PublicRecord.{code_format, codes_format, public_entry_format, public_format};
+ghost use Rattle.mb_model.specs.OldFlash.{public_of_parts, with_signature, without_signature};
 ghost use Rattle.mb_bytes.specs.Reads.{bad_at, Reads, ReadsAs, ReadsExactly, ReadsWhole};
 ghost use Rattle.mb_bytes.specs.Puts.{Puts, Writes};
 ghost use Rattle.std.specs.Option.{option_copied};
