@@ -8,7 +8,7 @@ use Rattle.mb_format.proofs.Fields.{wide32}
 use Rattle.mb_model.specs.declared.stored.Root.{Root}
 use Rattle.mb_model.specs.Pieces.{part}
 use Rattle.mb_model.specs.Board.{Memory, Meter}
-use Rattle.mb_model.specs.Flash.{flash_area, BeginsArea}
+use Rattle.mb_model.specs.OldFlash.{flash_area, BeginsArea}
 use Rattle.mb_model.specs.Meaning.{RootIn, HoldsContents}
 use Rattle.mb_board.specs.Calls.{IsMetered}
 use Rattle.mb_flash.specs.Sectors.{sectors_for}

@@ -11,7 +11,7 @@ use Rattle.mb_model.specs.declared.stored.Root.{Root}
 use Rattle.mb_model.specs.RootFormat.{pending_format, root_format}
 use Rattle.mb_model.specs.Board.{Memory, IsLoaded}
 use Rattle.mb_model.specs.Memory.{IsBlank, current, HoldsRecord}
-use Rattle.mb_model.specs.Flash.{flash_area}
+use Rattle.mb_model.specs.OldFlash.{flash_area}
 use Rattle.mb_model.specs.Meaning.{RootIn, Contents, HoldsContents, meant}
 use Rattle.mb_model.specs.Clean.{root_of}
 use Rattle.mb_model_lemmas.proofs.MeaningLemmas.{one_root}

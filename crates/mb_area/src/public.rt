@@ -2,7 +2,7 @@
 
 ghost use Rattle.std.specs.Prelude.{◌≡◌, ◌≤◌, ◌-◌, ℕ, List, length, OnOk, IsOk};
 ghost use Rattle.mb_model.specs.declared.stored.Root.{Root};
-ghost use Rattle.mb_model.specs.Flash.{flash_area, BeginsArea};
+ghost use Rattle.mb_model.specs.OldFlash.{flash_area, BeginsArea};
 ghost use Rattle.mb_model.specs.Meaning.{RootIn};
 ghost use Rattle.mb_board.specs.Calls.{IsPowered, IsUp, Ran};
 ghost use Rattle.mb_model_memory.specs.Holding.{KeepsContents};

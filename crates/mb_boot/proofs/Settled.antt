@@ -13,7 +13,8 @@ use Rattle.mb_model.specs.RootFormat.{root_format}
 use Rattle.mb_model.specs.Board.{Memory, IsLoaded}
 use Rattle.mb_model.specs.Memory.{IsBlank, HoldsRecord}
 use Rattle.mb_model.specs.StoredLog.{completed, AreCounted}
-use Rattle.mb_model.specs.Flash.{public_format, public_of_parts, flash_area, BeginsArea}
+use Rattle.mb_model.specs.PublicRecord.{public_format}
+use Rattle.mb_model.specs.OldFlash.{public_of_parts, flash_area, BeginsArea}
 use Rattle.mb_model.specs.Meaning.{RootIn, Contents, meant, fated, fate_of_two, fate_of_three}
 use Rattle.mb_model.specs.Valid.{IsValidState}
 use Rattle.mb_model_lemmas.proofs.PublicLemmas.{IsBounded, bounded_by}

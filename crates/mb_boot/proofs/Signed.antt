@@ -14,7 +14,8 @@ use Rattle.mb_model.specs.EntryFormat.{entry_format}
 use Rattle.mb_model.specs.Signing.{signature_of}
 use Rattle.mb_model.specs.SignedTexts.{entry_text}
 use Rattle.mb_model.specs.OrderEffects.{signed_by}
-use Rattle.mb_model.specs.Flash.{public_format, public_of_parts}
+use Rattle.mb_model.specs.PublicRecord.{public_format}
+use Rattle.mb_model.specs.OldFlash.{public_of_parts}
 use Rattle.mb_model.specs.StoredLog.{AreCounted, CanSign, unsigned_by, signed_for, outgoing_of, completed}
 use Rattle.mb_layout.specs.Edits.{IsCompleted, KeepsRoom}
 use Rattle.mb_layout.specs.UnsignedEntries.{FindsUnsigned, FindsTwoUnsigned}

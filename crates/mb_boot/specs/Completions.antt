@@ -8,7 +8,8 @@ use Rattle.mb_model.specs.declared.entry.Entry.{Entry}
 use Rattle.mb_model.specs.declared.entry.SignedEntry.{SignedEntry}
 use Rattle.mb_model.specs.declared.state.Codes.{Codes}
 use Rattle.mb_model.specs.declared.stored.Root.{Root}
-use Rattle.mb_model.specs.Flash.{public_format, public_of_parts}
+use Rattle.mb_model.specs.PublicRecord.{public_format}
+use Rattle.mb_model.specs.OldFlash.{public_of_parts}
 use Rattle.mb_model.specs.OrderEffects.{signed_by}
 use Rattle.mb_model.specs.StoredLog.{AreCounted, completed}
 

@@ -5,7 +5,8 @@ use Rattle.mb_model.specs.declared.state.State.{State}
 use Rattle.mb_model.specs.declared.stored.Root.{Root}
 use Rattle.mb_model.specs.Board.{Memory, IsLoaded}
 use Rattle.mb_model.specs.Clean.{root_of}
-use Rattle.mb_model.specs.Flash.{flash_area, BeginsArea, HoldsPublic}
+use Rattle.mb_model.specs.OldFlash.{flash_area, BeginsArea}
+use Rattle.mb_model.specs.Flash.{HoldsPublic}
 use Rattle.mb_model.specs.Meaning.{RootIn}
 use Rattle.mb_model.specs.OrderEffects.{obeyed}
 use Rattle.mb_model.specs.RootFormat.{root_format}

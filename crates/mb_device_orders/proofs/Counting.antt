@@ -6,7 +6,8 @@ use Rattle.mb_format.specs.Format.{Spells}
 use Rattle.mb_model.specs.declared.entry.Entry.{Entry}
 use Rattle.mb_model.specs.declared.entry.SignedEntry.{SignedEntry}
 use Rattle.mb_model.specs.declared.state.Codes.{Codes}
-use Rattle.mb_model.specs.Flash.{public_format, public_of_parts, with_signature}
+use Rattle.mb_model.specs.PublicRecord.{public_format}
+use Rattle.mb_model.specs.OldFlash.{public_of_parts, with_signature}
 use Rattle.mb_model.specs.Log.{figures_of, entries_of}
 use Rattle.mb_model_lemmas.proofs.ValidStates.{entries_of-push}
 use Rattle.mb_layout.specs.declared.stored_entries.StoredEntries.{StoredEntries}

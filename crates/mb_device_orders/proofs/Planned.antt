@@ -26,7 +26,8 @@ use Rattle.mb_model.specs.declared.stored.Public.{Public}
 use Rattle.mb_model.specs.declared.stored.Root.{Root}
 use Rattle.mb_model.specs.Board.{Memory}
 use Rattle.mb_model.specs.Clean.{root_of}
-use Rattle.mb_model.specs.Flash.{public_format, public_of_parts, with_signature, without_signature}
+use Rattle.mb_model.specs.PublicRecord.{public_format}
+use Rattle.mb_model.specs.OldFlash.{public_of_parts, with_signature, without_signature}
 use Rattle.mb_model.specs.Log.{figures_of, entries_of}
 use Rattle.mb_model.specs.Meaning.{RootIn}
 use Rattle.mb_model.specs.OrderChecks.{view_of, needs_succession}

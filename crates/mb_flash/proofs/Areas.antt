@@ -4,7 +4,7 @@ use Rattle.std.specs.Int.{w32, to_be_bytes}
 use Rattle.std.proofs.Math.Seq.{take-add, take-append_seam}
 use Rattle.std.proofs.lemmas.List.{take-take}
 use Rattle.mb_model.specs.Pieces.{part}
-use Rattle.mb_model.specs.Flash.{flash_area, BeginsArea}
+use Rattle.mb_model.specs.OldFlash.{flash_area, BeginsArea}
 use Rattle.mb_slot.specs.Slots.{IsSameOutside}
 use Rattle.mb_slot.proofs.Ranges.{apart_same}
 use Rattle.mb_slot.proofs.Slotted.{on_ok}

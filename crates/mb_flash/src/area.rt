@@ -4,7 +4,7 @@ ghost use Rattle.std.specs.Prelude.{◌≡◌, ◌+◌, ◌-◌, ◌*◌, ◌≤
 ghost use Rattle.std.specs.Int.{w32, to_be_bytes};
 ghost use Rattle.mb_model.specs.declared.limits.TheConstants.{SECTOR_LENGTH};
 ghost use Rattle.mb_model.specs.Pieces.{part};
-ghost use Rattle.mb_model.specs.Flash.{flash_area, BeginsArea};
+ghost use Rattle.mb_model.specs.OldFlash.{flash_area, BeginsArea};
 ghost use Rattle.mb_board.specs.Calls.{IsPowered, Ran};
 ghost use Rattle.mb_slot.specs.Slots.{IsSameOutside};
 ghost use Rattle.mb_flash.specs.Sectors.{sectors_for};

@@ -7,7 +7,9 @@ use Rattle.mb_model.specs.declared.state.Codes.{Codes}
 use Rattle.mb_model.specs.declared.state.State.{State}
 use Rattle.mb_model.specs.declared.stored.Root.{Root}
 use Rattle.mb_model.specs.StoredLog.{signed_for, outgoing_of, completed}
-use Rattle.mb_model.specs.Flash.{flash_area, public_format, public_of_parts, BeginsArea, HoldsPublic}
+use Rattle.mb_model.specs.PublicRecord.{public_format}
+use Rattle.mb_model.specs.OldFlash.{flash_area, public_of_parts, BeginsArea}
+use Rattle.mb_model.specs.Flash.{HoldsPublic}
 use Rattle.mb_model.specs.Memory.{IsImage, IsBlank}
 use Rattle.mb_model.specs.Meaning.{Contents, meant, RootIn, HasMeaning, is_dead, is_live, StandsFor}
 use Rattle.mb_model.specs.GenerateCommand.{log_length}

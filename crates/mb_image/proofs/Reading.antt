@@ -11,7 +11,8 @@ use Rattle.mb_model.specs.declared.stored.Public.{Public}
 use Rattle.mb_model.specs.declared.stored.Root.{Root}
 use Rattle.mb_model.specs.EntryFormat.{entry_format, signed_entry_format}
 use Rattle.mb_model.specs.RootFormat.{root_format}
-use Rattle.mb_model.specs.Flash.{public_format, flash_area, BeginsWithRecord, with_signature, without_signature, public_of_parts}
+use Rattle.mb_model.specs.PublicRecord.{public_format}
+use Rattle.mb_model.specs.OldFlash.{flash_area, BeginsWithRecord, with_signature, without_signature, public_of_parts}
 use Rattle.mb_model.specs.Meaning.{RootIn, HoldsRegion, Contents, HoldsContents}
 use Rattle.mb_model.specs.Memory.{IsBlank, life_byte, spare, current, HoldsRecord}
 use Rattle.mb_model.specs.Faults.{SomePublic, SomeRegion}

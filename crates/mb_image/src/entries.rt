@@ -3,7 +3,7 @@
 ghost use Rattle.std.specs.Prelude.{◌≡◌, ◌↔◌, List, IfOk, IsTrue, MatchOption, map};
 ghost use Rattle.mb_model.specs.declared.entry.Entry.{Entry};
 ghost use Rattle.mb_model.specs.declared.entry.SignedEntry.{SignedEntry};
-ghost use Rattle.mb_model.specs.Flash.{with_signature, without_signature};
+ghost use Rattle.mb_model.specs.OldFlash.{with_signature, without_signature};
 ghost use Rattle.mb_model.specs.StoredLog.{unsigned_by, CanSign};
 ghost use Rattle.mb_image.specs.Entries.{IsSplitLog};
 

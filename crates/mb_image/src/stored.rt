@@ -3,7 +3,8 @@
 ghost use Rattle.std.specs.Prelude.{◌≡◌, ◌≤◌, length, IfOk, IfErr, IfSome, MatchOption};
 ghost use Rattle.mb_model.specs.declared.limits.TheConstants.{FLASH_LENGTH};
 ghost use Rattle.mb_model.specs.Memory.{AreSized};
-ghost use Rattle.mb_model.specs.Flash.{flash_area, HoldsPublic};
+ghost use Rattle.mb_model.specs.OldFlash.{flash_area};
+ghost use Rattle.mb_model.specs.Flash.{HoldsPublic};
 ghost use Rattle.mb_model.specs.Meaning.{RootIn, HoldsContents};
 ghost use Rattle.mb_model.specs.Faults.{SomePublic, IsFaulty};
 ghost use Rattle.mb_image.specs.Ends.{fault_of};

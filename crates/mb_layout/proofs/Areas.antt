@@ -12,7 +12,7 @@ use Rattle.mb_format.proofs.Exact.{IsBytes-spelled, IsBytes-drop}
 use Rattle.mb_format.proofs.Whole.{IsClearWhole-from_exact}
 use Rattle.mb_model.specs.declared.region.Region.{Region}
 use Rattle.mb_model.specs.Memory.{IsBlank, HoldsInArea, HoldsRecord}
-use Rattle.mb_model.specs.Flash.{BeginsArea, BeginsWithRecord}
+use Rattle.mb_model.specs.OldFlash.{BeginsArea, BeginsWithRecord}
 use Rattle.mb_model.specs.RegionFormat.{region_format, SpellsRegion}
 use Rattle.mb_model.specs.Meaning.{HoldsRegion}
 use Rattle.mb_model.proofs.RecordFormatLaws.{region_exact}

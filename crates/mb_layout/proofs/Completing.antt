@@ -21,7 +21,8 @@ use Rattle.mb_model.specs.declared.entry.SignedEntry.{SignedEntry}
 use Rattle.mb_model.specs.declared.entry.PublicEntry.{PublicEntry}
 use Rattle.mb_model.specs.declared.state.Codes.{Codes}
 use Rattle.mb_model.specs.EntryFormat.{entry_format}
-use Rattle.mb_model.specs.Flash.{codes_format, public_entry_format, public_format, public_of_parts, with_signature, without_signature}
+use Rattle.mb_model.specs.PublicRecord.{codes_format, public_entry_format, public_format}
+use Rattle.mb_model.specs.OldFlash.{public_of_parts, with_signature, without_signature}
 use Rattle.mb_model.proofs.RecordFormatLaws.{codes_exact, public_entry_exact}
 use Rattle.mb_layout.specs.Edits.{signed_each}
 use Rattle.mb_layout.specs.LastEntries.{StandsBefore}

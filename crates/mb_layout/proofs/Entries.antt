@@ -8,7 +8,8 @@ use Rattle.mb_bytes.proofs.Putting.{item_at}
 use Rattle.mb_model.specs.declared.entry.Entry.{Entry}
 use Rattle.mb_model.specs.declared.entry.SignedEntry.{SignedEntry}
 use Rattle.mb_model.specs.declared.state.Codes.{Codes}
-use Rattle.mb_model.specs.Flash.{codes_format, public_entry_format, public_format, public_of_parts, with_signature, without_signature}
+use Rattle.mb_model.specs.PublicRecord.{codes_format, public_entry_format, public_format}
+use Rattle.mb_model.specs.OldFlash.{public_of_parts, with_signature, without_signature}
 use Rattle.mb_layout.specs.Parts.{entries_bytes}
 
 -- some items after others

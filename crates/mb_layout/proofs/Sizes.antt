@@ -12,7 +12,8 @@ use Rattle.mb_model.specs.declared.stored.Public.{Public}
 use Rattle.mb_model.specs.RegionFormat.{secret_format, secrets_format, keys_format, region_format}
 use Rattle.mb_model.specs.declared.entry.Entry.{Entry}
 use Rattle.mb_model.specs.declared.entry.SignedEntry.{SignedEntry}
-use Rattle.mb_model.specs.Flash.{code_format, codes_format, public_format, public_of_parts, with_signature, without_signature}
+use Rattle.mb_model.specs.PublicRecord.{code_format, codes_format, public_format}
+use Rattle.mb_model.specs.OldFlash.{public_of_parts, with_signature, without_signature}
 use Rattle.mb_layout.specs.Bounds.{HasByteUses, SecretFits, RegionFits, CodeFits, CodesFit, PublicFits}
 
 pub key_fits : (key : RegionKey) → region_key_format.Allowed key → HasByteUses key

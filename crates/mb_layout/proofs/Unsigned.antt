@@ -12,7 +12,8 @@ use Rattle.mb_model.specs.declared.entry.SignedEntry.{SignedEntry}
 use Rattle.mb_model.specs.declared.state.Codes.{Codes}
 use Rattle.mb_model.specs.EntryFormat.{entry_format}
 use Rattle.mb_model.proofs.EntryFormatLaws.{entry_exact}
-use Rattle.mb_model.specs.Flash.{public_entry_format, public_format, public_of_parts, with_signature, without_signature}
+use Rattle.mb_model.specs.PublicRecord.{public_entry_format, public_format}
+use Rattle.mb_model.specs.OldFlash.{public_of_parts, with_signature, without_signature}
 use Rattle.mb_layout.specs.Parts.{entries_bytes}
 use Rattle.mb_layout.specs.LastEntries.{StandsBefore}
 use Rattle.mb_layout.specs.UnsignedEntries.{IsBeforeUnsigned, IsPassed, PassesEntry, AreSpelled}

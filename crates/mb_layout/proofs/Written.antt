@@ -3,7 +3,8 @@ use Rattle.std.proofs.Common.{◌≡◌, ℕ, lit≤, None, List, [], ◌∷◌,
 use Rattle.mb_format.specs.Combinators.{items}
 use Rattle.mb_model.specs.declared.entry.Entry.{Entry}
 use Rattle.mb_model.specs.EntryFormat.{entry_format}
-use Rattle.mb_model.specs.Flash.{code_format, codes_format, public_entry_format, public_format, public_of_parts}
+use Rattle.mb_model.specs.PublicRecord.{code_format, codes_format, public_entry_format, public_format}
+use Rattle.mb_model.specs.OldFlash.{public_of_parts}
 
 pub two_allowed : (a b : Entry) (signature : List ℕ) → entry_format.Allowed a → entry_format.Allowed b → length signature ≡ 2348
     → public_format.Allowed (public_of_parts (record { one = None; two = None; three = None }) (record { entry = a; signature = signature } ∷ []) (b ∷ []))

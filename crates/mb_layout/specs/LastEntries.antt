@@ -5,7 +5,8 @@ use Rattle.mb_model.specs.declared.entry.Entry.{Entry}
 use Rattle.mb_model.specs.declared.entry.SignedEntry.{SignedEntry}
 use Rattle.mb_model.specs.declared.state.Codes.{Codes}
 use Rattle.mb_model.specs.declared.tools.BadRecord.{BadRecord}
-use Rattle.mb_model.specs.Flash.{public_format, public_of_parts, without_signature}
+use Rattle.mb_model.specs.PublicRecord.{public_format}
+use Rattle.mb_model.specs.OldFlash.{public_of_parts, without_signature}
 use Rattle.mb_bytes.specs.declared.cursor.Cursor.{Cursor}
 use Rattle.mb_layout.specs.Parts.{entries_bytes}
 

@@ -15,7 +15,7 @@ use Rattle.mb_model.specs.KeyFormat.{public_key_format, key_seed_format}
 use Rattle.mb_model.specs.LayerFormat.{layers_format}
 use Rattle.mb_model.specs.EntryFormat.{change_byte, pair_format, key_kind_format}
 use Rattle.mb_model.specs.RootFormat.{pending_format}
-use Rattle.mb_model.specs.Flash.{public_entry_format}
+use Rattle.mb_model.specs.PublicRecord.{public_entry_format}
 
 -- the regions kept, the layers and the next key of a change, in a version
 abbrev pub kept_bytes : ℕ → Pair → Layers → Option PublicKey → List ℕ

@@ -8,7 +8,8 @@ use Rattle.mb_model.specs.declared.entry.PublicEntry.{PublicEntry}
 use Rattle.mb_model.specs.declared.entry.SignedEntry.{SignedEntry}
 use Rattle.mb_model.specs.declared.state.Codes.{Codes}
 use Rattle.mb_model.specs.declared.tools.BadRecord.{BadRecord}
-use Rattle.mb_model.specs.Flash.{public_entry_format, public_format, public_of_parts, with_signature}
+use Rattle.mb_model.specs.PublicRecord.{public_entry_format, public_format}
+use Rattle.mb_model.specs.OldFlash.{public_of_parts, with_signature}
 use Rattle.mb_layout.specs.declared.stored_entries.StoredEntries.{StoredEntries}
 use Rattle.mb_layout.specs.declared.stored_entries.StoredEntry.{StoredEntry}
 use Rattle.mb_layout.specs.Parts.{entries_bytes}

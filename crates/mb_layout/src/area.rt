@@ -5,7 +5,8 @@ ghost use Rattle.mb_model.specs.declared.limits.TheConstants.{AREA_LENGTH, RECOR
 ghost use Rattle.mb_model.specs.RootFormat.{root_format};
 ghost use Rattle.mb_model.specs.Memory.{IsBlank, HoldsInArea, HoldsRecord};
 ghost use Rattle.mb_model.specs.Meaning.{HoldsRegion};
-ghost use Rattle.mb_model.specs.Flash.{public_format, BeginsArea, BeginsWithRecord};
+ghost use Rattle.mb_model.specs.PublicRecord.{public_format};
+ghost use Rattle.mb_model.specs.OldFlash.{BeginsArea, BeginsWithRecord};
 ghost use Rattle.mb_layout.specs.Found.{FindsBy};
 
 use crate::end::LayoutEnd;

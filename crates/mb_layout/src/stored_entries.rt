@@ -9,7 +9,8 @@ ghost use Rattle.mb_model.specs.declared.entry.SignedEntry.{SignedEntry};
 ghost use Rattle.mb_model.specs.declared.limits.TheConstants.{FILE_LIMIT};
 ghost use Rattle.mb_model.specs.declared.state.Codes.{Codes};
 ghost use Rattle.mb_model.specs.EntryFormat.{signature_format};
-ghost use Rattle.mb_model.specs.Flash.{public_entry_format, public_format, public_of_parts};
+ghost use Rattle.mb_model.specs.PublicRecord.{public_entry_format, public_format};
+ghost use Rattle.mb_model.specs.OldFlash.{public_of_parts};
 ghost use Rattle.mb_bytes.specs.Reads.{bad_at, ReadsAs};
 ghost use Rattle.mb_layout.specs.StoredEntries.{entry_in, AreNext, FindsEntries, CountsEntries};
 

@@ -20,7 +20,7 @@ use Rattle.mb_model.specs.OrderFormat.{TargetTag, serial_tag, length_tag, owner_
 use Rattle.mb_model.specs.ChainFormat.{statement_format, chain_word, chain_format}
 use Rattle.mb_model.specs.RootFormat.{region_key_format, outgoing_format, FateTag, keep_tag, empty_tag, drop_tag, add_tag, fate_byte, fate_rows, fate_tag, added_in, fate_by, fate_format, pending_format, root_format}
 use Rattle.mb_model.specs.RegionFormat.{is_name, secret_format, secrets_format, least_keys, keys_format, region_format}
-use Rattle.mb_model.specs.Flash.{code_format, codes_format, public_entry_format, public_format}
+use Rattle.mb_model.specs.PublicRecord.{code_format, codes_format, public_entry_format, public_format}
 use Rattle.mb_model.specs.HeaderFormat.{code_length_format, slot_format, entry_bytes_format, most_unsigned, unsigned_format, header_word, header_format, log_format}
 use Rattle.mb_model.proofs.HeaderFormatLaws.{few_unsigned}
 

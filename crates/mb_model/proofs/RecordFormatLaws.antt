@@ -9,7 +9,7 @@ use Rattle.mb_model.specs.declared.stored.Fate.{Fate}
 use Rattle.mb_model.specs.declared.stored.Fate.TheVariants.{AddKey}
 use Rattle.mb_model.specs.RootFormat.{region_key_format, outgoing_format, FateTag, keep_tag, empty_tag, drop_tag, add_tag, fate_byte, fate_rows, fate_tag, added_in, fate_by, fate_format, pending_format, root_format}
 use Rattle.mb_model.specs.RegionFormat.{secret_format, secrets_format, keys_format, region_format}
-use Rattle.mb_model.specs.Flash.{code_format, codes_format, public_entry_format, public_format}
+use Rattle.mb_model.specs.PublicRecord.{code_format, codes_format, public_entry_format, public_format}
 use Rattle.mb_model.proofs.KeyFormatLaws.{key_seed_exact}
 use Rattle.mb_model.proofs.EntryFormatLaws.{key_kind_exact, entry_exact}
 

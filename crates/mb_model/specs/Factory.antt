@@ -16,7 +16,7 @@ use Rattle.mb_model.specs.Born.{born_key}
 use Rattle.mb_model.specs.Signing.{public_of}
 use Rattle.mb_model.specs.OrderEffects.{signed_by}
 use Rattle.mb_model.specs.Memory.{IsImage}
-use Rattle.mb_model.specs.Flash.{IsFactoryFlash}
+use Rattle.mb_model.specs.WrittenFlash.{IsFactoryFlash}
 use Rattle.mb_model.specs.Clean.{IsCleanFor}
 
 -- layer 1 has its owner, this code and both trusts always, and nobody owns what is above

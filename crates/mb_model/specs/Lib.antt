@@ -41,10 +41,11 @@ pub mod Work
 pub mod Valid
 pub mod Memory
 pub mod StoredLog
-pub mod Flash
+pub mod PublicRecord
+pub mod OldFlash
 pub mod Sectors
 pub mod HeaderFormat
-pub mod Segments
+pub mod Flash
 pub mod WrittenFlash
 pub mod Meaning
 pub mod Faults

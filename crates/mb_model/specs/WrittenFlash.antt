@@ -74,7 +74,7 @@ pub record LogFitsSectors (log : List SignedEntry) : Type 0 where
   pub allowed : All signed_entry_format.Allowed log
 
 -- A flash was written from nothing, for codes and a log that fit it.
-pub record IsWrittenFlash (flash : List ℕ) (codes : Codes) (log : List SignedEntry) : Type 0 where
+pub record IsFactoryFlash (flash : List ℕ) (codes : Codes) (log : List SignedEntry) : Type 0 where
   pub codes_fit : CodesFitSlots codes
   pub log_fits : LogFitsSectors log
   pub written : flash ≡ written_flash codes log

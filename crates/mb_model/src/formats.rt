@@ -12,7 +12,7 @@ ghost use Rattle.mb_model.specs.OrderFormat.{target_format, body_format, order_f
 ghost use Rattle.mb_model.specs.ChainFormat.{statement_format, chain_format};
 ghost use Rattle.mb_model.specs.RootFormat.{region_key_format, root_format};
 ghost use Rattle.mb_model.specs.RegionFormat.{secret_format, region_format};
-ghost use Rattle.mb_model.specs.Flash.{public_entry_format, public_format};
+ghost use Rattle.mb_model.specs.PublicRecord.{public_entry_format, public_format};
 ghost use Rattle.mb_model.specs.HeaderFormat.{slot_format, header_format, log_format};
 
 /// At each place of any bytes one value of the format is spelled, or one place fails.

@@ -18,7 +18,7 @@ use Rattle.mb_model.specs.EntryFormat.{key_kind_format, pair_format, birth_forma
 use Rattle.mb_model.specs.RootFormat.{region_key_format, outgoing_format, fate_format, pending_format, root_format}
 use Rattle.mb_model.specs.RegionFormat.{secret_format, secrets_format, keys_format, region_format}
 use Rattle.mb_model.specs.ChainFormat.{statement_format, chain_format}
-use Rattle.mb_model.specs.Flash.{code_format, codes_format, public_entry_format, public_format}
+use Rattle.mb_model.specs.PublicRecord.{code_format, codes_format, public_entry_format, public_format}
 use Rattle.mb_model.specs.SignedTexts.{statement_text}
 use Rattle.mb_model.specs.Key.{key_bytes}
 use Rattle.mb_model.specs.Born.{officer_key}

@@ -19,7 +19,7 @@ use Rattle.mb_model.specs.LayerFormat.{trust_format, code_name_format, layer_for
 use Rattle.mb_model.specs.EntryFormat.{birth_format, entry_format}
 use Rattle.mb_model.specs.HeaderFormat.{code_length_format, slot_format, entry_bytes_format, unsigned_format, header_format, log_format}
 use Rattle.mb_model.specs.Sectors.{BeginsAs}
-use Rattle.mb_model.specs.Segments.{sector, code_slot, HoldsHeader, HoldsEntry, HoldsLog, AreBytesOf}
+use Rattle.mb_model.specs.Flash.{sector, code_slot, HoldsHeader, HoldsEntry, HoldsLog, AreBytesOf}
 use Rattle.mb_model.specs.StoredLog.{unsigned_by}
 use Rattle.mb_model.proofs.EntryFormatLaws.{entry_exact}
 use Rattle.mb_model.proofs.HeaderFormatLaws.{header_exact, log_exact}

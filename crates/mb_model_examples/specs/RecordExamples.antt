@@ -14,7 +14,7 @@ use Rattle.mb_model.specs.RootFormat.{root_format}
 use Rattle.mb_model.specs.RegionFormat.{region_format}
 use Rattle.mb_model.specs.Memory.{HoldsRecord}
 use Rattle.mb_model.specs.ChainFormat.{statement_format, chain_format}
-use Rattle.mb_model.specs.Flash.{public_format}
+use Rattle.mb_model.specs.PublicRecord.{public_format}
 use Rattle.mb_model.specs.SignedTexts.{statement_text}
 use Rattle.mb_model_examples.specs.RecordValues.{bytes_of, reliable_layer, reliable_layer_digits, doubted_layer}
 use Rattle.mb_model_examples.specs.RecordValues.{doubted_layer_digits, bare_layer}

@@ -10,9 +10,9 @@ use Rattle.mb_model.specs.declared.stored.Root.{Root}
 use Rattle.mb_model.specs.declared.stored.Header.{Header}
 use Rattle.mb_model.specs.Board.{Memory}
 use Rattle.mb_model.specs.Meaning.{RootIn}
-use Rattle.mb_model.specs.Segments.{sector, code_slot, HoldsHeader, HoldsCode, HoldsEntry, HoldsLog, AreBytesOf}
-use Rattle.mb_model.specs.Segments.{HoldsSegments}
-use Rattle.mb_model.specs.WrittenFlash.{CodesFitSlots, LogFitsSectors, IsWrittenFlash}
+use Rattle.mb_model.specs.Flash.{sector, code_slot, HoldsHeader, HoldsCode, HoldsEntry, HoldsLog, AreBytesOf}
+use Rattle.mb_model.specs.Flash.{HoldsPublic}
+use Rattle.mb_model.specs.WrittenFlash.{CodesFitSlots, LogFitsSectors, IsFactoryFlash}
 use Rattle.mb_model_lemmas.specs.SegmentLaws.{IsOnlyHeader, HoldsNoEntry, IsSmallHeader, SegmentsFit, SpellsLog}
 use Rattle.mb_model_memory.specs.FlashInForce.{AgreeInSlots, AgreeForArea, KeepsSignedLog, IsUncounted, IsFreeSlot}
 use Rattle.mb_model_memory.specs.FlashInForce.{DiffersOnlyIn, BeginsWithBytes, IsSectorWritten}
@@ -73,15 +73,15 @@ pub record TextsCounterExamples : Type 0 where
 pub record HoldingCounterExamples (root : Root) (codes : Codes) (signed : List SignedEntry) (unsigned : List Entry)
     : Type 0 where
   -- its log is missing
-  pub no_log : root.area ≡ 0 → HoldsSegments only_header root codes signed unsigned → ⊥
+  pub no_log : root.area ≡ 0 → HoldsPublic only_header root codes signed unsigned → ⊥
   -- the root names the area without a header
-  pub other_area : root.area ≡ 1 → HoldsSegments only_header root codes signed unsigned → ⊥
+  pub other_area : root.area ≡ 1 → HoldsPublic only_header root codes signed unsigned → ⊥
   -- no flash holds an unsigned entry for a root without work, and none holds an empty log
   pub uncounted : (flash : List ℕ) (entry : Entry) → root.pending ≡ None
-      → HoldsSegments flash root codes signed (entry ∷ unsigned) → ⊥
+      → HoldsPublic flash root codes signed (entry ∷ unsigned) → ⊥
   pub empty : SegmentsFit codes [] unsigned → ⊥
   -- a flash of nothing but a header was not written from nothing, which gives every byte of a flash
-  pub unwritten : IsWrittenFlash only_header codes signed → ⊥
+  pub unwritten : IsFactoryFlash only_header codes signed → ⊥
 
 -- ---- what does not stay
 

@@ -5,7 +5,7 @@ use Rattle.mb_model.specs.declared.entry.SignedEntry.{SignedEntry}
 use Rattle.mb_model.specs.declared.stored.Slot.{Slot}
 use Rattle.mb_model.specs.Pieces.{part}
 use Rattle.mb_model.specs.WrittenFlash.{written_flash}
-use Rattle.mb_model.specs.Segments.{HoldsHeader, HoldsCode, HoldsEntry, AreBytesOf}
+use Rattle.mb_model.specs.Flash.{HoldsHeader, HoldsCode, HoldsEntry, AreBytesOf}
 use Rattle.mb_model_examples.specs.RecordValues.{bytes_of, birth, birth_digits, succession, succession_digits}
 use Rattle.mb_model_examples.specs.HeaderExamples.{header_of_one, log_bytes}
 

@@ -1,12 +1,9 @@
 -- The image of a new device is well formed, and begins with its four bytes.
-use Rattle.std.proofs.Common.{◌≡◌, ◌≤◌, ◌+◌, ◌-◌, ℕ, List, [], ◌∷◌, ◌++◌, length, take, Some, refl, sym, ap, subst, ◌∙◌, arith, length-append}
-use Rattle.std.specs.Int.{w32, to_be_bytes}
+use Rattle.std.proofs.Common.{◌≡◌, ◌≤◌, ℕ, List, [], ◌∷◌, ◌++◌, length, take, Some, refl, ap, subst, ◌∙◌, arith, length-append}
 use Rattle.std.proofs.lemmas.List.Elements.{All-nil}
-use Rattle.std.proofs.Math.Seq.{take-append-add}
 use Rattle.mb_model.specs.declared.entry.SignedEntry.{SignedEntry}
 use Rattle.mb_model.specs.declared.key.KeySeed.{KeySeed}
 use Rattle.mb_model.specs.declared.key.PublicKey.{PublicKey}
-use Rattle.mb_model.specs.declared.state.Codes.{Codes}
 use Rattle.mb_model.specs.declared.state.State.{State}
 use Rattle.mb_model.specs.Pieces.{part}
 use Rattle.mb_model.specs.Log.{figures_of, entries_of, last_of, layers_of, device_of, serial_of, used, has_version_two}
@@ -14,14 +11,15 @@ use Rattle.mb_model.specs.Lives.{splits, alive_keys}
 use Rattle.mb_model.specs.Regions.{empty_region}
 use Rattle.mb_model.specs.OrderEffects.{signed_by}
 use Rattle.mb_model.specs.Memory.{life_byte}
-use Rattle.mb_model.specs.Flash.{public_format, flash_area, BeginsWithRecord, public_of_parts, HoldsPublic, IsFactoryFlash}
+use Rattle.mb_model.specs.Flash.{HoldsPublic}
+use Rattle.mb_model.specs.WrittenFlash.{IsFactoryFlash}
 use Rattle.mb_model.specs.Valid.{Follows, EachFollows, IsValidRegion, IsValidState}
 use Rattle.mb_model.specs.Meaning.{IsWellFormed}
 use Rattle.mb_model.specs.Clean.{root_of}
 use Rattle.mb_model_lemmas.proofs.RuleLemmas.{version_two_may_follow}
 use Rattle.mb_model.specs.Factory.{layers_at_birth, birth_entry, state_at_birth, IsFactoryImage}
-use Rattle.mb_model.proofs.FormatBounds.{public_short}
 use Rattle.mb_model_lemmas.proofs.FaultLemmas.{clean_stands_for_it}
+use Rattle.mb_model_lemmas.proofs.WrittenLemmas.{written_holds}
 
 -- ---- the first bytes
 
@@ -37,39 +35,9 @@ factory_begins maker index owner code noise image made =
 
 -- ---- the flash
 
--- the area begins with what stands at the start of the flash
-area_begins : (front erased : List ℕ) (flash : List ℕ) → flash ≡ front ++ erased → length front ≤ 524288
-    → flash_area flash 0 ≡ front ++ take (524288 - length front) erased
-unfolding flash_area
-area_begins front erased flash whole short =
-    let size : 524288 ≡ length front + (524288 - length front) = omega (arith, short) in
-    ap (λ (bytes : List ℕ). take 524288 bytes) whole
-    ∙ ap (λ n. take n (front ++ erased)) size
-    ∙ take-append-add front erased (524288 - length front)
-
-written_begins : (flash : List ℕ) (codes : Codes) (log : List SignedEntry) → IsFactoryFlash flash codes log
-    → BeginsWithRecord public_format (flash_area flash 0) (public_of_parts codes log [])
-written_begins flash codes log made =
-    let bytes = made.bytes in
-    let front : List ℕ = to_be_bytes w32 (length bytes) ++ bytes in
-    let few : length bytes ≤ 444818 = omega (arith, public_short.short _ made.spelled.allowed, ap length made.spelled.whole) in
-    let long : length front ≡ 4 + length bytes = length-append (to_be_bytes w32 (length bytes)) bytes in
-    record {
-      bytes = bytes;
-      begins = record {
-        rest = take (524288 - length front) made.erased;
-        short = omega (arith, few);
-        whole = area_begins front made.erased flash made.whole (omega (arith, few, long));
-      };
-      spelled = made.spelled;
-    }
-
-written_holds : (flash : List ℕ) (state : State) (area : ℕ) → area ≡ 0 → IsFactoryFlash flash state.codes state.log
+factory_holds : (flash : List ℕ) (state : State) (area : ℕ) → area ≡ 0 → IsFactoryFlash flash state.codes state.log
     → HoldsPublic flash (root_of state area) state.codes state.log []
-written_holds flash state area first made = record {
-  begins = subst (λ n. BeginsWithRecord public_format (flash_area flash n) (public_of_parts state.codes state.log [])) (sym first) (written_begins flash state.codes state.log made);
-  counted = record { counted = refl; can_sign = tt };
-}
+factory_holds flash state area first made = written_holds flash state.codes state.log (root_of state area) made first refl
 
 -- ---- the state
 
@@ -123,7 +91,7 @@ module _ (maker : KeySeed) (index : ℕ) (owner : PublicKey) (code noise : List 
         bbram = made.bbram;
         image_is = made.image_is;
         stands =
-            clean_stands_for_it made.flash made.bbram state made.clean made.image_is.1.flash (written_holds made.flash state made.clean.area made.area_is made.written)
+            clean_stands_for_it made.flash made.bbram state made.clean made.image_is.1.flash (factory_holds made.flash state made.clean.area made.area_is made.written)
             birth_is_valid.layers;
         valid = birth_is_valid;
       }

@@ -14,7 +14,7 @@ use Rattle.mb_model.specs.EntryFormat.{entry_format, signed_entry_format}
 use Rattle.mb_model.specs.Pieces.{part}
 use Rattle.mb_model.specs.HeaderFormat.{slot_format, most_unsigned, unsigned_format, header_format, log_format}
 use Rattle.mb_model.specs.Sectors.{code_sector, log_sector, BeginsAs}
-use Rattle.mb_model.specs.Segments.{sector, code_slot, HoldsHeader, HoldsCode, HoldsEntry, HoldsLog, AreBytesOf}
+use Rattle.mb_model.specs.Flash.{sector, code_slot, HoldsHeader, HoldsCode, HoldsEntry, HoldsLog, AreBytesOf}
 use Rattle.mb_model_lemmas.specs.SegmentLaws.{IsSmallHeader, HeldSegmentsFit, SpellsLog}
 use Rattle.mb_model_lemmas.proofs.LogLemmas.{split_push}
 use Rattle.mb_model_lemmas.proofs.Splits.{All-from_splits}

@@ -1,6 +1,6 @@
 -- A memory stands for one state only.
-use Rattle.std.proofs.Common.{◌≡◌, ◌≤◌, ℕ, ◌+◌, ◌*◌, List, [], ◌∷◌, ◌++◌, inl, inr, length, map, drop, Option, Some, true, false, refl, sym, ap, subst, ◌∙◌, arith, lit<, ◌<◌, append_assoc, length-append}
-use Rattle.std.specs.Prelude.{◌%◌, ◌==◌, unwrap_or, if◌then◌else◌}
+use Rattle.std.proofs.Common.{◌≡◌, ◌≤◌, ℕ, ◌+◌, ◌*◌, List, [], ◌∷◌, ◌++◌, inl, inr, length, drop, Option, Some, true, false, refl, sym, ap, subst, ◌∙◌, arith, lit<, ◌<◌, append_assoc, length-append}
+use Rattle.std.specs.Prelude.{◌%◌, ◌==◌, if◌then◌else◌}
 use Rattle.std.specs.Int.{Width, w16, w32, to_be_bytes}
 use Rattle.std.proofs.Math.Seq.{drop-append_seam}
 use Rattle.mb_format.specs.Format.{Format, IsBytes, SpelledAt, Spells}
@@ -11,21 +11,21 @@ use Rattle.mb_format.proofs.Whole.{IsClearWhole-from_exact}
 use Rattle.mb_format.proofs.Fields.{IsWide, wide16, wide32, between_exact}
 use Rattle.mb_format.proofs.Compositions.{sized_exact}
 use Rattle.mb_model.specs.declared.entry.Entry.{Entry}
-use Rattle.mb_model.specs.declared.entry.PublicEntry.{PublicEntry}
 use Rattle.mb_model.specs.declared.entry.SignedEntry.{SignedEntry}
 use Rattle.mb_model.specs.declared.region.Region.{Region}
 use Rattle.mb_model.specs.declared.state.Codes.{Codes}
 use Rattle.mb_model.specs.declared.state.State.{State}
-use Rattle.mb_model.specs.declared.stored.Public.{Public}
 use Rattle.mb_model.specs.declared.stored.Root.{Root}
 use Rattle.mb_model.specs.RootFormat.{root_format}
 use Rattle.mb_model.specs.RegionFormat.{region_format, SpellsRegion}
 use Rattle.mb_model.specs.Pieces.{part}
 use Rattle.mb_model.specs.declared.limits.TheConstants.{AREA_LENGTH}
 use Rattle.mb_model.specs.Memory.{IsBlank, slots, selector_of, life_byte, first_area, second_area, current, HoldsInArea, HoldsRecord}
-use Rattle.mb_model.specs.Flash.{public_format, flash_area, BeginsArea, BeginsWithRecord, with_signature, without_signature, public_of_parts, HoldsPublic}
+use Rattle.mb_model.specs.OldFlash.{flash_area, BeginsArea, BeginsWithRecord}
+use Rattle.mb_model.specs.Flash.{HoldsPublic}
 use Rattle.mb_model.specs.Meaning.{HasRoot, RootIn, HoldsRegion, Contents, HoldsContents, meant, HasMeaning, is_dead, is_live, StandsFor}
-use Rattle.mb_model.proofs.RecordFormatLaws.{root_exact, region_exact, public_exact}
+use Rattle.mb_model.proofs.RecordFormatLaws.{root_exact, region_exact}
+use Rattle.mb_model_lemmas.proofs.OneFlash.{one_list}
 
 -- ---- bytes after their length
 
@@ -117,46 +117,6 @@ one_region area a b are one other =
     let same = one_held area one.bytes other.bytes are one.holds other.holds in
     one_spelled_region other.bytes a b (held_bytes area other.bytes are other.holds) (subst (λ (bytes : List ℕ). SpellsRegion bytes a) same one.spelled) other.spelled
 
--- ---- signed and unsigned entries
-
-signed_same : (a b : SignedEntry) → with_signature a ≡ with_signature b → a ≡ b
-signed_same a b e =
-    let make : Entry → List ℕ → SignedEntry = λ entry signature. record { entry = entry; signature = signature } in
-    let entries : a.entry ≡ b.entry = ap (λ (p : PublicEntry). p.entry) e in
-    let signatures : a.signature ≡ b.signature = ap (λ (p : PublicEntry). unwrap_or p.signature a.signature) e in
-    ap (λ (x : Entry). make x a.signature) entries ∙ ap (make b.entry) signatures
-
-unsigned_same : (a b : Entry) → without_signature a ≡ without_signature b → a ≡ b
-unsigned_same a b e = ap (λ (p : PublicEntry). p.entry) e
-
-apart : (a : SignedEntry) (b : Entry) → with_signature a ≡ without_signature b → ⊥
-apart a b e = grind (arith, e)
-
-unsigned_only : (us vs : List Entry) → ◌≡◌ {A = List PublicEntry} (map without_signature us) (map without_signature vs) → us ≡ vs
-unsigned_only [] [] e = refl
-unsigned_only [] (v ∷ vs) e = absurd (omega (arith, ap length e))
-unsigned_only (u ∷ us) [] e = absurd (omega (arith, ap length e))
-unsigned_only (u ∷ us) (v ∷ vs) e =
-    let heads : without_signature u ≡ without_signature v = cc in
-    let tails : ◌≡◌ {A = List PublicEntry} (map without_signature us) (map without_signature vs) = cc in
-    ap (λ (x : Entry). x ∷ us) (unsigned_same u v heads) ∙ ap (λ (t : List Entry). v ∷ t) (unsigned_only us vs tails)
-
-one_split : (ss ts : List SignedEntry) (us vs : List Entry) → map with_signature ss ++ map without_signature us ≡ map with_signature ts ++ map without_signature vs → (ss ≡ ts) × (us ≡ vs)
-one_split [] [] us vs e = (refl, unsigned_only us vs e)
-one_split [] (t ∷ ts) [] vs e = absurd (omega (arith, ap length e))
-one_split [] (t ∷ ts) (u ∷ us) vs e =
-    let heads : without_signature u ≡ with_signature t = cc in
-    absurd (apart t u (sym heads))
-one_split (s ∷ ss) [] us [] e = absurd (omega (arith, ap length e))
-one_split (s ∷ ss) [] us (v ∷ vs) e =
-    let heads : with_signature s ≡ without_signature v = cc in
-    absurd (apart s v heads)
-one_split (s ∷ ss) (t ∷ ts) us vs e =
-    let heads : with_signature s ≡ with_signature t = cc in
-    let tails : map with_signature ss ++ map without_signature us ≡ map with_signature ts ++ map without_signature vs = cc in
-    let rest = one_split ss ts us vs tails in
-    (ap (λ (x : SignedEntry). x ∷ ss) (signed_same s t heads) ∙ ap (λ (x : List SignedEntry). t ∷ x) rest.0, rest.1)
-
 -- ---- each piece of a memory holds one value
 
 pub one_root : (life : ℕ) (between area : List ℕ) (a b : Root) → IsBytes area → HasRoot life between area a → HasRoot life between area b → a ≡ b
@@ -167,12 +127,7 @@ one_root_in bbram a b are = one_root _ _ (current bbram 1) a b (IsBytes-current 
 
 pub one_public : (flash : List ℕ) (root : Root) (cs ds : Codes) (ss ts : List SignedEntry) (us vs : List Entry) → IsBytes flash
     → HoldsPublic flash root cs ss us → HoldsPublic flash root ds ts vs → (cs ≡ ds) × (ss ≡ ts) × (us ≡ vs)
-one_public flash root cs ds ss ts us vs are one other =
-    let same : public_of_parts cs ss us ≡ public_of_parts ds ts vs =
-    one_begun public_format public_exact (flash_area flash root.area) _ _ (IsBytes-flash_area flash root.area are) one.begins other.begins
-    in
-    let split = one_split ss ts us vs (ap (λ (p : Public). p.entries) same) in
-    (ap (λ (p : Public). p.codes) same, split.0, split.1)
+one_public = one_list
 
 -- ---- all of them
 

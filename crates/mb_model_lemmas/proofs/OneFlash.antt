@@ -16,7 +16,7 @@ use Rattle.mb_model.specs.declared.stored.Header.{Header}
 use Rattle.mb_model.specs.EntryFormat.{entry_format}
 use Rattle.mb_model.specs.HeaderFormat.{slot_format, entry_bytes_format, unsigned_format, header_word, header_format, log_format}
 use Rattle.mb_model.specs.Sectors.{header_sector, log_sector, BeginsAs}
-use Rattle.mb_model.specs.Segments.{sector, HoldsHeader, HoldsCode, HoldsEntry, HoldsLog, AreBytesOf, HoldsSegments}
+use Rattle.mb_model.specs.Flash.{sector, HoldsHeader, HoldsCode, HoldsEntry, HoldsLog, AreBytesOf, HoldsPublic}
 use Rattle.mb_model.proofs.EntryFormatLaws.{entry_exact}
 use Rattle.mb_model.proofs.HeaderFormatLaws.{header_exact, log_exact}
 
@@ -165,7 +165,7 @@ abbrev codes_of : Option (List ℕ) → Option (List ℕ) → Option (List ℕ) 
 codes_of one two three = record { one = one; two = two; three = three }
 
 pub one_list : (flash : List ℕ) (root : Root) (cs ds : Codes) (ss ts : List SignedEntry) (us vs : List Entry) → IsBytes flash
-    → HoldsSegments flash root cs ss us → HoldsSegments flash root ds ts vs → (cs ≡ ds) × (ss ≡ ts) × (us ≡ vs)
+    → HoldsPublic flash root cs ss us → HoldsPublic flash root ds ts vs → (cs ≡ ds) × (ss ≡ ts) × (us ≡ vs)
 one_list flash root cs ds ss ts us vs are a b =
     let same : a.header ≡ b.header = one_header flash root.area a.header b.header are a.begins b.begins in
     let texts : AreAllBytes b.header.first b.header.second = header_texts b.header (begun_bytes header_format (sector flash (header_sector root.area)) b.header (IsBytes-sector flash (header_sector root.area) are) b.begins) in
@@ -201,6 +201,6 @@ no_log flash i none log less holds =
 
 -- Where the header that is read counts a sector that holds no entry, the flash holds nothing for the root.
 pub no_list : (flash : List ℕ) (root : Root) (header : Header) (i : ℕ) → ((any : Header) → HoldsHeader flash root.area any → any ≡ header) → i < header.signed
-    → ((signed : SignedEntry) → HoldsEntry (sector flash (log_sector i)) signed → ⊥) → (codes : Codes) (signed : List SignedEntry) (unsigned : List Entry) → HoldsSegments flash root codes signed unsigned → ⊥
+    → ((signed : SignedEntry) → HoldsEntry (sector flash (log_sector i)) signed → ⊥) → (codes : Codes) (signed : List SignedEntry) (unsigned : List Entry) → HoldsPublic flash root codes signed unsigned → ⊥
 no_list flash root header i only less none codes signed unsigned holds =
     no_log flash i none signed (omega (arith, less, holds.count, ap (λ (h : Header). h.signed) (only holds.header holds.begins))) holds.log

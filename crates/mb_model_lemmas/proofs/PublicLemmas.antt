@@ -19,7 +19,8 @@ use Rattle.mb_model.specs.EntryFormat.{entry_format, signed_entry_format}
 use Rattle.mb_model.specs.OrderEffects.{signed_by}
 use Rattle.mb_model.specs.RootFormat.{outgoing_format, pending_format, root_format}
 use Rattle.mb_model.specs.StoredLog.{signed_for, unsigned_by, outgoing_of}
-use Rattle.mb_model.specs.Flash.{public_entry_format, public_format, with_signature, without_signature}
+use Rattle.mb_model.specs.PublicRecord.{public_entry_format, public_format}
+use Rattle.mb_model.specs.OldFlash.{with_signature, without_signature}
 
 -- ---- the root
 

@@ -15,7 +15,7 @@ use Rattle.mb_model.specs.EntryFormat.{entry_format, signed_entry_format}
 use Rattle.mb_model.specs.HeaderFormat.{code_length_format, slot_format, entry_bytes_format, unsigned_format, header_format, log_format}
 use Rattle.mb_model.specs.Pieces.{part}
 use Rattle.mb_model.specs.Sectors.{code_sector, log_sector}
-use Rattle.mb_model.specs.Segments.{sector, code_slot, HoldsHeader, HoldsCode, HoldsLog, HoldsSegments}
+use Rattle.mb_model.specs.Flash.{sector, code_slot, HoldsHeader, HoldsCode, HoldsLog, HoldsPublic}
 use Rattle.mb_model.specs.StoredLog.{AreCounted}
 use Rattle.mb_model.specs.WrittenFlash.{in_sectors, first_slot, slots_with, entry_in_log, sectors_of, first_header, written_flash, CodesFitSlots, LogFitsSectors}
 use Rattle.mb_model.proofs.FormatBounds.{entry_short, header_short, log_short}
@@ -187,7 +187,7 @@ module _ (codes : Codes) (log : List SignedEntry) (fit : CodesFitSlots codes) (f
         long_z,
       )
 
-  pub written_segments : (root : Root) → root.area ≡ 0 → root.pending ≡ None → HoldsSegments (written_flash codes log) root codes log []
+  pub written_segments : (root : Root) → root.area ≡ 0 → root.pending ≡ None → HoldsPublic (written_flash codes log) root codes log []
   unfolding written_flash
   written_segments root first none =
       let H : List ℕ = in_sectors 2 header in
@@ -238,4 +238,4 @@ written_is_whole flash codes log is = ap length is.written ∙ length-written co
 
 pub written_holds : WrittenFlashHolds
 written_holds flash codes log root is first none =
-    subst (λ (bytes : List ℕ). HoldsSegments bytes root codes log []) (sym is.written) (written_segments codes log is.codes_fit is.log_fits root first none)
+    subst (λ (bytes : List ℕ). HoldsPublic bytes root codes log []) (sym is.written) (written_segments codes log is.codes_fit is.log_fits root first none)

@@ -12,8 +12,8 @@ use Rattle.mb_model.specs.declared.stored.Header.{Header}
 use Rattle.mb_model.specs.EntryFormat.{entry_format, signed_entry_format}
 use Rattle.mb_model.specs.HeaderFormat.{log_format}
 use Rattle.mb_model.specs.Sectors.{log_sector}
-use Rattle.mb_model.specs.Segments.{sector, HoldsHeader, HoldsCode, HoldsEntry, HoldsLog, AreBytesOf, HoldsSegments}
-use Rattle.mb_model.specs.WrittenFlash.{entry_in_log, CodesFitSlots, LogFitsSectors, IsWrittenFlash}
+use Rattle.mb_model.specs.Flash.{sector, HoldsHeader, HoldsCode, HoldsEntry, HoldsLog, AreBytesOf, HoldsPublic}
+use Rattle.mb_model.specs.WrittenFlash.{entry_in_log, CodesFitSlots, LogFitsSectors, IsFactoryFlash}
 
 -- ---- one value
 
@@ -31,8 +31,8 @@ IsOnlyHeader flash area header = (any : Header) → HoldsHeader flash area any �
 abbrev pub SegmentsHoldOne : Type 0
 SegmentsHoldOne =
     (flash : List ℕ) (root : Root) (codes other_codes : Codes) (signed other_signed : List SignedEntry)
-    (unsigned other_unsigned : List Entry) → IsBytes flash → HoldsSegments flash root codes signed unsigned
-    → HoldsSegments flash root other_codes other_signed other_unsigned
+    (unsigned other_unsigned : List Entry) → IsBytes flash → HoldsPublic flash root codes signed unsigned
+    → HoldsPublic flash root other_codes other_signed other_unsigned
     → (codes ≡ other_codes) × (signed ≡ other_signed) × (unsigned ≡ other_unsigned)
 
 -- this sector of the log holds no entry
@@ -46,7 +46,7 @@ BadLogSectorsHoldNothing =
     (flash : List ℕ) (root : Root) (header : Header) (position : ℕ) → IsOnlyHeader flash root.area header
     → position < header.signed → HoldsNoEntry flash position
     → (codes : Codes) (signed : List SignedEntry) (unsigned : List Entry)
-    → HoldsSegments flash root codes signed unsigned → ⊥
+    → HoldsPublic flash root codes signed unsigned → ⊥
 
 -- ---- what a flash holds has a spelling
 
@@ -91,7 +91,7 @@ pub record SegmentsFit (codes : Codes) (signed : List SignedEntry) (unsigned : L
 abbrev pub HeldSegmentsFit : Type 0
 HeldSegmentsFit =
     (flash : List ℕ) (root : Root) (codes : Codes) (signed : List SignedEntry) (unsigned : List Entry)
-    → HoldsSegments flash root codes signed unsigned → SegmentsFit codes signed unsigned
+    → HoldsPublic flash root codes signed unsigned → SegmentsFit codes signed unsigned
 
 -- ---- what is written is held
 
@@ -118,11 +118,11 @@ EntriesFitTheirSectors =
 -- a written flash is as long as a flash
 abbrev pub WrittenFlashIsWhole : Type 0
 WrittenFlashIsWhole =
-    (flash : List ℕ) (codes : Codes) (log : List SignedEntry) → IsWrittenFlash flash codes log
+    (flash : List ℕ) (codes : Codes) (log : List SignedEntry) → IsFactoryFlash flash codes log
     → length flash ≡ FLASH_LENGTH
 
 -- it holds its codes and its log for a root that names area 0 and has no pending work
 abbrev pub WrittenFlashHolds : Type 0
 WrittenFlashHolds =
-    (flash : List ℕ) (codes : Codes) (log : List SignedEntry) (root : Root) → IsWrittenFlash flash codes log
-    → root.area ≡ 0 → root.pending ≡ None → HoldsSegments flash root codes log []
+    (flash : List ℕ) (codes : Codes) (log : List SignedEntry) (root : Root) → IsFactoryFlash flash codes log
+    → root.area ≡ 0 → root.pending ≡ None → HoldsPublic flash root codes log []

@@ -12,7 +12,7 @@ use Rattle.mb_model.specs.declared.stored.Header.{Header}
 use Rattle.mb_model.specs.HeaderFormat.{header_format}
 use Rattle.mb_model.specs.Pieces.{part}
 use Rattle.mb_model.specs.Sectors.{header_sector, code_sector, log_sector, BeginsAs}
-use Rattle.mb_model.specs.Segments.{sector, code_slot, HoldsHeader, HoldsCode, HoldsEntry, HoldsLog, HoldsSegments}
+use Rattle.mb_model.specs.Flash.{sector, code_slot, HoldsHeader, HoldsCode, HoldsEntry, HoldsLog, HoldsPublic}
 use Rattle.mb_model.proofs.Places.{length-part}
 use Rattle.mb_model_lemmas.specs.SegmentLaws.{IsSmallHeader}
 use Rattle.mb_model_lemmas.proofs.HeldSegments.{small_held}
@@ -105,7 +105,7 @@ segments_stay flash other root codes signed unsigned agree holds =
 
 -- its header is the one it was
 pub stays_header : (flash other : List ℕ) (root : Root) (codes : Codes) (signed : List SignedEntry) (unsigned : List Entry) (agree : AgreeForArea flash other root.area)
-    (holds : HoldsSegments flash root codes signed unsigned) → (segments_stay flash other root codes signed unsigned agree holds).header ≡ holds.header
+    (holds : HoldsPublic flash root codes signed unsigned) → (segments_stay flash other root codes signed unsigned agree holds).header ≡ holds.header
 unfolding segments_stay
 stays_header flash other root codes signed unsigned agree holds = refl
 

@@ -14,7 +14,7 @@ use Rattle.mb_model.specs.declared.stored.Header.{Header}
 use Rattle.mb_model.specs.HeaderFormat.{header_format}
 use Rattle.mb_model.specs.OrderEffects.{code_after}
 use Rattle.mb_model.specs.Sectors.{header_sector, log_sector, BeginsAs}
-use Rattle.mb_model.specs.Segments.{sector, code_slot, HoldsHeader, HoldsCode, HoldsLog, HoldsSegments}
+use Rattle.mb_model.specs.Flash.{sector, code_slot, HoldsHeader, HoldsCode, HoldsLog, HoldsPublic}
 use Rattle.mb_model.specs.StoredLog.{AreCounted}
 use Rattle.mb_model_lemmas.specs.SegmentLaws.{IsOnlyHeader}
 use Rattle.mb_model_lemmas.proofs.HeldSegments.{begins_with, holds_entry, log_push}
@@ -144,13 +144,13 @@ uncounted_from : (flash : List ℕ) (area position : ℕ) (header : Header) → 
 uncounted_from flash area position header only most any held = omega (arith, most, ap (λ (h : Header). h.signed) (only any held))
 
 -- the last write: the header, over a log that is whole, for what the flash held all along
-header_written : (first before after : List ℕ) (root new : Root) (codes : Codes) (signed more : List SignedEntry) (unsigned : List Entry) (bytes : List ℕ) (holds : HoldsSegments first root codes signed unsigned)
+header_written : (first before after : List ℕ) (root new : Root) (codes : Codes) (signed more : List SignedEntry) (unsigned : List Entry) (bytes : List ℕ) (holds : HoldsPublic first root codes signed unsigned)
     → AgreeForArea first before root.area → root.area ≤ 1 → length before ≡ 1048576 → length signed + length more ≤ 128 → HoldsLog before (signed ++ more)
     → IsSectorWritten (header_sector (1 - root.area)) bytes before after → Spells header_format bytes (header_settled holds.header (length more)) → new.area ≡ 1 - root.area → new.pending ≡ None
-    → HoldsSegments after new codes (signed ++ more) [] × HoldsSegments after root codes signed unsigned
+    → HoldsPublic after new codes (signed ++ more) [] × HoldsPublic after root codes signed unsigned
 header_written first before after root new codes signed more unsigned bytes holds agreed low sized room log written spells area none =
     let agree : AgreeForArea first after root.area = agree_then first before after root.area agreed (torn_header before after root.area low sized written.same) in
-    let held : HoldsSegments after root codes signed unsigned = segments_stay first after root codes signed unsigned agree holds in
+    let held : HoldsPublic after root codes signed unsigned = segments_stay first after root codes signed unsigned agree holds in
     let whole : HoldsLog after (signed ++ more) = log_over before after (1 - root.area) (signed ++ more) bytes (omega arith) (omega (arith, room, length-append signed more)) sized written log in
     let begins = begins_with header_format (sector after (header_sector (1 - root.area))) bytes (header_settled holds.header (length more)) spells written.begins in
     let there : HoldsHeader after new.area (header_settled held.header (length more)) =

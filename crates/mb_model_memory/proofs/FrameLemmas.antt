@@ -8,9 +8,11 @@ use Rattle.mb_model.specs.declared.state.State.{State}
 use Rattle.mb_model.specs.declared.stored.Root.{Root}
 use Rattle.mb_model.specs.RootFormat.{root_format}
 use Rattle.mb_model.specs.Memory.{AreSized, IsBlank, life_byte, spare, current, HoldsRecord}
-use Rattle.mb_model.specs.Flash.{public_format, flash_area, BeginsWithRecord, public_of_parts, HoldsPublic}
+use Rattle.mb_model.specs.Flash.{HoldsPublic}
 use Rattle.mb_model.specs.Meaning.{RootIn, HoldsRegion, Contents, HoldsContents, meant, HasMeaning, is_dead, is_live, StandsFor}
+use Rattle.mb_model_memory.specs.FlashInForce.{AgreeForArea}
 use Rattle.mb_model_memory.specs.InForce.{AgreeInForce, AgreeBesides}
+use Rattle.mb_model_memory.proofs.FlashFrames.{segments_stay, agree_turned}
 use Rattle.mb_model_memory.proofs.CommitLemmas.{stands_for_meant, live_contents}
 
 -- the root stands where its bytes do
@@ -22,14 +24,6 @@ root_moved bbram other_bbram root life between same has = record {
   holds = subst (λ (area : List ℕ). HoldsRecord root_format area root) (sym same) has.holds;
 }
 
--- and so do codes and entries
-public_moved : (flash other_flash : List ℕ) (root : Root) (codes : Codes) (signed : List SignedEntry) (unsigned : List Entry) → flash_area other_flash root.area ≡ flash_area flash root.area
-    → HoldsPublic flash root codes signed unsigned → HoldsPublic other_flash root codes signed unsigned
-public_moved flash other_flash root codes signed unsigned same holds = record {
-  begins = subst (λ (area : List ℕ). BeginsWithRecord public_format area (public_of_parts codes signed unsigned)) (sym same) holds.begins;
-  counted = holds.counted;
-}
-
 pub agreement_turned : (flash bbram other_flash other_bbram : List ℕ) → AgreeInForce flash bbram other_flash other_bbram → AgreeInForce other_flash other_bbram flash bbram
 agreement_turned flash bbram other_flash other_bbram agree =
     record {
@@ -38,7 +32,7 @@ agreement_turned flash bbram other_flash other_bbram agree =
       root = sym agree.root;
       two = sym agree.two;
       three = sym agree.three;
-      public = λ root has. sym (agree.public root (root_moved other_bbram bbram root (sym agree.life) (sym agree.between) (sym agree.root) has));
+      public = λ root has. agree_turned flash other_flash root.area (agree.public root (root_moved other_bbram bbram root (sym agree.life) (sym agree.between) (sym agree.root) has));
     }
 
 -- and so do all contents
@@ -46,7 +40,7 @@ pub contents_agree : (flash bbram other_flash other_bbram : List ℕ) (contents 
     → HoldsContents flash bbram contents → HoldsContents other_flash other_bbram contents
 contents_agree flash bbram other_flash other_bbram c agree holds = record {
   root = root_moved bbram other_bbram c.root agree.life agree.between agree.root holds.root;
-  public = public_moved flash other_flash c.root c.codes c.signed c.unsigned (agree.public c.root holds.root) holds.public;
+  public = segments_stay flash other_flash c.root c.codes c.signed c.unsigned (agree.public c.root holds.root) holds.public;
   two = subst (λ (area : List ℕ). HoldsRegion area c.two) (sym agree.two) holds.two;
   three = subst (λ (area : List ℕ). HoldsRegion area c.three) (sym agree.three) holds.three;
 }
@@ -105,11 +99,11 @@ root_replaced flash bbram other_bbram c root codes signed unsigned agree own pub
   three = other_region 1 3 bbram other_bbram c.three (omega arith) (omega arith) (λ e. omega (arith, e)) agree holds.three;
 }
 
-pub other_flash : (flash bbram other_flash : List ℕ) (contents : Contents) → flash_area other_flash contents.root.area ≡ flash_area flash contents.root.area
+pub other_flash : (flash bbram other_flash : List ℕ) (contents : Contents) → AgreeForArea flash other_flash contents.root.area
     → HoldsContents flash bbram contents → HoldsContents other_flash bbram contents
 other_flash flash bbram after c same holds = record {
   root = holds.root;
-  public = public_moved flash after c.root c.codes c.signed c.unsigned same holds.public;
+  public = segments_stay flash after c.root c.codes c.signed c.unsigned same holds.public;
   two = holds.two;
   three = holds.three;
 }

@@ -1,6 +1,6 @@
 -- What the formats of stored values allow.
 use Rattle.std.proofs.Common.{◌≡◌, ℕ, ◌+◌, ◌≤◌, ◌<◌, List, length, Option, None, Some, Bool, true, false, not, refl, sym, ap, subst, arith, lit<}
-use Rattle.std.specs.Prelude.{◌==◌, ◌&&◌, nat_lt, IsSome, if◌then◌else◌}
+use Rattle.std.specs.Prelude.{◌==◌, ◌&&◌, nat_lt, IfSome, IsSome, if◌then◌else◌}
 use Rattle.std.specs.Int.{w32}
 use Rattle.sha2.specs.Sha256.{sha256}
 use Rattle.sha2.proofs.Facts256.{length-sha256}
@@ -36,7 +36,8 @@ use Rattle.mb_model.specs.EntryFormat.{key_kind_format, pair_format, birth_forma
 use Rattle.mb_model.specs.RootFormat.{region_key_format, fate_format}
 use Rattle.mb_model.specs.RegionFormat.{is_name, secret_format}
 use Rattle.mb_model.specs.OrderFormat.{differs_in, payload_format, act_by}
-use Rattle.mb_model.specs.Flash.{code_format, codes_format}
+use Rattle.mb_model.specs.PublicRecord.{code_format, codes_format}
+use Rattle.mb_model.specs.WrittenFlash.{CodesFitSlots}
 use Rattle.mb_model.specs.OrderEffects.{signed_by, code_after, codes_after}
 use Rattle.mb_model_lemmas.proofs.SignatureLemmas.{length-signature_of, public_sized, born_key-sized}
 use Rattle.mb_model_lemmas.proofs.RuleLemmas.{layer_with}
@@ -197,6 +198,15 @@ some_code code short = (tt, ((omega arith, short), refl))
 pub code_short : (differs : Bool) (payload : Payload) → (payload_format differs).Allowed payload → length payload.code ≤ 32768
 unfolding payload_format
 code_short differs payload is = is.1.1.0.1
+
+-- code that fits its slot has a spelling
+fitting_code : (code : Option (List ℕ)) → IfSome code (λ bytes. length bytes ≤ 32768) → code_format.Allowed code
+fitting_code None fits = no_code
+fitting_code (Some code) fits = some_code code fits
+
+pub fitting_codes : (codes : Codes) → CodesFitSlots codes → codes_format.Allowed codes
+unfolding codes_format
+fitting_codes codes fit = (fitting_code codes.one fit.one, (fitting_code codes.two fit.two, fitting_code codes.three fit.three))
 
 code_after_allowed : (old : Option (List ℕ)) (a : Act) → code_format.Allowed old → (act_by (kind_of a) (differs_in a)).Allowed a → code_format.Allowed (code_after old a)
 code_after_allowed old (act.Establish owner trust) is allowed = no_code

@@ -3,7 +3,6 @@ use Rattle.std.proofs.Common.{◌≡◌, ◌≤◌, ℕ, List, [], ◌∷◌, �
 use Rattle.std.specs.Prelude.{All, unwrap_or, if◌then◌else◌}
 use Rattle.std.specs.Option.{option_or}
 use Rattle.std.specs.List.{list_any, AllByRecursion}
-use Rattle.std.proofs.lemmas.List.{length-map}
 use Rattle.std.proofs.lemmas.List.Elements.{All-nil, All-cons, All-push, All-filter, All-append, All-from_recursion, recursion_from_All}
 use Rattle.mb_format.specs.Combinators.{optional}
 use Rattle.mb_format.proofs.Compositions.{items_all}
@@ -21,7 +20,6 @@ use Rattle.mb_model.specs.declared.stored.Fate.{Fate}
 use Rattle.mb_model.specs.declared.stored.Fate.TheVariants.{Keep, Empty, DropConfiguration, AddKey}
 use Rattle.mb_model.specs.declared.stored.Outgoing.{Outgoing}
 use Rattle.mb_model.specs.declared.stored.Pending.{Pending}
-use Rattle.mb_model.specs.declared.stored.Public.{Public}
 use Rattle.mb_model.specs.declared.stored.Root.{Root}
 use Rattle.mb_model.specs.Layers.{unowned_layers}
 use Rattle.mb_model.specs.Log.{entries_of, layers_in, last_of, layers_of}
@@ -32,17 +30,18 @@ use Rattle.mb_model.specs.LayerFormat.{layers_format}
 use Rattle.mb_model.specs.EntryFormat.{birth_format, change_format, entry_format, signed_entry_format}
 use Rattle.mb_model.specs.RootFormat.{region_key_format, fate_format, pending_format, root_format}
 use Rattle.mb_model.specs.RegionFormat.{secret_format, secrets_format, keys_format, region_format, SpellsRegion}
-use Rattle.mb_model.specs.Flash.{codes_format, public_format, with_signature, without_signature, public_of_parts}
 use Rattle.mb_model.specs.OrderEffects.{signed_by}
 use Rattle.mb_model.specs.StoredLog.{signed_for, outgoing_of, completed}
 use Rattle.mb_model.specs.Meaning.{Contents, HoldsContents, fated, fate_of_two, fate_of_three, meant, StandsFor}
 use Rattle.mb_model.specs.Valid.{IsValidState}
 use Rattle.mb_model.specs.Factory.{layers_at_birth, serial_from, birth_entry, state_at_birth}
 use Rattle.mb_model.proofs.Places.{length-part}
-use Rattle.mb_model_lemmas.proofs.PublicLemmas.{root_pending, public_few, public_entries, signed_front, unsigned_rest, entry_from_signed, length-signed_for}
+use Rattle.mb_model_lemmas.proofs.PublicLemmas.{root_pending, entry_from_signed, length-signed_for}
+use Rattle.mb_model_lemmas.specs.SegmentLaws.{SegmentsFit}
+use Rattle.mb_model_lemmas.proofs.HeldSegments.{segments_fit}
 use Rattle.mb_model_memory.specs.Storable.{IsStorableRegion, IsStorableState}
 use Rattle.mb_model_memory.proofs.CommitLemmas.{live_contents}
-use Rattle.mb_model_memory.proofs.StorableFormats.{keep_allowed, small_number, born_seed_allowed, born_public_allowed, unowned_allowed, layers_allowed, layers_of_version_two, first_layer_allowed, first_codes_allowed, birth_allowed, signed_allowed}
+use Rattle.mb_model_memory.proofs.StorableFormats.{fitting_codes, keep_allowed, small_number, born_seed_allowed, born_public_allowed, unowned_allowed, layers_allowed, layers_of_version_two, first_layer_allowed, first_codes_allowed, birth_allowed, signed_allowed}
 use Rattle.mb_model_memory.proofs.StorableOrders.{empty_storable}
 
 -- ---- the root
@@ -106,12 +105,6 @@ fated_storable (AddKey key) region allowed is few = record {
   few_keys = few;
 }
 
--- ---- the public record
-
-public_codes : (public : Public) → public_format.Allowed public → codes_format.Allowed public.codes
-unfolding public_format
-public_codes public is = is.1.0
-
 -- ---- the log
 
 mapped_signed : (key : KeySeed) (index : ℕ) (unsigned : List Entry) → AllByRecursion entry_format.Allowed unsigned → All signed_entry_format.Allowed (map (signed_by key index) unsigned)
@@ -156,42 +149,31 @@ layers_of-allowed log are = named_or_none (last_of layers_in (entries_of log)) (
 
 -- ---- the state
 
-completed_allowed : (root : Root) (codes : Codes) (signed : List SignedEntry) (unsigned : List Entry) → public_format.Allowed (public_of_parts codes signed unsigned)
+completed_allowed : (root : Root) (codes : Codes) (signed : List SignedEntry) (unsigned : List Entry) → SegmentsFit codes signed unsigned
     → All signed_entry_format.Allowed (completed root signed unsigned)
 unfolding completed
-completed_allowed root codes signed unsigned is =
-    let are = public_entries (public_of_parts codes signed unsigned) is in
-    All-append signed_entry_format.Allowed signed (signed_for root.device root.uses (outgoing_of root.pending) unsigned) (signed_front signed (map without_signature unsigned) are)
-    (all_signed root.device root.uses (outgoing_of root.pending) unsigned (recursion_from_All entry_format.Allowed unsigned (unsigned_rest signed unsigned are)))
+completed_allowed root codes signed unsigned fit =
+    All-append signed_entry_format.Allowed signed (signed_for root.device root.uses (outgoing_of root.pending) unsigned) fit.log_fits.allowed
+    (all_signed root.device root.uses (outgoing_of root.pending) unsigned (recursion_from_All entry_format.Allowed unsigned fit.unsigned_allowed))
 
-completed_few : (root : Root) (codes : Codes) (signed : List SignedEntry) (unsigned : List Entry) → public_format.Allowed (public_of_parts codes signed unsigned)
-    → length (completed root signed unsigned) ≤ 128
+completed_few : (root : Root) (codes : Codes) (signed : List SignedEntry) (unsigned : List Entry) → SegmentsFit codes signed unsigned → length (completed root signed unsigned) ≤ 128
 unfolding completed
-completed_few root codes signed unsigned is =
-    let few = public_few (public_of_parts codes signed unsigned) is in
-    omega (
-      arith,
-      few,
-      length-append signed (signed_for root.device root.uses (outgoing_of root.pending) unsigned),
-      length-signed_for root.device root.uses (outgoing_of root.pending) unsigned,
-      length-append (map with_signature signed) (map without_signature unsigned),
-      length-map signed with_signature,
-      length-map unsigned without_signature,
-    )
+completed_few root codes signed unsigned fit =
+    omega (arith, fit.together, length-append signed (signed_for root.device root.uses (outgoing_of root.pending) unsigned), length-signed_for root.device root.uses (outgoing_of root.pending) unsigned)
 
 pub meant_storable : (flash bbram : List ℕ) (contents : Contents) → HoldsContents flash bbram contents → length (meant contents).two.keys ≤ 8 → length (meant contents).three.keys ≤ 8
     → IsStorableState (meant contents)
 unfolding meant
 meant_storable flash bbram c holds few_two few_three =
     let root : root_format.Allowed c.root = holds.root.holds.spelled.allowed in
-    let public : public_format.Allowed (public_of_parts c.codes c.signed c.unsigned) = holds.public.begins.spelled.allowed in
+    let public : SegmentsFit c.codes c.signed c.unsigned = segments_fit flash c.root c.codes c.signed c.unsigned holds.public in
     let pending : (optional pending_format).Allowed c.root.pending = root_pending c.root root in
     let log : All signed_entry_format.Allowed (completed c.root c.signed c.unsigned) = completed_allowed c.root c.codes c.signed c.unsigned public in
     record {
       serial = root_serial c.root root;
       device = root_device c.root root;
       layers = layers_of-allowed (completed c.root c.signed c.unsigned) log;
-      codes = public_codes (public_of_parts c.codes c.signed c.unsigned) public;
+      codes = fitting_codes c.codes public.codes_fit;
       log = log;
       few = completed_few c.root c.codes c.signed c.unsigned public;
       two = fated_storable (fate_of_two c.root.pending) c.two (fate_two c.root.pending pending) (spelled_storable holds.two.bytes c.two holds.two.spelled) few_two;

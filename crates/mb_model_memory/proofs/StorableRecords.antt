@@ -33,7 +33,8 @@ use Rattle.mb_model.specs.EntryFormat.{entry_format, signed_entry_format}
 use Rattle.mb_model.specs.RootFormat.{region_key_format, outgoing_format, fate_format, pending_format, root_format}
 use Rattle.mb_model.specs.RegionFormat.{secret_format, secrets_format, keys_format, region_format}
 use Rattle.mb_model.specs.OrderFormat.{order_format}
-use Rattle.mb_model.specs.Flash.{codes_format, public_entry_format, public_format, with_signature, without_signature, public_of_parts}
+use Rattle.mb_model.specs.PublicRecord.{codes_format, public_entry_format, public_format}
+use Rattle.mb_model.specs.OldFlash.{with_signature, without_signature, public_of_parts}
 use Rattle.mb_model.specs.OrderChecks.{needs_succession, Passes, view_of}
 use Rattle.mb_model.specs.OrderEffects.{signed_by, log_with, cosigned_by, key_made, ready_for, obeyed, succession_entry, entry_of, fact_of}
 use Rattle.mb_model.specs.Work.{pending_for}

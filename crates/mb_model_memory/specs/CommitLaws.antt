@@ -18,11 +18,12 @@ use Rattle.mb_model_memory.specs.Commits.{new_entries}
 use Rattle.mb_model.specs.Valid.{IsValidState}
 use Rattle.mb_model.specs.Memory.{AreSized, current, HoldsRecord}
 use Rattle.mb_model.specs.StoredLog.{AreCounted, HasIndex}
-use Rattle.mb_model.specs.Flash.{flash_area, HoldsPublic}
+use Rattle.mb_model.specs.Flash.{HoldsPublic}
 use Rattle.mb_model.specs.Meaning.{HoldsRegion, Contents, HoldsContents, meant, StandsFor}
 use Rattle.mb_model.specs.Clean.{root_of, IsCleanFor}
 use Rattle.mb_model_memory.specs.Commits.{root_for, committed, two_done, three_done, both_done, IsUnderWay}
 use Rattle.mb_model_memory.specs.Commits.{at_rest}
+use Rattle.mb_model_memory.specs.FlashInForce.{AgreeForArea}
 use Rattle.mb_model_memory.specs.InForce.{AgreeInForce, AgreeBesides}
 
 -- ---- the commit
@@ -160,7 +161,7 @@ RootIsReplaced =
 abbrev pub OtherFlashIsFree : Type 0
 OtherFlashIsFree =
     (flash bbram other_flash : List ℕ) (contents : Contents)
-    → flash_area other_flash contents.root.area ≡ flash_area flash contents.root.area
+    → AgreeForArea flash other_flash contents.root.area
     → HoldsContents flash bbram contents → HoldsContents other_flash bbram contents
 
 -- ---- an order from rest to rest

@@ -9,7 +9,7 @@ use Rattle.mb_model.specs.declared.stored.Header.{Header}
 use Rattle.mb_model.specs.Board.{Memory}
 use Rattle.mb_model.specs.Meaning.{RootIn}
 use Rattle.mb_model.specs.Sectors.{header_sector, log_sector}
-use Rattle.mb_model.specs.Segments.{sector, code_slot, HoldsHeader}
+use Rattle.mb_model.specs.Flash.{sector, code_slot, HoldsHeader}
 
 -- the slot that a header names for a layer from 1 to 3
 abbrev pub slot_in : Header → ℕ → Slot

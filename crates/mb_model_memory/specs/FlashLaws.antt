@@ -17,7 +17,7 @@ use Rattle.mb_model.specs.Meaning.{RootIn}
 use Rattle.mb_model.specs.OrderEffects.{codes_after}
 use Rattle.mb_model.specs.OrderFormat.{order_format}
 use Rattle.mb_model.specs.Sectors.{header_sector, code_sector, log_sector}
-use Rattle.mb_model.specs.Segments.{HoldsHeader, HoldsLog, AreBytesOf, HoldsSegments}
+use Rattle.mb_model.specs.Flash.{HoldsHeader, HoldsLog, AreBytesOf, HoldsPublic}
 use Rattle.mb_model.specs.StoredLog.{AreCounted}
 use Rattle.mb_model_lemmas.specs.SegmentLaws.{IsOnlyHeader, SpellsLog}
 use Rattle.mb_model_memory.specs.FlashInForce.{slot_in, AgreeForArea, KeepsSignedLog, IsUncounted, IsFreeSlot}
@@ -31,8 +31,8 @@ use Rattle.mb_model_memory.specs.NextHeaders.{texts_of_entries, header_after, he
 abbrev pub AgreeingFlashesHoldTheSame : Type 0
 AgreeingFlashesHoldTheSame =
     (flash other : List ℕ) (root : Root) (codes : Codes) (signed : List SignedEntry) (unsigned : List Entry)
-    → AgreeForArea flash other root.area → HoldsSegments flash root codes signed unsigned
-    → HoldsSegments other root codes signed unsigned
+    → AgreeForArea flash other root.area → HoldsPublic flash root codes signed unsigned
+    → HoldsPublic other root codes signed unsigned
 
 -- flashes that agree for the area that the root names have the same signed log
 abbrev pub AgreementKeepsTheLog : Type 0
@@ -85,11 +85,11 @@ UnnamedSlotsAreFree =
 abbrev pub OrdersAreHeld : Type 0
 OrdersAreHeld =
     (before after : List ℕ) (old new : Root) (codes : Codes) (signed : List SignedEntry) (unsigned : List Entry)
-    (layer : ℕ) (act : Act) (first second : Option (List ℕ)) (holds : HoldsSegments before old codes signed [])
+    (layer : ℕ) (act : Act) (first second : Option (List ℕ)) (holds : HoldsPublic before old codes signed [])
     → AgreeForArea before after old.area → HasNewCode after layer (slot_in holds.header layer) act
     → HoldsHeader after new.area (header_after holds.header layer act first second)
     → AreBytesOf first second unsigned → AreCounted new.pending unsigned
-    → HoldsSegments after new (codes_after codes layer act) signed unsigned
+    → HoldsPublic after new (codes_after codes layer act) signed unsigned
 
 -- So it is after both writes: the code to the free slot, and the header to the other area. For the old root the flash
 -- holds what it held.
@@ -97,13 +97,13 @@ abbrev pub OrderWritesAreHeld : Type 0
 OrderWritesAreHeld =
     (before between after : List ℕ) (old new : Root) (codes : Codes) (signed : List SignedEntry)
     (unsigned : List Entry) (layer : ℕ) (act : Act) (first second : Option (List ℕ)) (bytes : List ℕ)
-    (holds : HoldsSegments before old codes signed []) → IsOnlyHeader before old.area holds.header → old.area ≤ 1
+    (holds : HoldsPublic before old codes signed []) → IsOnlyHeader before old.area holds.header → old.area ≤ 1
     → 1 ≤ layer → layer ≤ 3 → length before ≡ FLASH_LENGTH
     → IsCodeWritten layer (slot_in holds.header layer) (code_brought act) before between
     → IsSectorWritten (header_sector (1 - old.area)) bytes between after
     → Spells header_format bytes (header_after holds.header layer act first second) → new.area ≡ 1 - old.area
     → AreBytesOf first second unsigned → AreCounted new.pending unsigned
-    → HoldsSegments after new (codes_after codes layer act) signed unsigned × HoldsSegments after old codes signed []
+    → HoldsPublic after new (codes_after codes layer act) signed unsigned × HoldsPublic after old codes signed []
 
 -- ---- headers and texts that are written have spellings
 
@@ -149,9 +149,9 @@ LogWritesAppend =
 abbrev pub SettledLogsAreHeld : Type 0
 SettledLogsAreHeld =
     (flash : List ℕ) (root new : Root) (codes : Codes) (signed more : List SignedEntry) (unsigned : List Entry)
-    (holds : HoldsSegments flash root codes signed unsigned) → HoldsLog flash (signed ++ more)
+    (holds : HoldsPublic flash root codes signed unsigned) → HoldsLog flash (signed ++ more)
     → HoldsHeader flash new.area (header_settled holds.header (length more)) → new.pending ≡ None
-    → HoldsSegments flash new codes (signed ++ more) []
+    → HoldsPublic flash new codes (signed ++ more) []
 
 -- So it is after the writes for one entry: its log sector, and the header to the other area. For the root before, the
 -- flash holds what it held.
@@ -159,23 +159,23 @@ abbrev pub SettlingOneIsHeld : Type 0
 SettlingOneIsHeld =
     (before between after : List ℕ) (root new : Root) (codes : Codes) (signed : List SignedEntry)
     (unsigned : List Entry) (one : SignedEntry) (log_bytes bytes : List ℕ)
-    (holds : HoldsSegments before root codes signed unsigned) → IsOnlyHeader before root.area holds.header
+    (holds : HoldsPublic before root codes signed unsigned) → IsOnlyHeader before root.area holds.header
     → root.area ≤ 1 → length before ≡ FLASH_LENGTH → length signed + 1 ≤ ENTRY_LIMIT → SpellsLog log_bytes one
     → IsSectorWritten (log_sector (length signed)) log_bytes before between
     → IsSectorWritten (header_sector (1 - root.area)) bytes between after
     → Spells header_format bytes (header_settled holds.header 1) → new.area ≡ 1 - root.area → new.pending ≡ None
-    → HoldsSegments after new codes (signed ++ one ∷ []) [] × HoldsSegments after root codes signed unsigned
+    → HoldsPublic after new codes (signed ++ one ∷ []) [] × HoldsPublic after root codes signed unsigned
 
 -- and after the writes for two entries
 abbrev pub SettlingTwoIsHeld : Type 0
 SettlingTwoIsHeld =
     (before between next after : List ℕ) (root new : Root) (codes : Codes) (signed : List SignedEntry)
     (unsigned : List Entry) (one two : SignedEntry) (first_bytes second_bytes bytes : List ℕ)
-    (holds : HoldsSegments before root codes signed unsigned) → IsOnlyHeader before root.area holds.header
+    (holds : HoldsPublic before root codes signed unsigned) → IsOnlyHeader before root.area holds.header
     → root.area ≤ 1 → length before ≡ FLASH_LENGTH → length signed + 2 ≤ ENTRY_LIMIT
     → SpellsLog first_bytes one → SpellsLog second_bytes two
     → IsSectorWritten (log_sector (length signed)) first_bytes before between
     → IsSectorWritten (log_sector (length signed + 1)) second_bytes between next
     → IsSectorWritten (header_sector (1 - root.area)) bytes next after
     → Spells header_format bytes (header_settled holds.header 2) → new.area ≡ 1 - root.area → new.pending ≡ None
-    → HoldsSegments after new codes (signed ++ one ∷ two ∷ []) [] × HoldsSegments after root codes signed unsigned
+    → HoldsPublic after new codes (signed ++ one ∷ two ∷ []) [] × HoldsPublic after root codes signed unsigned

@@ -2,8 +2,8 @@
 use Rattle.std.specs.Prelude.{◌≡◌, ◌≢◌, ℕ, ◌≤◌, List}
 use Rattle.mb_model.specs.declared.stored.Root.{Root}
 use Rattle.mb_model.specs.Memory.{life_byte, spare, current}
-use Rattle.mb_model.specs.Flash.{flash_area}
 use Rattle.mb_model.specs.Meaning.{RootIn}
+use Rattle.mb_model_memory.specs.FlashInForce.{AgreeForArea}
 
 -- Two memories have the same bytes wherever these are in force: the life byte, the bytes between the selectors and the
 -- areas, the area in force of each slot, and the area of the flash that the root names.
@@ -13,7 +13,7 @@ pub record AgreeInForce (flash bbram other_flash other_bbram : List ℕ) : Type 
   pub root : current other_bbram 1 ≡ current bbram 1
   pub two : current other_bbram 2 ≡ current bbram 2
   pub three : current other_bbram 3 ≡ current bbram 3
-  pub public : (root : Root) → RootIn bbram root → flash_area other_flash root.area ≡ flash_area flash root.area
+  pub public : (root : Root) → RootIn bbram root → AgreeForArea flash other_flash root.area
 
 -- two battery-backed memories have the same bytes in force, but for those of one slot
 pub record AgreeBesides (slot : ℕ) (bbram other_bbram : List ℕ) : Type 0 where

@@ -7,7 +7,7 @@ use Rattle.mb_model.specs.LayerFormat.{layers_format}
 use Rattle.mb_model.specs.EntryFormat.{signed_entry_format}
 use Rattle.mb_model.specs.RootFormat.{region_key_format}
 use Rattle.mb_model.specs.RegionFormat.{secret_format, SpellsRegion}
-use Rattle.mb_model.specs.Flash.{codes_format}
+use Rattle.mb_model.specs.PublicRecord.{codes_format}
 
 -- each secret and each key has a spelling, and there are no more than a record holds
 pub record IsStorableRegion (region : Region) : Type 0 where

@@ -13,7 +13,8 @@ use Rattle.mb_model.specs.declared.stored.Root.{Root}
 use Rattle.mb_model.specs.KeyFormat.{public_key_format}
 use Rattle.mb_model.specs.OrderFormat.{order_format}
 use Rattle.mb_model.specs.RootFormat.{root_format}
-use Rattle.mb_model.specs.Flash.{public_format, public_of_parts}
+use Rattle.mb_model.specs.PublicRecord.{public_format}
+use Rattle.mb_model.specs.OldFlash.{public_of_parts}
 use Rattle.mb_model.specs.OrderChecks.{Passes, view_of}
 use Rattle.mb_model.specs.OrderEffects.{obeyed}
 use Rattle.mb_model_memory.specs.Commits.{new_entries}

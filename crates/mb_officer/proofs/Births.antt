@@ -13,7 +13,8 @@ use Rattle.mb_model.specs.Key.{IsSized}
 use Rattle.mb_model.specs.KeyFormat.{public_key_format}
 use Rattle.mb_model.specs.EntryFormat.{entry_format, signed_entry_format}
 use Rattle.mb_model.specs.RootFormat.{root_format}
-use Rattle.mb_model.specs.Flash.{public_format, public_of_parts}
+use Rattle.mb_model.specs.PublicRecord.{public_format}
+use Rattle.mb_model.specs.OldFlash.{public_of_parts}
 use Rattle.mb_model.specs.Signing.{public_of, signature_of}
 use Rattle.mb_model.specs.SignedTexts.{entry_text}
 use Rattle.mb_model.specs.OrderEffects.{signed_by}

@@ -14,7 +14,9 @@ use Rattle.mb_model.specs.Pieces.{part}
 use Rattle.mb_model.specs.Regions.{empty_region}
 use Rattle.mb_model.specs.RootFormat.{root_format}
 use Rattle.mb_model.specs.Memory.{IsBlank, life_byte, selector_of, spare, first_area, second_area, current, other, HoldsInArea, HoldsRecord}
-use Rattle.mb_model.specs.Flash.{public_format, public_of_parts, IsFactoryFlash}
+use Rattle.mb_model.specs.PublicRecord.{public_format}
+use Rattle.mb_model.specs.OldFlash.{public_of_parts}
+use Rattle.mb_model.specs.WrittenFlash.{IsFactoryFlash}
 use Rattle.mb_model.specs.Meaning.{HoldsRegion}
 use Rattle.mb_model.specs.Clean.{root_of, IsCleanFor}
 use Rattle.mb_model.specs.Factory.{IsBornWith}

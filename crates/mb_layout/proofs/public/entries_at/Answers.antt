@@ -2,7 +2,7 @@ use Rattle.std.proofs.lemmas.Result.{err_from_is_err_and}
 use Rattle.std.specs.Prelude.{Some}
 use Rattle.std.specs.Int.{w16}
 use Rattle.mb_format.specs.Combinators.{between}
-use Rattle.mb_model.specs.Flash.{public_entry_format}
+use Rattle.mb_model.specs.PublicRecord.{public_entry_format}
 use Rattle.mb_layout.specs.Parts.{entries_format}
 use Rattle.mb_bytes.proofs.Reading.{led_ok, reading_goes_on, reading_ends, list_fails_at}
 use Rattle.mb_layout.proofs.public.entries_at.Goals as goal

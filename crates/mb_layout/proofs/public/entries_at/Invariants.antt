@@ -1,4 +1,4 @@
-use Rattle.mb_model.specs.Flash.{public_entry_format}
+use Rattle.mb_model.specs.PublicRecord.{public_entry_format}
 use Rattle.mb_bytes.proofs.Reading.{IsReading}
 use Rattle.mb_layout.proofs.public.entries_at.Given as goal
 

@@ -1,4 +1,4 @@
-use Rattle.mb_model.specs.Flash.{codes_format}
+use Rattle.mb_model.specs.PublicRecord.{codes_format}
 use Rattle.mb_bytes.proofs.Putting.{puts_both}
 use Rattle.mb_layout.proofs.public.put_codes.Goals as goal
 

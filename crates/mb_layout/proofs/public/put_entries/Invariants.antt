@@ -1,4 +1,4 @@
-use Rattle.mb_model.specs.Flash.{public_entry_format}
+use Rattle.mb_model.specs.PublicRecord.{public_entry_format}
 use Rattle.mb_bytes.proofs.Putting.{IsWriting}
 use Rattle.mb_layout.proofs.public.put_entries.Given as goal
 

@@ -1,5 +1,6 @@
 use Rattle.std.proofs.Common.{map}
-use Rattle.mb_model.specs.Flash.{public_entry_format, with_signature}
+use Rattle.mb_model.specs.PublicRecord.{public_entry_format}
+use Rattle.mb_model.specs.OldFlash.{with_signature}
 use Rattle.mb_bytes.proofs.Putting.{IsWriting}
 use Rattle.mb_layout.proofs.public.put_signed_entries.Given as goal
 

@@ -1,5 +1,5 @@
 use Rattle.std.proofs.lemmas.Result.{err_from_is_err_and}
-use Rattle.mb_model.specs.Flash.{without_signature}
+use Rattle.mb_model.specs.OldFlash.{without_signature}
 use Rattle.mb_bytes.proofs.Putting.{writing_goes_on, writing_stops, writing_ends}
 use Rattle.mb_layout.proofs.Entries.{mapped_item, mapped_below, mapped_end}
 use Rattle.mb_layout.proofs.public.put_unsigned_entries.Goals as goal

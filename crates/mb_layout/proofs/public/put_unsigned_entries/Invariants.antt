@@ -1,5 +1,6 @@
 use Rattle.std.proofs.Common.{map}
-use Rattle.mb_model.specs.Flash.{public_entry_format, without_signature}
+use Rattle.mb_model.specs.PublicRecord.{public_entry_format}
+use Rattle.mb_model.specs.OldFlash.{without_signature}
 use Rattle.mb_bytes.proofs.Putting.{IsWriting}
 use Rattle.mb_layout.proofs.public.put_unsigned_entries.Given as goal
 

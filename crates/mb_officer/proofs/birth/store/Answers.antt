@@ -1,5 +1,6 @@
 use Rattle.std.proofs.Common.{List, [], ◌++◌, ℕ, arith, ap, ◌∙◌}
-use Rattle.mb_model.specs.Flash.{public_format, public_of_parts}
+use Rattle.mb_model.specs.PublicRecord.{public_format}
+use Rattle.mb_model.specs.OldFlash.{public_of_parts}
 use Rattle.mb_model.proofs.FormatBounds.{public_short}
 use Rattle.mb_officer.proofs.Births.{writes_fit}
 use Rattle.mb_officer.proofs.birth.store.Goals as goal

@@ -1,0 +1,51 @@
+-- What stood in the flash of a device before it was divided into segments. What does an old image mean?
+use Rattle.std.specs.Prelude.{◌≡◌, ℕ, ◌*◌, ◌≤◌, List, ◌++◌, length, map, None, Some}
+use Rattle.std.specs.Int.{w32, to_be_bytes}
+use Rattle.mb_format.specs.Format.{Format, Spells}
+use Rattle.mb_model.specs.declared.entry.Entry.{Entry}
+use Rattle.mb_model.specs.declared.entry.SignedEntry.{SignedEntry}
+use Rattle.mb_model.specs.declared.entry.PublicEntry.{PublicEntry}
+use Rattle.mb_model.specs.declared.state.Codes.{Codes}
+use Rattle.mb_model.specs.declared.stored.Public.{Public}
+use Rattle.mb_model.specs.declared.stored.Root.{Root}
+use Rattle.mb_model.specs.PublicRecord.{public_format}
+use Rattle.mb_model.specs.Pieces.{part}
+use Rattle.mb_model.specs.StoredLog.{AreCounted}
+
+-- ---- where it stands
+
+-- area 0 or 1 of the flash, of 524,288 bytes
+unfoldable pub flash_area : List ℕ → ℕ → List ℕ
+flash_area flash n = part (524288 * n) 524288 flash
+
+-- an area begins with these bytes, after their length; what follows them is any
+pub record BeginsArea (area bytes : List ℕ) : Type 0 where
+  pub rest : List ℕ
+  pub short : length bytes ≤ 470000
+  pub whole : area ≡ to_be_bytes w32 (length bytes) ++ bytes ++ rest
+
+-- an area begins with a record of this value
+pub record BeginsWithRecord {A : Type 0} (format : Format A) (area : List ℕ) (value : A) : Type 0 where
+  pub bytes : List ℕ
+  pub begins : BeginsArea area bytes
+  pub spelled : Spells format bytes value
+
+-- ---- what it holds
+
+-- an entry with its signature, and one that is not signed yet, as they are stored
+abbrev pub with_signature : SignedEntry → PublicEntry
+with_signature signed = record { entry = signed.entry; signature = Some signed.signature }
+
+abbrev pub without_signature : Entry → PublicEntry
+without_signature entry = record { entry = entry; signature = None }
+
+-- the record of these codes, and of entries that are signed up to the last ones
+abbrev pub public_of_parts : Codes → List SignedEntry → List Entry → Public
+public_of_parts codes signed unsigned =
+    record { codes = codes; entries = map with_signature signed ++ map without_signature unsigned }
+
+-- The flash area that the root names holds these codes and entries, of which as many are unsigned as the root says.
+pub record HeldPublic
+    (flash : List ℕ) (root : Root) (codes : Codes) (signed : List SignedEntry) (unsigned : List Entry) : Type 0 where
+  pub begins : BeginsWithRecord public_format (flash_area flash root.area) (public_of_parts codes signed unsigned)
+  pub counted : AreCounted root.pending unsigned
