@@ -1,6 +1,7 @@
 //! The first look at a device that comes up: which work is left in it.
 
 ghost use Rattle.std.specs.Prelude.{◌≡◌, IsOk, IfOk};
+ghost use Rattle.mb_layout.specs.Plans.{SamePlans};
 ghost use Rattle.mb_model.specs.declared.stored.Root.{Root};
 ghost use Rattle.mb_model.specs.Memory.{other};
 ghost use Rattle.mb_model.specs.Meaning.{RootIn};
@@ -40,7 +41,7 @@ pub fn look<B: Board>(up: Up<R1>, b: &mut B, room: &mut Room) -> Result<Looked, 
     ensures looked { (root : Root) → RootIn (B.seen b.old).memory.bbram root
         → IfOk result (λ looked. IsLooked looked root (other (B.seen b.old).memory.bbram 1)) }
     ensures same { B.seen b.new ≡ B.seen b.old }
-    ensures public { room.new.public ≡ room.old.public }
+    ensures plans { SamePlans room.old room.new }
 {
     let root = read_root(b, room);
     if root.pending.is_some() {

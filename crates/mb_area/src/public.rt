@@ -1,6 +1,7 @@
 //! The public record in the flash.
 
 ghost use Rattle.std.specs.Prelude.{◌≡◌, ◌≤◌, ◌-◌, ℕ, List, length, OnOk, IsOk};
+ghost use Rattle.mb_layout.specs.Plans.{SamePlans};
 ghost use Rattle.mb_model.specs.declared.stored.Root.{Root};
 ghost use Rattle.mb_model.specs.OldFlash.{flash_area, BeginsArea};
 ghost use Rattle.mb_model.specs.Meaning.{RootIn};
@@ -42,7 +43,7 @@ pub fn write_public<S: Reaches<One>, B: Board>(s: S, b: &mut B, room: &mut Room)
         × ((B.seen b.new).meter ≡ (B.seen b.old).meter) }
     ensures bbram { (B.seen b.new).memory.bbram ≡ (B.seen b.old).memory.bbram }
     ensures ran { Ran 230 result (B.seen b.old) (B.seen b.new) }
-    ensures public { room.new.public ≡ room.old.public }
+    ensures plans { SamePlans room.old room.new }
 {
     let root = read_root(b, room);
     match write_area(b, u16::from(1 - root.area), &room.public) {

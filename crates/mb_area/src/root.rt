@@ -2,6 +2,7 @@
 
 ghost use Rattle.std.specs.Prelude.{◌≡◌, ◌≤◌, ◌-◌, ◌⊎◌, length, OnOk, IsOk, vec_capacity};
 ghost use Rattle.mb_format.specs.Format.{Spells};
+ghost use Rattle.mb_layout.specs.Plans.{SamePlans};
 ghost use Rattle.mb_model.specs.declared.limits.TheConstants.{AREA_LENGTH, RECORD_LIMIT};
 ghost use Rattle.mb_model.specs.declared.stored.Root.{Root};
 ghost use Rattle.mb_model.specs.RootFormat.{root_format};
@@ -42,7 +43,7 @@ pub fn read_root<B: Board>(b: &B, room: &mut Room) -> Root
     ensures holds { RootIn (B.seen b.now).memory.bbram result }
     ensures root { (root : Root) → RootIn (B.seen b.now).memory.bbram root → root ≡ result }
     ensures area { result.area ≤ 1 }
-    ensures public { room.new.public ≡ room.old.public }
+    ensures plans { SamePlans room.old room.new }
 {
     make_area(&mut room.area);
     read_current(b, ROOT_SLOT, &mut room.area);
@@ -76,7 +77,7 @@ fn store_root<B: Board>(b: &mut B, root: &Root, room: &mut Room) -> Result<(), S
     ensures rest { IsSameBut 1 (B.seen b.old).memory.bbram (B.seen b.new).memory.bbram }
     ensures flash { (B.seen b.new).memory.flash ≡ (B.seen b.old).memory.flash }
     ensures ran { Ran 2 result (B.seen b.old) (B.seen b.new) }
-    ensures public { room.new.public ≡ room.old.public }
+    ensures plans { SamePlans room.old room.new }
 {
     root_bytes(root, &mut room.other);
     make_area(&mut room.area);
@@ -103,7 +104,7 @@ pub fn commit_root<B: Board>(
     ensures rest { IsSameBut 1 (B.seen b.old).memory.bbram (B.seen b.new).memory.bbram }
     ensures flash { (B.seen b.new).memory.flash ≡ (B.seen b.old).memory.flash }
     ensures ran { Ran 2 result (B.seen b.old) (B.seen b.new) }
-    ensures public { room.new.public ≡ room.old.public }
+    ensures plans { SamePlans room.old room.new }
 {
     match store_root(b, root, room) {
         Ok(()) => Ok(Unsettled { up }),
@@ -138,7 +139,7 @@ pub fn finish_root<B: Board>(u: Unsettled, b: &mut B, room: &mut Room) -> Result
     ensures rest { IsSameBut 1 (B.seen b.old).memory.bbram (B.seen b.new).memory.bbram }
     ensures flash { (B.seen b.new).memory.flash ≡ (B.seen b.old).memory.flash }
     ensures ran { Ran 2 result (B.seen b.old) (B.seen b.new) }
-    ensures public { room.new.public ≡ room.old.public }
+    ensures plans { SamePlans room.old room.new }
 {
     let root = settled_root(&read_root(b, room));
     match store_root(b, &root, room) {

@@ -1,6 +1,7 @@
 //! Secrets that a layer keeps.
 
 ghost use Rattle.std.specs.Prelude.{◌≡◌, IfOk, IfSome};
+ghost use Rattle.mb_layout.specs.Plans.{SamePlans};
 ghost use Rattle.mb_model.specs.declared.region.Region.{Region};
 ghost use Rattle.mb_model.specs.declared.state.State.{State};
 ghost use Rattle.mb_model.specs.Layers.{Runnable};
@@ -42,7 +43,7 @@ fn region_with<S: Reaches<L>, L: Named, B: Board>(
     ensures put { (state : State) → IsReady (B.seen b.now).memory state
         → PutsInto (region_of state L.place) (secret_of name.now value.now number) result }
     ensures stored { IfOk result (λ region. HasRegionRecord region) }
-    ensures public { room.new.public ≡ room.old.public }
+    ensures plans { SamePlans room.old room.new }
 {
     let mut region = load::<S, L, B>(alloc, s, b, room)?;
     let secret = Secret {
@@ -75,7 +76,7 @@ pub fn put_secret<S: Reaches<L>, L: Named, B: Board>(
     ensures writes { TellsOfWrites result (B.seen b.old).memory (B.seen b.new).memory (B.seen b.old).meter (B.seen b.new).meter }
     ensures flash { (B.seen b.new).memory.flash ≡ (B.seen b.old).memory.flash }
     ensures ran { Ran 3 result (B.seen b.old) (B.seen b.new) }
-    ensures public { room.new.public ≡ room.old.public }
+    ensures plans { SamePlans room.old room.new }
 {
     let region = match region_with::<S, L, B>(alloc, &s, b, name, value, number, room) {
         Ok(region) => region,
@@ -98,7 +99,7 @@ pub fn get_secret<S: Reaches<L>, L: Named, B: Board>(
     requires ready { HasReady (B.seen b.now).memory }
     ensures told { (state : State) → IsReady (B.seen b.now).memory state
         → IsAnswered (get_event L.place name.now state) result (B.seen b.now).memory (B.seen b.now).memory }
-    ensures public { room.new.public ≡ room.old.public }
+    ensures plans { SamePlans room.old room.new }
 {
     match load::<S, L, B>(alloc, s, b, room) {
         Ok(region) => value_in(region, name.as_slice()),
@@ -119,7 +120,7 @@ fn region_without<S: Reaches<L>, L: Named, B: Board>(
     ensures dropped { (state : State) → IsReady (B.seen b.now).memory state
         → DropsFrom (region_of state L.place) name.now result }
     ensures stored { IfOk result (λ found. IfSome found (λ region. HasRegionRecord region)) }
-    ensures public { room.new.public ≡ room.old.public }
+    ensures plans { SamePlans room.old room.new }
 {
     let mut region = load::<S, L, B>(alloc, s, b, room)?;
     if drop_in(&mut region, name.as_slice()) {
@@ -144,7 +145,7 @@ pub fn drop_secret<S: Reaches<L>, L: Named, B: Board>(
     ensures writes { TellsOfWrites result (B.seen b.old).memory (B.seen b.new).memory (B.seen b.old).meter (B.seen b.new).meter }
     ensures flash { (B.seen b.new).memory.flash ≡ (B.seen b.old).memory.flash }
     ensures ran { Ran 3 result (B.seen b.old) (B.seen b.new) }
-    ensures public { room.new.public ≡ room.old.public }
+    ensures plans { SamePlans room.old room.new }
 {
     let region = match region_without::<S, L, B>(alloc, &s, b, name, room) {
         Ok(Some(region)) => region,

@@ -2,6 +2,7 @@
 
 ghost use Rattle.std.specs.Prelude.{◌≡◌, ◌⊎◌, OnOk, IfOk};
 ghost use Rattle.mb_format.specs.Format.{IsBytes};
+ghost use Rattle.mb_layout.specs.Plans.{SamePlans};
 ghost use Rattle.mb_model.specs.declared.region.Region.{Region};
 ghost use Rattle.mb_model.specs.declared.state.State.{State};
 ghost use Rattle.mb_model.specs.Memory.{IsBlank, other};
@@ -33,7 +34,7 @@ pub(crate) fn load<S: Reaches<L>, L: Named, B: Board>(
     ensures region { (state : State) → IsReady (B.seen b.now).memory state
         → IfOk result (λ region. region ≡ region_of state L.place) }
     ensures kept { IfOk result (λ region. IsKeptRegion region) }
-    ensures public { room.new.public ≡ room.old.public }
+    ensures plans { SamePlans room.old room.new }
 {
     read_stored::<S, L, B>(alloc, s, b, room)
 }
@@ -53,7 +54,7 @@ fn exchange<S: Reaches<L>, L: Named, B: Board>(
     ensures rest { IsSameBut L.place (B.seen b.old).memory.bbram (B.seen b.new).memory.bbram }
     ensures flash { (B.seen b.new).memory.flash ≡ (B.seen b.old).memory.flash }
     ensures ran { Ran 3 result (B.seen b.old) (B.seen b.new) }
-    ensures public { room.new.public ≡ room.old.public }
+    ensures plans { SamePlans room.old room.new }
 {
     let s = commit_region::<S, L, B>(s, b, region, room)?;
     wipe_region::<S, L, B>(s, b)
@@ -77,7 +78,7 @@ pub(crate) fn replace<S: Reaches<L>, L: Named, B: Board>(
         → Means (B.seen b.new).memory state ⊎ Means (B.seen b.new).memory (with_region state L.place region.now) }
     ensures flash { (B.seen b.new).memory.flash ≡ (B.seen b.old).memory.flash }
     ensures ran { Ran 3 result (B.seen b.old) (B.seen b.new) }
-    ensures public { room.new.public ≡ room.old.public }
+    ensures plans { SamePlans room.old room.new }
 {
     exchange::<S, L, B>(s, b, region, room)
 }

@@ -96,7 +96,7 @@ fn public_in(alloc: Global, flash: &[u8], root: &Root) -> Result<Option<PublicPa
 }
 
 /// An area of the flash, 0 or 1.
-#[tactic(auto, unfolding(mb_model::specs::Flash::flash_area))]
+#[tactic(auto, unfolding(mb_model::specs::OldFlash::flash_area))]
 pub(crate) fn flash_area(flash: &[u8], number: u8) -> &[u8]
     requires sized { length flash.now ≡ FLASH_LENGTH }
     requires area { number ≤ 1 }

@@ -9,3 +9,4 @@ pub mod StoredEntries
 pub mod Uncopied
 pub mod Walks
 pub mod UnsignedEntries
+pub mod Plans

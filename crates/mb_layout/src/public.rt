@@ -36,7 +36,7 @@ pub struct StoredCodes<'a> {
 }
 
 /// Reads the code of a layer after its length, if it has some, and does not copy it.
-#[tactic(auto, unfolding(mb_model::specs::Flash::code_format))]
+#[tactic(auto, unfolding(mb_model::specs::PublicRecord::code_format))]
 fn stored_code_at<'a>(cursor: &mut Cursor<'a>) -> Result<Option<&'a [u8]>, BadRecord>
     ensures { ReadsAs option_copied bad_at code_format cursor.old result cursor.new }
 {
@@ -48,7 +48,7 @@ fn stored_code_at<'a>(cursor: &mut Cursor<'a>) -> Result<Option<&'a [u8]>, BadRe
 }
 
 /// Reads the codes of the layers, and does not copy them.
-#[tactic(auto, unfolding(mb_model::specs::Flash::codes_format))]
+#[tactic(auto, unfolding(mb_model::specs::PublicRecord::codes_format))]
 pub fn stored_codes_at<'a>(cursor: &mut Cursor<'a>) -> Result<StoredCodes<'a>, BadRecord>
     ensures { ReadsAs codes_in bad_at codes_format cursor.old result cursor.new }
 {
@@ -67,7 +67,7 @@ fn code_at(alloc: Global, cursor: &mut Cursor<'_>) -> Result<Option<Bytes>, Layo
     }
 }
 
-#[tactic(auto, unfolding(mb_model::specs::Flash::codes_format))]
+#[tactic(auto, unfolding(mb_model::specs::PublicRecord::codes_format))]
 fn codes_at(alloc: Global, cursor: &mut Cursor<'_>) -> Result<Codes, LayoutEnd>
     ensures { Reads layout_at codes_format cursor.old result cursor.new }
 {
@@ -87,7 +87,7 @@ fn signature_at(cursor: &mut Cursor<'_>) -> Result<Option<[u8; SIGNATURE_LENGTH]
     }
 }
 
-#[tactic(auto, unfolding(mb_model::specs::Flash::public_entry_format))]
+#[tactic(auto, unfolding(mb_model::specs::PublicRecord::public_entry_format))]
 pub fn public_entry_at(cursor: &mut Cursor<'_>) -> Result<PublicEntry, BadRecord>
     ensures { Reads bad_at public_entry_format cursor.old result cursor.new }
 {
@@ -108,7 +108,7 @@ fn entries_at(alloc: Global, cursor: &mut Cursor<'_>) -> Result<PublicEntries, L
     Ok(entries)
 }
 
-#[tactic(auto, unfolding(mb_model::specs::Flash::public_format, crate::specs::Parts::entries_format))]
+#[tactic(auto, unfolding(mb_model::specs::PublicRecord::public_format, crate::specs::Parts::entries_format))]
 fn public_at(alloc: Global, cursor: &mut Cursor<'_>) -> Result<Public, LayoutEnd>
     ensures { Reads layout_at public_format cursor.old result cursor.new }
 {
@@ -118,7 +118,7 @@ fn public_at(alloc: Global, cursor: &mut Cursor<'_>) -> Result<Public, LayoutEnd
     Ok(Public { codes, entries })
 }
 
-#[tactic(auto, unfolding(mb_model::specs::Flash::code_format))]
+#[tactic(auto, unfolding(mb_model::specs::PublicRecord::code_format))]
 fn put_code(out: &mut Vec<u8>, code: &Option<Bytes>) -> Result<(), NoMemory>
     requires { CodeFits code.now }
     ensures { Puts (code_format.spelling code.now) out.old result out.new }
@@ -132,7 +132,7 @@ fn put_code(out: &mut Vec<u8>, code: &Option<Bytes>) -> Result<(), NoMemory>
     }
 }
 
-#[tactic(auto, unfolding(mb_model::specs::Flash::codes_format))]
+#[tactic(auto, unfolding(mb_model::specs::PublicRecord::codes_format))]
 fn put_codes(out: &mut Vec<u8>, codes: &Codes) -> Result<(), NoMemory>
     requires { CodesFit codes.now }
     ensures { Puts (codes_format.spelling codes.now) out.old result out.new }
@@ -143,7 +143,7 @@ fn put_codes(out: &mut Vec<u8>, codes: &Codes) -> Result<(), NoMemory>
 }
 
 /// Appends a signed entry: the entry, a byte that says that it is signed, and the signature.
-#[tactic(auto, unfolding(mb_model::specs::Flash::public_entry_format))]
+#[tactic(auto, unfolding(mb_model::specs::PublicRecord::public_entry_format))]
 pub fn put_signed(
     out: &mut Vec<u8>,
     entry: &Entry,
@@ -157,7 +157,7 @@ pub fn put_signed(
     put_slice(out, signature)
 }
 
-#[tactic(auto, unfolding(mb_model::specs::Flash::public_entry_format))]
+#[tactic(auto, unfolding(mb_model::specs::PublicRecord::public_entry_format))]
 fn put_unsigned(out: &mut Vec<u8>, entry: &Entry) -> Result<(), NoMemory>
     ensures { Puts (public_entry_format.spelling
         (without_signature entry.now)) out.old result out.new }
@@ -184,7 +184,7 @@ fn put_entries(out: &mut Vec<u8>, entries: &PublicEntries) -> Result<(), NoMemor
     Ok(())
 }
 
-#[tactic(auto, unfolding(mb_model::specs::Flash::public_format))]
+#[tactic(auto, unfolding(mb_model::specs::PublicRecord::public_format))]
 fn put_public(out: &mut Vec<u8>, value: &Public) -> Result<(), NoMemory>
     requires { PublicFits value.now }
     ensures { Puts (public_format.spelling value.now) out.old result out.new }
@@ -213,7 +213,7 @@ fn put_unsigned_entries(out: &mut Vec<u8>, entries: &[Entry]) -> Result<(), NoMe
     Ok(())
 }
 
-#[tactic(auto, unfolding(mb_model::specs::Flash::public_format))]
+#[tactic(auto, unfolding(mb_model::specs::PublicRecord::public_format))]
 fn put_parts(
     out: &mut Vec<u8>,
     codes: &Codes,
@@ -233,7 +233,7 @@ fn put_parts(
 }
 
 impl Record for Public {
-    ghost use Rattle.mb_model.specs.Flash.{public_format};
+    ghost use Rattle.mb_model.specs.PublicRecord.{public_format};
     ghost use Rattle.mb_layout.specs.Ends.{layout_at};
     ghost use Rattle.mb_model.proofs.RecordFormatLaws.{public_exact};
 

@@ -1,38 +1,51 @@
 //! The buffers in which a device works.
 
 ghost use Rattle.std.specs.Prelude.{◌≡◌, ◌≤◌, [], length, vec_len, vec_capacity, IfOk};
-ghost use Rattle.mb_model.specs.declared.limits.TheConstants.{AREA_LENGTH};
+ghost use Rattle.mb_model.specs.declared.limits.TheConstants.{AREA_LENGTH, CODE_LIMIT, SECTOR_LENGTH};
 ghost use Rattle.mb_model.specs.Memory.{IsBlank};
 
-use crate::area::PUBLIC_LIMIT;
-use mb_model::{AREA_LENGTH, NoMemory};
+use mb_model::{AREA_LENGTH, CODE_LIMIT, NoMemory, SECTOR_LENGTH};
 use std::alloc::Global;
 
-/// The buffers in which a device works. They always have room for all that it writes: 470,000, 4,096 and 4,096 bytes.
+/// The buffers in which a device works: what is written next, and working space. They always have room for all that a
+/// device writes.
 #[derive(Drop)]
 pub struct Room {
-    /// The public record that is written next.
-    pub public: Vec<u8>,
+    /// The code of a load that is written next.
+    pub code: Vec<u8>,
+    /// The layer of that code, 1 to 3; 0 if no code is written.
+    pub code_layer: u8,
+    /// The header of the flash that is written next.
+    pub header: Vec<u8>,
+    /// The content of the sector of the log that is written next.
+    pub log: Vec<u8>,
     /// Working space; no caller relies on it after a call.
     pub area: Vec<u8>,
     /// More working space.
     pub other: Vec<u8>,
-    ghost public_room: { 470000 ≤ vec_capacity public },
+    ghost code_room: { CODE_LIMIT ≤ vec_capacity code },
+    ghost header_room: { SECTOR_LENGTH ≤ vec_capacity header },
+    ghost log_room: { SECTOR_LENGTH ≤ vec_capacity log },
     ghost area_room: { AREA_LENGTH ≤ vec_capacity area },
     ghost other_room: { AREA_LENGTH ≤ vec_capacity other },
 }
 
 impl Room {
-    /// Empty buffers with their room. `NoMemory` if an allocation fails.
+    /// Empty buffers with their room, and no code to write. `NoMemory` if an allocation fails.
     pub fn new(alloc: Global) -> Result<Room, NoMemory>
-        ensures { IfOk result (λ room. (room.public.items ≡ []) × (room.area.items ≡ [])
-            × (room.other.items ≡ [])) }
+        ensures { IfOk result (λ room. (room.code.items ≡ []) × (room.code_layer ≡ 0) × (room.header.items ≡ [])
+            × (room.log.items ≡ []) × (room.area.items ≡ []) × (room.other.items ≡ [])) }
     {
-        let public = Vec::with_capacity(alloc, PUBLIC_LIMIT)?;
+        let code = Vec::with_capacity(alloc, CODE_LIMIT as usize)?;
+        let header = Vec::with_capacity(alloc, SECTOR_LENGTH)?;
+        let log = Vec::with_capacity(alloc, SECTOR_LENGTH)?;
         let area = Vec::with_capacity(alloc, AREA_LENGTH)?;
         let other = Vec::with_capacity(alloc, AREA_LENGTH)?;
         Ok(Room {
-            public,
+            code,
+            code_layer: 0,
+            header,
+            log,
             area,
             other,
         })

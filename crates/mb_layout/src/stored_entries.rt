@@ -47,7 +47,7 @@ fn stored_signature_at<'a>(cursor: &mut Cursor<'a>) -> Result<Option<&'a [u8]>, 
 }
 
 /// Reads an entry and its signature, and does not copy the signature.
-#[tactic(auto, unfolding(mb_model::specs::Flash::public_entry_format))]
+#[tactic(auto, unfolding(mb_model::specs::PublicRecord::public_entry_format))]
 fn stored_entry_at<'a>(cursor: &mut Cursor<'a>) -> Result<StoredEntry<'a>, BadRecord>
     ensures { ReadsAs entry_in bad_at public_entry_format cursor.old result cursor.new }
 {

@@ -1,6 +1,7 @@
 //! Binding a key of a region.
 
 ghost use Rattle.std.specs.Prelude.{◌≡◌, ◌≤◌, ◌<◌, ◌⊎◌, length, OnOk};
+ghost use Rattle.mb_layout.specs.Plans.{SamePlans};
 ghost use Rattle.mb_model.specs.declared.limits.TheConstants.{RECORD_LIMIT, KEY_USES};
 ghost use Rattle.mb_model.specs.declared.region.Region.{Region};
 ghost use Rattle.mb_model.specs.declared.state.State.{State};
@@ -40,7 +41,7 @@ fn next_use<B: Board>(b: &B, slot: u16, key: u32, room: &mut Room) -> Result<Reg
     ensures used { (region : Region) → HoldsRegion (current (B.seen b.now).memory.bbram slot) region
         → FindsUse region key result room.new.other.items }
     ensures short { OnOk result (length room.new.other.items ≤ RECORD_LIMIT) }
-    ensures public { room.new.public ≡ room.old.public }
+    ensures plans { SamePlans room.old room.new }
 {
     read_area(b, slot, &mut room.area);
     let Some(bytes) = record_in(&room.area) else {
@@ -62,7 +63,7 @@ fn store<S: Reaches<L>, L: Named, B: Board>(s: S, b: &mut B, room: &mut Room) ->
     ensures rest { IsSameBut L.place (B.seen b.old).memory.bbram (B.seen b.new).memory.bbram }
     ensures flash { (B.seen b.new).memory.flash ≡ (B.seen b.old).memory.flash }
     ensures ran { Ran 3 result (B.seen b.old) (B.seen b.new) }
-    ensures public { room.new.public ≡ room.old.public }
+    ensures plans { SamePlans room.old room.new }
 {
     let s = commit_record::<S, L, B>(s, b, &room.other, &mut room.area)?;
     wipe_region::<S, L, B>(s, b)
@@ -111,7 +112,7 @@ pub fn bind<S: Reaches<L>, L: Named, B: Board>(
     ensures rest { IsSameBut L.place (B.seen b.old).memory.bbram (B.seen b.new).memory.bbram }
     ensures flash { (B.seen b.new).memory.flash ≡ (B.seen b.old).memory.flash }
     ensures ran { Ran 3 (power_in result) (B.seen b.old) (B.seen b.new) }
-    ensures public { room.new.public ≡ room.old.public }
+    ensures plans { SamePlans room.old room.new }
 {
     let found = match next_use(b, L::number(), key, room) {
         Ok(found) => found,

@@ -1,6 +1,7 @@
 //! The calls on regions, by the part of the memory that holds one and the state that reaches it.
 
 ghost use Rattle.std.specs.Prelude.{◌≡◌, ◌≤◌, ◌⊎◌, length, OnOk, IfOk, IsOk, vec_capacity};
+ghost use Rattle.mb_layout.specs.Plans.{SamePlans};
 ghost use Rattle.mb_model.specs.declared.limits.TheConstants.{AREA_LENGTH, RECORD_LIMIT};
 ghost use Rattle.mb_model.specs.declared.region.Region.{Region};
 ghost use Rattle.mb_model.specs.declared.state.State.{State};
@@ -38,7 +39,7 @@ pub fn read_stored<S: Reaches<L>, L: Named, B: Board>(
     ensures region { (region : Region)
         → HoldsRegion (current (B.seen b.now).memory.bbram L.place) region
         → IfOk result (λ it. it ≡ region) }
-    ensures public { room.new.public ≡ room.old.public }
+    ensures plans { SamePlans room.old room.new }
 {
     load_region(alloc, b, L::number(), room)
 }
@@ -50,7 +51,7 @@ pub fn count_stored_keys<L: Named, B: Board>(_up: &Up<R1>, b: &B, room: &mut Roo
     ensures count { (region : Region)
         → HoldsRegion (current (B.seen b.now).memory.bbram L.place) region
         → result ≡ length region.keys }
-    ensures public { room.new.public ≡ room.old.public }
+    ensures plans { SamePlans room.old room.new }
 {
     count_keys_in(b, L::number(), room)
 }
@@ -111,7 +112,7 @@ pub fn commit_region<S: Reaches<L>, L: Named, B: Board>(
     ensures rest { IsSameBut L.place (B.seen b.old).memory.bbram (B.seen b.new).memory.bbram }
     ensures flash { (B.seen b.new).memory.flash ≡ (B.seen b.old).memory.flash }
     ensures ran { Ran 2 result (B.seen b.old) (B.seen b.new) }
-    ensures public { room.new.public ≡ room.old.public }
+    ensures plans { SamePlans room.old room.new }
 {
     match store_region(b, L::number(), region, room) {
         Ok(()) => Ok(s),
@@ -141,7 +142,7 @@ pub fn apply_fate<S: Reaches<L>, L: Named, B: Board>(
     ensures rest { IsSameBut L.place (B.seen b.old).memory.bbram (B.seen b.new).memory.bbram }
     ensures flash { (B.seen b.new).memory.flash ≡ (B.seen b.old).memory.flash }
     ensures ran { Ran 2 result (B.seen b.old) (B.seen b.new) }
-    ensures public { room.new.public ≡ room.old.public }
+    ensures plans { SamePlans room.old room.new }
 {
     match finish_fate(b, L::number(), fate, room) {
         Ok(()) => Ok(s),

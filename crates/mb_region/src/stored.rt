@@ -2,6 +2,7 @@
 
 ghost use Rattle.std.specs.Prelude.{◌≡◌, ◌≤◌, ◌⊎◌, length, OnOk, IfOk, Ok, vec_capacity};
 ghost use Rattle.mb_format.specs.Format.{IsBytes};
+ghost use Rattle.mb_layout.specs.Plans.{SamePlans};
 ghost use Rattle.mb_model.specs.declared.limits.TheConstants.{AREA_LENGTH, RECORD_LIMIT};
 ghost use Rattle.mb_model.specs.declared.region.Region.{Region};
 ghost use Rattle.mb_model.specs.declared.stored.Fate.TheVariants.{Keep};
@@ -111,7 +112,7 @@ pub(crate) fn store_region<B: Board>(
     ensures rest { IsSameBut slot (B.seen b.old).memory.bbram (B.seen b.new).memory.bbram }
     ensures flash { (B.seen b.new).memory.flash ≡ (B.seen b.old).memory.flash }
     ensures ran { Ran 2 result (B.seen b.old) (B.seen b.new) }
-    ensures public { room.new.public ≡ room.old.public }
+    ensures plans { SamePlans room.old room.new }
 {
     region_bytes(region, &mut room.other);
     replace(b, slot, &room.other, &mut room.area)
@@ -137,7 +138,7 @@ fn fate_bytes<B: Board>(b: &B, slot: u16, fate: &Fate, room: &mut Room)
         → HoldsRegion (current (B.seen b.now).memory.bbram slot) region
         → SpellsRegion room.new.other.items (fated fate.now region) }
     ensures short { length room.new.other.items ≤ RECORD_LIMIT }
-    ensures public { room.new.public ≡ room.old.public }
+    ensures plans { SamePlans room.old room.new }
 {
     read_area(b, slot, &mut room.area);
     let Some(bytes) = record_in(&room.area) else {
@@ -166,7 +167,7 @@ pub(crate) fn finish_fate<B: Board>(
     ensures rest { IsSameBut slot (B.seen b.old).memory.bbram (B.seen b.new).memory.bbram }
     ensures flash { (B.seen b.new).memory.flash ≡ (B.seen b.old).memory.flash }
     ensures ran { Ran 2 result (B.seen b.old) (B.seen b.new) }
-    ensures public { room.new.public ≡ room.old.public }
+    ensures plans { SamePlans room.old room.new }
 {
     if let Fate::Keep = fate {
         return Ok(());
@@ -187,7 +188,7 @@ pub(crate) fn load_region<B: Board>(
     ensures region { (region : Region)
         → HoldsRegion (current (B.seen b.now).memory.bbram slot) region
         → IfOk result (λ it. it ≡ region) }
-    ensures public { room.new.public ≡ room.old.public }
+    ensures plans { SamePlans room.old room.new }
 {
     read_area(b, slot, &mut room.area);
     match region_in(alloc, &room.area)? {
@@ -203,7 +204,7 @@ pub(crate) fn count_keys_in<B: Board>(b: &B, slot: u16, room: &mut Room) -> u32
     ensures count { (region : Region)
         → HoldsRegion (current (B.seen b.now).memory.bbram slot) region
         → result ≡ length region.keys }
-    ensures public { room.new.public ≡ room.old.public }
+    ensures plans { SamePlans room.old room.new }
 {
     read_area(b, slot, &mut room.area);
     let Some(bytes) = record_in(&room.area) else {
