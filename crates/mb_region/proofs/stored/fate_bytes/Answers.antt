@@ -1,6 +1,6 @@
-use Rattle.std.proofs.Common.{◌∙◌, arith}
+use Rattle.std.proofs.Common.{◌∙◌}
 use Rattle.mb_model.specs.Meaning.{fated}
-use Rattle.mb_region.proofs.Replaced.{no_bytes_held, record_short, fated_stands, bytes_read, still_stands, can_be_stored}
+use Rattle.mb_region.proofs.Replaced.{no_bytes_held, record_short, fated_stands, bytes_read}
 use Rattle.mb_region.proofs.stored.fate_bytes.Goals as goal
 
 pub unreachable-requires : goal.unreachable-requires
