@@ -1,2 +1,1 @@
 pub mod Rooted
-pub mod Published

@@ -1,3 +1,3 @@
 pub mod Roots
-pub mod Records
+pub mod Flashes
 pub mod Look

@@ -1,0 +1,49 @@
+-- What is written to the flash of a device, and where. Does a write reach anything that counts?
+use Rattle.std.specs.Prelude.{◌≡◌, ◌≢◌, ℕ, ◌+◌, ◌-◌, ◌<◌, ◌≤◌, ◌==◌, ◌⊎◌, List, length, Option, None, Some, if◌then◌else◌}
+use Rattle.mb_model.specs.declared.limits.TheConstants.{CODE_LIMIT, SECTOR_LENGTH}
+use Rattle.mb_model.specs.declared.stored.Header.{Header}
+use Rattle.mb_model.specs.declared.stored.Root.{Root}
+use Rattle.mb_model.specs.Board.{Memory}
+use Rattle.mb_model.specs.Flash.{HoldsHeader}
+use Rattle.mb_model.specs.Meaning.{RootIn}
+use Rattle.mb_model.specs.Sectors.{header_sector, code_sector}
+use Rattle.mb_model_memory.specs.FlashInForce.{slot_in, IsSectorWritten}
+use Rattle.mb_model_memory.specs.NextHeaders.{free_slot, IsCodeWritten}
+use Rattle.mb_flash.specs.Sectors.{sectors_for}
+use Rattle.mb_layout.specs.declared.room.Room.{Room}
+
+-- there is a current root record, and a header in the area that it names
+pub record HasSomeHeader (memory : Memory) : Type 0 where
+  pub root : Root
+  pub in_force : RootIn memory.bbram root
+  pub header : Header
+  pub holds : HoldsHeader memory.flash root.area header
+
+-- what is written next can be: code of a layer from 1 to 3, or none, and the bytes of a header
+pub record IsPlan (room : Room) : Type 0 where
+  pub layer : room.code_layer ≤ 3
+  pub code : length room.code.items ≤ CODE_LIMIT
+  pub some : 1 ≤ length room.header.items
+  pub header : length room.header.items ≤ SECTOR_LENGTH
+
+-- the code that is written next
+abbrev pub code_in : Room → Option (List ℕ)
+code_in room = if room.code_layer == 0 then None else Some room.code.items
+
+-- how many sectors it takes
+abbrev pub code_sectors : Room → ℕ
+code_sectors room = if room.code_layer == 0 then 0 else sectors_for (length room.code.items)
+
+-- The code of the room was written to the free slot of its layer, by this header, and then the header of the room to
+-- the other area than this one.
+pub record IsPublicWritten (room : Room) (header : Header) (area : ℕ) (before after : List ℕ) : Type 0 where
+  pub between : List ℕ
+  pub code : IsCodeWritten room.code_layer (slot_in header room.code_layer) (code_in room) before between
+  pub header : IsSectorWritten (header_sector (1 - area)) room.header.items between after
+
+-- Sector n is neither the header area that is written, nor one of the sectors that the code is written to.
+pub record IsSpared (room : Room) (header : Header) (area n : ℕ) : Type 0 where
+  pub not_header : n ≢ header_sector (1 - area)
+  pub not_code : (n < code_sector room.code_layer (free_slot (slot_in header room.code_layer)))
+      ⊎ (code_sector room.code_layer (free_slot (slot_in header room.code_layer)) + code_sectors room ≤ n)
+      ⊎ (room.code_layer ≡ 0)
