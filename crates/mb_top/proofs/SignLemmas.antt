@@ -75,11 +75,6 @@ order_lacks names key order outside = λ final. memory_chosen _ _ _ at_first [] 
 
 -- ---- a key file
 
--- a key file's next index is at most 32
-pub next_fits : (bytes : List ℕ) (key : Keyfile) → Spells keyfile_format bytes key → key.next ≤ 32
-unfolding keyfile_format
-next_fits bytes key is = is.allowed.1.1.1
-
 -- ---- orders that were read
 
 -- an order that was signed is no error
