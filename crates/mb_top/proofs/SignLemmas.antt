@@ -1,9 +1,8 @@
 -- What carries out `sign` and `countersign`.
-use Rattle.std.proofs.Common.{◌≡◌, ℕ, ◌≤◌, List, [], ◌∷◌, Result, Ok, Err, IsErrOf, refl, ◌∙◌, ap, subst}
+use Rattle.std.proofs.Common.{◌≡◌, ℕ, List, [], ◌∷◌, Result, Ok, Err, IsErrOf, refl, ◌∙◌, ap, subst}
 use Rattle.mb_model.specs.declared.order.Order.{Order}
 use Rattle.mb_model.specs.declared.tools.Keyfile.{Keyfile}
 use Rattle.mb_model.specs.declared.role.Role.TheVariants as role
-use Rattle.mb_format.specs.Format.{Spells}
 use Rattle.mb_model.specs.KeyFormat.{keyfile_format}
 use Rattle.mb_model.specs.Texts.{ended}
 use Rattle.mb_model.specs.OrderLines.{order_line}
