@@ -241,7 +241,7 @@ def commands_of(path, begins):
 
 
 def check_commands(path):
-    usage = commands_of(pathlib.Path("crates/mb_top/src/line.rt"), "  miniboot ")
+    usage = commands_of(pathlib.Path("crates/mb_top/src/command_line.rt"), "  miniboot ")
     listed = commands_of(path, "    miniboot ")[: len(usage)]
     for said, printed in itertools.zip_longest(listed, usage):
         if said != printed:

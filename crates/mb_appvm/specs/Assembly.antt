@@ -3,6 +3,7 @@ use Rattle.std.specs.Prelude.{◌≡◌, ◌⊎◌, ℕ, ◌+◌, ◌<◌, ◌�
 use Rattle.std.specs.Prelude.{Option, Some, None, Bool, false}
 use Rattle.std.specs.List.{AllZip, list_any}
 use Rattle.std.specs.Fmt.{decimal}
+use Rattle.mb_model.specs.declared.limits.TheConstants.{CODE_LIMIT}
 use Rattle.mb_format.specs.Combinators.{same_bytes}
 use Rattle.mb_model.specs.Lines.{HasLines}
 use Rattle.mb_model.specs.Script.{IsName}
@@ -162,7 +163,7 @@ pub record AreRight (lines front : List (List ℕ)) (said : List Said) : Type 0 
   pub worded : AllZip SaysAssemblyLine front said
   pub labels : LabelsDiffer said
   pub targets : All (HasTarget lines) said
-  pub short : sum_by size_of said ≤ 32768
+  pub short : sum_by size_of said ≤ CODE_LIMIT
 
 -- The line with this number, from 1, is the first that is wrong: the lines before it are right, and with it they are
 -- not.

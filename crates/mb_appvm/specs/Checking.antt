@@ -3,6 +3,7 @@ use Rattle.std.specs.Prelude.{◌≡◌, ◌⊎◌, ℕ, ◌+◌, ◌<◌, ◌�
 use Rattle.std.specs.Prelude.{flat_map, sum_by, IsTrue, true, Result, Ok, Err}
 use Rattle.std.specs.List.{AllZip, list_any}
 use Rattle.std.specs.Global.{Vec}
+use Rattle.mb_model.specs.declared.limits.TheConstants.{CODE_LIMIT}
 use Rattle.mb_bytes.specs.Puts.{Appends}
 use Rattle.mb_model.specs.Lines.{HasLines}
 use Rattle.mb_appvm.specs.declared.assembling.AsmEnd.{AsmEnd}
@@ -37,7 +38,7 @@ IsTarget all rest (says.JumpTo kind name) = IsTrue (list_any (is_label name) all
 pub record AreSoundLines (all : List Said) (rest : List ℕ) (front : List Said) : Type 0 where
   pub labels : LabelsDiffer front
   pub targets : All (IsTarget all rest) front
-  pub short : sum_by size_of front ≤ 32768
+  pub short : sum_by size_of front ≤ CODE_LIMIT
 
 -- so many lines are right, and no more
 pub record CountsSound (all : List Said) (rest : List ℕ) (count : ℕ) : Type 0 where

@@ -1,6 +1,7 @@
 -- How an instruction is spelled in bytes. Which instruction stands at a place of a code?
 use Rattle.std.specs.Prelude.{ℕ, List, [], ◌∷◌, Option, Some, None}
 use Rattle.std.specs.Int.{w8, w16, w32}
+use Rattle.mb_model.specs.declared.limits.TheConstants.{NAME_LIMIT}
 use Rattle.mb_format.specs.Format.{Format, SpelledAt}
 use Rattle.mb_format.specs.Combinators.{number, between, table, nothing, sized_that, as_value, led}
 use Rattle.mb_model.specs.RegionFormat.{is_name}
@@ -96,7 +97,7 @@ instruction_by opcode.Push = as_value (number w32) instruction.Push pushed_in
 instruction_by opcode.Jump = as_value (number w16) instruction.Jump jump_in
 instruction_by opcode.JumpZero = as_value (number w16) instruction.JumpZero jump_zero_in
 instruction_by opcode.Call = as_value (number w16) instruction.Call call_in
-instruction_by opcode.Get = as_value (sized_that is_name (between w8 1 32)) instruction.Get name_in
+instruction_by opcode.Get = as_value (sized_that is_name (between w8 1 NAME_LIMIT)) instruction.Get name_in
 
 -- an instruction in bytes
 unfoldable pub instruction_format : Format Instruction

@@ -1,5 +1,6 @@
 -- The text that is written of a code: a line for each instruction. Does it stand for the same code?
 use Rattle.std.specs.Prelude.{◌≡◌, ◌≢◌, ℕ, ◌≤◌, List, [], ◌++◌, length, map, All, flat_map, Result, Ok, Err}
+use Rattle.mb_model.specs.declared.limits.TheConstants.{CODE_LIMIT}
 use Rattle.mb_model.specs.Lines.{text_of}
 use Rattle.mb_appvm.specs.declared.disassembling.DisasmEnd.{DisasmEnd}
 use Rattle.mb_appvm.specs.declared.disassembling.DisasmEnd.TheVariants as end
@@ -50,8 +51,8 @@ pub record AssembliesAreClear : Type 0 where
 
 -- the text of a code stands for that code and no other, and no line of it is wrong
 pub record ListingsAssemble : Type 0 where
-  pub again : (code text : List ℕ) → length code ≤ 32768 → IsListing code text → Assembles text code
-  pub alone : (code text other : List ℕ) → length code ≤ 32768 → IsListing code text → Assembles text other
+  pub again : (code text : List ℕ) → length code ≤ CODE_LIMIT → IsListing code text → Assembles text code
+  pub alone : (code text other : List ℕ) → length code ≤ CODE_LIMIT → IsListing code text → Assembles text other
       → other ≡ code
-  pub never_wrong : (code text : List ℕ) (line : ℕ) → length code ≤ 32768 → IsListing code text
+  pub never_wrong : (code text : List ℕ) (line : ℕ) → length code ≤ CODE_LIMIT → IsListing code text
       → AssemblyFailsAt text line → ⊥

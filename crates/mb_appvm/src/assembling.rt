@@ -1,6 +1,7 @@
 //! The assembler.
 
 ghost use Rattle.std.specs.Prelude.{◌≡◌, ◌≤◌, length, IfOk};
+ghost use Rattle.mb_model.specs.declared.limits.TheConstants.{CODE_LIMIT, FILE_LIMIT};
 ghost use Rattle.mb_appvm.specs.Checking.{ReadsTo, AssemblesTo};
 
 use crate::checking::count_sound;
@@ -33,15 +34,16 @@ impl From<NoMemory> for AsmEnd {
     }
 }
 
-/// The code of an assembler text, at most 32,768 bytes. A line is `label NAME`, or the name of an instruction with its
-/// operand; lines end with LF, which the last may lack. The text has at most 4,194,304 bytes.
+/// Assembles a text of at most 4,194,304 bytes to code of at most 32,768 bytes. A line is `label NAME`, or the name of an
+/// instruction with its operand; lines end with LF, which the last may lack.
 ///
-/// Errors: `BadLine` with the first line that is wrong, and `NoMemory`, of which no clause says when it comes: the tests
-/// assemble where there is enough.
+/// Errors: `BadLine` with the first line that is wrong, and `NoMemory`.
+///
+/// Labels are searched for one by one, so that the time is quadratic in the number of lines.
 pub fn assemble(alloc: Global, text: &[u8]) -> Result<Bytes, AsmEnd>
-    requires { length text.now ≤ 4194304 }
+    requires { length text.now ≤ FILE_LIMIT }
     ensures assembled { AssemblesTo text.now result }
-    ensures short { IfOk result (λ code. length code ≤ 32768) }
+    ensures short { IfOk result (λ code. length code ≤ CODE_LIMIT) }
 {
     let (said, rest) = read_lines(alloc, text)?;
     let right = count_sound(said.as_slice(), rest);
@@ -61,7 +63,7 @@ pub fn assemble(alloc: Global, text: &[u8]) -> Result<Bytes, AsmEnd>
 
 /// What the lines of a text say, up to the first that says nothing; and the text from that line on.
 fn read_lines(alloc: Global, text: &[u8]) -> Result<(Vec<Said<'_>>, &[u8]), NoMemory>
-    requires { length text.now ≤ 4194304 }
+    requires { length text.now ≤ FILE_LIMIT }
     ensures { IfOk result (λ parts. ReadsTo text.now parts.0.items parts.1.now) }
 {
     let mut said = Vec::new(alloc);

@@ -1,4 +1,4 @@
-//! Which lines of a text are right among the others.
+//! The test whether a line of a text is right among the others.
 
 ghost use Rattle.std.specs.Prelude.{◌≡◌, ◌↔◌, ◌<◌, ◌≤◌, ◌+◌, ◌^◌, length, IsTrue};
 ghost use Rattle.std.specs.List.{list_any};
@@ -9,12 +9,10 @@ ghost use Rattle.mb_appvm.specs.declared.lines.Said.TheVariants as says;
 
 use crate::instruction::Instruction;
 use crate::lines::{Said, read_line};
+use mb_model::CODE_LIMIT;
 use mb_words::split_line;
 
-/// The most bytes of a code.
-pub(crate) const MOST_OF_CODE: usize = 32_768;
-
-/// How many of the lines are right, from the first on; the text goes on with `rest` after them.
+/// The number of lines before the first that is not right. The text goes on with `rest` after all of them.
 pub(crate) fn count_sound(said: &[Said<'_>], rest: &[u8]) -> usize
     ensures { CountsSound said.now rest.now result }
 {
@@ -22,7 +20,7 @@ pub(crate) fn count_sound(said: &[Said<'_>], rest: &[u8]) -> usize
     for at in 0..said.len() {
         let line = &said[at];
         size += size_of(line);
-        if size > MOST_OF_CODE {
+        if size > CODE_LIMIT as usize {
             return at;
         }
         if !is_sound(line, &said[..at], said, rest) {
@@ -87,7 +85,7 @@ fn says_label(line: &[u8], name: &[u8]) -> bool
     }
 }
 
-/// How many bytes of code a line makes.
+/// The length of the code that a line makes, in bytes.
 pub(crate) fn size_of(line: &Said<'_>) -> usize
     ensures value { result ≡ size_of line.now }
     ensures bounded { result < 2 ^ 63 + 2 ^ 32 }
@@ -99,7 +97,7 @@ pub(crate) fn size_of(line: &Said<'_>) -> usize
     }
 }
 
-/// How many bytes an instruction has.
+/// The length of an instruction, in bytes.
 fn size_of_instruction(instruction: &Instruction<'_>) -> usize
     ensures value { result ≡ length (instruction_format.spelling instruction.now) }
     ensures bounded { result < 2 ^ 63 + 2 ^ 32 }

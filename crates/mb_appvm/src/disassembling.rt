@@ -2,6 +2,7 @@
 
 ghost use Rattle.std.specs.Prelude.{◌≡◌, ◌≤◌, ◌++◌, length, IfOk};
 ghost use Rattle.std.specs.Fmt.{decimal};
+ghost use Rattle.mb_model.specs.declared.limits.TheConstants.{CODE_LIMIT};
 ghost use Rattle.mb_model.specs.Texts.{ended};
 ghost use Rattle.mb_bytes.specs.Puts.{Puts};
 ghost use Rattle.mb_appvm.specs.Assembly.{plain_word, operation_word, Assembles};
@@ -41,7 +42,7 @@ impl From<NoMemory> for DisasmEnd {
 /// Errors: `NoInstruction` with the first place at which no whole instruction stands, and `NoMemory`, of which no clause
 /// says when it comes: the tests disassemble where there is enough.
 pub fn disassemble(alloc: Global, code: &[u8]) -> Result<Bytes, DisasmEnd>
-    requires { length code.now ≤ 32768 }
+    requires { length code.now ≤ CODE_LIMIT }
     ensures written { DisassemblesTo code.now result }
     ensures again { IfOk result (λ text. Assembles text code.now) }
 {

@@ -3,6 +3,7 @@
 ghost use Rattle.std.specs.Prelude.{◌≡◌, ◌≤◌, ◌++◌, sum_by, All, IfOk, true};
 ghost use Rattle.std.specs.Int.{w8, w16};
 ghost use Rattle.std.specs.List.{list_any};
+ghost use Rattle.mb_model.specs.declared.limits.TheConstants.{CODE_LIMIT};
 ghost use Rattle.mb_format.specs.Combinators.{number};
 ghost use Rattle.mb_bytes.specs.Puts.{Puts};
 ghost use Rattle.mb_appvm.specs.Instructions.{plain_byte, instruction_format};
@@ -21,7 +22,7 @@ use std::alloc::Global;
 pub(crate) fn write_code(alloc: Global, said: &[Said<'_>]) -> Result<Vec<u8>, NoMemory>
     requires sayable { All IsSayable said.now }
     requires given { All (IsGiven said.now) said.now }
-    requires short { sum_by size_of said.now ≤ 32768 }
+    requires short { sum_by size_of said.now ≤ CODE_LIMIT }
     ensures { IfOk result (λ code. IsCode said.now said.now code.items) }
 {
     let mut code = Vec::new(alloc);
@@ -35,7 +36,7 @@ pub(crate) fn write_code(alloc: Global, said: &[Said<'_>]) -> Result<Vec<u8>, No
 fn put_line(out: &mut Vec<u8>, line: &Said<'_>, all: &[Said<'_>]) -> Result<(), NoMemory>
     requires sayable { IsSayable line.now }
     requires given { IsGiven all.now line.now }
-    requires short { sum_by size_of all.now ≤ 32768 }
+    requires short { sum_by size_of all.now ≤ CODE_LIMIT }
     ensures { PutsLine all.now line.now out.old result out.new }
 {
     match line {
@@ -48,12 +49,12 @@ fn put_line(out: &mut Vec<u8>, line: &Said<'_>, all: &[Said<'_>]) -> Result<(), 
     }
 }
 
-/// The value of a label that one of the lines gives: the size of the code before it.
+/// The value of a label, which is one of the lines: the length of the code before it.
 fn place_of(said: &[Said<'_>], name: &[u8]) -> usize
     requires given { list_any (is_label name.now) said.now ≡ true }
-    requires short { sum_by size_of said.now ≤ 32768 }
+    requires short { sum_by size_of said.now ≤ CODE_LIMIT }
     ensures place { IsPlaced said.now name.now result }
-    ensures short { result ≤ 32768 }
+    ensures short { result ≤ CODE_LIMIT }
 {
     let mut place = 0;
     for at in 0..said.len() {

@@ -1,7 +1,8 @@
-//! The instruction that stands at a place of a code.
+//! The instruction at an offset of a code.
 
 ghost use Rattle.std.specs.Prelude.{◌≡◌, ◌≤◌, length};
 ghost use Rattle.std.specs.Int.{w8};
+ghost use Rattle.mb_model.specs.declared.limits.TheConstants.{FILE_LIMIT, NAME_LIMIT};
 ghost use Rattle.mb_format.specs.Combinators.{table, between, sized_that};
 ghost use Rattle.mb_bytes.specs.Reads.{bad_at, Reads};
 ghost use Rattle.mb_model.specs.RegionFormat.{is_name};
@@ -9,13 +10,13 @@ ghost use Rattle.mb_appvm.specs.Instructions.{opcode_rows, opcode_byte, instruct
 ghost use Rattle.mb_appvm.specs.Acting.{Fetches};
 
 use crate::instruction::{Instruction, Name, Opcode, Operation, Plain};
-use mb_bytes::{Cursor, u8_between};
-use mb_model::BadRecord;
+use mb_bytes::{Cursor, is_name, u8_between};
+use mb_model::{BadRecord, NAME_LIMIT};
 
-/// The instruction at a place of a code, and the place after it; `None` if no whole instruction stands there. The code
-/// has at most 4,194,304 bytes.
+/// The instruction at an offset of a code, and the offset after it; `None` if no whole instruction stands there. The
+/// code has at most 4,194,304 bytes.
 pub(crate) fn fetch(code: &[u8], place: u32) -> Option<(Instruction<'_>, u32)>
-    requires { length code.now ≤ 4194304 }
+    requires { length code.now ≤ FILE_LIMIT }
     ensures { Fetches code.now place result }
 {
     let mut cursor = Cursor::new(code);
@@ -82,9 +83,9 @@ fn opcode_at(cursor: &mut Cursor<'_>) -> Result<Opcode, BadRecord>
 
 /// Reads a name of 1 to 32 bytes after its length.
 fn name_at<'a>(cursor: &mut Cursor<'a>) -> Result<Name<'a>, BadRecord>
-    ensures { Reads bad_at (sized_that is_name (between w8 1 32)) cursor.old result cursor.new }
+    ensures { Reads bad_at (sized_that is_name (between w8 1 NAME_LIMIT)) cursor.old result cursor.new }
 {
-    let length = u8_between(cursor, 1, 32)?;
+    let length = u8_between(cursor, 1, NAME_LIMIT)?;
     let at = cursor.offset();
     let name = cursor.take_slice(u32::from(length))?;
     if is_name(name) {
@@ -92,11 +93,4 @@ fn name_at<'a>(cursor: &mut Cursor<'a>) -> Result<Name<'a>, BadRecord>
     } else {
         Err(BadRecord { at })
     }
-}
-
-/// Whether each byte is one of a name: it prints and is no space.
-pub(crate) fn is_name(name: &[u8]) -> bool
-    ensures { result ≡ is_name name.now }
-{
-    name.iter().all(|byte| (0x21..=0x7E).contains(byte))
 }

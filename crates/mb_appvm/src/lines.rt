@@ -1,4 +1,4 @@
-//! What the lines of an assembler text say.
+//! The lines of an assembler text.
 
 ghost use Rattle.std.specs.Prelude.{◌≡◌, ◌↔◌, ◌++◌, ◌∷◌, IsTrue, Some, None};
 ghost use Rattle.mb_model.specs.Script.{IsName};
@@ -9,12 +9,10 @@ ghost use Rattle.mb_appvm.specs.Reading.{SaysWords};
 
 use crate::instruction::{Instruction, Name};
 use crate::keyword::{Jump, Keyword, find_keyword};
+use mb_model::NAME_LIMIT;
 use mb_words::{read_number, split_at_byte};
 
-/// The most bytes of a name.
-const MOST_OF_NAME: usize = 32;
-
-/// The largest place of a jump.
+/// The largest offset of a jump.
 const MOST_OF_PLACE: u32 = 65_535;
 
 /// What a line says.
@@ -28,7 +26,7 @@ pub enum Said<'a> {
     JumpTo(Jump, Name<'a>),
 }
 
-/// What a line says; `None` if it is not in the grammar.
+/// Reads a line; `None` if it is not in the grammar.
 pub(crate) fn read_line(line: &[u8]) -> Option<Said<'_>>
     ensures { FindsSome (SaysAssemblyLine line.now) result }
 {
@@ -44,7 +42,7 @@ pub(crate) fn read_line(line: &[u8]) -> Option<Said<'_>>
     }
 }
 
-/// What a line says that is a keyword alone.
+/// Reads a line that is a keyword alone.
 fn say_alone<'a>(keyword: Keyword) -> Option<Said<'a>>
     ensures { FindsSome (SaysWords keyword None) result }
 {
@@ -54,7 +52,7 @@ fn say_alone<'a>(keyword: Keyword) -> Option<Said<'a>>
     }
 }
 
-/// What a line says that begins with a keyword and has an operand after it.
+/// Reads a line that is a keyword and an operand.
 fn read_operand(keyword: Keyword, operand: &[u8]) -> Option<Said<'_>>
     ensures { FindsSome (SaysWords keyword (Some operand.now)) result }
 {
@@ -82,7 +80,7 @@ fn read_operand(keyword: Keyword, operand: &[u8]) -> Option<Said<'_>>
     }
 }
 
-/// What a jump says with an operand: a label, or a place if it begins with a digit.
+/// Reads a jump with its operand: a label, or an offset if it begins with a digit.
 fn read_jump(kind: Jump, operand: &[u8]) -> Option<Said<'_>>
     ensures { FindsSome (SaysWords (key.Jump kind) (Some operand.now)) result }
 {
@@ -95,7 +93,7 @@ fn read_jump(kind: Jump, operand: &[u8]) -> Option<Said<'_>>
     }
 }
 
-/// The jump of a kind to a place.
+/// The jump of a kind to an offset.
 pub(crate) fn jump_to<'a>(kind: Jump, place: u16) -> Instruction<'a>
     ensures { result ≡ jump_to kind place }
 {
@@ -111,7 +109,7 @@ fn is_name(word: &[u8]) -> bool
     ensures { IsTrue result ↔ IsName word.now }
 {
     !word.is_empty()
-        && word.len() <= MOST_OF_NAME
+        && word.len() <= NAME_LIMIT as usize
         && word.iter().all(|byte| 0x21 <= *byte && *byte <= 0x7E)
 }
 

@@ -2,6 +2,7 @@
 
 ghost use Rattle.std.specs.Prelude.{◌≡◌, ◌+◌, ◌<◌, ◌≤◌, ◌++◌, ◌∷◌, [], ℕ, length};
 ghost use Rattle.arrayvec.specs.ArrayVec.{array_vec_len};
+ghost use Rattle.mb_model.specs.declared.limits.TheConstants.{FILE_LIMIT};
 ghost use Rattle.mb_appvm.specs.Application.{Surroundings, takes, leaves};
 ghost use Rattle.mb_appvm.specs.Application.{plain_takes, plain_leaves};
 ghost use Rattle.mb_appvm.specs.Runs.{first_state};
@@ -55,8 +56,8 @@ impl Machine {
 
     /// Executes the instruction at the machine's place. A machine that does not go on is unchanged.
     pub(crate) fn step(&mut self, environment: &Environment<'_>) -> Step
-        requires code { length environment.now.code.now ≤ 4194304 }
-        requires input { length environment.now.input.now ≤ 4194304 }
+        requires code { length environment.now.code.now ≤ FILE_LIMIT }
+        requires input { length environment.now.input.now ≤ FILE_LIMIT }
         ensures { DoesStep (surroundings_of environment.now) self.old result self.new }
     {
         let Some((instruction, next)) = fetch(environment.code, self.place) else {
@@ -83,7 +84,7 @@ impl Machine {
         requires enough { takes instruction ≤ array_vec_len self.old.stack }
         requires room { array_vec_len self.old.stack + leaves instruction ≤ takes instruction + 256 }
         requires fits { array_vec_len self.old.stack ≤ 256 }
-        requires input { length environment.now.input.now ≤ 4194304 }
+        requires input { length environment.now.input.now ≤ FILE_LIMIT }
         ensures { DoesOn (surroundings_of environment.now) instruction.entry next self.old result self.new }
     {
         match instruction {

@@ -2,6 +2,7 @@
 
 ghost use Rattle.std.specs.Prelude.{◌≡◌, ◌+◌, ◌<◌, ◌≤◌, ℕ, List, length, get_or};
 ghost use Rattle.arrayvec.specs.ArrayVec.{array_vec_len};
+ghost use Rattle.mb_model.specs.declared.limits.TheConstants.{FILE_LIMIT};
 ghost use Rattle.mb_appvm.specs.Application.{plain_takes, plain_leaves, result_of};
 ghost use Rattle.mb_appvm.specs.Acting.{DoesPlainOn};
 ghost use Rattle.mb_appvm.specs.declared.instruction.Plain.TheVariants as plain;
@@ -17,7 +18,7 @@ impl Machine {
         requires enough { plain_takes plain ≤ array_vec_len self.old.stack }
         requires room { array_vec_len self.old.stack + plain_leaves plain ≤ plain_takes plain + 256 }
         requires fits { array_vec_len self.old.stack ≤ 256 }
-        requires input { length input.now ≤ 4194304 }
+        requires input { length input.now ≤ FILE_LIMIT }
         ensures { DoesPlainOn input.now plain next self.old result self.new }
     {
         match plain {

@@ -1,6 +1,7 @@
 //! The run of an application.
 
 ghost use Rattle.std.specs.Prelude.{◌≤◌, length, IfOk};
+ghost use Rattle.mb_model.specs.declared.limits.TheConstants.{FILE_LIMIT};
 ghost use Rattle.mb_appvm.specs.Runs.{readable_secrets, RunsTo, AppRun};
 ghost use Rattle.mb_appvm.specs.Acting.{state_of, surroundings_of, run_end};
 
@@ -46,8 +47,8 @@ pub fn run_app(
     three: &Region,
     steps: u32,
 ) -> Result<AppEnd, NoMemory>
-    requires code { length code.now ≤ 4194304 }
-    requires input { length input.now ≤ 4194304 }
+    requires code { length code.now ≤ FILE_LIMIT }
+    requires input { length input.now ≤ FILE_LIMIT }
     ensures { IfOk result (AppRun code.now input.now (readable_secrets layers.now layer two.now three.now) steps) }
 {
     let environment = Environment {
@@ -85,8 +86,8 @@ pub enum Stop {
 
 /// Executes at most `steps` instructions.
 fn run(machine: &mut Machine, environment: &Environment<'_>, steps: u32) -> Stop
-    requires code { length environment.now.code.now ≤ 4194304 }
-    requires input { length environment.now.input.now ≤ 4194304 }
+    requires code { length environment.now.code.now ≤ FILE_LIMIT }
+    requires input { length environment.now.input.now ≤ FILE_LIMIT }
     ensures { RunsTo (surroundings_of environment.now) (state_of machine.old) 0 steps (run_end result machine.new) }
 {
     for done in 0..steps {

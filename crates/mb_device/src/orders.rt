@@ -28,9 +28,10 @@ fn take_order<B: Board, L: Ledger>(
 ) -> (Device, Reply)
     requires bytes { AreBytes (B.seen b.old).memory }
     requires sound { HasSound (Device.One up running) (held_in (B.seen b.old)) }
-    ensures steps { StepsFrom (Device.One up running) (held_in (B.seen b.old)) (event.Command text.now draw.now) result
-        (held_in (B.seen b.new)) }
-    ensures untold { IfNothingTold result.1 (B.seen b.old).memory (B.seen b.new).memory (B.seen b.old).meter (B.seen b.new).meter }
+    ensures steps { StepsFrom (Device.One up running) (held_in (B.seen b.old))
+        (event.Command text.now draw.now) result (held_in (B.seen b.new)) }
+    ensures untold { IfNothingTold result.1 (B.seen b.old).memory (B.seen b.new).memory
+        (B.seen b.old).meter (B.seen b.new).meter }
     ensures ledger { (B.seen b.new).ledger ≡ (B.seen b.old).ledger }
     ensures meter { IsMetered 471 (stop_told result.1) (B.seen b.old).meter (B.seen b.new).meter }
     ensures cost { hashes.new ≤ hashes.old + 139744 }
@@ -55,11 +56,13 @@ impl Device {
     ) -> (Device, Reply)
         requires bytes { AreBytes (B.seen b.old).memory }
         requires sound { HasSound self (held_in (B.seen b.old)) }
-        ensures steps { StepsFrom self (held_in (B.seen b.old)) (event.Command text.now draw.now) result
-            (held_in (B.seen b.new)) }
-        ensures untold { IfNothingTold result.1 (B.seen b.old).memory (B.seen b.new).memory (B.seen b.old).meter (B.seen b.new).meter }
+        ensures steps { StepsFrom self (held_in (B.seen b.old)) (event.Command text.now draw.now)
+            result (held_in (B.seen b.new)) }
+        ensures untold { IfNothingTold result.1 (B.seen b.old).memory (B.seen b.new).memory
+            (B.seen b.old).meter (B.seen b.new).meter }
         ensures ledger { (B.seen b.new).ledger ≡ (B.seen b.old).ledger }
-        ensures meter { IsMetered 471 (stop_told result.1) (B.seen b.old).meter (B.seen b.new).meter }
+        ensures meter { IsMetered 471 (stop_told result.1) (B.seen b.old).meter
+            (B.seen b.new).meter }
         ensures cost { hashes.new ≤ hashes.old + 139744 }
     {
         match self {

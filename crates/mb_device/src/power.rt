@@ -27,8 +27,10 @@ fn come_up<B: Board, L: Ledger>(
     requires sound { HasSound (Device.Off off) (held_in (B.seen b.old)) }
     ensures steps { StepsFrom (Device.Off off) (held_in (B.seen b.old)) event.Boot result
         (held_in (B.seen b.new)) }
-    ensures quiet { IsQuiet (B.seen b.old).memory (B.seen b.new).memory (B.seen b.old).meter (B.seen b.new).meter }
-    ensures untold { IfNothingTold result.1 (B.seen b.old).memory (B.seen b.new).memory (B.seen b.old).meter (B.seen b.new).meter }
+    ensures quiet { IsQuiet (B.seen b.old).memory (B.seen b.new).memory (B.seen b.old).meter
+        (B.seen b.new).meter }
+    ensures untold { IfNothingTold result.1 (B.seen b.old).memory (B.seen b.new).memory
+        (B.seen b.old).meter (B.seen b.new).meter }
     ensures ledger { (B.seen b.new).ledger ≡ (B.seen b.old).ledger }
     ensures meter { IsMetered 239 (stop_told result.1) (B.seen b.old).meter (B.seen b.new).meter }
     ensures cost { hashes.new ≤ hashes.old + 70946 }
@@ -56,10 +58,13 @@ impl Device {
         requires sound { HasSound self (held_in (B.seen b.old)) }
         ensures steps { StepsFrom self (held_in (B.seen b.old)) event.Boot result
             (held_in (B.seen b.new)) }
-        ensures quiet { IsQuiet (B.seen b.old).memory (B.seen b.new).memory (B.seen b.old).meter (B.seen b.new).meter }
-        ensures untold { IfNothingTold result.1 (B.seen b.old).memory (B.seen b.new).memory (B.seen b.old).meter (B.seen b.new).meter }
+        ensures quiet { IsQuiet (B.seen b.old).memory (B.seen b.new).memory (B.seen b.old).meter
+            (B.seen b.new).meter }
+        ensures untold { IfNothingTold result.1 (B.seen b.old).memory (B.seen b.new).memory
+            (B.seen b.old).meter (B.seen b.new).meter }
         ensures ledger { (B.seen b.new).ledger ≡ (B.seen b.old).ledger }
-        ensures meter { IsMetered 239 (stop_told result.1) (B.seen b.old).meter (B.seen b.new).meter }
+        ensures meter { IsMetered 239 (stop_told result.1) (B.seen b.old).meter
+            (B.seen b.new).meter }
         ensures cost { hashes.new ≤ hashes.old + 70946 }
     {
         match self {

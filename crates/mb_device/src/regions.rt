@@ -39,9 +39,12 @@ fn ask<S: Reaches<L>, L: Named, B: Board, C: Ledger>(
     requires runs { is_runnable running.old.known.figures.layers L.place ≡ true }
     requires event { IsLayerEvent event.now }
     requires script { IsScriptEvent event.now }
-    ensures told { (state : State) → IsReady (B.seen b.old).memory state → Knows running.old.known state
-        → ComesTo state (layer_outcome L.place event.now state) (B.seen b.old).memory (B.seen b.new).memory result }
-    ensures writes { TellsOfWrites result (B.seen b.old).memory (B.seen b.new).memory (B.seen b.old).meter (B.seen b.new).meter }
+    ensures told { (state : State) → IsReady (B.seen b.old).memory state
+        → Knows running.old.known state
+        → ComesTo state (layer_outcome L.place event.now state) (B.seen b.old).memory
+        (B.seen b.new).memory result }
+    ensures writes { TellsOfWrites result (B.seen b.old).memory (B.seen b.new).memory
+        (B.seen b.old).meter (B.seen b.new).meter }
     ensures known { running.new.known ≡ running.old.known }
     ensures ran { Ran 3 result (B.seen b.old) (B.seen b.new) }
     ensures cost { hashes.new ≤ hashes.old + 35473 }
@@ -82,7 +85,8 @@ fn use_at<S: Reaches<L> + Runs, L: Named, B: Board, C: Ledger>(
     requires sound { HasSound (S.holder s running) (held_in (B.seen b.old)) }
     ensures steps { StepsFrom (S.holder s running) (held_in (B.seen b.old)) event.now result
         (held_in (B.seen b.new)) }
-    ensures untold { IfNothingTold result.1 (B.seen b.old).memory (B.seen b.new).memory (B.seen b.old).meter (B.seen b.new).meter }
+    ensures untold { IfNothingTold result.1 (B.seen b.old).memory (B.seen b.new).memory
+        (B.seen b.old).meter (B.seen b.new).meter }
     ensures ledger { (B.seen b.new).ledger ≡ (B.seen b.old).ledger }
     ensures meter { IsMetered 3 (stop_told result.1) (B.seen b.old).meter (B.seen b.new).meter }
     ensures cost { hashes.new ≤ hashes.old + 35473 }
@@ -114,7 +118,8 @@ impl Device {
         requires sound { HasSound self (held_in (B.seen b.old)) }
         ensures steps { StepsFrom self (held_in (B.seen b.old)) event.now result
             (held_in (B.seen b.new)) }
-        ensures untold { IfNothingTold result.1 (B.seen b.old).memory (B.seen b.new).memory (B.seen b.old).meter (B.seen b.new).meter }
+        ensures untold { IfNothingTold result.1 (B.seen b.old).memory (B.seen b.new).memory
+            (B.seen b.old).meter (B.seen b.new).meter }
         ensures ledger { (B.seen b.new).ledger ≡ (B.seen b.old).ledger }
         ensures meter { IsMetered 3 (stop_told result.1) (B.seen b.old).meter (B.seen b.new).meter }
         ensures cost { hashes.new ≤ hashes.old + 35473 }

@@ -23,10 +23,12 @@ pub(crate) trait Runs {
         ensures { result ≡ holder self running };
 
     /// The layer runs in each world that the device fits.
-    ghost runs: { (state : Self) (running : Remembered) (world : World) → Fits (holder state running) world → IsRunning level running world };
+    ghost runs: { (state : Self) (running : Remembered) (world : World)
+        → Fits (holder state running) world → IsRunning level running world };
 
     /// The device fits each world in which the layer runs.
-    ghost fits: { (state : Self) (running : Remembered) (world : World) → IsRunning level running world → Fits (holder state running) world };
+    ghost fits: { (state : Self) (running : Remembered) (world : World)
+        → IsRunning level running world → Fits (holder state running) world };
 }
 
 impl Runs for Up<R1> {

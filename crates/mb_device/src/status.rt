@@ -48,7 +48,8 @@ impl Running {
 impl Device {
     /// Answers `status`, from what the device remembers.
     pub(crate) fn status(&self) -> Reply
-        ensures told { (world : World) → Fits self.now world → Valid world.state → (result, world) ≡ status_event world (awake_in world) }
+        ensures told { (world : World) → Fits self.now world → Valid world.state
+            → (result, world) ≡ status_event world (awake_in world) }
         ensures goes_on { stop_told result ≡ Ok tt }
     {
         match self {

@@ -20,8 +20,8 @@ use std::sync::ledger::Ledger;
 impl Device {
     /// Answers an event that the board has handed out. Together with the handing out, the answer is one step of the
     /// machine, from the world that the board held before. Nothing is written if the event is refused, if an allocation
-    /// fails, or if the answer tells of no change; and nothing at the boot of a clean memory. There are at most 471 write
-    /// calls and 139,744 hashes. The answer is `Stopped` exactly if a write call was stopped.
+    /// fails, or if the answer tells of no change; and nothing at the boot of a clean memory. There are at most 471
+    /// write calls and 139,744 hashes. The answer is `Stopped` exactly if a write call was stopped.
     pub fn step<B: Board, L: Ledger>(
         self,
         alloc: Global,
@@ -34,10 +34,14 @@ impl Device {
         ensures steps { (before : Held) (world : World) → IsSoundDevice self before world
             → held_in (B.seen b.old) ≡ taken event.now before
             → Steps world event.now result.1 result.0 (held_in (B.seen b.new)) }
-        ensures untold { IfNothingTold result.1 (B.seen b.old).memory (B.seen b.new).memory (B.seen b.old).meter (B.seen b.new).meter }
-        ensures quiet { IfBoot event.now (IsQuiet (B.seen b.old).memory (B.seen b.new).memory (B.seen b.old).meter (B.seen b.new).meter) }
+        ensures untold { IfNothingTold result.1 (B.seen b.old).memory (B.seen b.new).memory
+            (B.seen b.old).meter (B.seen b.new).meter }
+        ensures quiet { IfBoot event.now
+            (IsQuiet (B.seen b.old).memory (B.seen b.new).memory (B.seen b.old).meter
+            (B.seen b.new).meter) }
         ensures ledger { (B.seen b.new).ledger ≡ (B.seen b.old).ledger }
-        ensures meter { IsMetered 471 (stop_told result.1) (B.seen b.old).meter (B.seen b.new).meter }
+        ensures meter { IsMetered 471 (stop_told result.1) (B.seen b.old).meter
+            (B.seen b.new).meter }
         ensures cost { hashes.new ≤ hashes.old + 139744 }
     {
         match event {
@@ -71,7 +75,8 @@ impl Device {
         requires standing { (B.seen b.old).ledger.standing ≡ held_in (B.seen b.old) }
         requires sound { HasSound self (held_in (B.seen b.old)) }
         ensures served { (world : World) → IsSoundDevice self (held_in (B.seen b.old)) world
-            → IsServedFrom world (B.seen b.old).ledger (B.seen b.new).ledger (held_in (B.seen b.new)) }
+            → IsServedFrom world (B.seen b.old).ledger (B.seen b.new).ledger
+            (held_in (B.seen b.new)) }
         ensures standing { (B.seen b.new).ledger.standing ≡ held_in (B.seen b.new) }
         ensures loaded { IsLoaded (B.seen b.new).memory }
     {

@@ -17,8 +17,8 @@ use mb_model::Root;
 use mb_ratchet::{Off, R1, Up};
 use std::sync::ledger::Ledger;
 
-/// Commits an order: writes its public record, which `public` of the room holds, into the inactive flash area, makes its
-/// root record current, which is when the order counts, and completes the order's pending work. If power fails, the
+/// Commits an order: writes its public record, which `public` of the room holds, into the inactive flash area, makes
+/// its root record current, which is when the order counts, and completes the order's pending work. If power fails, the
 /// memory stands for the state before the order or for the state after it. There are at most 471 write calls and 70,946
 /// hashes. Takes no memory.
 #[tactic(auto, using(crate::proofs::Committed::root_there))]
@@ -36,7 +36,8 @@ pub fn commit<B: Board, L: Ledger>(
         → OnOk result (IsReady (B.seen b.new).memory (obeyed state order draw)) }
     ensures counts { (state : State) (order : Order) (draw : List ℕ)
         → IsCommit (B.seen b.old).memory root.now room.old.public.items state order draw
-        → Means (B.seen b.new).memory state ⊎ Means (B.seen b.new).memory (obeyed state order draw) }
+        → Means (B.seen b.new).memory state
+        ⊎ Means (B.seen b.new).memory (obeyed state order draw) }
     ensures ran { Ran 471 result (B.seen b.old) (B.seen b.new) }
     ensures cost { hashes.new ≤ hashes.old + 70946 }
 {

@@ -81,8 +81,8 @@ fn view_now<B: Board>(up: &Up<R1>, b: &B, known: &Known, root: &Root, room: &mut
     }
 }
 
-/// Reads the order that the bytes spell, and judges it. The error is the answer to an order that is not obeyed. New keys
-/// are derived from `draw`.
+/// Reads the order that the bytes spell, and judges it. The error is the answer to an order that is not obeyed. New
+/// keys are derived from `draw`.
 #[tactic(auto, using(crate::proofs::Remembered::remembered_root, mb_boot::proofs::Settled::only_root, crate::proofs::Judgement::none_step))]
 pub fn judge_text<B: Board, L: Ledger>(
     alloc: Global,

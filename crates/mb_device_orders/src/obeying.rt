@@ -40,8 +40,10 @@ pub fn obey<B: Board, L: Ledger>(
     requires bytes { IsBytes (B.seen b.old).memory.bbram }
     requires remembered { IsRemembered known.old (B.seen b.old).memory }
     ensures told { (state : State) → IsReady (B.seen b.old).memory state → Knows known.old state
-        → Obeys state text.now draw.now known.new (B.seen b.old).memory (B.seen b.new).memory result }
-    ensures writes { TellsOfWrites result (B.seen b.old).memory (B.seen b.new).memory (B.seen b.old).meter (B.seen b.new).meter }
+        → Obeys state text.now draw.now known.new (B.seen b.old).memory (B.seen b.new).memory
+        result }
+    ensures writes { TellsOfWrites result (B.seen b.old).memory (B.seen b.new).memory
+        (B.seen b.old).meter (B.seen b.new).meter }
     ensures ran { Ran 471 result (B.seen b.old) (B.seen b.new) }
     ensures cost { hashes.new ≤ hashes.old + 139744 }
 {

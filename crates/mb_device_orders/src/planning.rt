@@ -95,7 +95,8 @@ fn with_entries(stored: PublicEntries, entries: &[Entry]) -> Result<PublicEntrie
 fn stored_record(alloc: Global, bytes: &[u8]) -> Result<Public, NoMemory>
     requires short { length bytes.now ≤ FILE_LIMIT }
     requires some { SpellsRecord bytes.now }
-    ensures { (public : Public) → Spells public_format bytes.now public → IfOk result (λ it. it ≡ public) }
+    ensures { (public : Public) → Spells public_format bytes.now public
+        → IfOk result (λ it. it ≡ public) }
 {
     match public_of_bytes(alloc, bytes) {
         Ok(public) => Ok(public),
@@ -125,7 +126,8 @@ fn next_record(
     requires short { length room.old.public.items ≤ FILE_LIMIT }
     requires takes { CanTake order.layer order.act entries.now room.old.public.items }
     ensures spelled { (public : Public) → Spells public_format room.old.public.items public
-        → OnOk result (Spells public_format room.new.public.items (with_order order.layer order.act entries.now public)) }
+        → OnOk result (Spells public_format room.new.public.items
+        (with_order order.layer order.act entries.now public)) }
 {
     let stored = stored_record(alloc, &room.public)?;
     let next = with_order(stored, order, entries)?;
@@ -138,8 +140,10 @@ fn next_record(
 fn next_root(root: &Root, plan: &Plan) -> Root
     requires area { root.now.area ≤ 1 }
     requires few { length plan.now.bodies.entries ≤ 2 }
-    ensures { (state : State) (order : Order) (draw : List ℕ) → root.now ≡ root_of state root.now.area
-        → plan.now ≡ plan_by (view_of state) order draw → result ≡ root_for state order draw (1 - root.now.area) }
+    ensures { (state : State) (order : Order) (draw : List ℕ)
+        → root.now ≡ root_of state root.now.area
+        → plan.now ≡ plan_by (view_of state) order draw
+        → result ≡ root_for state order draw (1 - root.now.area) }
 {
     let pending = Pending {
         unsigned: plan.bodies.entries.as_slice().len() as u8,
@@ -159,7 +163,8 @@ fn next_root(root: &Root, plan: &Plan) -> Root
 /// What the device remembers once these entries are appended.
 fn knows_more(known: &Known, entries: &[Entry]) -> Known
     ensures serial { result.serial ≡ known.now.serial }
-    ensures figures { (log : List Entry) → length log + length entries.now ≤ 1000 → known.now.figures ≡ figures_of log
+    ensures figures { (log : List Entry) → length log + length entries.now ≤ 1000
+        → known.now.figures ≡ figures_of log
         → result.figures ≡ figures_of (log ++ entries.now) }
 {
     let mut figures = known.figures;
@@ -184,10 +189,13 @@ pub fn plan_commit<B: Board>(
     requires powered { IsPowered (B.seen b.now) }
     requires bytes { IsBytes (B.seen b.now).memory.bbram }
     requires passed { HasPassed (B.seen b.now).memory judged }
-    ensures commit { (state : State) (text : List ℕ) (draw : List ℕ) → IsReady (B.seen b.now).memory state
+    ensures commit { (state : State) (text : List ℕ) (draw : List ℕ)
+        → IsReady (B.seen b.now).memory state
         → PassesAs state text draw judged
-        → IfOk result (λ planned. IsCommit (B.seen b.now).memory planned.root room.new.public.items state judged.order draw) }
-    ensures knows { (state : State) (text : List ℕ) (draw : List ℕ) → IsReady (B.seen b.now).memory state
+        → IfOk result (λ planned. IsCommit (B.seen b.now).memory planned.root room.new.public.items
+        state judged.order draw) }
+    ensures knows { (state : State) (text : List ℕ) (draw : List ℕ)
+        → IsReady (B.seen b.now).memory state
         → Knows known.now state → PassesAs state text draw judged
         → IfOk result (λ planned. Knows planned.known (obeyed state judged.order draw)) }
 {

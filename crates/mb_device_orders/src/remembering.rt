@@ -29,11 +29,12 @@ pub struct Known {
     pub figures: Figures,
 }
 
-/// The figures of the log in a public record whose every entry is signed. Bytes that spell no such record give arbitrary
-/// figures.
+/// The figures of the log in a public record whose every entry is signed. Bytes that spell no such record give
+/// arbitrary figures.
 fn figures_in(bytes: &[u8]) -> Figures
     requires { length bytes.now ≤ FILE_LIMIT }
-    ensures { (codes : Codes) (log : List SignedEntry) → Spells public_format bytes.now (public_of_parts codes log [])
+    ensures { (codes : Codes) (log : List SignedEntry)
+        → Spells public_format bytes.now (public_of_parts codes log [])
         → result ≡ figures_of (entries_of log) }
 {
     let mut stored = StoredEntries::of(bytes);

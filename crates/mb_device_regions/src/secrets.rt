@@ -55,9 +55,9 @@ fn region_with<S: Reaches<L>, L: Named, B: Board>(
     Ok(region)
 }
 
-/// Answers a put: the secret is kept, or refused if the region is full of secrets of other names. The layer may run, and
-/// `number` is the configuration number. If power fails, the secret is kept as a whole or not at all. There are at most
-/// three write calls.
+/// Answers a put: the secret is kept, or refused if the region is full of secrets of other names. The layer may run,
+/// and `number` is the configuration number. If power fails, the secret is kept as a whole or not at all. There are at
+/// most three write calls.
 pub fn put_secret<S: Reaches<L>, L: Named, B: Board>(
     alloc: Global,
     s: S,
@@ -70,10 +70,13 @@ pub fn put_secret<S: Reaches<L>, L: Named, B: Board>(
     requires can_answer { CanAnswer S.stage (B.seen b.old) }
     requires name { IsName name.now }
     requires value { FitsMessage value.now }
-    ensures told { (state : State) → IsReady (B.seen b.old).memory state → Runnable state.layers L.place
+    ensures told { (state : State) → IsReady (B.seen b.old).memory state
+        → Runnable state.layers L.place
         → number ≡ number_of (entries_of state.log)
-        → ComesTo state (put_event L.place name.now value.now state) (B.seen b.old).memory (B.seen b.new).memory result }
-    ensures writes { TellsOfWrites result (B.seen b.old).memory (B.seen b.new).memory (B.seen b.old).meter (B.seen b.new).meter }
+        → ComesTo state (put_event L.place name.now value.now state) (B.seen b.old).memory
+        (B.seen b.new).memory result }
+    ensures writes { TellsOfWrites result (B.seen b.old).memory (B.seen b.new).memory
+        (B.seen b.old).meter (B.seen b.new).meter }
     ensures flash { (B.seen b.new).memory.flash ≡ (B.seen b.old).memory.flash }
     ensures ran { Ran 3 result (B.seen b.old) (B.seen b.new) }
     ensures plans { SamePlans room.old room.new }
@@ -98,8 +101,14 @@ pub fn get_secret<S: Reaches<L>, L: Named, B: Board>(
     requires up { IsUp S.stage (B.seen b.now) }
     requires ready { HasReady (B.seen b.now).memory }
     ensures told { (state : State) → IsReady (B.seen b.now).memory state
+<<<<<<< HEAD
         → IsAnswered (get_event L.place name.now state) result (B.seen b.now).memory (B.seen b.now).memory }
     ensures plans { SamePlans room.old room.new }
+=======
+        → IsAnswered (get_event L.place name.now state) result (B.seen b.now).memory
+        (B.seen b.now).memory }
+    ensures plans { SamePlans room.old room.new }
+>>>>>>> 80435fa8758c0ece19fdaa7f31df26a024bff59b
 {
     match load::<S, L, B>(alloc, s, b, room) {
         Ok(region) => value_in(region, name.as_slice()),
@@ -140,9 +149,12 @@ pub fn drop_secret<S: Reaches<L>, L: Named, B: Board>(
     room: &mut Room,
 ) -> Result<(S, Reply), Off>
     requires can_answer { CanAnswer S.stage (B.seen b.old) }
-    ensures told { (state : State) → IsReady (B.seen b.old).memory state → Runnable state.layers L.place
-        → ComesTo state (drop_event L.place name.now state) (B.seen b.old).memory (B.seen b.new).memory result }
-    ensures writes { TellsOfWrites result (B.seen b.old).memory (B.seen b.new).memory (B.seen b.old).meter (B.seen b.new).meter }
+    ensures told { (state : State) → IsReady (B.seen b.old).memory state
+        → Runnable state.layers L.place
+        → ComesTo state (drop_event L.place name.now state) (B.seen b.old).memory
+        (B.seen b.new).memory result }
+    ensures writes { TellsOfWrites result (B.seen b.old).memory (B.seen b.new).memory
+        (B.seen b.old).meter (B.seen b.new).meter }
     ensures flash { (B.seen b.new).memory.flash ≡ (B.seen b.old).memory.flash }
     ensures ran { Ran 3 result (B.seen b.old) (B.seen b.new) }
     ensures plans { SamePlans room.old room.new }

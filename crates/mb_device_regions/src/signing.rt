@@ -59,7 +59,8 @@ fn make_statement<Lg: Ledger>(
 ) -> Bytes
     requires short { length prepared.message ≤ MESSAGE_LIMIT }
     requires prepared { IsPreparedMessage prepared.message prepared }
-    ensures statement { result ≡ signed_statement_bytes seed.now right key serial.now number prepared.message }
+    ensures statement { result ≡ signed_statement_bytes seed.now right key serial.now number
+        prepared.message }
     ensures cost { hashes.new ≤ hashes.old + 35473 }
 {
     let mut signature = [0; SIGNATURE_LENGTH];
@@ -102,10 +103,13 @@ pub fn sign_message<S: Reaches<L>, L: Named, B: Board, Lg: Ledger>(
 ) -> Result<(S, Reply), Off>
     requires can_answer { CanAnswer S.stage (B.seen b.old) }
     requires message { FitsMessage message.now }
-    ensures told { (state : State) → IsReady (B.seen b.old).memory state → Runnable state.layers L.place
+    ensures told { (state : State) → IsReady (B.seen b.old).memory state
+        → Runnable state.layers L.place
         → serial.now ≡ state.serial → number ≡ number_of (entries_of state.log)
-        → ComesTo state (sign_event L.place key message.now state) (B.seen b.old).memory (B.seen b.new).memory result }
-    ensures writes { TellsOfWrites result (B.seen b.old).memory (B.seen b.new).memory (B.seen b.old).meter (B.seen b.new).meter }
+        → ComesTo state (sign_event L.place key message.now state) (B.seen b.old).memory
+        (B.seen b.new).memory result }
+    ensures writes { TellsOfWrites result (B.seen b.old).memory (B.seen b.new).memory
+        (B.seen b.old).meter (B.seen b.new).meter }
     ensures flash { (B.seen b.new).memory.flash ≡ (B.seen b.old).memory.flash }
     ensures ran { Ran 3 result (B.seen b.old) (B.seen b.new) }
     ensures plans { SamePlans room.old room.new }

@@ -48,8 +48,10 @@ fn exchange<S: Reaches<L>, L: Named, B: Board>(
 ) -> Result<S, Off>
     requires up { IsUp S.stage (B.seen b.old) }
     requires stored { HasRegionRecord region.now }
-    ensures done { OnOk result (ReplacesRegion L.place region.now (B.seen b.old).memory (B.seen b.new).memory) }
-    ensures either { KeepsOrReplaces L.place region.now (B.seen b.old).memory (B.seen b.new).memory }
+    ensures done { OnOk result (ReplacesRegion L.place region.now (B.seen b.old).memory
+        (B.seen b.new).memory) }
+    ensures either { KeepsOrReplaces L.place region.now (B.seen b.old).memory
+        (B.seen b.new).memory }
     ensures blank { OnOk result (IsBlank (other (B.seen b.new).memory.bbram L.place)) }
     ensures rest { IsSameBut L.place (B.seen b.old).memory.bbram (B.seen b.new).memory.bbram }
     ensures flash { (B.seen b.new).memory.flash ≡ (B.seen b.old).memory.flash }
@@ -75,7 +77,8 @@ pub(crate) fn replace<S: Reaches<L>, L: Named, B: Board>(
         → IsValidState (with_region state L.place region.now)
         → OnOk result (IsReady (B.seen b.new).memory (with_region state L.place region.now)) }
     ensures either { (state : State) → IsReady (B.seen b.old).memory state
-        → Means (B.seen b.new).memory state ⊎ Means (B.seen b.new).memory (with_region state L.place region.now) }
+        → Means (B.seen b.new).memory state
+        ⊎ Means (B.seen b.new).memory (with_region state L.place region.now) }
     ensures flash { (B.seen b.new).memory.flash ≡ (B.seen b.old).memory.flash }
     ensures ran { Ran 3 result (B.seen b.old) (B.seen b.new) }
     ensures plans { SamePlans room.old room.new }

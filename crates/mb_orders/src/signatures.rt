@@ -43,7 +43,10 @@ fn is_countersigned(layers: &Layers, by: &Countersignature, body: &[u8]) -> bool
 /// The layer of the first countersignature that its owner did not give, or `None` if each was given. `body` is the
 /// order's body.
 pub fn countersignature_fails(layers: &Layers, order: &Order, body: &[u8]) -> Option<u8>
-    ensures { MatchOption result (All (IsCountersignedOver layers.now body.now) order.now.countersignatures) (λ m. (i : ℕ) × (by : Countersignature) × (by.layer ≡ m) × IsFirstFailing (IsCountersignedOver layers.now body.now) order.now.countersignatures i by) }
+    ensures { MatchOption result (All (IsCountersignedOver layers.now body.now)
+        order.now.countersignatures) (λ m. (i : ℕ) × (by : Countersignature) × (by.layer ≡ m)
+        × IsFirstFailing (IsCountersignedOver layers.now body.now) order.now.countersignatures i
+        by) }
 {
     for by in order.countersignatures.as_slice() {
         if !is_countersigned(layers, by, body) {

@@ -7,7 +7,7 @@ pub mod ImageLemmas
 pub mod RunLemmas
 pub mod Requests
 pub mod SignLemmas
-pub mod LineLemmas
+pub mod CommandLineLemmas
 pub mod FactoryLemmas
 pub mod SummaryLemmas
 pub mod GenerateLemmas

@@ -1,9 +1,8 @@
 -- What carries out `sign` and `countersign`.
-use Rattle.std.proofs.Common.{◌≡◌, ℕ, ◌≤◌, List, [], ◌∷◌, Result, Ok, Err, IsErrOf, refl, ◌∙◌, ap, subst}
+use Rattle.std.proofs.Common.{◌≡◌, ℕ, List, [], ◌∷◌, Result, Ok, Err, IsErrOf, refl, ◌∙◌, ap, subst}
 use Rattle.mb_model.specs.declared.order.Order.{Order}
 use Rattle.mb_model.specs.declared.tools.Keyfile.{Keyfile}
 use Rattle.mb_model.specs.declared.role.Role.TheVariants as role
-use Rattle.mb_format.specs.Format.{Spells}
 use Rattle.mb_model.specs.KeyFormat.{keyfile_format}
 use Rattle.mb_model.specs.Texts.{ended}
 use Rattle.mb_model.specs.OrderLines.{order_line}
@@ -74,11 +73,6 @@ pub order_lacks : (names : CountersignNames) (key : Keyfile) (order : Order) (ou
 order_lacks names key order outside = λ final. memory_chosen _ _ _ at_first [] final outside refl refl
 
 -- ---- a key file
-
--- a key file's next index is at most 32
-pub next_fits : (bytes : List ℕ) (key : Keyfile) → Spells keyfile_format bytes key → key.next ≤ 32
-unfolding keyfile_format
-next_fits bytes key is = is.allowed.1.1.1
 
 -- ---- orders that were read
 

@@ -5,8 +5,8 @@ use Rattle.mb_model.specs.Commands.{Ended, PrintEnds, at_first}
 use Rattle.mb_top.specs.Top.{Ends}
 use Rattle.mb_top.specs.declared.end.End.{End}
 use Rattle.mb_top.specs.declared.end.End.TheVariants as end
-use Rattle.mb_top.specs.declared.line.NoWords.{NoWords}
-use Rattle.mb_top.specs.declared.line.NoWords.TheVariants as no
+use Rattle.mb_top.specs.declared.command_line.NoWords.{NoWords}
+use Rattle.mb_top.specs.declared.command_line.NoWords.TheVariants as no
 
 -- How the program ends whose words are these, where it tells its usage and its version by these texts.
 pub data ProgramEnds (usage version : List ℕ) (words : List (List ℕ)) (e : Ended) : Type 0 where

@@ -6,8 +6,8 @@ ghost use Rattle.mb_top.specs.Words.{attach_files};
 ghost use Rattle.mb_top.specs.Ending.{CarriesOut};
 
 use crate::chain::write_entries;
-use crate::chain_input::{read_chain_file, read_statement_file};
 use crate::end::{End, Refusal};
+use crate::input::chains::{read_chain_file, read_statement_file};
 use crate::words::AttachNames;
 use mb_cert::attach as attached;
 use mb_host::Host;
@@ -15,7 +15,7 @@ use mb_model::{Chain, Statement};
 use std::alloc::Global;
 
 /// Attaches a statement to a chain that has none: writes the entries up to the statement's configuration with it, and
-/// prints how many they are.
+/// prints their number.
 pub fn attach<H: Host>(alloc: Global, names: &AttachNames<'_>, host: &mut H) -> Result<(), End>
     ensures { CarriesOut (attach (attach_files names.now)) (H.outside host.old) result (H.outside host.new) }
 {

@@ -1,6 +1,7 @@
 //! The command `audit`.
 
 ghost use Rattle.std.specs.Prelude.{◌≡◌, ◌≤◌, ◌↔◌, length, IfOk, IsTrue, Some};
+ghost use Rattle.mb_model.specs.declared.limits.TheConstants.{FILE_LIMIT};
 ghost use Rattle.mb_model.specs.Valid.{Valid, IsValidState};
 ghost use Rattle.mb_model.specs.Acceptance.{accepting};
 ghost use Rattle.mb_model.specs.AuditCommand.{audit, audit_device, audit_under, audit_chain, compare, own_lives};
@@ -8,10 +9,11 @@ ghost use Rattle.mb_model_memory.specs.Storable.{Storable, IsStorableState};
 ghost use Rattle.mb_top.specs.Words.{audit_files};
 ghost use Rattle.mb_top.specs.Ending.{CarriesOut};
 
-use crate::chain_input::{read_chain_bytes, read_root};
 use crate::end::{End, Refusal};
+use crate::input::chains::read_chain_bytes;
+use crate::input::devices::read_image;
+use crate::input::keys::read_root;
 use crate::output::finish;
-use crate::run_input::read_image;
 use crate::verify::end_of;
 use crate::words::AuditNames;
 use mb_host::Host;
@@ -22,8 +24,8 @@ use mb_verifier::{Report, verify as judge};
 use std::alloc::Global;
 use std::sync::ledger::Ledger;
 
-/// Whether a chain, judged under the maker's public key, lists exactly the configurations in which a device held a key:
-/// prints that it does, or refuses.
+/// Audits a chain under the maker's public key: prints that it lists exactly the configurations in which the device held
+/// the key, or refuses.
 pub fn audit<H: Host, L: Ledger>(
     alloc: Global,
     names: &AuditNames<'_>,
@@ -81,7 +83,7 @@ fn audit_chain<H: Host>(
 ) -> Result<(), End>
     requires valid { IsValidState state.now }
     requires stored { IsStorableState state.now }
-    requires short { length chain.now ≤ 4194304 }
+    requires short { length chain.now ≤ FILE_LIMIT }
     ensures { CarriesOut (audit_chain (audit_files names.now) (Some state.now) root.now chain.now) (H.outside host.old) result (H.outside host.new) }
 {
     match judge(alloc, root, chain, names.key) {

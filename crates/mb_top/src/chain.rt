@@ -1,4 +1,4 @@
-//! The command `chain`, and how a chain is written.
+//! The command `chain`, and the writing of a chain.
 
 ghost use Rattle.std.specs.Prelude.{◌≡◌, Some, IfOk, string_bytes};
 ghost use Rattle.mb_model.specs.Valid.{Valid, IsValidState};
@@ -9,8 +9,8 @@ ghost use Rattle.mb_top.specs.Words.{chain_files};
 ghost use Rattle.mb_top.specs.Ending.{CarriesOut};
 
 use crate::end::{End, Refusal};
+use crate::input::devices::read_image;
 use crate::output::{Output, finish};
-use crate::run_input::read_image;
 use crate::words::ChainNames;
 use mb_cert::write_chain;
 use mb_host::Host;
@@ -92,7 +92,7 @@ pub fn write_entries<H: Host>(
     finish(host, &outputs, text.as_bytes())
 }
 
-/// The line that tells how many entries a chain has.
+/// The line of the number of entries of a chain.
 fn entries_text(alloc: Global, count: usize) -> Result<String, NoMemory>
     ensures { IfOk result (λ text. string_bytes text ≡ entries_text count) }
 {

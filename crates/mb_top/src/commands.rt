@@ -41,7 +41,7 @@ fn command<H: Host, B: Board>(
     counted_command::<H, B, Brand>(alloc, words, host, board, Blank::new(1))
 }
 
-/// The same, with a count over this ledger.
+/// Does what the words say, up to the line of its status, with a count of hashes over this ledger.
 fn counted_command<H: Host, B: Board, L: Ledger>(
     alloc: Global,
     words: &[String],

@@ -1,4 +1,4 @@
-//! How a command ends, when it is not done.
+//! The ends of commands that are not done, and their lines and exit statuses.
 
 ghost use Rattle.std.specs.Prelude.{◌≡◌, ◌≤◌, ◌++◌, length, decimal};
 ghost use Rattle.mb_model.specs.Texts.{ended};
@@ -14,7 +14,7 @@ pub type Line = ArrayString<96>;
 /// The words for the place where an input is at fault.
 type PlaceWords = ArrayString<20>;
 
-/// Why a command is refused whose inputs are in their forms.
+/// Why a command with inputs in their forms is refused.
 #[derive(Clone, Copy, Debug, PartialEq, Eq)]
 pub enum Refusal {
     /// The key has no index left.
@@ -31,7 +31,7 @@ pub enum Refusal {
     NotAccepted {
         /// The number of the reason, 20 to 27.
         code: u8,
-        /// The offset or the entry, from 0, where the reason has one.
+        /// The offset or the entry, from 0, if the reason has one.
         place: Option<u32>,
     },
 }
@@ -51,7 +51,7 @@ pub enum End {
     NotWritten(Role),
     /// The text could not be printed.
     NotPrinted,
-    /// An allocation failed, of which no clause says when.
+    /// An allocation failed.
     NoMemory,
     /// The command is refused.
     Refused(Refusal),

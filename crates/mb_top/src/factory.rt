@@ -1,6 +1,6 @@
 //! The command `factory`.
 
-ghost use Rattle.std.specs.Prelude.{◌≡◌, ◌≤◌, IfOk, string_bytes};
+ghost use Rattle.std.specs.Prelude.{◌≡◌, IfOk, string_bytes};
 ghost use Rattle.mb_model.specs.declared.tools.Keyfile.{Keyfile};
 ghost use Rattle.mb_model.specs.SignedOrders.{used_once};
 ghost use Rattle.mb_model.specs.FactoryCommand.{factory, factory_drawn, factory_keyed, factory_owned, write_device, serial_text};
@@ -8,7 +8,8 @@ ghost use Rattle.mb_top.specs.Words.{factory_files};
 ghost use Rattle.mb_top.specs.Ending.{CarriesOut};
 
 use crate::end::End;
-use crate::input::{read_birth_noise, read_code, read_key, read_owner};
+use crate::input::devices::{read_birth_noise, read_code};
+use crate::input::keys::{read_key, read_owner};
 use crate::output::{Output, finish};
 use crate::sign::end_of;
 use crate::words::FactoryNames;
@@ -19,8 +20,8 @@ use mb_officer::{factory as make_image, write_keyfile};
 use std::alloc::Global;
 use std::sync::ledger::Ledger;
 
-/// Makes a device of the noise with this owner and this code, whose birth the maker's key signs: writes the key with its
-/// index used, then the image, and prints the serial.
+/// Makes a device from the noise with this owner and this code, and signs its birth by the maker's key: writes the key
+/// with its index advanced, then the image, and prints the serial.
 pub fn factory<H: Host, L: Ledger>(
     alloc: Global,
     names: &FactoryNames<'_>,
@@ -33,7 +34,7 @@ pub fn factory<H: Host, L: Ledger>(
     factory_drawn(alloc, names, &noise, host, hashes)
 }
 
-/// Makes a device of this noise.
+/// Makes a device from this noise.
 fn factory_drawn<H: Host, L: Ledger>(
     alloc: Global,
     names: &FactoryNames<'_>,
@@ -47,7 +48,7 @@ fn factory_drawn<H: Host, L: Ledger>(
     factory_keyed(alloc, names, noise, key, host, hashes)
 }
 
-/// Makes a device whose birth this key signs.
+/// Makes a device, and signs its birth by this key.
 fn factory_keyed<H: Host, L: Ledger>(
     alloc: Global,
     names: &FactoryNames<'_>,
@@ -56,7 +57,6 @@ fn factory_keyed<H: Host, L: Ledger>(
     host: &mut H,
     hashes: &mut HashCount<L>,
 ) -> Result<(), End>
-    requires { key.next ≤ 32 }
     ensures { CarriesOut (factory_keyed (factory_files names.now) noise.now key) (H.outside host.old) result (H.outside host.new) }
 {
     let owner = read_owner(alloc, host, names.owner)?;
@@ -73,7 +73,6 @@ fn factory_owned<H: Host, L: Ledger>(
     host: &mut H,
     hashes: &mut HashCount<L>,
 ) -> Result<(), End>
-    requires { key.next ≤ 32 }
     ensures { CarriesOut (factory_owned (factory_files names.now) noise.now key owner.now) (H.outside host.old) result (H.outside host.new) }
 {
     let code = read_code(alloc, host, names.code)?;
@@ -83,7 +82,7 @@ fn factory_owned<H: Host, L: Ledger>(
     }
 }
 
-/// Writes a key of which an index has been used, and the image of the device whose birth it signed, and prints the
+/// Writes a key file with its index advanced, and the image of the device whose birth the key signed, and prints the
 /// device's serial.
 fn write_device<H: Host>(
     alloc: Global,
@@ -93,7 +92,6 @@ fn write_device<H: Host>(
     image: Vec<u8>,
     host: &mut H,
 ) -> Result<(), End>
-    requires { key.now.next ≤ 32 }
     ensures { (before : Keyfile) → key.now ≡ used_once before
         → CarriesOut (write_device (factory_files names.now) noise.now before image.items) (H.outside host.old) result (H.outside host.new) }
 {
@@ -116,7 +114,7 @@ fn write_device<H: Host>(
     finish(host, &outputs, text.as_bytes())
 }
 
-/// The line that tells the serial of a device that was made of this noise.
+/// The line of the serial of a device that was made from this noise.
 fn serial_text(alloc: Global, noise: &[u8; 48]) -> Result<String, NoMemory>
     ensures { IfOk result (λ text. string_bytes text ≡ serial_text noise.now) }
 {

@@ -1,6 +1,7 @@
 //! The command `generate`.
 
 ghost use Rattle.std.specs.Prelude.{◌≡◌, ◌≤◌, [], length, All, IfOk, IfErr, OnOk, None, false};
+ghost use Rattle.mb_model.specs.declared.limits.TheConstants.{EVENT_LIMIT, IMAGE_LENGTH};
 ghost use Rattle.mb_model.specs.Board.{IsLoaded};
 ghost use Rattle.mb_model.specs.Machine.{World};
 ghost use Rattle.mb_model.specs.Acknowledged.{Shows};
@@ -56,11 +57,11 @@ pub fn generate<H: Host, B: Board, L: Ledger>(
     load_workload(alloc, names, files, events, host, board, hashes)
 }
 
-/// The events of the workload's script, with the draws that its noise gives them.
+/// The events of a workload's script with their draws, which come from its noise.
 fn events_of(alloc: Global, files: &Workload) -> Result<Events, NoMemory>
     requires { CanBeServed files.now }
     ensures events { IfOk result (HasEvents files.now) }
-    ensures count { IfOk result (λ events. length events ≤ 65536) }
+    ensures count { IfOk result (λ events. length events ≤ EVENT_LIMIT) }
     ensures each { IfOk result (All IsScriptEvent) }
 {
     let mut events = match read_script(alloc, files.script.as_slice()) {
@@ -74,7 +75,7 @@ fn events_of(alloc: Global, files: &Workload) -> Result<Events, NoMemory>
     }
 }
 
-/// Loads the workload, of which these are the events, writes its files, and goes on with serving it.
+/// Loads a workload, which has these events, on the board, writes its files, and goes on with serving it.
 fn load_workload<H: Host, B: Board, L: Ledger>(
     alloc: Global,
     names: &GenerateNames<'_>,
@@ -86,7 +87,7 @@ fn load_workload<H: Host, B: Board, L: Ledger>(
 ) -> Result<(), End>
     requires generated { IsWorkload names.now.number names.now.rounds files }
     requires events { HasEvents files events }
-    requires count { length events ≤ 65536 }
+    requires count { length events ≤ EVENT_LIMIT }
     requires each { All IsScriptEvent events }
     requires off { (B.seen board.old).power ≡ false }
     requires none_out { (B.seen board.old).ledger.out ≡ None }
@@ -133,12 +134,13 @@ fn write_files<H: Host>(
     write_all(host, &outputs)
 }
 
-/// Prints the summary of what was answered, with the length of the log and the hash of the image as the board holds them
-/// now, for which the bytes make room. Where memory was wanted while the events were served, there is none.
+/// Prints the summary of the answered events, with the length of the log and the hash of the image as the board holds
+/// them now. The bytes `image` are room for that image. If an allocation failed while the events were served, there is no
+/// summary.
 fn summarise<H: Host, B: Board>(mut image: Vec<u8>, host: &mut H, board: &B) -> Result<(), End>
     requires loaded { IsLoaded (B.seen board.now).memory }
     requires answered { (B.seen board.now).ledger.standing.memory ≡ (B.seen board.now).memory }
-    requires room { length image.items ≡ 1077248 }
+    requires room { length image.items ≡ IMAGE_LENGTH }
     requires shown { (last : World) × Shows (B.seen board.now).ledger.standing last }
     ensures { (past : Past) → past.answered ≡ (B.seen board.now).ledger.answered
         → CarriesOutRest (summarise (B.seen board.now).ledger.answered (B.seen board.now).ledger.standing)

@@ -1,6 +1,6 @@
 //! The command `keygen`.
 
-ghost use Rattle.std.specs.Prelude.{◌≡◌, ◌≤◌, IfOk, string_bytes};
+ghost use Rattle.std.specs.Prelude.{◌≡◌, IfOk, string_bytes};
 ghost use Rattle.mb_model.specs.Key.{key_bytes};
 ghost use Rattle.mb_model.specs.Signing.{public_of};
 ghost use Rattle.mb_model.specs.Keygen.{keygen, owner_text, write_key};
@@ -8,7 +8,7 @@ ghost use Rattle.mb_top.specs.Words.{keygen_files};
 ghost use Rattle.mb_top.specs.Ending.{CarriesOut};
 
 use crate::end::End;
-use crate::input::read_key_noise;
+use crate::input::keys::read_key_noise;
 use crate::output::{Output, finish};
 use crate::words::KeygenNames;
 use mb_host::Host;
@@ -19,7 +19,7 @@ use mb_signer::public;
 use std::alloc::Global;
 use std::sync::ledger::Ledger;
 
-/// Makes a key from the noise, writes its file and its public key, and prints the public key's hash.
+/// Derives a key from the noise, writes its file and its public key, and prints the public key's hash.
 pub fn keygen<H: Host, L: Ledger>(
     alloc: Global,
     names: &KeygenNames<'_>,
@@ -40,7 +40,6 @@ fn write_key<H: Host, L: Ledger>(
     host: &mut H,
     hashes: &mut HashCount<L>,
 ) -> Result<(), End>
-    requires { key.now.next ≤ 32 }
     ensures { CarriesOut (write_key (keygen_files names.now) key.now (key_bytes (public_of key.now.seed))) (H.outside host.old) result (H.outside host.new) }
 {
     let owner = public(&key.seed, hashes);
@@ -64,7 +63,7 @@ fn write_key<H: Host, L: Ledger>(
     finish(host, &outputs, text.as_bytes())
 }
 
-/// The line that tells a public key's hash.
+/// The line of a public key's hash.
 fn owner_text(alloc: Global, owner: &PublicKey) -> Result<String, NoMemory>
     ensures { IfOk result (λ text. string_bytes text ≡ owner_text (key_bytes owner.now)) }
 {

@@ -3,14 +3,14 @@
 //! This crate owns the program over any host and board, the commands, and what they share: the words, the reading
 //! of inputs, the writing of outputs, and the lines of statuses.
 //!
-//! Each call that takes memory may answer that an allocation failed, and no clause says when: one that always did
-//! so would meet its contract. The tests of `mb_test_lives` show that commands are done.
+//! Any call that takes memory may answer that an allocation failed. The tests of `mb_test_lives` show that commands are
+//! done.
 #![tactic(auto)]
 
 mod attach;
 mod audit;
 mod chain;
-mod chain_input;
+mod command_line;
 mod commands;
 mod counter_examples;
 mod end;
@@ -18,16 +18,14 @@ mod factory;
 mod generate;
 mod input;
 mod keygen;
-mod line;
 mod output;
 mod replies;
 mod run;
-mod run_input;
 mod sign;
 mod summary;
 mod verify;
 mod words;
 
+pub use command_line::{NoWords, USAGE, VERSION, program};
 pub use commands::top;
 pub use counter_examples::end_counter_examples;
-pub use line::{NoWords, USAGE, VERSION, program};

@@ -38,7 +38,7 @@ pub fn write_all<H: Host>(host: &mut H, outputs: &[Output<'_, '_>]) -> Result<()
     write_all(host, rest)
 }
 
-/// Prints the line of an end, and answers its exit status. Where the line cannot be printed the status stays.
+/// Prints the line of an end, and answers its exit status. The status is the same if the line cannot be printed.
 pub fn stop<H: Host>(host: &mut H, end: End) -> u8
     ensures says { SaysLine (end_line end) (H.outside host.old) (H.outside host.new) }
     ensures status { result ≡ end_status end }

@@ -7,9 +7,7 @@ use mb_model::{Answered, NoMemory};
 use mb_script::write_reply;
 use std::alloc::Global;
 
-/// The line of each reply, in order.
-///
-/// `NoMemory` where an allocation fails, which no clause rules out: the tests show that replies are written.
+/// The lines of the replies, in order.
 pub fn write_replies(alloc: Global, answered: &[Answered]) -> Result<Vec<u8>, NoMemory>
     ensures { IfOk result (λ text. text.items ≡ replies_text answered.now) }
 {

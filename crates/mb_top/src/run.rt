@@ -1,6 +1,7 @@
 //! The command `run`.
 
 ghost use Rattle.std.specs.Prelude.{◌≡◌, ◌≤◌, [], length, All, None, Option, false};
+ghost use Rattle.mb_model.specs.declared.limits.TheConstants.{EVENT_LIMIT, IMAGE_LENGTH};
 ghost use Rattle.mb_model.specs.declared.state.State.{State};
 ghost use Rattle.mb_model.specs.Board.{IsLoaded};
 ghost use Rattle.mb_model.specs.Commands.{at_first};
@@ -11,9 +12,10 @@ ghost use Rattle.mb_top.specs.Words.{run_files};
 ghost use Rattle.mb_top.specs.Ending.{HoldsAnswered, CarriesOutRest};
 
 use crate::end::End;
+use crate::input::devices::read_image;
+use crate::input::scripts::{read_draws, read_events};
 use crate::output::{Output, finish};
 use crate::replies::write_replies;
-use crate::run_input::{read_draws, read_events, read_image};
 use crate::words::RunNames;
 use mb_board::Board;
 use mb_device::Device;
@@ -78,7 +80,7 @@ fn run_events<H: Host, B: Board, L: Ledger>(
     requires none_out { (B.seen board.old).ledger.out ≡ None }
     requires none_answered { (B.seen board.old).ledger.answered ≡ [] }
     requires image { (state : Option State) × IsWellFormed image.items state }
-    requires count { length events ≤ 65536 }
+    requires count { length events ≤ EVENT_LIMIT }
     requires events { All IsScriptEvent events }
     ensures carried { (state : Option State) → IsWellFormed image.items state
         → CarriesOutRest (read_noise (run_files names.now) state events) at_first (B.seen board.new).ledger.answered (B.seen board.new).ledger.standing
@@ -89,7 +91,7 @@ fn run_events<H: Host, B: Board, L: Ledger>(
     run_drawn(alloc, names, image, drawn, host, board, hashes)
 }
 
-/// Loads the board, serves the events, and writes what comes of it.
+/// Loads the board, serves the events, and writes the new image and the replies.
 fn run_drawn<H: Host, B: Board, L: Ledger>(
     alloc: Global,
     names: &RunNames<'_>,
@@ -103,7 +105,7 @@ fn run_drawn<H: Host, B: Board, L: Ledger>(
     requires none_out { (B.seen board.old).ledger.out ≡ None }
     requires none_answered { (B.seen board.old).ledger.answered ≡ [] }
     requires image { (state : Option State) × IsWellFormed image.items state }
-    requires count { length events ≤ 65536 }
+    requires count { length events ≤ EVENT_LIMIT }
     requires events { All IsScriptEvent events }
     ensures carried { (state : Option State) → IsWellFormed image.items state
         → CarriesOutRest (serve_events (run_files names.now) state events) at_first (B.seen board.new).ledger.answered (B.seen board.new).ledger.standing
@@ -118,7 +120,7 @@ fn run_drawn<H: Host, B: Board, L: Ledger>(
     write_image(alloc, names, image, host, board)
 }
 
-/// Writes the new image, and then prints the replies. The bytes of the old image make room for the new one.
+/// Writes the new image, and then prints the replies. The bytes of the old image are room for the new one.
 fn write_image<H: Host, B: Board>(
     alloc: Global,
     names: &RunNames<'_>,
@@ -128,7 +130,7 @@ fn write_image<H: Host, B: Board>(
 ) -> Result<(), End>
     requires loaded { IsLoaded (B.seen board.now).memory }
     requires answered { (B.seen board.now).ledger.standing.memory ≡ (B.seen board.now).memory }
-    requires room { length image.items ≡ 1077248 }
+    requires room { length image.items ≡ IMAGE_LENGTH }
     ensures { CarriesOutRest
         (write_image (run_files names.now) (B.seen board.now).ledger.answered (B.seen board.now).ledger.standing)
         (record { answered = (B.seen board.now).ledger.answered; wrote = false }) (B.seen board.now).ledger.answered (B.seen board.now).ledger.standing

@@ -1,6 +1,6 @@
 //! The commands `sign` and `countersign`.
 
-ghost use Rattle.std.specs.Prelude.{◌≡◌, ◌≤◌, IfOk, IsTrue, string_bytes};
+ghost use Rattle.std.specs.Prelude.{◌≡◌, IfOk, IsTrue, string_bytes};
 ghost use Rattle.mb_model.specs.declared.tools.Keyfile.{Keyfile};
 ghost use Rattle.mb_model.specs.Layers.{is_upper};
 ghost use Rattle.mb_model.specs.OrderFormat.{order_format};
@@ -11,7 +11,8 @@ ghost use Rattle.mb_top.specs.Ending.{CarriesOut};
 ghost use Rattle.mb_top.specs.Signing.{end_of};
 
 use crate::end::{End, Refusal};
-use crate::input::{read_draft_file, read_key, read_order_file};
+use crate::input::keys::read_key;
+use crate::input::orders::{read_draft_file, read_order_file};
 use crate::output::{Output, finish};
 use crate::words::{CountersignNames, SignNames};
 use mb_host::Host;
@@ -30,8 +31,8 @@ struct OutputNames<'a> {
     out: &'a str,
 }
 
-/// Signs the order of a draft by an officer's key: writes the key with its index used, then the order's line, and prints
-/// the index.
+/// Signs the order of a draft by an officer's key: writes the key with its index advanced, then the order's line, and
+/// prints the index.
 pub fn sign<H: Host, L: Ledger>(
     alloc: Global,
     names: &SignNames<'_>,
@@ -52,7 +53,6 @@ fn sign_draft<H: Host, L: Ledger>(
     host: &mut H,
     hashes: &mut HashCount<L>,
 ) -> Result<(), End>
-    requires { key.next ≤ 32 }
     ensures { CarriesOut (sign_draft (sign_files names.now) key) (H.outside host.old) result (H.outside host.new) }
 {
     let mut order = read_draft_file(alloc, host, names.draft)?;
@@ -67,7 +67,7 @@ fn sign_draft<H: Host, L: Ledger>(
 }
 
 /// Countersigns the order of an order line by an officer's key, as the owner of a layer: writes the key with its index
-/// used, then the order's line, and prints the index.
+/// advanced, then the order's line, and prints the index.
 pub fn countersign<H: Host, L: Ledger>(
     alloc: Global,
     names: &CountersignNames<'_>,
@@ -90,7 +90,6 @@ fn countersign_order<H: Host, L: Ledger>(
     hashes: &mut HashCount<L>,
 ) -> Result<(), End>
     requires layer { IsTrue (is_upper names.now.layer) }
-    requires next { key.next ≤ 32 }
     ensures { CarriesOut (countersign_order (countersign_files names.now) key) (H.outside host.old) result (H.outside host.new) }
 {
     let mut order = read_order_file(alloc, host, names.order)?;
@@ -104,7 +103,7 @@ fn countersign_order<H: Host, L: Ledger>(
     }
 }
 
-/// How a command ends whose key has not signed.
+/// The end of a command whose key has not signed.
 pub fn end_of(end: SignEnd) -> End
     ensures { result ≡ end_of end }
 {
@@ -115,7 +114,7 @@ pub fn end_of(end: SignEnd) -> End
     }
 }
 
-/// Writes a key of which an index has been used, and the order that was signed with it, and prints the index.
+/// Writes a key file with its index advanced, and the line of the order that the key signed, and prints the index.
 fn write_signed<H: Host>(
     alloc: Global,
     names: OutputNames<'_>,
@@ -124,7 +123,6 @@ fn write_signed<H: Host>(
     index: u32,
     host: &mut H,
 ) -> Result<(), End>
-    requires next { key.now.next ≤ 32 }
     requires spelled { order_format.Allowed order.now }
     ensures { (before : Keyfile) → key.now ≡ used_once before → index ≡ before.next
         → CarriesOut (use_index names.entry.key.now names.entry.out.now before order.now) (H.outside host.old) result (H.outside host.new) }
@@ -151,7 +149,7 @@ fn write_signed<H: Host>(
     finish(host, &outputs, text.as_bytes())
 }
 
-/// The line that tells an index.
+/// The line of an index.
 fn index_text(alloc: Global, index: u32) -> Result<String, NoMemory>
     ensures { IfOk result (λ text. string_bytes text ≡ index_text index) }
 {

@@ -14,7 +14,7 @@ use mb_model::{Answered, Reply};
 /// The text of a summary, which takes no memory.
 pub type Summary = ArrayVec<u8, 256>;
 
-/// The summary of answered events, of the length of the log, and of the hash of the image as the board holds it then.
+/// The summary of answered events, with the length of the log and the hash of the image afterwards.
 pub fn summary_of(answered: &[Answered], log_length: u16, image_hash: &[u8; 32]) -> Summary
     ensures { result.items ≡ text_of (summary answered.now log_length image_hash.now) }
 {
@@ -28,7 +28,7 @@ pub fn summary_of(answered: &[Answered], log_length: u16, image_hash: &[u8; 32])
     text
 }
 
-/// Whether a reply says that memory was wanted.
+/// Whether an allocation failed at one of the events.
 pub fn wants_memory(answered: &[Answered]) -> bool
     ensures { IsTrue result ↔ Any (λ a. a.reply ≡ reply.NoMemory) answered.now }
 {
@@ -37,7 +37,7 @@ pub fn wants_memory(answered: &[Answered]) -> bool
         .any(|one| matches!(one.reply, Reply::NoMemory))
 }
 
-/// How many replies are `done`.
+/// The number of replies that are `done`.
 fn count_done(answered: &[Answered]) -> usize
     ensures { result ≡ replies_that is_done answered.now }
 {
@@ -47,7 +47,7 @@ fn count_done(answered: &[Answered]) -> usize
         .count()
 }
 
-/// How many replies are `signed`.
+/// The number of replies that are `signed`.
 fn count_signed(answered: &[Answered]) -> usize
     ensures { result ≡ replies_that is_signed answered.now }
 {
@@ -57,7 +57,7 @@ fn count_signed(answered: &[Answered]) -> usize
         .count()
 }
 
-/// How many replies are refusals.
+/// The number of replies that are refusals.
 fn count_refused(answered: &[Answered]) -> usize
     ensures { result ≡ replies_that is_refused answered.now }
 {

@@ -1,4 +1,4 @@
-//! The command `verify`, and how a command ends whose chain is not accepted.
+//! The command `verify`, and the end of a command whose chain is not accepted.
 
 ghost use Rattle.mb_model.specs.Acceptance.{accepting};
 ghost use Rattle.mb_model.specs.VerifyCommand.{verify, verify_under, tell_verdict};
@@ -7,8 +7,9 @@ ghost use Rattle.mb_top.specs.Words.{verify_files};
 ghost use Rattle.mb_top.specs.Ending.{CarriesOut};
 ghost use Rattle.mb_top.specs.Chains.{TellsRefusal};
 
-use crate::chain_input::{read_chain_bytes, read_root};
 use crate::end::{End, Refusal};
+use crate::input::chains::read_chain_bytes;
+use crate::input::keys::read_root;
 use crate::output::finish;
 use crate::words::VerifyNames;
 use mb_host::Host;
@@ -16,7 +17,7 @@ use mb_model::PublicKey;
 use mb_verifier::{ChainRefusal, Report, verify as judge, write_listing};
 use std::alloc::Global;
 
-/// Judges a chain under the maker's public key, and prints what it says of a key.
+/// Verifies a chain under the maker's public key, and prints what it says of a key.
 pub fn verify<H: Host>(alloc: Global, names: &VerifyNames<'_>, host: &mut H) -> Result<(), End>
     ensures { CarriesOut (verify (verify_files names.now)) (H.outside host.old) result (H.outside host.new) }
 {
@@ -24,7 +25,7 @@ pub fn verify<H: Host>(alloc: Global, names: &VerifyNames<'_>, host: &mut H) -> 
     verify_under(alloc, names, &root, host)
 }
 
-/// Judges a chain under this key.
+/// Verifies a chain under this key.
 fn verify_under<H: Host>(
     alloc: Global,
     names: &VerifyNames<'_>,
@@ -50,7 +51,7 @@ fn print_report<H: Host>(alloc: Global, key: u32, report: &Report, host: &mut H)
     }
 }
 
-/// How a command ends whose chain is not accepted.
+/// The end of a command whose chain is not accepted.
 pub fn end_of(why: ChainRefusal) -> End
     ensures { TellsRefusal (chain_refusal_of why) result }
 {

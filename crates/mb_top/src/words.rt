@@ -1,4 +1,4 @@
-//! Which request the words are.
+//! The words of the command line, read as a request.
 
 ghost use Rattle.std.specs.Prelude.{◌≡◌, ◌≢◌, ◌↔◌, ◌∷◌, ℕ, All, IsTrue, List, [], map, MatchOption, string_bytes};
 ghost use Rattle.mb_model.specs.Lines.{IsNumber, number_limit};
@@ -108,7 +108,7 @@ pub struct GenerateNames<'a> {
     pub noise: &'a str,
 }
 
-/// A command and what its words name.
+/// A command with the names and numbers in its words.
 #[derive(Clone, Copy)]
 pub enum Request<'a> {
     Run(RunNames<'a>),
@@ -157,7 +157,7 @@ struct Five<'a> {
     fifth: &'a str,
 }
 
-/// The request that the words are, or None where they are none.
+/// The request that the words are; `None` if they are none.
 pub fn request_in(words: &[String]) -> Option<Request<'_>>
     ensures { MatchOption result
         ((asked : Asked) → IsRequest (map string_bytes words.now) asked → ⊥)
@@ -217,7 +217,7 @@ fn all_given(names: &[String]) -> bool
     names.iter().all(|name| !name.is_empty())
 }
 
-/// The names after this command, or None where the words are anything else or a name is empty.
+/// The names after this command; `None` if the words are anything else or a name is empty.
 fn names_after<'a>(words: &'a [String], wanted: &str) -> Option<&'a [String]>
     ensures { MatchOption result
         ((names : List (List ℕ)) → IsCalled (map string_bytes words.now) wanted.now names → ⊥)
@@ -233,7 +233,7 @@ fn names_after<'a>(words: &'a [String], wanted: &str) -> Option<&'a [String]>
     }
 }
 
-/// The two names after this command, or None where the words are anything else.
+/// The two names after this command; `None` if the words are anything else.
 fn two_in<'a>(words: &'a [String], wanted: &str) -> Option<Two<'a>>
     ensures { MatchOption result
         ((first second : List ℕ) → IsCalled (map string_bytes words.now) wanted.now (first ∷ second ∷ []) → ⊥)
@@ -248,7 +248,7 @@ fn two_in<'a>(words: &'a [String], wanted: &str) -> Option<Two<'a>>
     })
 }
 
-/// The three names after this command, or None where the words are anything else.
+/// The three names after this command; `None` if the words are anything else.
 fn three_in<'a>(words: &'a [String], wanted: &str) -> Option<Three<'a>>
     ensures { MatchOption result
         ((first second third : List ℕ) → IsCalled (map string_bytes words.now) wanted.now (first ∷ second ∷ third ∷ []) → ⊥)
@@ -264,7 +264,7 @@ fn three_in<'a>(words: &'a [String], wanted: &str) -> Option<Three<'a>>
     })
 }
 
-/// The four names after this command, or None where the words are anything else.
+/// The four names after this command; `None` if the words are anything else.
 fn four_in<'a>(words: &'a [String], wanted: &str) -> Option<Four<'a>>
     ensures { MatchOption result
         ((first second third fourth : List ℕ) → IsCalled (map string_bytes words.now) wanted.now (first ∷ second ∷ third ∷ fourth ∷ []) → ⊥)
@@ -282,7 +282,7 @@ fn four_in<'a>(words: &'a [String], wanted: &str) -> Option<Four<'a>>
     })
 }
 
-/// The five names after this command, or None where the words are anything else.
+/// The five names after this command; `None` if the words are anything else.
 fn five_in<'a>(words: &'a [String], wanted: &str) -> Option<Five<'a>>
     ensures { MatchOption result
         ((first second third fourth fifth : List ℕ) → IsCalled (map string_bytes words.now) wanted.now (first ∷ second ∷ third ∷ fourth ∷ fifth ∷ []) → ⊥)
@@ -301,7 +301,7 @@ fn five_in<'a>(words: &'a [String], wanted: &str) -> Option<Five<'a>>
     })
 }
 
-/// The names in the words of `run`, or None where the words are anything else.
+/// The names in the words of `run`; `None` if the words are anything else.
 fn run_in(words: &[String]) -> Option<RunNames<'_>>
     ensures { MatchOption result
         ((names : RunFiles) → IsRequest (map string_bytes words.now) (runs names) → ⊥)
@@ -315,14 +315,14 @@ fn run_in(words: &[String]) -> Option<RunNames<'_>>
     })
 }
 
-/// The number of a key or of a workload that the word is, without leading zeros, or None where it is none of 32 bits.
+/// Reads the number of a key or of a workload, of 32 bits and without leading zeros.
 fn number_in(word: &str) -> Option<u32>
     ensures { FindsSome (IsNumber number_limit word.now) result }
 {
     read_number(word.as_bytes(), u32::MAX)
 }
 
-/// The names in the words of `verify` and the number of the key, or None where the words are anything else.
+/// The names in the words of `verify` and the number of the key; `None` if the words are anything else.
 fn verify_in(words: &[String]) -> Option<VerifyNames<'_>>
     ensures { MatchOption result
         ((names : VerifyFiles) → IsRequest (map string_bytes words.now) (verifies names) → ⊥)
@@ -337,7 +337,7 @@ fn verify_in(words: &[String]) -> Option<VerifyNames<'_>>
     })
 }
 
-/// The names in the words of `audit` and the number of the key, or None where the words are anything else.
+/// The names in the words of `audit` and the number of the key; `None` if the words are anything else.
 fn audit_in(words: &[String]) -> Option<AuditNames<'_>>
     ensures { MatchOption result
         ((names : AuditFiles) → IsRequest (map string_bytes words.now) (audits names) → ⊥)
@@ -353,7 +353,7 @@ fn audit_in(words: &[String]) -> Option<AuditNames<'_>>
     })
 }
 
-/// The names in the words of `chain`, or None where the words are anything else.
+/// The names in the words of `chain`; `None` if the words are anything else.
 fn chain_in(words: &[String]) -> Option<ChainNames<'_>>
     ensures { MatchOption result
         ((names : ChainFiles) → IsRequest (map string_bytes words.now) (shows_chain names) → ⊥)
@@ -366,7 +366,7 @@ fn chain_in(words: &[String]) -> Option<ChainNames<'_>>
     })
 }
 
-/// The names in the words of `attach`, or None where the words are anything else.
+/// The names in the words of `attach`; `None` if the words are anything else.
 fn attach_in(words: &[String]) -> Option<AttachNames<'_>>
     ensures { MatchOption result
         ((names : AttachFiles) → IsRequest (map string_bytes words.now) (attaches names) → ⊥)
@@ -380,7 +380,7 @@ fn attach_in(words: &[String]) -> Option<AttachNames<'_>>
     })
 }
 
-/// The names in the words of `keygen`, or None where the words are anything else.
+/// The names in the words of `keygen`; `None` if the words are anything else.
 fn keygen_in(words: &[String]) -> Option<KeygenNames<'_>>
     ensures { MatchOption result
         ((names : KeygenFiles) → IsRequest (map string_bytes words.now) (makes_key names) → ⊥)
@@ -394,7 +394,7 @@ fn keygen_in(words: &[String]) -> Option<KeygenNames<'_>>
     })
 }
 
-/// The names in the words of `sign`, or None where the words are anything else.
+/// The names in the words of `sign`; `None` if the words are anything else.
 fn sign_in(words: &[String]) -> Option<SignNames<'_>>
     ensures { MatchOption result
         ((names : SignFiles) → IsRequest (map string_bytes words.now) (signs names) → ⊥)
@@ -408,7 +408,7 @@ fn sign_in(words: &[String]) -> Option<SignNames<'_>>
     })
 }
 
-/// The layer that the word names, 2 or 3, or None where it names neither.
+/// Reads a layer, 2 or 3.
 fn layer_in(word: &str) -> Option<u8>
     ensures { MatchOption result ((layer : ℕ) → IsLayerWord word.now layer → ⊥) (IsLayerWord word.now) }
 {
@@ -421,7 +421,7 @@ fn layer_in(word: &str) -> Option<u8>
     }
 }
 
-/// The names in the words of `countersign`, or None where the words are anything else.
+/// The names in the words of `countersign`; `None` if the words are anything else.
 fn countersign_in(words: &[String]) -> Option<CountersignNames<'_>>
     ensures { MatchOption result
         ((names : CountersignFiles) → IsRequest (map string_bytes words.now) (countersigns names) → ⊥)
@@ -445,7 +445,7 @@ fn countersign_in(words: &[String]) -> Option<CountersignNames<'_>>
     }
 }
 
-/// The names in the words of `factory`, or None where the words are anything else.
+/// The names in the words of `factory`; `None` if the words are anything else.
 fn factory_in(words: &[String]) -> Option<FactoryNames<'_>>
     ensures { MatchOption result
         ((names : FactoryFiles) → IsRequest (map string_bytes words.now) (makes_device names) → ⊥)
@@ -461,7 +461,7 @@ fn factory_in(words: &[String]) -> Option<FactoryNames<'_>>
     })
 }
 
-/// The number of rounds that the word is, 1 to 24, without leading zeros, or None where it is none.
+/// Reads a number of rounds, 1 to 24, without leading zeros.
 fn rounds_in(word: &str) -> Option<u32>
     ensures { MatchOption result ((rounds : ℕ) → IsRoundsWord word.now rounds → ⊥) (IsRoundsWord word.now) }
 {
@@ -472,7 +472,7 @@ fn rounds_in(word: &str) -> Option<u32>
     Some(rounds)
 }
 
-/// The numbers and names in the words of `generate`, or None where the words are anything else.
+/// The numbers and names in the words of `generate`; `None` if the words are anything else.
 fn generate_in(words: &[String]) -> Option<GenerateNames<'_>>
     ensures { MatchOption result
         ((names : GenerateFiles) → IsRequest (map string_bytes words.now) (generates names) → ⊥)

@@ -10,10 +10,10 @@ overflow_add-size c =
     let bounded = c.size_of-size.ensures.bounded in
     omega (arith, sum, short, bounded)
 
-pub returns-then-size-gt-MOST_OF_CODE : goal.returns-then-size-gt-MOST_OF_CODE
-returns-then-size-gt-MOST_OF_CODE c =
+pub returns-then-size : goal.returns-then-size
+returns-then-size c =
     sound_here c.args.said.now c.args.rest.now c.loop-at.at c.loop-at.size c.index-said-at.result c.index-said-at.result c.loop-at-test.true c.index-said-at.is c.loop-at.invariant.0
-    c.loop-at.invariant.1 (omega (arith, c.if-size-gt-MOST_OF_CODE.true, c.size_of-size.ensures.value))
+    c.loop-at.invariant.1 (omega (arith, c.if-size.true, c.size_of-size.ensures.value))
 
 pub returns-then-not-is_sound : goal.returns-then-not-is_sound
 returns-then-not-is_sound c =
@@ -25,6 +25,6 @@ loop-at-preserved c =
     let sum = c.loop-at.invariant.1 in
     let size = c.size_of-size.ensures.value in (
       one_more c.args.said.now c.args.rest.now c.loop-at.at c.index-said-at.result c.index-said-at.result c.loop-at-test.true c.index-said-at.is c.loop-at.invariant.0
-          (c.if-not-is_sound.ensures.0 refl) (omega (arith, sum, size, c.if-size-gt-MOST_OF_CODE.false)),
+          (c.if-not-is_sound.ensures.0 refl) (omega (arith, sum, size, c.if-size.false)),
       sizes c.args.said.now c.loop-at.at c.loop-at.size c.size_of-size.result c.index-said-at.result c.index-said-at.result c.loop-at-test.true c.index-said-at.is sum size,
     )

@@ -5,11 +5,7 @@ use Rattle.mb_model.specs.FactoryCommand.{factory_keyed}
 use Rattle.mb_model.specs.Commands.{at_first}
 use Rattle.mb_top.specs.Words.{factory_files}
 use Rattle.mb_top.proofs.CommandLemmas.{input_carried_out, read_on}
-use Rattle.mb_top.proofs.SignLemmas.{next_fits}
 use Rattle.mb_top.proofs.factory.factory_drawn.Goals as goal
-
-pub factory_keyed-requires : goal.factory_keyed-requires
-factory_keyed-requires g c = next_fits c.in_ok-key.ensures.read.bytes c.in_ok-key.key c.in_ok-key.ensures.read.is
 
 pub returns-in_err-key : goal.returns-in_err-key
 returns-in_err-key g c = λ final.

@@ -5,11 +5,7 @@ use Rattle.mb_model.specs.Sign.{countersign, countersign_order}
 use Rattle.mb_model.specs.Commands.{at_first}
 use Rattle.mb_top.specs.Words.{countersign_files}
 use Rattle.mb_top.proofs.CommandLemmas.{input_carried_out, read_on}
-use Rattle.mb_top.proofs.SignLemmas.{next_fits}
 use Rattle.mb_top.proofs.sign.countersign.Goals as goal
-
-pub countersign_order-requires-clause-next : goal.countersign_order-requires-clause-next
-countersign_order-requires-clause-next g c = next_fits c.in_ok-key.ensures.read.bytes c.in_ok-key.key c.in_ok-key.ensures.read.is
 
 pub returns-in_err-key : goal.returns-in_err-key
 unfolding countersign

@@ -5,11 +5,7 @@ use Rattle.mb_model.specs.Sign.{sign, sign_draft}
 use Rattle.mb_model.specs.Commands.{at_first}
 use Rattle.mb_top.specs.Words.{sign_files}
 use Rattle.mb_top.proofs.CommandLemmas.{input_carried_out, read_on}
-use Rattle.mb_top.proofs.SignLemmas.{next_fits}
 use Rattle.mb_top.proofs.sign.sign.Goals as goal
-
-pub sign_draft-requires : goal.sign_draft-requires
-sign_draft-requires g c = next_fits c.in_ok-key.ensures.read.bytes c.in_ok-key.key c.in_ok-key.ensures.read.is
 
 pub returns-in_err-key : goal.returns-in_err-key
 unfolding sign

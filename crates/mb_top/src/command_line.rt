@@ -1,4 +1,4 @@
-//! What the program does with its command line.
+//! The whole program: its command line, and the texts of `--help` and `--version`.
 
 ghost use Rattle.std.specs.Prelude.{◌≡◌, ◌↔◌, ◌∷◌, [], map, IfOk, IfErr, IsTrue, None, false, string_bytes};
 ghost use Rattle.mb_model.specs.Board.{Held};
@@ -14,7 +14,7 @@ use mb_board::Board;
 use mb_host::Host;
 use std::alloc::Global;
 
-/// What `--help` prints.
+/// The text that `--help` prints.
 pub const USAGE: &[u8] = b"miniboot serves a simulated secure coprocessor.
 
 usage:
@@ -53,10 +53,10 @@ status: 0 done, 2 the words are no command, 3 an input is not in its form, 4 an 
         5 an output could not be written, 6 an allocation failed, 7 the command is refused
 ";
 
-/// What `--version` prints.
+/// The text that `--version` prints.
 pub const VERSION: &[u8] = b"miniboot 0.1.0\n";
 
-/// Why the words of the command line could not be had.
+/// Why the words of the command line could not be read.
 #[derive(Clone, Copy, Debug, PartialEq, Eq)]
 pub enum NoWords {
     /// A word is not text, so the words are no command.
@@ -65,8 +65,8 @@ pub enum NoWords {
     NoMemory,
 }
 
-/// Does what the words of the command line say, without the program's name, and answers the exit status. The one word
-/// `--help` or `--version` is answered here, and all other words by `top`.
+/// Runs the program on the words of its command line, without the program's name, and answers the exit status. The word
+/// `--help` or `--version` alone is answered here, and all other words by `top`.
 pub fn program<H: Host, B: Board>(
     alloc: Global,
     words: Result<Vec<String>, NoWords>,

@@ -1,5 +1,5 @@
-use Rattle.mb_top.proofs.LineLemmas.{text_not_printed}
-use Rattle.mb_top.proofs.line.tell.Goals as goal
+use Rattle.mb_top.proofs.CommandLineLemmas.{text_not_printed}
+use Rattle.mb_top.proofs.command_line.tell.Goals as goal
 
 pub returns-in-Err : goal.returns-in-Err
 returns-in-Err g c = λ final.

@@ -1,6 +1,6 @@
 use Rattle.std.proofs.Common.{map, string_bytes, refl}
-use Rattle.mb_top.proofs.LineLemmas.{help_carried_out, version_carried_out, other_carried_out}
-use Rattle.mb_top.proofs.line.answer.Goals as goal
+use Rattle.mb_top.proofs.CommandLineLemmas.{help_carried_out, version_carried_out, other_carried_out}
+use Rattle.mb_top.proofs.command_line.answer.Goals as goal
 
 pub returns-then-is_one_word-clause-carried : goal.returns-then-is_one_word-clause-carried
 returns-then-is_one_word-clause-carried g c =

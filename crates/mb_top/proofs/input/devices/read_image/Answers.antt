@@ -3,7 +3,7 @@ use Rattle.std.specs.Prelude.{IfSome}
 use Rattle.mb_model.specs.Faults.{HasFault}
 use Rattle.mb_image.specs.Ends.{fault_of}
 use Rattle.mb_top.proofs.ImageLemmas.{image_stops, image_stored}
-use Rattle.mb_top.proofs.run_input.read_image.Goals as goal
+use Rattle.mb_top.proofs.input.devices.read_image.Goals as goal
 
 pub returns-in-Err-clause-err : goal.returns-in-Err-clause-err
 returns-in-Err-clause-err g c =

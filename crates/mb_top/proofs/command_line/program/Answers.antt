@@ -1,4 +1,4 @@
-use Rattle.mb_top.proofs.line.program.Goals as goal
+use Rattle.mb_top.proofs.command_line.program.Goals as goal
 
 pub returns-in-Ok-clause-words : goal.returns-in-Ok-clause-words
 returns-in-Ok-clause-words g c = rw c.in-Ok.is (rw c.deref.ensures.value at c.answer.ensures.carried)

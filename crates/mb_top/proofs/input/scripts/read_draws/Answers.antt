@@ -1,6 +1,6 @@
 use Rattle.std.proofs.Common.{◌≤◌, length, sym, ap, ◌∙◌, subst}
 use Rattle.mb_model_lemmas.proofs.DrawLemmas.{drawn-length, drawn-script}
-use Rattle.mb_top.proofs.run_input.read_draws.Goals as goal
+use Rattle.mb_top.proofs.input.scripts.read_draws.Goals as goal
 
 pub returns-in-Ok-clause-count : goal.returns-in-Ok-clause-count
 returns-in-Ok-clause-count g c =

@@ -1,0 +1,85 @@
+//! The devices among the inputs: the noise and the code of a new device, and the image of a device.
+
+ghost use Rattle.std.specs.Prelude.{IfOk, IfErr};
+ghost use Rattle.mb_model.specs.Meaning.{IsWellFormed};
+ghost use Rattle.mb_model.specs.Valid.{Valid};
+ghost use Rattle.mb_model.specs.Inputs.{birth_noise_input, code_input, image_input};
+ghost use Rattle.mb_model_memory.specs.Storable.{Storable};
+ghost use Rattle.mb_image.specs.Ends.{fault_of};
+ghost use Rattle.mb_top.specs.Ending.{HasInput, StopsAt};
+ghost use Rattle.mb_top.specs.Images.{TellsFault};
+
+use crate::end::End;
+use crate::input::read_input;
+use mb_host::Host;
+use mb_image::{ImageEnd, stand_for};
+use mb_lms::HashCount;
+use mb_model::{CODE_LIMIT, Place, Role, State};
+use std::alloc::Global;
+use std::sync::ledger::Ledger;
+
+/// Reads the noise from which the first key and the serial of a device are derived.
+pub fn read_birth_noise<H: Host>(alloc: Global, host: &mut H, name: &str) -> Result<[u8; 48], End>
+    ensures read { IfOk result (HasInput (birth_noise_input name.now) (H.outside host.old) (H.outside host.new)) }
+    ensures err { IfErr result (StopsAt (birth_noise_input name.now) (H.outside host.old) (H.outside host.new)) }
+{
+    let bytes = read_input(alloc, host, Role::Noise, name)?;
+    match bytes.first_chunk::<48>() {
+        Some(noise) => Ok(*noise),
+        None => Err(End::Faulty(Role::Noise, Place::Length)),
+    }
+}
+
+/// Reads the code of a layer.
+pub fn read_code<H: Host>(alloc: Global, host: &mut H, name: &str) -> Result<Vec<u8>, End>
+    ensures read { IfOk result (λ code. HasInput (code_input name.now) (H.outside host.old) (H.outside host.new) code.items) }
+    ensures err { IfErr result (StopsAt (code_input name.now) (H.outside host.old) (H.outside host.new)) }
+{
+    let code = read_input(alloc, host, Role::Code, name)?;
+    if code.len() > CODE_LIMIT as usize {
+        return Err(End::Faulty(Role::Code, Place::Length));
+    }
+    Ok(code)
+}
+
+/// An image that was read, and its state; a dead device has none.
+#[derive(Drop)]
+pub struct Image {
+    pub bytes: Vec<u8>,
+    pub state: Option<State>,
+}
+
+/// Reads the image of a device.
+pub fn read_image<H: Host, L: Ledger>(
+    alloc: Global,
+    host: &mut H,
+    name: &str,
+    hashes: &mut HashCount<L>,
+) -> Result<Image, End>
+    ensures form { IfOk result (λ image. IsWellFormed image.bytes.items image.state) }
+    ensures valid { IfOk result (λ image. Valid image.state) }
+    ensures stored { IfOk result (λ image. Storable image.state) }
+    ensures read { IfOk result (λ image. HasInput (image_input name.now) (H.outside host.old) (H.outside host.new) image.state) }
+    ensures err { IfErr result (StopsAt (image_input name.now) (H.outside host.old) (H.outside host.new)) }
+{
+    let bytes = read_input(alloc, host, Role::Image, name)?;
+    match stand_for(alloc, &bytes, hashes) {
+        Ok(state) => Ok(Image { bytes, state }),
+        Err(end) => Err(end_of_image(end)),
+    }
+}
+
+/// The end of a command whose image has no state.
+fn end_of_image(end: ImageEnd) -> End
+    ensures { TellsFault (fault_of end) result }
+{
+    match end {
+        ImageEnd::Length => End::Faulty(Role::Image, Place::Length),
+        ImageEnd::Root => End::Faulty(Role::Image, Place::Root),
+        ImageEnd::Public => End::Faulty(Role::Image, Place::Public),
+        ImageEnd::RegionTwo => End::Faulty(Role::Image, Place::Region(2)),
+        ImageEnd::RegionThree => End::Faulty(Role::Image, Place::Region(3)),
+        ImageEnd::State => End::Faulty(Role::Image, Place::State),
+        ImageEnd::NoMemory => End::NoMemory,
+    }
+}
