@@ -101,14 +101,9 @@ pub fn get_secret<S: Reaches<L>, L: Named, B: Board>(
     requires up { IsUp S.stage (B.seen b.now) }
     requires ready { HasReady (B.seen b.now).memory }
     ensures told { (state : State) → IsReady (B.seen b.now).memory state
-<<<<<<< HEAD
-        → IsAnswered (get_event L.place name.now state) result (B.seen b.now).memory (B.seen b.now).memory }
-    ensures plans { SamePlans room.old room.new }
-=======
         → IsAnswered (get_event L.place name.now state) result (B.seen b.now).memory
         (B.seen b.now).memory }
     ensures plans { SamePlans room.old room.new }
->>>>>>> 80435fa8758c0ece19fdaa7f31df26a024bff59b
 {
     match load::<S, L, B>(alloc, s, b, room) {
         Ok(region) => value_in(region, name.as_slice()),
