@@ -11,12 +11,13 @@ use Rattle.mb_model.specs.declared.stored.Root.{Root}
 use Rattle.mb_model.specs.RootFormat.{pending_format, root_format}
 use Rattle.mb_model.specs.Board.{Memory, IsLoaded}
 use Rattle.mb_model.specs.Memory.{IsBlank, current, HoldsRecord}
-use Rattle.mb_model.specs.OldFlash.{flash_area}
 use Rattle.mb_model.specs.Meaning.{RootIn, Contents, HoldsContents, meant}
 use Rattle.mb_model.specs.Clean.{root_of}
 use Rattle.mb_model_lemmas.proofs.MeaningLemmas.{one_root}
 use Rattle.mb_model_memory.specs.Commits.{both_done, at_rest}
 use Rattle.mb_model_memory.specs.Holding.{KeepsContents}
+use Rattle.mb_model_memory.specs.FlashInForce.{AgreeForArea}
+use Rattle.mb_model_memory.proofs.FlashFrames.{agree_same}
 use Rattle.mb_model_memory.proofs.CommitLemmas.{stands_for_meant}
 use Rattle.mb_model_memory.proofs.HoldingLemmas.{contents_keep}
 use Rattle.mb_model_memory.specs.InForce.{AgreeBesides}
@@ -74,7 +75,7 @@ kept_in_force before after agree same flash = record {
     root = same;
     two = agree.others 2 (omega arith) (omega arith) (λ e. omega (arith, e));
     three = agree.others 3 (omega arith) (omega arith) (λ e. omega (arith, e));
-    public = λ root has. ap (λ (xs : List ℕ). flash_area xs root.area) flash;
+    public = λ root has. subst (λ (xs : List ℕ). AgreeForArea before.flash xs root.area) (sym flash) (agree_same before.flash root.area);
   }) holds;
 }
 

@@ -4,9 +4,10 @@ use Rattle.mb_model.specs.declared.limits.TheConstants.{CODE_LIMIT, SECTOR_LENGT
 use Rattle.mb_model.specs.declared.stored.Header.{Header}
 use Rattle.mb_model.specs.declared.stored.Root.{Root}
 use Rattle.mb_model.specs.Board.{Memory}
-use Rattle.mb_model.specs.Flash.{HoldsHeader}
+use Rattle.mb_model.specs.Flash.{sector, HoldsHeader}
+use Rattle.mb_model.specs.HeaderFormat.{header_format}
 use Rattle.mb_model.specs.Meaning.{RootIn}
-use Rattle.mb_model.specs.Sectors.{header_sector, code_sector}
+use Rattle.mb_model.specs.Sectors.{header_sector, code_sector, BeginsAs}
 use Rattle.mb_model_memory.specs.FlashInForce.{slot_in, IsSectorWritten}
 use Rattle.mb_model_memory.specs.NextHeaders.{free_slot, IsCodeWritten}
 use Rattle.mb_flash.specs.Sectors.{sectors_for}
@@ -18,6 +19,15 @@ pub record HasSomeHeader (memory : Memory) : Type 0 where
   pub in_force : RootIn memory.bbram root
   pub header : Header
   pub holds : HoldsHeader memory.flash root.area header
+
+-- bytes begin with some header
+pub record BeginWithHeader (bytes : List ℕ) : Type 0 where
+  pub header : Header
+  pub begins : BeginsAs header_format bytes header
+
+-- a header area of a flash holds some header
+abbrev pub HoldsSomeHeader : List ℕ → ℕ → Type 0
+HoldsSomeHeader flash area = BeginWithHeader (sector flash (header_sector area))
 
 -- what is written next can be: code of a layer from 1 to 3, or none, and the bytes of a header
 pub record IsPlan (room : Room) : Type 0 where
@@ -34,11 +44,11 @@ code_in room = if room.code_layer == 0 then None else Some room.code.items
 abbrev pub code_sectors : Room → ℕ
 code_sectors room = if room.code_layer == 0 then 0 else sectors_for (length room.code.items)
 
--- The code of the room was written to the free slot of its layer, by this header, and then the header of the room to
--- the other area than this one.
-pub record IsPublicWritten (room : Room) (header : Header) (area : ℕ) (before after : List ℕ) : Type 0 where
+-- The code of the room was written to the slot of its layer that this header does not name, and then the header of the
+-- room to the other area than this one.
+pub record IsPublicWritten (room : Room) (current : Header) (area : ℕ) (before after : List ℕ) : Type 0 where
   pub between : List ℕ
-  pub code : IsCodeWritten room.code_layer (slot_in header room.code_layer) (code_in room) before between
+  pub code : IsCodeWritten room.code_layer (slot_in current room.code_layer) (code_in room) before between
   pub header : IsSectorWritten (header_sector (1 - area)) room.header.items between after
 
 -- Sector n is neither the header area that is written, nor one of the sectors that the code is written to.

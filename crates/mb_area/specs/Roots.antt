@@ -42,12 +42,12 @@ pub record MeansByRoot (new_root : Root) (before after : Memory) : Type 0 where
       after
       (meant (record contents { root = new_root; codes = codes; signed = signed; unsigned = unsigned }))
 
--- the root record of the same device with nothing pending, and with its public record in the other area of the flash
+-- the root record of the same device with nothing pending, and with its header in the other header area
 abbrev pub settled_root : Root → Root
 settled_root root = record root { area = 1 - root.area; pending = None }
 
--- The memory holds these contents, the fates of both regions have been applied, and the public record with every entry
--- signed stands in the inactive area of the flash.
+-- The memory holds these contents, the fates of both regions have been applied, and for the inactive header area the
+-- flash holds the same codes, and the log with every entry signed.
 pub record IsReadyToFinish (memory : Memory) (contents : Contents) : Type 0 where
   pub holds : Holds memory contents
   pub applied : both_done contents ≡ contents

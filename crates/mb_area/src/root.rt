@@ -85,8 +85,8 @@ fn store_root<B: Board>(b: &mut B, root: &Root, room: &mut Room) -> Result<(), S
     commit(b, ROOT_SLOT, &room.area)
 }
 
-/// Commits the root record that an order leaves; the flash area that it names begins with its public record. If power
-/// fails, this root record or the one before is current. There are at most two write calls.
+/// Commits the root record that an order leaves; the header area that it names holds the header after the order. If
+/// power fails, this root record or the one before is current. There are at most two write calls.
 #[tactic(auto, using(crate::proofs::Rooted::root_committed, crate::proofs::Rooted::committed_or_kept, crate::proofs::Rooted::committed_means, crate::proofs::Rooted::committed_means_or_kept))]
 pub fn commit_root<B: Board>(
     up: Up<R1>,
@@ -112,7 +112,7 @@ pub fn commit_root<B: Board>(
     }
 }
 
-/// The root record of the same device with nothing pending, and with its public record in the other area of the flash.
+/// The root record of the same device with nothing pending, and with its header in the other header area.
 fn settled_root(root: &Root) -> Root
     requires { root.now.area ≤ 1 }
     ensures { result ≡ settled_root root.now }
@@ -126,9 +126,9 @@ fn settled_root(root: &Root) -> Root
     }
 }
 
-/// Commits the root record that says that nothing is pending. Both fates have been applied, and the signed public
-/// record stands in the flash's inactive area. If power fails, this root record or the one before is current. There are
-/// at most two write calls.
+/// Commits the root record that says that nothing is pending. Both fates have been applied, and the inactive header area
+/// counts every entry as signed. If power fails, this root record or the one before is current. There are at most two
+/// write calls.
 #[tactic(auto, using(crate::proofs::Rooted::root_finished, crate::proofs::Rooted::finished_or_kept, crate::proofs::Rooted::finished_means, crate::proofs::Rooted::settled_allowed))]
 pub fn finish_root<B: Board>(u: Unsettled, b: &mut B, room: &mut Room) -> Result<Unwiped, Off>
     requires up { IsUp 1 (B.seen b.old) }

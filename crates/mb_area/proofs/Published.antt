@@ -1,0 +1,203 @@
+-- What writes of code, header and log leave of a flash, and of what the memory holds.
+use Rattle.std.proofs.Common.{◌≡◌, ◌≢◌, ℕ, ◌+◌, ◌*◌, ◌-◌, ◌<◌, ◌≤◌, ◌==◌, ◌⊎◌, inl, inr, Bool, true, false, List, length, drop, OnOk, Result, refl, sym, ap, subst, ◌∙◌, arith, eqb-true}
+use Rattle.std.specs.Prelude.{None, Some, if◌then◌else◌}
+use Rattle.std.specs.Global.{Vec}
+use Rattle.std.proofs.lemmas.Bool.{cases_order, ne_eqb}
+use Rattle.std.proofs.lemmas.List.{length-take}
+use Rattle.mb_format.specs.Format.{IsBytes}
+use Rattle.mb_format.proofs.Exact.{IsClear-from_exact}
+use Rattle.mb_model.proofs.HeaderFormatLaws.{header_exact}
+use Rattle.mb_model.specs.declared.stored.Root.{Root}
+use Rattle.mb_model.specs.declared.stored.Slot.{Slot}
+use Rattle.mb_model.specs.declared.stored.Header.{Header}
+use Rattle.mb_model.specs.Board.{Memory}
+use Rattle.mb_model.specs.HeaderFormat.{header_format}
+use Rattle.mb_model.specs.Meaning.{RootIn, HoldsContents}
+use Rattle.mb_model.specs.Pieces.{part}
+use Rattle.mb_model.specs.Sectors.{header_sector, code_sector, log_sector, BeginsAs}
+use Rattle.mb_model.specs.Flash.{sector, code_slot, HoldsHeader}
+use Rattle.mb_model_lemmas.proofs.HeldSegments.{front_of_sector, front_of_slot}
+use Rattle.mb_model_lemmas.proofs.PublicLemmas.{bounded_by}
+use Rattle.mb_model_memory.specs.FlashInForce.{slot_in, AgreeForArea, IsFreeSlot, IsUncounted, DiffersOnlyIn, BeginsWithBytes, IsSectorWritten}
+use Rattle.mb_model_memory.specs.Holding.{KeepsContents}
+use Rattle.mb_model_memory.specs.NextHeaders.{free_slot, IsCodeWritten}
+use Rattle.mb_model_memory.proofs.FlashFrames.{sector_apart, torn_log, torn_header, torn_code}
+use Rattle.mb_model_memory.proofs.FrameLemmas.{other_flash}
+use Rattle.mb_slot.specs.Slots.{IsSameOutside}
+use Rattle.mb_slot.proofs.Slotted.{on_ok}
+use Rattle.mb_flash.specs.Sectors.{sectors_for}
+use Rattle.mb_layout.specs.declared.room.Room.{Room}
+use Rattle.mb_layout.specs.Plans.{SamePlans}
+use Rattle.mb_area.specs.Flashes.{HasSomeHeader, HoldsSomeHeader, IsPublicWritten, IsSpared, code_sectors}
+
+-- ---- sectors
+
+pub sector_is : (flash : List ℕ) (n from count : ℕ) → from ≡ n → count ≡ 4096 → part (4096 * from) count flash ≡ sector flash n
+unfolding sector
+sector_is flash n from count e f = ap (λ k. part (4096 * k) count flash) e ∙ ap (λ k. part (4096 * n) k flash) f
+
+pub sector_short : (flash : List ℕ) (n : ℕ) → length (sector flash n) ≤ 4096
+unfolding sector
+sector_short flash n = omega (arith, length-take 4096 (drop (4096 * n) flash))
+
+pub sector_written : {E : Type 0} (n : ℕ) (before after bytes : List ℕ) (result : Result (Unit {0}) E) → length bytes ≤ 4096 → IsSameOutside (4096 * n) 4096 before after
+    → OnOk result (part (4096 * n) (length bytes) after ≡ bytes) → OnOk result (IsSectorWritten n bytes before after)
+sector_written n before after bytes result short same =
+    on_ok result (λ stands. record { same = record { sized = same.sized; bytes = same.bytes }; begins = front_of_sector after bytes n short stands })
+
+pub code_stands : {E : Type 0} (layer slot n : ℕ) (flash code : List ℕ) (result : Result (Unit {0}) E) → n ≡ code_sector layer slot → length code ≤ 32768
+    → OnOk result (part (4096 * n) (length code) flash ≡ code) → OnOk result (BeginsWithBytes (code_slot flash layer slot) code)
+code_stands layer slot n flash code result is short =
+    on_ok result (λ stands. front_of_slot flash code layer slot short (ap (λ k. part (4096 * k) (length code) flash) (sym is) ∙ stands))
+
+-- ---- the header of an area
+
+-- bytes begin with no other header than the one that was found
+pub one_found : (bytes : List ℕ) (found header : Header) → IsBytes bytes → BeginsAs header_format bytes found → BeginsAs header_format bytes header → found ≡ header
+one_found bytes found header are a b =
+    ((IsClear-from_exact header_exact).one_value bytes 0 found header a.after b.after (record { are_bytes = are; within = omega arith }) a.spelled b.spelled).0
+
+-- the bytes of an area, as they were read
+pub as_read : (P : List ℕ → Type 0) (flash bytes : List ℕ) (n area : ℕ) → n ≡ header_sector area → bytes ≡ sector flash n → P (sector flash (header_sector area)) → P bytes
+as_read P flash bytes n area is same p = subst P (ap (sector flash) (sym is) ∙ sym same) p
+
+pub slot_one : (header : Header) (layer : ℕ) → layer ≡ 1 → slot_in header layer ≡ header.one
+slot_one header layer e = ap (slot_in header) e
+
+pub slot_two : (header : Header) (layer : ℕ) → layer ≡ 2 → slot_in header layer ≡ header.two
+slot_two header layer e = ap (slot_in header) e
+
+by_tests : (a b : Bool) (header : Header) → a ≡ false → b ≡ false → (if a then header.one else if b then header.two else header.three) ≡ header.three
+by_tests a b header e f = rw (e, f) refl
+
+pub slot_three : (header : Header) (layer : ℕ) → layer ≢ 1 → layer ≢ 2 → slot_in header layer ≡ header.three
+slot_three header layer one two = by_tests (layer == 1) (layer == 2) header (ne_eqb layer 1 one) (ne_eqb layer 2 two)
+
+-- ---- code
+
+not_named : (b : Bool) (which : ℕ) → (which == 1) ≡ b → which ≢ (if b then 2 else 1)
+not_named true which e same = omega (arith, eqb-true which 1 e, same)
+not_named false which e same = absurd (grind (arith, e, same))
+
+there_by : (b : Bool) → (1 ≤ (if b then 2 else 1)) × ((if b then 2 else 1) ≤ 2)
+there_by true = (omega arith, omega arith)
+there_by false = (omega arith, omega arith)
+
+-- it is one of the two
+pub slot_there : (slot : ℕ) (named : Slot) → slot ≡ free_slot named → (1 ≤ slot) × (slot ≤ 2)
+slot_there slot named is = subst (λ n. (1 ≤ n) × (n ≤ 2)) (sym is) (there_by (named.which == 1))
+
+-- the slot that is not named is free
+pub is_free : (flash : List ℕ) (area layer slot : ℕ) (named : Slot) → slot ≡ free_slot named → ((header : Header) → HoldsHeader flash area header → named ≡ slot_in header layer)
+    → IsFreeSlot flash area layer slot
+is_free flash area layer slot named is names header holds same = not_named (named.which == 1) named.which refl (ap (λ (s : Slot). s.which) (names header holds) ∙ same ∙ is)
+
+differs_widened : (n count more : ℕ) (before after : List ℕ) → count ≤ more → DiffersOnlyIn n count before after → DiffersOnlyIn n more before after
+differs_widened n count more before after less same = record { sized = same.sized; bytes = λ offset outside. same.bytes offset (narrower offset outside) }
+  where
+    narrower : (offset : ℕ) → (offset < 4096 * n) ⊎ (4096 * n + 4096 * more ≤ offset) → (offset < 4096 * n) ⊎ (4096 * n + 4096 * count ≤ offset)
+    narrower offset (inl below) = inl below
+    narrower offset (inr above) = inr (omega arith)
+
+pub code_agrees : (before after : List ℕ) (area layer slot n : ℕ) → area ≤ 1 → 1 ≤ layer → layer ≤ 3 → 1 ≤ slot → slot ≤ 2 → IsFreeSlot before area layer slot → length before ≡ 1048576
+    → n ≤ 32768 → DiffersOnlyIn (code_sector layer slot) (sectors_for n) before after → AgreeForArea before after area
+code_agrees before after area layer slot n low least most one two free sized short same =
+    torn_code before after area layer slot low least most one two free sized (differs_widened (code_sector layer slot) (sectors_for n) 8 before after (omega arith) same)
+
+-- ---- sectors that are spared
+
+spared_by : (n from count : ℕ) (before after : List ℕ) → n < 256 → length before ≡ 1048576 → DiffersOnlyIn from count before after → (n < from) ⊎ (from + count ≤ n) ⊎ (count ≡ 0)
+    → sector after n ≡ sector before n
+spared_by n from count before after less sized same (inl below) = sector_apart n from count before after less (inl below) sized same
+spared_by n from count before after less sized same (inr (inl above)) = sector_apart n from count before after less (inr above) sized same
+spared_by n from count before after less sized same (inr (inr none)) = by_order (cases_order n from)
+  where
+    by_order : (n ≡ from) ⊎ ((n < from) ⊎ (from < n)) → sector after n ≡ sector before n
+    by_order (inl at) = sector_apart n from count before after less (inr (omega arith)) sized same
+    by_order (inr (inl below)) = sector_apart n from count before after less (inl below) sized same
+    by_order (inr (inr above)) = sector_apart n from count before after less (inr (omega arith)) sized same
+
+none_by : (room : Room) → room.code_layer ≡ 0 → code_sectors room ≡ 0
+none_by room e = rw e refl
+
+not_code : (room : Room) (n from : ℕ) → (n < from) ⊎ (from + code_sectors room ≤ n) ⊎ (room.code_layer ≡ 0) → (n < from) ⊎ (from + code_sectors room ≤ n) ⊎ (code_sectors room ≡ 0)
+not_code room n from (inl below) = inl below
+not_code room n from (inr (inl above)) = inr (inl above)
+not_code room n from (inr (inr none)) = inr (inr (none_by room none))
+
+-- the write of the code leaves each sector that is spared
+pub spared_code : (before after : List ℕ) (room : Room) (header : Header) (area n : ℕ) → n < 256 → length before ≡ 1048576 → IsSpared room header area n
+    → DiffersOnlyIn (code_sector room.code_layer (free_slot (slot_in header room.code_layer))) (code_sectors room) before after → sector after n ≡ sector before n
+spared_code before after room header area n less sized spared same =
+    spared_by n (code_sector room.code_layer (free_slot (slot_in header room.code_layer))) (code_sectors room) before after less sized same
+    (not_code room n (code_sector room.code_layer (free_slot (slot_in header room.code_layer))) spared.not_code)
+
+-- and so does the write of the header
+pub spared_header : (before after : List ℕ) (area m n : ℕ) → n < 256 → length before ≡ 1048576 → m ≡ header_sector (1 - area) → n ≢ header_sector (1 - area) → DiffersOnlyIn m 1 before after
+    → sector after n ≡ sector before n
+spared_header before after area m n less sized is other same = by_order (cases_order n m)
+  where
+    by_order : (n ≡ m) ⊎ ((n < m) ⊎ (m < n)) → sector after n ≡ sector before n
+    by_order (inl at) = absurd (other (at ∙ is))
+    by_order (inr (inl below)) = sector_apart n m 1 before after less (inl below) sized same
+    by_order (inr (inr above)) = sector_apart n m 1 before after less (inr (omega arith)) sized same
+
+pub header_agrees : (before after : List ℕ) (area n : ℕ) → area ≤ 1 → n ≡ header_sector (1 - area) → length before ≡ 1048576 → DiffersOnlyIn n 1 before after → AgreeForArea before after area
+header_agrees before after area n low is sized same = torn_header before after area low sized (subst (λ k. DiffersOnlyIn k 1 before after) is same)
+
+-- ---- what is written next, as it was before
+
+-- the same is written of a room with the same plans
+pub written_moved : (old room : Room) (header : Header) (area : ℕ) (before after : List ℕ) → SamePlans old room → IsPublicWritten room header area before after
+    → IsPublicWritten old header area before after
+written_moved old room header area before after same written = record {
+  between = written.between;
+  code = subst (λ (n : ℕ). IsCodeWritten n (slot_in header n) (if n == 0 then None else Some old.code.items) before written.between) same.code_layer
+      (subst (λ (v : Vec ℕ). IsCodeWritten room.code_layer (slot_in header room.code_layer) (if room.code_layer == 0 then None else Some v.items) before written.between) same.code written.code);
+  header = subst (λ (v : Vec ℕ). IsSectorWritten (header_sector (1 - area)) v.items written.between after) same.header written.header;
+}
+
+-- and the same sectors are spared
+pub spared_moved : (old room : Room) (header : Header) (area n : ℕ) → SamePlans old room → IsSpared old header area n → IsSpared room header area n
+spared_moved old room header area n same spared = record {
+  not_header = spared.not_header;
+  not_code = subst (λ (k : ℕ). (n < code_sector k (free_slot (slot_in header k))) ⊎ (code_sector k (free_slot (slot_in header k)) + (if k == 0 then 0 else sectors_for (length room.code.items)) ≤ n) ⊎ (k ≡ 0))
+      (sym same.code_layer)
+      (subst (λ (v : Vec ℕ). (n < code_sector old.code_layer (free_slot (slot_in header old.code_layer)))
+      ⊎ (code_sector old.code_layer (free_slot (slot_in header old.code_layer)) + (if old.code_layer == 0 then 0 else sectors_for (length v.items)) ≤ n) ⊎ (old.code_layer ≡ 0))
+      (sym same.code) spared.not_code);
+}
+
+-- ---- the root in force
+
+-- there is a header in the area of the only root
+pub some_header : (memory : Memory) (root : Root) → ((any : Root) → RootIn memory.bbram any → any ≡ root) → HasSomeHeader memory → HoldsSomeHeader memory.flash root.area
+some_header memory root only some = record {
+  header = some.header;
+  begins = subst (λ (r : Root). HoldsHeader memory.flash r.area some.header) (only some.root some.in_force) some.holds;
+}
+
+-- what holds for the area of the only root holds for that of each root in force
+pub for_root : (P : ℕ → Type 0) (root any : Root) → any ≡ root → P root.area → P any.area
+for_root P root any same p = subst (λ (r : Root). P r.area) (sym same) p
+
+pub agree_for_roots : (before after : Memory) (root : Root) → ((any : Root) → RootIn before.bbram any → any ≡ root) → AgreeForArea before.flash after.flash root.area
+    → (any : Root) → RootIn before.bbram any → AgreeForArea before.flash after.flash any.area
+agree_for_roots before after root only agree any has = for_root (AgreeForArea before.flash after.flash) root any (only any has) agree
+
+-- a write to the flash that leaves what counts for each root in force leaves the contents
+pub flash_kept : (before after : Memory) → ((root : Root) → RootIn before.bbram root → AgreeForArea before.flash after.flash root.area) → after.bbram ≡ before.bbram
+    → KeepsContents before after
+flash_kept before after agree same = record {
+  kept = λ contents holds.
+      subst (λ (xs : List ℕ). HoldsContents after.flash xs contents) (sym same)
+      (other_flash before.flash before.bbram after.flash contents (agree contents.root holds.root) holds);
+}
+
+-- so does the write of a sector of the log that the header in force does not count
+pub log_agrees : (before after : Memory) (position n : ℕ) → n ≡ log_sector position → position < 128 → length before.flash ≡ 1048576
+    → ((root : Root) → RootIn before.bbram root → IsUncounted before.flash root.area position) → DiffersOnlyIn n 1 before.flash after.flash
+    → (root : Root) → RootIn before.bbram root → AgreeForArea before.flash after.flash root.area
+log_agrees before after position n is few sized free same root has =
+    torn_log before.flash after.flash root.area position (bounded_by root has.holds.spelled.allowed).area few (free root has) sized
+    (subst (λ k. DiffersOnlyIn k 1 before.flash after.flash) is same)

@@ -1,0 +1,7 @@
+use Rattle.mb_area.proofs.Published.{code_stands}
+use Rattle.mb_area.proofs.public.store_code.Goals as goal
+
+pub returns-clause-written : goal.returns-clause-written
+returns-clause-written g c =
+    code_stands c.args.layer c.args.slot c.code_sector.result (g.B.Board.seen c.write_sectors.new.b).memory.flash c.args.code.now c.write_sectors.result c.code_sector.ensures c.requires.code
+    c.write_sectors.ensures.written
