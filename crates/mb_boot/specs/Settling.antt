@@ -41,11 +41,22 @@ pub record AddsToLog (place : ℕ) (before after : Memory) : Type 0 where
   pub added : (contents : Contents) → Holds before contents → HoldsLog before.flash (log_until place contents)
       → HoldsLog after.flash (log_until (place + 1) contents)
 
--- the flash holds the log of whatever the memory holds, with every entry signed
-pub record HoldsWholeLog (memory : Memory) : Type 0 where
-  pub whole : (contents : Contents) → Holds memory contents → HoldsLog memory.flash (meant contents).log
+-- the flash holds the log of whatever the memory held, with every entry signed
+pub record CompletesLog (before after : Memory) : Type 0 where
+  pub whole : (contents : Contents) → Holds before contents → HoldsLog after.flash (meant contents).log
 
--- whatever the memory held, the inactive header area of the flash names its codes and counts every entry as signed
+-- If the flash held the log with every entry signed, the inactive header area counts all of it, and names the codes of
+-- whatever the memory held.
+pub record CountsLog (before after : Memory) : Type 0 where
+  pub counted : (contents : Contents) → Holds before contents → HoldsLog before.flash (meant contents).log
+      → HoldsPublic
+      after.flash
+      (root_of (meant contents) (1 - contents.root.area))
+      contents.codes
+      (meant contents).log
+      []
+
+-- for whatever the memory held, the inactive header area of the flash names the codes and counts every entry as signed
 pub record SignsRecord (before after : Memory) : Type 0 where
   pub signed : (contents : Contents) → Holds before contents
       → HoldsPublic

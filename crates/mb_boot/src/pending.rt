@@ -1,6 +1,7 @@
 //! Unsigned entries, signed for their sectors of the log, and the header that counts them as signed.
 
-ghost use Rattle.std.specs.Prelude.{◌≡◌, ◌+◌, ◌-◌, ◌*◌, ◌≤◌, ◌×◌, ◌∷◌, [], ℕ, IfSome, length, vec_len, vec_capacity};
+ghost use Rattle.std.specs.Prelude.{◌≡◌, ◌+◌, ◌-◌, ◌*◌, ◌≤◌, ◌∷◌, IfSome, length, vec_len, vec_capacity};
+ghost use Rattle.std.specs.Option.{option_copied};
 ghost use Rattle.mb_format.specs.Format.{Spells};
 ghost use Rattle.mb_model.specs.declared.limits.TheConstants.{ENTRY_LIMIT, KEY_USES, LAST_INDEX, SECTOR_LENGTH, SIGNATURE_LENGTH};
 ghost use Rattle.mb_model.specs.declared.separators.TheConstants.{ENTRY_TEXT};
@@ -12,7 +13,7 @@ ghost use Rattle.mb_model.specs.StoredLog.{outgoing_of};
 ghost use Rattle.mb_model_memory.specs.NextHeaders.{header_settled};
 ghost use Rattle.mb_segments.specs.Uncopied.{header_of};
 ghost use Rattle.mb_area.specs.Flashes.{IsPlan};
-ghost use Rattle.mb_boot.specs.Completions.{BeginsWithHeader, signer_of, text_in, text_count, IsLogOf, SignsNext};
+ghost use Rattle.mb_boot.specs.Completions.{BeginsWithHeader, signer_of, text_in, count_of, text_count, IsLogOf, SignsNext};
 
 use mb_layout::Room;
 use mb_lms::HashCount;
@@ -39,7 +40,7 @@ fn held_header(sector: &[u8]) -> StoredHeader<'_>
 
 /// The unsigned entry at a place of a header, 0 or 1.
 fn text_in<'a>(header: StoredHeader<'a>, place: u32) -> Option<&'a [u8]>
-    ensures { option_copied result ≡ text_in (header_of header) place }
+    ensures { option_copied result ≡ text_in (header_of header.entry) place }
 {
     if place == 0 {
         header.first
@@ -48,10 +49,20 @@ fn text_in<'a>(header: StoredHeader<'a>, place: u32) -> Option<&'a [u8]>
     }
 }
 
+/// One for an entry, none for none.
+fn count_of(text: Option<&[u8]>) -> u32
+    ensures { result ≡ count_of (option_copied text.entry) }
+{
+    match text {
+        Some(_) => 1,
+        None => 0,
+    }
+}
+
 /// The header that counts the unsigned entries of another as signed.
 fn settled_header(stored: StoredHeader<'_>) -> Header
     requires { stored.signed ≤ ENTRY_LIMIT }
-    ensures { result ≡ header_settled (header_of stored) (text_count (header_of stored)) }
+    ensures { result ≡ header_settled (header_of stored.entry) (text_count (header_of stored.entry)) }
 {
     Header {
         one: stored.one,
@@ -63,8 +74,7 @@ fn settled_header(stored: StoredHeader<'_>) -> Header
     }
 }
 
-/// Replaces `room.header`, the bytes of a header, by those of the header that counts its unsigned entries as signed.
-/// No code is written next.
+/// Replaces the header in `room.header` by the one that counts its unsigned entries as signed. No code is written next.
 pub(crate) fn settle_header(room: &mut Room)
     requires header { BeginsWithHeader room.old.header.items }
     ensures settled { (header : Header) → BeginsAs header_format room.old.header.items header
@@ -82,12 +92,13 @@ pub(crate) fn settle_header(room: &mut Room)
 // ---- signatures
 
 /// A key, and the index at which it signs.
-pub(crate) struct Signer {
-    pub key: KeySeed,
-    pub index: u32,
+#[derive(Drop)]
+struct Signer {
+    key: KeySeed,
+    index: u32,
 }
 
-/// Who signs the unsigned entry at a place, 0 or 1.
+/// The key that signs the unsigned entry at a place, 0 or 1, and its index.
 fn signer_of(root: &Root, place: u32) -> Signer
     requires uses { root.now.uses ≤ KEY_USES }
     requires outgoing { IfSome (outgoing_of root.now.pending)
@@ -152,14 +163,8 @@ fn sign_entry<L: Ledger>(
     sign(right, key, &[ENTRY_TEXT], entry, signature, hashes);
 }
 
-/// Replaces `log` by what the sector of the log holds of an unsigned entry once it is signed: its bytes, and the
-/// signature.
-fn sign_text<L: Ledger>(
-    signer: &Signer,
-    text: &[u8],
-    log: &mut Vec<u8>,
-    hashes: &mut HashCount<L>,
-)
+/// Replaces `log` by the content of the sector of the log for an unsigned entry: its bytes and its signature.
+fn sign_text<L: Ledger>(signer: &Signer, text: &[u8], log: &mut Vec<u8>, hashes: &mut HashCount<L>)
     requires index { signer.now.index ≤ LAST_INDEX }
     requires text { (1 ≤ length text.now) × (length text.now ≤ 400) }
     requires room { SECTOR_LENGTH ≤ vec_capacity log.old }
@@ -173,8 +178,8 @@ fn sign_text<L: Ledger>(
     let _ = put_log(text, &signature, log);
 }
 
-/// Signs the unsigned entry at a place, 0 or 1, of the header in `room.header`, once: replaces `room.log` by what its
-/// sector of the log is to hold, and returns its position in the log. `None` if the header has no entry at the place.
+/// Signs the unsigned entry at a place, 0 or 1, of the header in `room.header`, once. Replaces `room.log` by the content
+/// of its sector of the log, and returns its position in the log. `None` if the header has no entry at the place.
 pub(crate) fn sign_next<L: Ledger>(
     root: &Root,
     place: u32,
@@ -191,7 +196,9 @@ pub(crate) fn sign_next<L: Ledger>(
     ensures cost { hashes.new ≤ hashes.old + 35473 }
 {
     let header = held_header(room.header.as_slice());
-    let text = text_in(header, place)?;
+    let Some(text) = text_in(header, place) else {
+        return None;
+    };
     sign_text(&signer_of(root, place), text, &mut room.log, hashes);
     Some(header.signed + place)
 }

@@ -6,7 +6,7 @@ ghost use Rattle.mb_model.specs.Sectors.{header_sector};
 ghost use Rattle.mb_board.specs.Calls.{IsUp, Ran};
 ghost use Rattle.mb_model_memory.specs.FlashInForce.{AgreeForArea, KeepsSignedLog};
 ghost use Rattle.mb_model_memory.specs.Holding.{KeepsContents, KeepsMeaning};
-ghost use Rattle.mb_boot.specs.Settling.{IsLive, IsOnlyRoot, AppliesBoth, AddsToLog, HoldsWholeLog, SignsRecord, Settles};
+ghost use Rattle.mb_boot.specs.Settling.{IsLive, IsOnlyRoot, AppliesBoth, AddsToLog, CompletesLog, CountsLog, SignsRecord, Settles};
 
 use crate::pending::{settle_header, sign_next};
 use mb_area::{Unsettled, Unwiped, finish_root, read_header, read_root, write_log, write_public};
@@ -42,7 +42,6 @@ fn apply_fates<B: Board>(
 
 /// Signs the unsigned entry at a place of the header in force, 0 or 1, and writes it to its sector of the log, in at most
 /// two write calls. Nothing is written if there is no entry at the place. `room.header` holds the header's area.
-#[tactic(auto, using(crate::proofs::Settled::bounded, crate::proofs::Settled::header_is_read))]
 fn write_entry<B: Board, L: Ledger>(
     u: Unsettled,
     b: &mut B,
@@ -69,7 +68,8 @@ fn write_entry<B: Board, L: Ledger>(
     let Some(position) = sign_next(root, place, room, hashes) else {
         return Ok(u);
     };
-    write_log(u, b, position, room)
+    let u = write_log(u, b, position, room)?;
+    Ok(u)
 }
 
 /// Signs each unsigned entry once, and writes it to its sector of the log. The area of the header in force is left in
@@ -87,7 +87,7 @@ fn write_entries<B: Board, L: Ledger>(
     ensures contents { KeepsContents (B.seen b.old).memory (B.seen b.new).memory }
     ensures agree { AgreeForArea (B.seen b.old).memory.flash (B.seen b.new).memory.flash
         root.now.area }
-    ensures whole { OnOk result (HoldsWholeLog (B.seen b.new).memory) }
+    ensures whole { OnOk result (CompletesLog (B.seen b.old).memory (B.seen b.new).memory) }
     ensures header { room.new.header.items
         ≡ sector (B.seen b.new).memory.flash (header_sector root.now.area) }
     ensures bbram { (B.seen b.new).memory.bbram ≡ (B.seen b.old).memory.bbram }
@@ -101,7 +101,7 @@ fn write_entries<B: Board, L: Ledger>(
 }
 
 /// Writes the header that counts each entry as signed to the header area that is not in force, in at most two write
-/// calls. The log holds each entry, and `room.header` the area of the header in force.
+/// calls. `room.header` holds the area of the header in force.
 fn write_settled<B: Board>(
     u: Unsettled,
     b: &mut B,
@@ -111,18 +111,18 @@ fn write_settled<B: Board>(
     requires up { IsUp 1 (B.seen b.old) }
     requires live { IsLive (B.seen b.old).memory }
     requires root { IsOnlyRoot (B.seen b.old).memory.bbram root.now }
-    requires whole { HoldsWholeLog (B.seen b.old).memory }
     requires header { room.old.header.items
         ≡ sector (B.seen b.old).memory.flash (header_sector root.now.area) }
     ensures contents { KeepsContents (B.seen b.old).memory (B.seen b.new).memory }
     ensures agree { AgreeForArea (B.seen b.old).memory.flash (B.seen b.new).memory.flash
         root.now.area }
-    ensures signed { OnOk result (SignsRecord (B.seen b.old).memory (B.seen b.new).memory) }
+    ensures counted { OnOk result (CountsLog (B.seen b.old).memory (B.seen b.new).memory) }
     ensures bbram { (B.seen b.new).memory.bbram ≡ (B.seen b.old).memory.bbram }
     ensures ran { Ran 2 result (B.seen b.old) (B.seen b.new) }
 {
     settle_header(room);
-    write_public(u, b, room)
+    let u = write_public(u, b, room)?;
+    Ok(u)
 }
 
 /// Signs each unsigned entry once into the log, and counts it as signed in the header area that is not in force. There
@@ -152,7 +152,7 @@ fn write_signed<B: Board, L: Ledger>(
 
 /// Does the pending work: applies the fates of the regions, and signs each unsigned entry once. The memory has to stand
 /// for a state that a device can have. It stands for the same state wherever power fails, and afterwards nothing is
-/// pending. There are at most 12 write calls, and 70,946 hashes.
+/// pending. The sectors of the log that the header before counts keep their bytes. There are at most 12 write calls, and 70,946 hashes.
 #[tactic(auto, using(crate::proofs::Settled::some_root, crate::proofs::Settled::only_root, crate::proofs::Settled::live_still, mb_model_memory::proofs::HoldingLemmas::contents_keep, crate::proofs::Settled::finish_keeps, mb_model_memory::proofs::HoldingLemmas::keeps_then, crate::proofs::Settled::settled))]
 pub fn settle<B: Board, L: Ledger>(
     u: Unsettled,
