@@ -1,19 +1,17 @@
 -- How many entries the log has for which a memory stands.
 use Rattle.std.proofs.Common.{◌≡◌, ℕ, ◌+◌, List, length, Option, sym, ap, subst, ◌∙◌, length-append}
-use Rattle.mb_format.specs.Format.{IsBytes, Spells}
+use Rattle.mb_format.specs.Format.{IsBytes}
 use Rattle.mb_model.specs.declared.entry.Entry.{Entry}
 use Rattle.mb_model.specs.declared.entry.SignedEntry.{SignedEntry}
 use Rattle.mb_model.specs.declared.state.Codes.{Codes}
 use Rattle.mb_model.specs.declared.state.State.{State}
 use Rattle.mb_model.specs.declared.stored.Root.{Root}
 use Rattle.mb_model.specs.StoredLog.{signed_for, outgoing_of, completed}
-use Rattle.mb_model.specs.PublicRecord.{public_format}
-use Rattle.mb_model.specs.OldFlash.{flash_area, public_of_parts, BeginsArea}
 use Rattle.mb_model.specs.Flash.{HoldsPublic}
 use Rattle.mb_model.specs.Memory.{IsImage, IsBlank}
 use Rattle.mb_model.specs.Meaning.{Contents, meant, RootIn, HasMeaning, is_dead, is_live, StandsFor}
 use Rattle.mb_model.specs.GenerateCommand.{log_length}
-use Rattle.mb_model_lemmas.proofs.MeaningLemmas.{IsBytes-flash_area, one_start, one_root_in, not_blank}
+use Rattle.mb_model_lemmas.proofs.MeaningLemmas.{one_root_in, not_blank}
 use Rattle.mb_model_lemmas.proofs.FaultLemmas.{image_parts}
 use Rattle.mb_model_lemmas.proofs.PublicLemmas.{length-signed_for}
 
@@ -48,17 +46,3 @@ live_counts flash bbram state root count are rooted counts (is_live contents hol
     let held : HoldsPublic flash root contents.codes contents.signed contents.unsigned =
     subst (λ (r : Root). HoldsPublic flash r contents.codes contents.signed contents.unsigned) same holds.public in
     counts contents.codes contents.signed contents.unsigned held ∙ sym (meant_length contents) ∙ sym (ap log_length is)
-
--- ---- the area that the root names
-
-pub none_begins_there : (flash : List ℕ) (root : Root) (codes : Codes) (signed : List SignedEntry) (unsigned : List Entry) (area : List ℕ) → area ≡ flash_area flash root.area
-    → ((bytes : List ℕ) → BeginsArea area bytes → ⊥) → HoldsPublic flash root codes signed unsigned → ⊥
-none_begins_there flash root codes signed unsigned area is never holds =
-    never holds.begins.bytes (subst (λ (a : List ℕ). BeginsArea a holds.begins.bytes) (sym is) holds.begins.begins)
-
-pub counted_there : (flash : List ℕ) (root : Root) (codes : Codes) (signed : List SignedEntry) (unsigned : List Entry) (area bytes : List ℕ) → IsBytes flash → area ≡ flash_area flash root.area
-    → BeginsArea area bytes → HoldsPublic flash root codes signed unsigned → Spells public_format bytes (public_of_parts codes signed unsigned)
-counted_there flash root codes signed unsigned area bytes are is begins holds =
-    let here : BeginsArea (flash_area flash root.area) bytes = subst (λ (a : List ℕ). BeginsArea a bytes) is begins in
-    let same = one_start (flash_area flash root.area) holds.begins.bytes bytes (IsBytes-flash_area flash root.area are) holds.begins.begins here in
-    subst (λ (b : List ℕ). Spells public_format b (public_of_parts codes signed unsigned)) same holds.begins.spelled

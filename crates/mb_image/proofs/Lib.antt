@@ -1,10 +1,10 @@
 pub mod Admission
 pub mod Areas
-pub mod EntryLists
 pub mod Following
 pub mod Lengths
 pub mod LogSteps
 pub mod Meanings
 pub mod Reading
 pub mod RegionSteps
+pub mod Sectors
 pub mod ValidParts

@@ -1,6 +1,6 @@
 pub mod Ends
-pub mod Entries
 pub mod Keys
 pub mod Losses
+pub mod Segments
 pub mod Stored
 pub mod Verified

@@ -12,13 +12,13 @@ ghost use Rattle.mb_model.specs.Meaning.{StandsFor};
 ghost use Rattle.mb_model.specs.GenerateCommand.{log_length};
 
 use crate::memory::{memories, root_of};
-use crate::stored::flash_area;
-use mb_layout::{entry_count, is_blank, record_at_start};
+use crate::segments::{header_in, text_count};
+use mb_layout::is_blank;
 use mb_model::Root;
 
 /// The number of entries of the log of the device whose state the image means: at most 128, and 0 if the device is
-/// dead. The entries are counted in place, so that no memory is taken and nothing is hashed. The number is arbitrary if
-/// the image means no state.
+/// dead. The header alone is read, so that no memory is taken and nothing is hashed. The number is arbitrary if the
+/// image means no state.
 pub fn log_length(image: &[u8]) -> u16
     ensures { (flash bbram : List ℕ) (state : Option State) → IsImage image.now flash bbram → StandsFor flash bbram state
         → result ≡ log_length state }
@@ -35,15 +35,15 @@ pub fn log_length(image: &[u8]) -> u16
     count_entries(flash, &root)
 }
 
-/// The number of entries, signed or not, in the area of the flash that the root names.
+/// The number of entries, signed or not, by the header of the area that the root names.
 fn count_entries(flash: &[u8], root: &Root) -> u16
     requires sized { length flash.now ≡ FLASH_LENGTH }
     requires area { root.now.area ≤ 1 }
     ensures { (codes : Codes) (signed : List SignedEntry) (unsigned : List Entry)
         → HoldsPublic flash.now root.now codes signed unsigned → result ≡ length signed + length unsigned }
 {
-    match record_at_start(flash_area(flash, root.area)) {
-        Some(bytes) => entry_count(bytes),
+    match header_in(flash, root.area) {
+        Some(header) => header.signed as u16 + text_count(&header),
         None => 0,
     }
 }

@@ -22,8 +22,8 @@ pub enum ImageEnd {
     Length,
     /// The battery-backed memory is neither all zero nor alive with a root record in its current area.
     Root,
-    /// The area of the flash that the root names begins with no public record, or not as many of its last entries are
-    /// unsigned as the root says.
+    /// The header area that the root names holds no header, a sector of the log that the header counts holds no entry
+    /// and signature, or its signed and unsigned entries do not stand as the root says.
     Public,
     /// The current area of region 2 holds no region.
     RegionTwo,

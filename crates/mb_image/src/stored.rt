@@ -3,22 +3,18 @@
 ghost use Rattle.std.specs.Prelude.{◌≡◌, ◌≤◌, length, IfOk, IfErr, IfSome, MatchOption};
 ghost use Rattle.mb_model.specs.declared.limits.TheConstants.{FLASH_LENGTH};
 ghost use Rattle.mb_model.specs.Memory.{AreSized};
-ghost use Rattle.mb_model.specs.OldFlash.{flash_area};
 ghost use Rattle.mb_model.specs.Flash.{HoldsPublic};
 ghost use Rattle.mb_model.specs.Meaning.{RootIn, HoldsContents};
 ghost use Rattle.mb_model.specs.Faults.{SomePublic, IsFaulty};
 ghost use Rattle.mb_image.specs.Ends.{fault_of};
 ghost use Rattle.mb_image.specs.Stored.{contents_of};
 
-use crate::entries::split_entries;
 use crate::image::ImageEnd;
 use crate::memory::current_area;
-use mb_layout::{public_at_start, region_in};
-use mb_model::{Codes, Entries, Log, NoMemory, Public, Region, Root};
+use crate::segments::{are_counted, codes_in, header_in, signed_in, text_count, unsigned_in};
+use mb_layout::region_in;
+use mb_model::{Codes, Entries, Log, NoMemory, Region, Root};
 use std::alloc::Global;
-
-/// The length of an area of the flash, in bytes.
-const FLASH_AREA: usize = 524_288;
 
 /// All that is stored in the memory of a live device.
 #[derive(Drop)]
@@ -74,34 +70,31 @@ struct PublicParts {
     unsigned: Entries,
 }
 
-/// The contents of the area of the flash that the root names; `None` if it holds no public record, or not one as the
-/// root says.
+/// Codes and entries of the header area that the root names; `None` if the area begins with no header, a sector of the
+/// log that the header counts holds no entry, a text of the header spells none, or not as many entries are unsigned as
+/// the root says.
 fn public_in(alloc: Global, flash: &[u8], root: &Root) -> Result<Option<PublicParts>, NoMemory>
     requires sized { length flash.now ≡ FLASH_LENGTH }
     requires area { root.now.area ≤ 1 }
-    ensures { IfOk result (λ found. MatchOption found (SomePublic flash.now root.now → ⊥) (λ parts. HoldsPublic flash.now root.now parts.codes parts.signed parts.unsigned)) }
+    ensures { IfOk result (λ found. MatchOption found (SomePublic flash.now root.now → ⊥)
+        (λ parts. HoldsPublic flash.now root.now parts.codes parts.signed parts.unsigned)) }
 {
-    let Some(public) = public_at_start(alloc, flash_area(flash, root.area))? else {
+    let Some(header) = header_in(flash, root.area) else {
         return Ok(None);
     };
-    let Public { codes, entries } = public;
-    let Some(split) = split_entries(alloc, entries.as_slice(), &root.pending)? else {
+    if !are_counted(&root.pending, text_count(&header)) {
+        return Ok(None);
+    }
+    let Some(unsigned) = unsigned_in(alloc, &header)? else {
         return Ok(None);
     };
+    let Some(signed) = signed_in(alloc, flash, header.signed)? else {
+        return Ok(None);
+    };
+    let codes = codes_in(alloc, flash, &header)?;
     Ok(Some(PublicParts {
         codes,
-        signed: split.signed,
-        unsigned: split.unsigned,
+        signed,
+        unsigned,
     }))
-}
-
-/// An area of the flash, 0 or 1.
-#[tactic(auto, unfolding(mb_model::specs::OldFlash::flash_area))]
-pub(crate) fn flash_area(flash: &[u8], number: u8) -> &[u8]
-    requires sized { length flash.now ≡ FLASH_LENGTH }
-    requires area { number ≤ 1 }
-    ensures { result.now ≡ flash_area flash.now number }
-{
-    let start = FLASH_AREA * usize::from(number);
-    &flash[start..start + FLASH_AREA]
 }

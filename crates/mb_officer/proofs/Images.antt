@@ -1,29 +1,29 @@
 -- The image of a new device: its pieces are those that a new device has.
-use Rattle.std.proofs.Common.{◌≡◌, ◌+◌, ◌-◌, ◌%◌, ◌==◌, ◌<◌, ◌≤◌, ℕ, List, [], ◌∷◌, ◌++◌, length, take, drop, replicate, All, if◌then◌else◌, refl, sym, ap, subst, ◌∙◌, inl, arith, append_assoc, append-nil, length-append}
+use Rattle.std.proofs.Common.{◌≡◌, ◌+◌, ◌-◌, ◌*◌, ◌%◌, ◌==◌, ◌<◌, ◌≤◌, ℕ, List, [], ◌∷◌, ◌++◌, length, take, drop, replicate, All, if◌then◌else◌, refl, sym, ap, subst, ◌∙◌, inl, arith, append_assoc, append-nil, length-append}
 use Rattle.std.specs.Global.{Vec}
 use Rattle.std.specs.Vec.{vec_len, vec_capacity}
-use Rattle.std.specs.Int.{w16, w32, to_be_bytes}
-use Rattle.std.proofs.lemmas.List.{take_all, length-replicate}
+use Rattle.std.specs.Int.{w16, to_be_bytes}
+use Rattle.std.proofs.lemmas.List.{take_all, length-replicate, replicate-append-replicate}
 use Rattle.std.proofs.lemmas.List.Elements.{All-head, All-tail, All-take, All-drop, All-replicate}
 use Rattle.std.proofs.Math.Seq.{take-append-add, drop-append-add}
 use Rattle.mb_format.specs.Format.{Spells}
 use Rattle.mb_model.specs.declared.entry.SignedEntry.{SignedEntry}
-use Rattle.mb_model.specs.declared.state.Codes.{Codes}
 use Rattle.mb_model.specs.declared.state.State.{State}
 use Rattle.mb_model.specs.Pieces.{part}
 use Rattle.mb_model.specs.Regions.{empty_region}
 use Rattle.mb_model.specs.RootFormat.{root_format}
 use Rattle.mb_model.specs.Memory.{IsBlank, life_byte, selector_of, spare, first_area, second_area, current, other, HoldsInArea, HoldsRecord}
-use Rattle.mb_model.specs.PublicRecord.{public_format}
-use Rattle.mb_model.specs.OldFlash.{public_of_parts}
-use Rattle.mb_model.specs.WrittenFlash.{IsFactoryFlash}
+use Rattle.mb_model.specs.Board.{erased}
+use Rattle.mb_model.specs.HeaderFormat.{header_format}
+use Rattle.mb_model.specs.WrittenFlash.{in_sectors, slots_with, entry_in_log, sectors_of, written_flash, IsFactoryFlash}
 use Rattle.mb_model.specs.Meaning.{HoldsRegion}
 use Rattle.mb_model.specs.Clean.{root_of, IsCleanFor}
-use Rattle.mb_model.specs.Factory.{IsBornWith}
+use Rattle.mb_model.specs.Factory.{codes_at_birth, IsBornWith}
 use Rattle.mb_model.proofs.Places.{length-part}
+use Rattle.mb_model_lemmas.proofs.WrittenLemmas.{written_is_whole}
 use Rattle.mb_bytes.specs.Puts.{Appends, StopsShort}
 use Rattle.mb_bytes.proofs.Putting.{length_items}
-use Rattle.mb_officer.specs.NewImage.{filled, new_flash, memory_head, new_bbram, new_image}
+use Rattle.mb_officer.specs.NewImage.{filled, header_at_birth, new_flash, memory_head, new_bbram}
 
 -- ---- one byte many times
 
@@ -64,21 +64,45 @@ blank_part at n bytes blank = All-take (λ b. b ≡ 0) n (drop at bytes) (All-dr
 
 -- ---- the flash
 
-pub flash_written : (stored : List ℕ) (codes : Codes) (log : List SignedEntry) → Spells public_format stored (public_of_parts codes log []) → IsFactoryFlash (new_flash stored) codes log
-unfolding new_flash
-flash_written stored codes log spelled = record {
-  bytes = stored;
-  erased = filled (1048572 - length stored) 0xFF;
-  spelled = spelled;
-  whole = append_assoc (to_be_bytes w32 (length stored)) stored (filled (1048572 - length stored) 0xFF);
-  erased_is = filled-all (1048572 - length stored) 0xFF;
-}
+-- more sectors with nothing in them
+more_sectors : (m n : ℕ) (bytes : List ℕ) → length bytes ≤ 4096 * m → in_sectors m bytes ++ in_sectors n [] ≡ in_sectors (m + n) bytes
+unfolding in_sectors erased
+more_sectors m n bytes short =
+    let size : (4096 * m - length bytes) + (4096 * n - 0) ≡ 4096 * (m + n) - length bytes = omega (arith, short) in
+    append_assoc bytes (replicate (4096 * m - length bytes) 0xFF) (replicate (4096 * n - 0) 0xFF)
+    ∙ ap (λ (rest : List ℕ). bytes ++ rest) (replicate-append-replicate (4096 * m - length bytes) (4096 * n - 0) 0xFF ∙ ap (λ k. replicate k 0xFF) size)
 
-pub flash_sized : (stored : List ℕ) → length stored ≤ 470000 → length (new_flash stored) ≡ 1048576
-unfolding new_flash
-flash_sized stored short =
-    let erased = filled (1048572 - length stored) 0xFF in
-    omega (arith, short, length-append (to_be_bytes w32 (length stored) ++ stored) erased, length-append (to_be_bytes w32 (length stored)) stored, filled-length (1048572 - length stored) 0xFF)
+-- and what follows them
+more_before : (m n : ℕ) (bytes rest : List ℕ) → length bytes ≤ 4096 * m → in_sectors m bytes ++ (in_sectors n [] ++ rest) ≡ in_sectors (m + n) bytes ++ rest
+more_before m n bytes rest short = sym (append_assoc (in_sectors m bytes) (in_sectors n []) rest) ∙ ap (λ (front : List ℕ). front ++ rest) (more_sectors m n bytes short)
+
+-- sectors in sectors
+in_more : (n : ℕ) (bytes : List ℕ) → length bytes ≤ 4096 → in_sectors (1 + n) (in_sectors 1 bytes ++ []) ≡ in_sectors (1 + n) bytes
+unfolding in_sectors erased
+in_more n bytes short =
+    let own : List ℕ = bytes ++ replicate (4096 * 1 - length bytes) 0xFF in
+    let long : length own ≡ 4096 = omega (arith, short, length-append bytes (replicate (4096 * 1 - length bytes) 0xFF), length-replicate {A = ℕ} (4096 * 1 - length bytes) 0xFF) in
+    let count : 4096 * (1 + n) - length own ≡ 4096 * n = omega (arith, long) in
+    let size : (4096 * 1 - length bytes) + 4096 * n ≡ 4096 * (1 + n) - length bytes = omega (arith, short) in
+    ap (λ (xs : List ℕ). xs ++ replicate (4096 * (1 + n) - length xs) 0xFF) (append-nil own)
+    ∙ ap (λ k. own ++ replicate k 0xFF) count
+    ∙ append_assoc bytes (replicate (4096 * 1 - length bytes) 0xFF) (replicate (4096 * n) 0xFF)
+    ∙ ap (λ (rest : List ℕ). bytes ++ rest) (replicate-append-replicate (4096 * 1 - length bytes) (4096 * n) 0xFF ∙ ap (λ k. replicate k 0xFF) size)
+
+-- the flash of a new device is the one that is written from nothing
+pub flash_is : (code : List ℕ) (signed : SignedEntry) → length code ≤ 32768 → length (entry_in_log signed) ≤ 4096
+    → new_flash (header_format.spelling (header_at_birth code)) code (entry_in_log signed) ≡ written_flash (codes_at_birth code) (signed ∷ [])
+unfolding new_flash written_flash slots_with sectors_of
+flash_is code signed short small =
+    let header : List ℕ = in_sectors 2 (header_format.spelling (header_at_birth code)) in
+    let log : List ℕ = in_sectors 128 (in_sectors 1 (entry_in_log signed) ++ []) ++ in_sectors 64 [] in
+    let birth : in_sectors 192 (entry_in_log signed) ≡ log = sym (ap (λ (front : List ℕ). front ++ in_sectors 64 []) (in_more 127 (entry_in_log signed) small) ∙ more_sectors 128 64 (entry_in_log signed) (omega (arith, small))) in
+    let slots : in_sectors 16 code ++ (in_sectors 16 [] ++ (in_sectors 16 [] ++ (in_sectors 14 [] ++ log))) ≡ in_sectors 62 code ++ log =
+    more_before 16 16 code (in_sectors 16 [] ++ (in_sectors 14 [] ++ log)) (omega (arith, short))
+    ∙ more_before 32 16 code (in_sectors 14 [] ++ log) (omega (arith, short))
+    ∙ more_before 48 14 code log (omega (arith, short))
+    in
+    ap (λ (rest : List ℕ). header ++ rest) (ap (λ (rest : List ℕ). in_sectors 62 code ++ rest) birth ∙ sym slots)
 
 -- ---- an area in which all is zero
 
@@ -249,14 +273,14 @@ module _ (root : List ℕ) (short : length root ≤ 4094) where
   }
 
   -- the image of a device with this state
-  pub born_with : (stored : List ℕ) (state : State) → length stored ≤ 470000 → Spells public_format stored (public_of_parts state.codes state.log []) → Spells root_format root (root_of state 0)
-      → state.two ≡ empty_region → state.three ≡ empty_region → IsBornWith state (new_image stored root)
+  pub born_with : (flash : List ℕ) (state : State) → IsFactoryFlash flash state.codes state.log → Spells root_format root (root_of state 0) → state.two ≡ empty_region → state.three ≡ empty_region
+      → IsBornWith state (flash ++ new_bbram root)
   unfolding bbram_clean
-  born_with stored state fits spelled root_spelled none_two none_three = record {
-    flash = new_flash stored;
+  born_with flash state written root_spelled none_two none_three = record {
+    flash = flash;
     bbram = new_bbram root;
-    image_is = (refl, record { flash = flash_sized stored fits; bbram = bbram_sized });
-    written = flash_written stored state.codes state.log spelled;
+    image_is = (refl, record { flash = written_is_whole flash state.codes state.log written; bbram = bbram_sized });
+    written = written;
     selectors = selectors_are;
     clean = bbram_clean state root_spelled none_two none_three;
     area_is = refl;

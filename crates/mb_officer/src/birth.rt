@@ -2,31 +2,31 @@
 
 ghost use Rattle.std.specs.Prelude.{◌≡◌, ◌↔◌, ◌+◌, ◌≤◌, [], length, None, Some, IfOk, OnOk, OnErr, IsErrOf};
 ghost use Rattle.std.specs.Vec.{vec_len, vec_capacity};
-ghost use Rattle.mb_officer.specs.declared.birth.TheConstants.{LONGEST_ENTRY, LONGEST_PUBLIC};
+ghost use Rattle.mb_officer.specs.declared.birth.TheConstants.{LONGEST_ENTRY, LONGEST_HEADER, LONGEST_BIRTH};
 ghost use Rattle.mb_model.specs.declared.limits.TheConstants.{CODE_LIMIT, KEY_USES, LAST_INDEX};
 ghost use Rattle.mb_model.specs.declared.entry.Entry.TheVariants as entry;
 ghost use Rattle.mb_model.specs.Key.{IsSized};
 ghost use Rattle.mb_model.specs.EntryFormat.{entry_format};
 ghost use Rattle.mb_model.specs.RootFormat.{root_format};
-ghost use Rattle.mb_model.specs.PublicRecord.{public_format};
-ghost use Rattle.mb_model.specs.OldFlash.{public_of_parts};
+ghost use Rattle.mb_model.specs.HeaderFormat.{header_format, log_format};
 ghost use Rattle.mb_model.specs.Signing.{public_of};
 ghost use Rattle.mb_model.specs.OrderEffects.{signed_by};
 ghost use Rattle.mb_model.specs.SignedOrders.{used_once};
 ghost use Rattle.mb_model.specs.Meaning.{IsWellFormed};
-ghost use Rattle.mb_model.specs.Factory.{serial_from, first_key, layers_at_birth, codes_at_birth, state_at_birth, IsFactoryImage};
-ghost use Rattle.mb_officer.specs.NewImage.{root_at_birth};
+ghost use Rattle.mb_model.specs.Factory.{serial_from, first_key, layers_at_birth, state_at_birth, IsFactoryImage};
+ghost use Rattle.mb_officer.specs.NewImage.{header_at_birth, root_at_birth};
 
 use crate::image::put_image;
 use crate::signing::{SignEnd, sign_at};
-use mb_layout::{write_entry, write_public_parts, write_root};
+use mb_layout::{write_entry, write_root};
 use mb_lms::HashCount;
 use mb_log::born;
 use mb_model::separators::ENTRY_TEXT;
 use mb_model::{
-    Bytes, CodeName, Codes, DRAW_LENGTH, Entry, IMAGE_LENGTH, KeySeed, Keyfile, Layer, Layers,
-    NoMemory, PublicKey, Root, SignedEntry, Trust, Trusts,
+    CodeName, DRAW_LENGTH, Entry, Header, IMAGE_LENGTH, KeySeed, Keyfile, Layer, Layers, NoMemory,
+    PublicKey, Root, SIGNATURE_LENGTH, SignedEntry, Slot, Trust, Trusts,
 };
+use mb_segments::{put_log, write_header};
 use mb_signer::public;
 use sha2::{Digest, Sha256};
 use std::alloc::Global;
@@ -35,8 +35,11 @@ use std::sync::ledger::Ledger;
 /// The longest entry, in bytes.
 const LONGEST_ENTRY: usize = 358;
 
-/// The longest public record, in bytes.
-const LONGEST_PUBLIC: usize = 444_818;
+/// The longest header, in bytes.
+const LONGEST_HEADER: usize = 826;
+
+/// The longest content of a sector of the log, in bytes.
+const LONGEST_BIRTH: usize = 2_750;
 
 /// The serial and the first key of a new device.
 #[derive(Clone, Copy)]
@@ -72,15 +75,16 @@ pub fn factory<L: Ledger>(
     };
     key_sizes(owner);
     let device = device_of(noise);
-    let codes = codes_of(alloc, code)?;
     let root = root_of(alloc, &device)?;
-    let text = room(alloc, LONGEST_ENTRY)?;
-    let mut stored = room(alloc, LONGEST_PUBLIC)?;
+    let mut text = room(alloc, LONGEST_ENTRY)?;
+    let mut header = room(alloc, LONGEST_HEADER)?;
+    let mut stored = room(alloc, LONGEST_BIRTH)?;
     let mut image = room(alloc, IMAGE_LENGTH)?;
     let birth = birth_of(&device, owner, code, hashes);
-    let log = [sign_birth(&k.seed, index, birth, text, hashes)];
-    store(&codes, &log, &mut stored);
-    let Ok(()) = put_image(&mut image, &stored, &root) else {
+    let signed = sign_birth(&k.seed, index, birth, &mut text, hashes);
+    store_header(code, &mut header);
+    store_birth(&text, &signed.signature, &mut stored);
+    let Ok(()) = put_image(&mut image, &header, code, &stored, &root) else {
         unreachable!();
     };
     k.next = next;
@@ -109,17 +113,6 @@ fn device_of(noise: &[u8; 48]) -> Device
         serial,
         key: born(&draw, &serial, 0),
     }
-}
-
-/// The codes of a new device: that of layer 1 alone.
-fn codes_of(alloc: Global, code: &[u8]) -> Result<Codes, NoMemory>
-    ensures { IfOk result (λ codes. codes ≡ codes_at_birth code.now) }
-{
-    Ok(Codes {
-        one: Some(Bytes::copy(alloc, code)?),
-        two: None,
-        three: None,
-    })
 }
 
 /// The bytes of a new device's root record.
@@ -180,39 +173,66 @@ fn birth_of<L: Ledger>(
     }
 }
 
-/// Signs the first entry by the maker's key at an index. There is room for the entry's bytes.
+/// Signs the first entry by the maker's key at an index, and writes its bytes, for which there is room.
 fn sign_birth<L: Ledger>(
     seed: &KeySeed,
     index: u32,
     birth: Entry,
-    text: Vec<u8>,
+    text: &mut Vec<u8>,
     hashes: &mut HashCount<L>,
 ) -> SignedEntry
     requires index { index ≤ LAST_INDEX }
     requires spelled { entry_format.Allowed birth }
-    requires empty { text.items ≡ [] }
-    requires room { vec_len text + LONGEST_ENTRY ≤ vec_capacity text }
+    requires empty { text.old.items ≡ [] }
+    requires room { vec_len text.old + LONGEST_ENTRY ≤ vec_capacity text.old }
+    ensures text { text.new.items ≡ entry_format.spelling birth }
     ensures signed { result ≡ signed_by seed.now index birth }
     ensures cost { hashes.new ≤ hashes.old + 35473 }
 {
-    let mut text = text;
-    let Ok(()) = write_entry(&birth, &mut text) else {
+    let Ok(()) = write_entry(&birth, text) else {
         unreachable!();
     };
     SignedEntry {
         entry: birth,
-        signature: sign_at(seed, index, &[ENTRY_TEXT], &text, hashes),
+        signature: sign_at(seed, index, &[ENTRY_TEXT], text, hashes),
     }
 }
 
-/// Writes the public record of a new device. There is room for it.
-fn store(codes: &Codes, log: &[SignedEntry], stored: &mut Vec<u8>)
-    requires spelled { public_format.Allowed (public_of_parts codes.now log.now []) }
+/// Writes the header of a new device with this code. There is room for it.
+fn store_header(code: &[u8], stored: &mut Vec<u8>)
+    requires code { length code.now ≤ CODE_LIMIT }
     requires empty { stored.old.items ≡ [] }
-    requires room { vec_len stored.old + LONGEST_PUBLIC ≤ vec_capacity stored.old }
-    ensures { stored.new.items ≡ public_format.spelling (public_of_parts codes.now log.now []) }
+    requires room { vec_len stored.old + LONGEST_HEADER ≤ vec_capacity stored.old }
+    ensures { stored.new.items ≡ header_format.spelling (header_at_birth code.now) }
 {
-    let Ok(()) = write_public_parts(codes, log, &[], stored) else {
+    let none = Slot {
+        which: 0,
+        length: 0,
+    };
+    let header = Header {
+        one: Slot {
+            which: 1,
+            length: code.len() as u32,
+        },
+        two: none,
+        three: none,
+        signed: 1,
+        first: None,
+        second: None,
+    };
+    let Ok(()) = write_header(&header, stored) else {
+        unreachable!();
+    };
+}
+
+/// Writes what the first sector of the log begins with: the bytes of the birth and its signature. There is room for it.
+fn store_birth(text: &[u8], signature: &[u8; SIGNATURE_LENGTH], stored: &mut Vec<u8>)
+    requires text { (1 ≤ length text.now) × (length text.now ≤ LONGEST_ENTRY) }
+    requires empty { stored.old.items ≡ [] }
+    requires room { vec_len stored.old + LONGEST_BIRTH ≤ vec_capacity stored.old }
+    ensures { stored.new.items ≡ log_format.spelling (text.now, signature.now) }
+{
+    let Ok(()) = put_log(text, signature, stored) else {
         unreachable!();
     };
 }

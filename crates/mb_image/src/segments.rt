@@ -1,0 +1,194 @@
+//! What the sectors of a flash hold: headers, code, and entries of the log.
+
+ghost use Rattle.std.specs.Prelude.{◌≡◌, ◌≤◌, ◌<◌, ◌↔◌, length, IfOk, IfSome, IsTrue, MatchOption};
+ghost use Rattle.std.specs.Option.{option_copied};
+ghost use Rattle.mb_format.specs.Format.{Spells};
+ghost use Rattle.mb_model.specs.declared.limits.TheConstants.{CODE_LIMIT, ENTRY_LIMIT, FILE_LIMIT, FLASH_LENGTH, SECTOR_LENGTH};
+ghost use Rattle.mb_model.specs.EntryFormat.{entry_format};
+ghost use Rattle.mb_model.specs.HeaderFormat.{header_format};
+ghost use Rattle.mb_model.specs.Sectors.{header_sector, log_sector};
+ghost use Rattle.mb_model.specs.StoredLog.{unsigned_by, CanSign};
+ghost use Rattle.mb_model.specs.Flash.{sector, HoldsCode, HoldsEntry, AreBytesOf};
+ghost use Rattle.mb_model_lemmas.specs.SegmentLaws.{HoldsNoEntry};
+ghost use Rattle.mb_layout.specs.Found.{FindsBy};
+ghost use Rattle.mb_segments.specs.Beginnings.{FindsBeginning};
+ghost use Rattle.mb_segments.specs.Uncopied.{header_of};
+ghost use Rattle.mb_image.specs.Segments.{IsReadable, LacksEntry, IsLogOf, text_count};
+
+use mb_bytes::Cursor;
+use mb_layout::read_entry;
+use mb_model::{
+    Bytes, Codes, Entries, Entry, Items, Log, NoMemory, Pending, SECTOR_LENGTH, SignedEntry,
+};
+use mb_segments::{Slot, StoredHeader, code_sector, header_at, header_sector, log_at, log_sector};
+use std::alloc::Global;
+
+/// A sector of the flash, by its number, 0 to 255.
+#[tactic(auto, unfolding(mb_model::specs::Flash::sector))]
+fn sector(flash: &[u8], number: u16) -> &[u8]
+    requires sized { length flash.now ≡ FLASH_LENGTH }
+    requires number { number < 256 }
+    ensures found { result.now ≡ sector flash.now number }
+    ensures whole { length result.now ≡ SECTOR_LENGTH }
+{
+    let start = SECTOR_LENGTH * usize::from(number);
+    &flash[start..start + SECTOR_LENGTH]
+}
+
+// ---- the header
+
+/// The header that a header area, 0 or 1, begins with; `None` exactly if it begins with none.
+pub(crate) fn header_in(flash: &[u8], area: u8) -> Option<StoredHeader<'_>>
+    requires sized { length flash.now ≡ FLASH_LENGTH }
+    requires area { area ≤ 1 }
+    ensures found { FindsBeginning header_of header_format
+        (sector flash.now (header_sector area)) result }
+    ensures readable { IfSome result (λ header. IsReadable (header_of header)) }
+{
+    header_at(sector(flash, header_sector(area)))
+}
+
+/// The number of unsigned entries of a header, none to two. There is no second without a first.
+pub(crate) fn text_count(header: &StoredHeader<'_>) -> u16
+    ensures { result ≡ text_count (header_of header.now) }
+{
+    match (header.first, header.second) {
+        (None, _) => 0,
+        (Some(_), None) => 1,
+        (Some(_), Some(_)) => 2,
+    }
+}
+
+/// Whether as many entries are unsigned as the pending work says, with an outgoing key if they are two.
+pub(crate) fn are_counted(pending: &Option<Pending>, count: u16) -> bool
+    ensures { IsTrue result ↔ ((count ≡ unsigned_by pending.now) × CanSign pending.now) }
+{
+    match pending {
+        None => count == 0,
+        Some(pending) => {
+            count == u16::from(pending.unsigned)
+                && (pending.outgoing.is_some() || pending.unsigned == 1)
+        }
+    }
+}
+
+// ---- code
+
+/// The code of a layer, 1 to 3, in the slot that a header names for it.
+#[tactic(auto, unfolding(mb_model::specs::Flash::code_slot))]
+fn code_in(alloc: Global, flash: &[u8], layer: u8, slot: Slot) -> Result<Option<Bytes>, NoMemory>
+    requires sized { length flash.now ≡ FLASH_LENGTH }
+    requires layer { (1 ≤ layer) × (layer ≤ 3) }
+    requires which { slot.which ≤ 2 }
+    requires length { slot.length ≤ CODE_LIMIT }
+    ensures { IfOk result (λ code. HoldsCode flash.now layer slot code) }
+{
+    if slot.which == 0 {
+        return Ok(None);
+    }
+    let start = SECTOR_LENGTH * usize::from(code_sector(layer, slot.which));
+    let code = &flash[start..start + slot.length as usize];
+    Ok(Some(Bytes::copy(alloc, code)?))
+}
+
+/// The code of each layer, in the slots that a header names.
+pub(crate) fn codes_in(
+    alloc: Global,
+    flash: &[u8],
+    header: &StoredHeader<'_>,
+) -> Result<Codes, NoMemory>
+    requires sized { length flash.now ≡ FLASH_LENGTH }
+    requires readable { IsReadable (header_of header.now) }
+    ensures one { IfOk result (λ codes. HoldsCode flash.now 1 header.now.one codes.one) }
+    ensures two { IfOk result (λ codes. HoldsCode flash.now 2 header.now.two codes.two) }
+    ensures three { IfOk result (λ codes. HoldsCode flash.now 3 header.now.three codes.three) }
+{
+    Ok(Codes {
+        one: code_in(alloc, flash, 1, header.one)?,
+        two: code_in(alloc, flash, 2, header.two)?,
+        three: code_in(alloc, flash, 3, header.three)?,
+    })
+}
+
+// ---- entries
+
+/// The entry that these bytes spell; `None` exactly if they spell none.
+fn entry_in(text: &[u8]) -> Option<Entry>
+    requires { length text.now ≤ FILE_LIMIT }
+    ensures { FindsBy (λ entry. entry) (Spells entry_format text.now) result }
+{
+    let mut cursor = Cursor::new(text);
+    let Ok(entry) = read_entry(&mut cursor) else {
+        return None;
+    };
+    if cursor.left() > 0 {
+        return None;
+    }
+    Some(entry)
+}
+
+/// The signed entry in the log's sector of a position, 0 to 127; `None` exactly if the sector holds none.
+fn signed_at(flash: &[u8], position: u32) -> Option<SignedEntry>
+    requires sized { length flash.now ≡ FLASH_LENGTH }
+    requires position { position < ENTRY_LIMIT }
+    ensures { MatchOption result (HoldsNoEntry flash.now position)
+        (λ signed. HoldsEntry (sector flash.now (log_sector position)) signed) }
+{
+    let Some(stored) = log_at(sector(flash, log_sector(position))) else {
+        return None;
+    };
+    let Some(entry) = entry_in(stored.text) else {
+        return None;
+    };
+    let signature = stored.signature;
+    Some(SignedEntry { entry, signature })
+}
+
+/// The signed entries of a log that has `count` of them, at most 128; `None` if a sector of the log below `count` holds
+/// no entry.
+pub(crate) fn signed_in(alloc: Global, flash: &[u8], count: u32) -> Result<Option<Log>, NoMemory>
+    requires sized { length flash.now ≡ FLASH_LENGTH }
+    requires count { count ≤ ENTRY_LIMIT }
+    ensures { IfOk result (λ found. MatchOption found (LacksEntry flash.now count)
+        (λ log. IsLogOf flash.now count log)) }
+{
+    let mut log = Items::new(alloc);
+    for position in 0..count {
+        let Some(signed) = signed_at(flash, position) else {
+            return Ok(None);
+        };
+        log.push(signed)?;
+    }
+    Ok(Some(log))
+}
+
+/// The unsigned entries that the texts of a header spell; `None` exactly if they spell none.
+pub(crate) fn unsigned_in(
+    alloc: Global,
+    header: &StoredHeader<'_>,
+) -> Result<Option<Entries>, NoMemory>
+    requires { IsReadable (header_of header.now) }
+    ensures { IfOk result (λ found. FindsBy (λ entries. entries)
+        (AreBytesOf (option_copied header.now.first) (option_copied header.now.second)) found) }
+{
+    let mut entries = Items::new(alloc);
+    let Some(text) = header.first else {
+        return Ok(if header.second.is_none() {
+            Some(entries)
+        } else {
+            None
+        });
+    };
+    let Some(first) = entry_in(text) else {
+        return Ok(None);
+    };
+    entries.push(first)?;
+    let Some(text) = header.second else {
+        return Ok(Some(entries));
+    };
+    let Some(second) = entry_in(text) else {
+        return Ok(None);
+    };
+    entries.push(second)?;
+    Ok(Some(entries))
+}
