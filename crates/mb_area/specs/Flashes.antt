@@ -1,5 +1,6 @@
 -- What is written to the flash of a device, and where. Does a write reach anything that counts?
-use Rattle.std.specs.Prelude.{◌≡◌, ◌≢◌, ℕ, ◌+◌, ◌-◌, ◌<◌, ◌≤◌, ◌==◌, ◌⊎◌, List, length, Option, None, Some, if◌then◌else◌}
+use Rattle.std.specs.Prelude.{◌≡◌, ◌≢◌, ℕ, ◌+◌, ◌-◌, ◌<◌, ◌≤◌, ◌==◌, ◌⊎◌, List, length, Option}
+use Rattle.std.specs.Prelude.{None, Some, if◌then◌else◌}
 use Rattle.mb_model.specs.declared.limits.TheConstants.{CODE_LIMIT, SECTOR_LENGTH}
 use Rattle.mb_model.specs.declared.stored.Header.{Header}
 use Rattle.mb_model.specs.declared.stored.Root.{Root}
