@@ -239,11 +239,7 @@ pub const SUCCESSION: Left = Left {
         02020000070000000005000000035fbf6e19e56a012089bf1ee10e30e07dc43caf0ed4b61d72dc82c678bbb59b85f770\
         acbdd748edd0b30b8ed1543afdbf3cdc5a15226b47b541482fdb80594d173303cdde06a5cf52120227461d1ba1ed0000\
         00010001000100",
-    codes: [
-        "636f6465206f66206c617965722031",
-        "",
-        "",
-    ],
+    codes: ["636f6465206f66206c617965722031", "", ""],
     entries: &[
         "000144b1defcf7561087015f8d830d65b10000000500000003e4f1a113ee7ce457619d3d0d324c363a0a2faeec89cf7f98b4\
             874cd75da154ba6c8fc75266461579084cd47e20d933f7070000000005000000035fbf6e19e56a012089bf1ee10e30e07dc4\
@@ -380,11 +376,7 @@ pub const BORN: Left = Left {
     identifier: "e4f1a113ee7ce457619d3d0d324c363a",
     seed: "9340c5a93a0446d41683fa018ee70553484f9ac0794cd0c20074f6d1e05dddd0",
     header: "4d424831010000000f00000000000000000000000100",
-    codes: [
-        "636f6465206f66206c617965722031",
-        "",
-        "",
-    ],
+    codes: ["636f6465206f66206c617965722031", "", ""],
     entries: &[
         "000144b1defcf7561087015f8d830d65b10000000500000003e4f1a113ee7ce457619d3d0d324c363a0a2faeec89cf7f98b4874c\
             d75da154ba6c8fc75266461579084cd47e20d933f7070000000005000000035fbf6e19e56a012089bf1ee10e30e07dc43caf\
@@ -416,6 +408,7 @@ const SLOTS: usize = 16 * SECTOR;
 
 /// Where the code slots begin, and the log.
 const CODE: usize = 2 * SECTOR;
+
 const LOG: usize = 64 * SECTOR;
 
 fn key_of(left: &Left) -> Result<KeySeed, Fail> {
@@ -468,13 +461,7 @@ fn put_entry<L: Ledger>(
 }
 
 /// Puts two pieces into the image, and fills it up to this end.
-fn put(
-    image: &mut Vec<u8>,
-    first: &[u8],
-    second: &[u8],
-    end: usize,
-    fill: u8,
-) -> Result<(), Fail> {
+fn put(image: &mut Vec<u8>, first: &[u8], second: &[u8], end: usize, fill: u8) -> Result<(), Fail> {
     image.extend_from_slice(first)?;
     image.extend_from_slice(second)?;
     image.resize(end, fill)?;

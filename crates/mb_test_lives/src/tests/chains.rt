@@ -10,7 +10,7 @@ use std::process::Abort;
 use std::test::Fail;
 
 /// The device as the factory makes it.
-const A_NEW_DEVICE: &[Step] = &[Step::Writes("image", &[Part::File("fresh")])];
+pub const A_NEW_DEVICE: &[Step] = &[Step::Writes("image", &[Part::File("fresh")])];
 
 /// The life of a device whose layers are loaded again while they keep their secrets.
 const A_WHOLE_LIFE: &[Step] = &[
@@ -40,13 +40,13 @@ const A_WHOLE_LIFE: &[Step] = &[
 ];
 
 /// The chain of that life, whose entries have version 2.
-const ITS_CHAIN: &[Step] = &[Step::HasHash(
+pub const ITS_CHAIN: &[Step] = &[Step::HasHash(
     "chain",
     "a021fdf0fb2bca1cf94ee1241c816d6de4c1dd5bf63ce700a0a8982370e85dbd",
 )];
 
 /// What the chain of that life lists.
-const ITS_LISTING: &[Step] = &[
+pub const ITS_LISTING: &[Step] = &[
     Step::Ends(
         "verify public0 chain 1",
         0,
