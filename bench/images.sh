@@ -35,7 +35,7 @@ done
 if [ "${1:-}" = spoil ]; then
     python3 peers/device.py new "$work/image" >/dev/null
     cp "$work/image" "$work/before"
-    for row in 'public 0' 'life 1048576' 'root 1052672' 'region-2 1060864' 'region-3 1069056'; do
+    for row in 'header 0' 'code 8192' 'log 262144' 'life 1048576' 'root 1052672' 'region-2 1060864' 'region-3 1069056'; do
         read -r name at <<<"$row"
         echo "$name: $("$program" spoil "$work/image" "$at" 600 | cut -d' ' -f2- | sed 's/^[0-7] /bit /' | sort | uniq -c | tr -s ' \n' ' ')"
     done

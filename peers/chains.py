@@ -30,7 +30,9 @@ SIGNATURE = 2_348
 LONGEST_FILE = 4_194_304
 LAST_INDEX = 31
 TRUSTS = "always", "never", "countersigned"
-FLASH, BBRAM, AREA, FLASH_AREA = 1_048_576, 28_672, 4_096, 524_288
+FLASH, BBRAM, AREA, SECTOR = 1_048_576, 28_672, 4_096, 4_096
+# the first sector of the log
+LOG = 64
 
 verifies = functools.lru_cache(1_024)(lms.verify)
 
@@ -212,17 +214,17 @@ def log_in(image):
     if not any(bbram):
         return None
     root = bbram[AREA * (1 + bbram[1] % 2) :]
-    public = image[FLASH_AREA * root[3] :]
-    reader = Reader(public[: 4 + int.from_bytes(public[:4], "big")], 5)
+    reader = Reader(image[SECTOR * root[3] :][:SECTOR], 4)
     for _ in range(3):
-        if reader.number(1, 0, 1):
-            reader.take(reader.number(4))
+        reader.number(1, 0, 2)
+        reader.number(4)
+    signed = reader.number(2, 1, 128)
+    reader.number(1, 0, 0)
     log = []
-    for _ in range(reader.number(2, 1, 128)):
-        entry = reader.entry()
-        reader.number(1, 1, 1)
-        log.append((entry, reader.take(SIGNATURE)))
-    reader.end()
+    for position in range(signed):
+        sector = image[SECTOR * (LOG + position) :][:SECTOR]
+        end = 2 + int.from_bytes(sector[:2], "big")
+        log.append((Reader(sector[:end], 2).whole(Reader.entry), sector[end : end + SIGNATURE]))
     return log
 
 

@@ -16,7 +16,9 @@ import sys
 from lms import PrivateKey, sha256, u8, u16, u32
 from officer import Officer
 
-FLASH, BBRAM, AREA, FLASH_AREA = 1_048_576, 28_672, 4_096, 524_288
+FLASH, BBRAM, AREA, SECTOR = 1_048_576, 28_672, 4_096, 4_096
+# the first sector of the log
+LOG = 64
 SIGNATURE = 2_348
 ESTABLISH, SURRENDER, LOAD, EMERGENCY = 1, 2, 3, 4
 ALWAYS, NEVER, COUNTERSIGNED = 0, 1, 2
@@ -25,6 +27,26 @@ EPOCH, CONFIGURATION = 0, 1
 BIRTH, CHANGE = {1: 0, 2: 16}, {1: 1, 2: 17}
 EMPTY, KEEP, DROP_CONFIGURATION, ADD = u8(1), u8(0), u8(2), u8(3)
 KINDS = "entry", "succession", "renewal", "last", "add", "short", "born"
+
+
+def code_sector(layer, slot):
+    """The first sector of a slot, 1 or 2, of a layer's code."""
+    return 2 + 16 * (layer - 1) + 8 * (slot - 1)
+
+
+class Flash:
+    """The flash of a device, sector by sector."""
+
+    def __init__(self, bytes_=b"\xff" * FLASH):
+        self.bytes = bytearray(bytes_)
+
+    def write(self, sector, text):
+        """Erases as many sectors from this one on as the text takes, and stores the text there. Nothing is written of a
+        sector that begins so already."""
+        for at in range(0, len(text), SECTOR):
+            piece, start = text[at : at + SECTOR], SECTOR * sector + at
+            if self.bytes[start : start + len(piece)] != piece:
+                self.bytes[start : start + SECTOR] = piece.ljust(SECTOR, b"\xff")
 
 
 class Key:
@@ -208,28 +230,40 @@ class Device:
     def root(self, area, pending):
         return u8(1) + u8(area) + self.serial + self.key.spelled() + u8(self.key.uses) + optional(pending)
 
-    def public(self, unsigned):
-        text = u8(1)
-        for layer in (1, 2, 3):
-            code = self.codes[layer]
-            text += optional(code if code is None else u32(len(code)) + code)
-        text += u16(len(self.log))
-        for place, (entry, signature) in enumerate(self.log):
-            text += entry + optional(None if place >= len(self.log) - unsigned else signature)
-        return text
+    def slots(self, which=1):
+        """The slot of each layer: this one, or 0 where the layer has no code."""
+        return {layer: 0 if code is None else which for layer, code in self.codes.items()}
+
+    def header(self, slots, unsigned=0):
+        """The header of a flash with codes in these slots, of which so many entries at the end are not signed."""
+        signed = len(self.log) - unsigned
+        text = b"MBH1"
+        for layer, slot in slots.items():
+            text += u8(slot) + u32(len(self.codes[layer]) if slot else 0)
+        text += u16(signed) + u8(unsigned)
+        return text + b"".join(u16(len(entry)) + entry for entry, _ in self.log[signed:])
+
+    def log_sector(self, position):
+        """What the log's sector of a position begins with."""
+        entry, signature = self.log[position]
+        return u16(len(entry)) + entry + signature
 
     def image(self, area=0, pending=None, unsigned=0, regions=None):
-        """The image, with the root and both regions in their second areas where `area` is 1."""
-        record = self.public(unsigned)
-        flash = bytearray(b"\xff" * FLASH)
-        flash[FLASH_AREA * area : FLASH_AREA * area + 4 + len(record)] = u32(len(record)) + record
+        """The image. Where `area` is 1, header, root and both regions are in their second areas, and codes in slot 2."""
+        flash, slots = Flash(), self.slots(1 + area)
+        flash.write(area, self.header(slots, unsigned))
+        for layer, slot in slots.items():
+            if slot:
+                flash.write(code_sector(layer, slot), self.codes[layer])
+        for position in range(len(self.log) - unsigned):
+            flash.write(LOG + position, self.log_sector(position))
         bbram = bytearray(BBRAM)
         bbram[0:4] = u8(0xA5) + u8(area) * 3
         records = [self.root(area, pending), *(regions or (self.region(2), self.region(3)))]
         for slot, text in enumerate(records):
             at = AREA * (1 + 2 * slot + area)
             bbram[at : at + 2 + len(text)] = u16(len(text)) + text
-        return bytes(flash + bbram)
+        return bytes(flash.bytes + bbram)
 
     def told(self):
         """What the program tells of such a state."""
@@ -317,13 +351,13 @@ def row(kind):
     device, before, fates = left_to_do(kind, signed=False, version=1)
     unsigned, pending = pending_of(device, kind, fates)
     signer = device.outgoing or device.key
-    public = device.public(unsigned)
-    codes = public[: public.index(u16(len(device.log)) + device.log[0][0])]
+    codes = ", ".join(f'"{(code or b"").hex()}"' for code in device.codes.values())
     told = device.told().split(" ")
     yield "Left {"
     yield f'    identifier: "{signer.identifier.hex()}",'
     yield f'    seed: "{signer.seed.hex()}",'
-    yield f'    codes: "{codes.hex()}",'
+    yield f'    header: "{device.header(device.slots(), unsigned).hex()}",'
+    yield f"    codes: [{codes}],"
     yield "    entries: &["
     for entry, _ in device.log:
         yield f'        "{entry.hex()}",'

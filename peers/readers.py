@@ -198,7 +198,13 @@ def replaced_regions(source):
 
 
 def next_root(source):
-    source.compare("root", device.Device(signed=False).root(1, None).hex(), source.constant("NEXT_ROOT"))
+    """What a new device has in its flash once layer 2 has an owner, and its root."""
+    owned = device.Device(signed=False, version=1)
+    owned.establish(2)
+    ((header, entry),) = source.rows(rf"const NEXT: Next = Next {{\s*header: {HEX},\s*entry: {HEX}")
+    source.compare("header", owned.header(owned.slots()).hex(), header)
+    source.compare("entry", owned.log[1][0].hex(), entry)
+    source.compare("root", owned.root(1, None).hex(), source.constant("NEXT_ROOT"))
 
 
 def standard(source):

@@ -12,7 +12,7 @@ import sys
 import tempfile
 
 from chain_readers import Served
-from device import AREA, BBRAM, FLASH, FLASH_AREA
+from device import AREA, BBRAM, FLASH, LOG, Flash, code_sector
 from life import Living
 from lms import sha256, u8, u16, u32
 from officer import Officer, body, countersigned_text, order, order_line, signed_text
@@ -23,7 +23,6 @@ sys.path.insert(0, str(HERE.parent / "checks" / "cuts"))
 from program import meaning  # noqa: E402
 
 MASK = 0xFFFFFFFF
-SECTOR = 4_096
 
 
 def turned(word, bits):
@@ -151,22 +150,17 @@ def workload(number, rounds):
 
 
 class Writing(Served):
-    """A device that serves a script, and its memory as its writes leave it. An order writes its public record into the second
-    area of the flash, and that with all signatures into the first; each area of the root is in force in turn."""
+    """A device that serves a script, and its memory as its writes leave it. An order writes its code into the slot of its
+    layer that is not named, and its header into header area 1; then its entries into the sectors of the log, and the
+    header that counts them into area 0. Each area of the root is in force in turn."""
 
     def __init__(self, world, device, draws):
         super().__init__(world, device, draws)
-        self.flash = bytearray(device.image()[:FLASH])
+        self.flash = Flash(device.image()[:FLASH])
+        # the slot in which each layer's code stands
+        self.slots = device.slots()
         # of regions 2 and 3: whether the second area is in force
         self.selectors = {2: 0, 3: 0}
-
-    def write_area(self, area, record):
-        """The length and the record, sector by sector. Nothing is written of a sector that begins so already."""
-        bytes_ = u32(len(record)) + record
-        for at in range(0, len(bytes_), SECTOR):
-            piece, start = bytes_[at : at + SECTOR], FLASH_AREA * area + at
-            if self.flash[start : start + len(piece)] != piece:
-                self.flash[start : start + SECTOR] = piece.ljust(SECTOR, b"\xff")
 
     def written_regions(self, line):
         """The regions that an order writes: where it makes a key, and else its layer's and those above."""
@@ -177,11 +171,24 @@ class Writing(Served):
     def command(self, line, word):
         before, written = len(self.device.log), self.written_regions(line)
         reply = super().command(line, word)
-        self.write_area(1, self.device.public(len(self.device.log) - before))
+        self.write_code(line)
+        self.flash.write(1, self.device.header(self.slots, len(self.device.log) - before))
         for m in written:
             self.selectors[m] ^= 1
-        self.write_area(0, self.device.public(0))
+        for position in range(before, len(self.device.log)):
+            self.flash.write(LOG + position, self.device.log_sector(position))
+        self.flash.write(0, self.device.header(self.slots))
         return reply
+
+    def write_code(self, line):
+        """A load puts its code into the other slot, or into slot 1; an establishment leaves its layer without code."""
+        kind, layer = self.world.order_of(line)[0].splitlines()[0].split(" ")[1:3]
+        layer = int(layer)
+        if kind in ("load", "emergency"):
+            self.slots[layer] = 2 if self.slots[layer] == 1 else 1
+            self.flash.write(code_sector(layer, self.slots[layer]), self.device.codes[layer])
+        elif kind == "establish":
+            self.slots[layer] = 0
 
     def put(self, line, layer, *words):
         self.selectors[int(layer)] ^= 1
@@ -199,7 +206,7 @@ class Writing(Served):
         for slot, text in enumerate((self.device.root(0, None), self.device.region(2), self.device.region(3))):
             at = AREA * (1 + 2 * slot + selectors[slot])
             bbram[at : at + 2 + len(text)] = u16(len(text)) + text
-        return bytes(self.flash + bbram)
+        return bytes(self.flash.bytes + bbram)
 
 
 def served(number, rounds):
@@ -211,9 +218,10 @@ def served(number, rounds):
 
 
 def stands_for(device):
-    """What the records of its image are, but for the areas in which they stand."""
+    """What the records of its image are, but for the areas in which they stand, and its codes and log."""
     root = device.root(0, None)
-    return root[:1] + root[2:], device.region(2), device.region(3), device.public(0)
+    public = list(device.codes.values()), [device.log_sector(position) for position in range(len(device.log))]
+    return root[:1] + root[2:], device.region(2), device.region(3), public
 
 
 def summary(replies, length):

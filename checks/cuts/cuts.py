@@ -21,8 +21,8 @@ KEEPS = 3, 100, 2048, 4095
 TIMES = 20
 # an event with more writes than these has its boots cut after some of them alone
 MANY = 26
-# An event has at most 471 write calls.
-MOST_WRITES = 471
+# An event has at most 35 write calls.
+MOST_WRITES = 35
 # Where it is armed and no event follows with as many write calls, a power loss is as good as none.
 DISARMED = "cut 100000 fill 00"
 

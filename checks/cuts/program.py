@@ -3,7 +3,9 @@
 import pathlib
 import subprocess
 
-FLASH, AREA, FLASH_AREA = 1_048_576, 4_096, 524_288
+FLASH, AREA, SECTOR = 1_048_576, 4_096, 4_096
+# the first sector of the log, and how long a signature is
+LOG, SIGNATURE = 64, 2_348
 LIFE = 0xA5
 
 
@@ -83,10 +85,9 @@ class Officer:
         return (self.program.folder / "out").read_text().rstrip("\n")
 
 
-def record_at(bytes_, at, width):
-    """A record that follows its length, which has so many bytes."""
-    length = int.from_bytes(bytes_[at : at + width], "big")
-    return bytes_[at + width : at + width + length]
+def record_in(area):
+    """The record that an area holds after its length."""
+    return area[2 : 2 + int.from_bytes(area[:2], "big")]
 
 
 def areas(image, number):
@@ -98,8 +99,27 @@ def areas(image, number):
     return both[half], both[1 - half]
 
 
+def code_at(image, layer, slot):
+    """The code of a layer by its slot in the header, a byte and four of its length; None where no slot is named."""
+    if slot[0] == 0:
+        return None
+    start = SECTOR * (2 + 16 * (layer - 1) + 8 * (slot[0] - 1))
+    return image[start : start + int.from_bytes(slot[1:], "big")]
+
+
+def public_in(image, area):
+    """The codes, and what each sector of the log below the count begins with, by the header of an area."""
+    header = image[SECTOR * area :][:SECTOR]
+    codes = [code_at(image, layer, header[5 * layer - 1 :][:5]) for layer in (1, 2, 3)]
+    log = []
+    for position in range(int.from_bytes(header[19:21], "big")):
+        sector = image[SECTOR * (LOG + position) :][:SECTOR]
+        log.append(sector[: 2 + int.from_bytes(sector[:2], "big") + SIGNATURE])
+    return codes, log
+
+
 def meaning(image):
-    """What a device's image stands for where its memory is clean: its four records, but for the area of the flash.
+    """What a device's image stands for where its memory is clean: its records but for the header area, codes and log.
 
     None where the memory is not clean: where work is pending, or something was left behind."""
     if image[FLASH] != LIFE or any(image[FLASH + 4 : FLASH + AREA]):
@@ -107,15 +127,14 @@ def meaning(image):
     records = []
     for number in range(3):
         force, other = areas(image, number)
-        record = record_at(force, 0, 2)
+        record = record_in(force)
         if any(other) or any(force[2 + len(record) :]):
             return None
         records.append(record)
     root = records[0]
     if root[-1] != 0:
         return None
-    public = record_at(image, FLASH_AREA * root[1], 4)
-    return root[:1] + root[2:], records[1], records[2], public
+    return root[:1] + root[2:], records[1], records[2], public_in(image, root[1])
 
 
 def is_dead(image):

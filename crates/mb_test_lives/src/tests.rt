@@ -8,6 +8,7 @@ mod keys;
 mod lives;
 mod rows;
 mod runs;
+mod segments;
 mod sign;
 mod statuses;
 mod succession;
@@ -16,7 +17,7 @@ mod workloads;
 
 use mb_board::SimBoard;
 use mb_host::{Host, MemoryHost};
-use mb_model::{Bytes, Calls, File, Files, NoMemory};
+use mb_model::{Bytes, Calls, File, Files, NoMemory, SECTOR_LENGTH};
 use mb_top::top;
 use sha2::{Digest, Sha256};
 use std::alloc::Global;
@@ -24,7 +25,7 @@ use std::process::Abort;
 use std::test::Fail;
 
 /// More writes than any call has.
-const MOST_WRITES: u32 = 471;
+const MOST_WRITES: u32 = 36;
 
 /// A file that is given.
 struct Given {
@@ -44,6 +45,8 @@ enum Content {
     Laid(&'static [(&'static str, usize, u8)]),
     /// So many bytes, all of them 7.
     Sevens(usize),
+    /// So many digits, all of them 7.
+    Digits(usize),
 }
 
 /// HashCount over one host.
@@ -77,6 +80,8 @@ enum Step {
     Writes(&'static str, &'static [Part]),
     /// The files of these names have the same bytes.
     Matches(&'static str, &'static str),
+    /// The flashes of the images of these names differ in these sectors, and in no other.
+    Touches(&'static str, &'static str, &'static [usize]),
     /// The file of this name ends in so many zeros.
     EndsInZeros(&'static str, usize),
     /// Power is lost at each write in turn.
@@ -156,6 +161,7 @@ fn take(rt: &(impl Abort + AllocGlobal), host: &mut MemoryHost, step: &Step) -> 
         Step::Gives(given) => store(host, given.name, &bytes_of(rt.alloc(), &given.content)?),
         Step::Writes(name, parts) => write(rt.alloc(), host, name, parts),
         Step::Matches(name, other) => file_matches(rt, host, name, other),
+        Step::Touches(name, other, sectors) => touches(rt, host, name, other, sectors),
         Step::EndsInZeros(name, count) => ends_in_zeros(rt, host, name, *count),
         Step::IsCut(cut) => is_cut(rt, host, cut),
         Step::KeepsStatement(name) => keep_statement(rt.alloc(), host, name),
@@ -183,6 +189,7 @@ fn bytes_of(alloc: Global, content: &Content) -> Result<Vec<u8>, Fail> {
         Content::Pieces(pieces) => joined(alloc, pieces),
         Content::Laid(pieces) => laid(alloc, pieces),
         Content::Sevens(length) => filled(Vec::new(alloc), *length, 7),
+        Content::Digits(length) => filled(Vec::new(alloc), *length, b'7'),
     }
 }
 
@@ -284,6 +291,27 @@ fn keep_statement(alloc: Global, host: &mut MemoryHost, name: &str) -> Result<()
 fn file_matches(rt: &impl Abort, host: &MemoryHost, name: &str, other: &str) -> Result<(), Fail> {
     assert!(rt; file_of(host, name)? == file_of(host, other)?, "{name}");
     Ok(())
+}
+
+/// The flashes of the images of these names differ in these sectors, and in no other.
+fn touches(
+    rt: &impl Abort,
+    host: &MemoryHost,
+    name: &str,
+    other: &str,
+    sectors: &[usize],
+) -> Result<(), Fail> {
+    for number in 0..256 {
+        let is_touched = sector_of(host, name, number)? != sector_of(host, other, number)?;
+        assert_eq!(rt; is_touched, sectors.contains(&number), "{number}");
+    }
+    Ok(())
+}
+
+/// A sector of the image of this name, by its number.
+fn sector_of<'a>(host: &'a MemoryHost, name: &str, number: usize) -> Result<&'a [u8], Fail> {
+    let from = SECTOR_LENGTH * number.min(255);
+    slice(file_of(host, name)?, from, from + SECTOR_LENGTH)
 }
 
 /// Summaries were printed, and each tells the hash of the file of this name.

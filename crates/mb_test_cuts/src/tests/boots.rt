@@ -119,7 +119,7 @@ fn expect_writes(
 /// two writes for each sector of the public record, two for each region that something is to be done to, two for the root,
 /// and one for each area that is left with old bytes.
 fn expect(rt: &impl Abort, alloc: Global, left: &Left, writes: u32) -> Result<(), Fail> {
-    let device = device_of(alloc, left, false)?;
+    let device = device_of(alloc, left, None)?;
     expect_state(rt, &device.state, left)?;
     for fill in FILLS {
         expect_writes(rt, alloc, &device, *fill, writes)?;

@@ -18,8 +18,11 @@ pub struct Left {
     /// The device key that signed every entry so far but the birth.
     identifier: &'static str,
     seed: &'static str,
-    /// The public record up to the number of entries.
-    codes: &'static str,
+    /// The header: each layer's slot, the number of signed entries, and those that are not signed yet.
+    header: &'static str,
+    /// The code of each layer, which is in slot 1; of a layer without code, nothing.
+    codes: [&'static str; 3],
+    /// All entries, signed or not.
     pub entries: &'static [&'static str],
     /// How many of them are not signed yet.
     unsigned: usize,
@@ -39,8 +42,18 @@ pub struct Left {
 pub const ENTRY: Left = Left {
     identifier: "e4f1a113ee7ce457619d3d0d324c363a",
     seed: "9340c5a93a0446d41683fa018ee70553484f9ac0794cd0c20074f6d1e05dddd0",
-    codes: "01010000000f636f6465206f66206c6179657220310100000011636f64652033206f66206c6179657220320100000011636f\
-        64652037206f66206c617965722033",
+    header: "4d424831010000000f01000000110100000011000701012801000000070000000503030003070000000005000000035f\
+        bf6e19e56a012089bf1ee10e30e07dc43caf0ed4b61d72dc82c678bbb59b85f770acbdd748edd0b30b8ed1543afdbf3c\
+        dc5a15226b47b541482fdb80594d173303cdde06a5cf52120227461d1ba1ed0000000107000000000500000003d7fa2b\
+        bf985c7c1b2fcd5493f0d0ab60e05304e71bd5429fe4a75a367036f41aff327c57e5a17d8e9f94ae177816f284074e3a\
+        e267177e7c6306cf1519bcee14a30d2066d06696f033c93c642e41f16400000003070000000005000000038333187cb3\
+        b737ebf980e9c4cec15628273e14a2f3abd45113badcfbbbdd2e90bbe5fbb92c9ed212190834fb7c4a0e168a1fbb6807\
+        d67656348895b194f25da407dd96516bff0afd8028878c1197c3c90000000700",
+    codes: [
+        "636f6465206f66206c617965722031",
+        "636f64652033206f66206c617965722032",
+        "636f64652037206f66206c617965722033",
+    ],
     entries: &[
         "000144b1defcf7561087015f8d830d65b10000000500000003e4f1a113ee7ce457619d3d0d324c363a0a2faeec89cf7f98b4\
             874cd75da154ba6c8fc75266461579084cd47e20d933f7070000000005000000035fbf6e19e56a012089bf1ee10e30e07dc4\
@@ -94,8 +107,19 @@ pub const ENTRY: Left = Left {
 pub const RENEWAL: Left = Left {
     identifier: "e4f1a113ee7ce457619d3d0d324c363a",
     seed: "9340c5a93a0446d41683fa018ee70553484f9ac0794cd0c20074f6d1e05dddd0",
-    codes: "010100000011636f64652037206f66206c6179657220310100000011636f64652033206f66206c6179657220320100000011\
-        636f64652034206f66206c617965722033",
+    header: "4d424831010000001101000000110100000011000701016001000000070000000503010003070000000005000000035f\
+        bf6e19e56a012089bf1ee10e30e07dc43caf0ed4b61d72dc82c678bbb59b85f770acbdd748edd0b30b8ed1543afdbf1a\
+        de00d5fee253685c8cfd93b9ffa077902cb800f17c56b0219de339c57018b50000000707000000000500000003d7fa2b\
+        bf985c7c1b2fcd5493f0d0ab60e05304e71bd5429fe4a75a367036f41aff327c57e5a17d8e9f94ae177816f284074e3a\
+        e267177e7c6306cf1519bcee14a30d2066d06696f033c93c642e41f16400000003070000000005000000038333187cb3\
+        b737ebf980e9c4cec15628273e14a2f3abd45113badcfbbbdd2e90bbe5fbb92c9ed212190834fb7c4a0e1671455d2943\
+        99cbc197ffdffa05fa843281a17912bfe71cfa93bdfa8740a2eada000000040100000005000000032d1af7fd08008d8d\
+        d9a148ef6cc79d253652daeb0c7e82247b05dee5fdf71554453da4ce7fad613a836383778d288045",
+    codes: [
+        "636f64652037206f66206c617965722031",
+        "636f64652033206f66206c617965722032",
+        "636f64652034206f66206c617965722033",
+    ],
     entries: &[
         "000144b1defcf7561087015f8d830d65b10000000500000003e4f1a113ee7ce457619d3d0d324c363a0a2faeec89cf7f98b4\
             874cd75da154ba6c8fc75266461579084cd47e20d933f7070000000005000000035fbf6e19e56a012089bf1ee10e30e07dc4\
@@ -152,8 +176,13 @@ pub const RENEWAL: Left = Left {
 pub const NEW_KEY: Left = Left {
     identifier: "e4f1a113ee7ce457619d3d0d324c363a",
     seed: "9340c5a93a0446d41683fa018ee70553484f9ac0794cd0c20074f6d1e05dddd0",
-    codes: "01010000000f636f6465206f66206c6179657220310100000011636f64652033206f66206c6179657220320100000011636f\
-        64652034206f66206c617965722033",
+    header: "4d424831010000000f01000000110100000011000701004702000000070000000400000003030100000005000000032d\
+        1af7fd08008d8dd9a148ef6cc79d253652daeb0c7e82247b05dee5fdf71554453da4ce7fad613a836383778d288045",
+    codes: [
+        "636f6465206f66206c617965722031",
+        "636f64652033206f66206c617965722032",
+        "636f64652034206f66206c617965722033",
+    ],
     entries: &[
         "000144b1defcf7561087015f8d830d65b10000000500000003e4f1a113ee7ce457619d3d0d324c363a0a2faeec89cf7f98b4\
             874cd75da154ba6c8fc75266461579084cd47e20d933f7070000000005000000035fbf6e19e56a012089bf1ee10e30e07dc4\
@@ -205,7 +234,12 @@ pub const NEW_KEY: Left = Left {
 pub const SUCCESSION: Left = Left {
     identifier: "e4f1a113ee7ce457619d3d0d324c363a",
     seed: "9340c5a93a0446d41683fa018ee70553484f9ac0794cd0c20074f6d1e05dddd0",
-    codes: "01010000000f636f6465206f66206c6179657220310000",
+    header: "4d424831010000000f00000000000000000000002002003d03000000200000000500000003bb85e69f768b454548412a\
+        965c34361904d55322d6e1a1ce148abcd37d8729edb333db58136f7c425ad9e363015c47510070010000002100000020\
+        02020000070000000005000000035fbf6e19e56a012089bf1ee10e30e07dc43caf0ed4b61d72dc82c678bbb59b85f770\
+        acbdd748edd0b30b8ed1543afdbf3cdc5a15226b47b541482fdb80594d173303cdde06a5cf52120227461d1ba1ed0000\
+        00010001000100",
+    codes: ["636f6465206f66206c617965722031", "", ""],
     entries: &[
         "000144b1defcf7561087015f8d830d65b10000000500000003e4f1a113ee7ce457619d3d0d324c363a0a2faeec89cf7f98b4\
             874cd75da154ba6c8fc75266461579084cd47e20d933f7070000000005000000035fbf6e19e56a012089bf1ee10e30e07dc4\
@@ -341,7 +375,8 @@ pub const SUCCESSION: Left = Left {
 pub const BORN: Left = Left {
     identifier: "e4f1a113ee7ce457619d3d0d324c363a",
     seed: "9340c5a93a0446d41683fa018ee70553484f9ac0794cd0c20074f6d1e05dddd0",
-    codes: "01010000000f636f6465206f66206c6179657220310000",
+    header: "4d424831010000000f00000000000000000000000100",
+    codes: ["636f6465206f66206c617965722031", "", ""],
     entries: &[
         "000144b1defcf7561087015f8d830d65b10000000500000003e4f1a113ee7ce457619d3d0d324c363a0a2faeec89cf7f98b4874c\
             d75da154ba6c8fc75266461579084cd47e20d933f7070000000005000000035fbf6e19e56a012089bf1ee10e30e07dc43caf\
@@ -358,16 +393,23 @@ pub const BORN: Left = Left {
     signatures: "6375e911546068bfae125746efe9903ae70edaddccb0e0838381759e3d99381e",
 };
 
-/// Where the second area of the flash begins.
-const SECOND_AREA: usize = 524_288;
+/// What stands in the flash of a device for another root: a header in the second header area, and one more entry of the
+/// log, which it counts, in the sector after those of the device. Bytes are in hexadecimal.
+pub struct Next {
+    pub header: &'static str,
+    pub entry: &'static str,
+}
 
-/// Where the signature of the birth stands in its area, and what the other record has there.
-const SIGNATURE: usize = 201;
+/// The size of a sector of the flash.
+const SECTOR: usize = 4096;
 
-pub const OTHER: u8 = 0x11;
+/// The size of a layer's two code slots.
+const SLOTS: usize = 16 * SECTOR;
 
-/// Where that signature ends, with which the record ends too.
-const RECORD_END: usize = SIGNATURE + 2348;
+/// Where the code slots begin, and the log.
+const CODE: usize = 2 * SECTOR;
+
+const LOG: usize = 64 * SECTOR;
 
 fn key_of(left: &Left) -> Result<KeySeed, Fail> {
     Ok(KeySeed {
@@ -385,67 +427,43 @@ fn right_at(number: usize) -> Result<OneUse, Fail> {
     Ok(take_index(&mut Uses::stored(before)).ok_or("no index is left")?)
 }
 
-/// Puts that the entry of this number is signed, and its signature. The birth, which has number 0, is signed by zeros.
-fn put_signature<L: Ledger>(
-    record: &mut Vec<u8>,
+/// The signature of the entry of this number. The birth, which has number 0, is signed by zeros.
+fn signature_of<L: Ledger>(
     left: &Left,
     number: usize,
     entry: &[u8],
     hashes: &mut HashCount<L>,
-) -> Result<(), Fail> {
+) -> Result<[u8; 2348], Fail> {
     let mut signature = [0; 2348];
     if number > 0 {
         let key = key_of(left)?;
         let right = right_at(number)?;
         sign(right, &key, &[3], entry, &mut signature, hashes);
     }
-    record.push(1)?;
-    record.extend_from_slice(&signature)?;
-    Ok(())
+    Ok(signature)
 }
 
+/// Puts the entry of this number into the next sector, after its length and with its signature.
 fn put_entry<L: Ledger>(
     alloc: Global,
-    record: &mut Vec<u8>,
+    image: &mut Vec<u8>,
     left: &Left,
     number: usize,
+    entry: &str,
     hashes: &mut HashCount<L>,
 ) -> Result<(), Fail> {
-    let text = left.entries.get(number).ok_or("no entry")?;
-    let entry = hex::decode(alloc, text)?;
-    record.extend_from_slice(&entry)?;
-    if number >= left.entries.len().saturating_sub(left.unsigned) {
-        record.push(0)?;
-        return Ok(());
-    }
-    put_signature(record, left, number, &entry, hashes)
+    let entry = hex::decode(alloc, entry)?;
+    let length = u16::try_from(entry.len())?;
+    let signature = signature_of(left, number, &entry, hashes)?;
+    let end = LOG + SECTOR * number.min(127) + SECTOR;
+    image.extend_from_slice(&length.to_be_bytes())?;
+    put(image, &entry, &signature, end, 0xff)
 }
 
-/// The public record, of which the last entries are not signed.
-fn record_of<L: Ledger>(
-    alloc: Global,
-    left: &Left,
-    hashes: &mut HashCount<L>,
-) -> Result<Vec<u8>, Fail> {
-    let mut record = hex::decode(alloc, left.codes)?;
-    let count = u16::try_from(left.entries.len())?;
-    record.extend_from_slice(&count.to_be_bytes())?;
-    for number in 0..left.entries.len() {
-        put_entry(alloc, &mut record, left, number, hashes)?;
-    }
-    Ok(record)
-}
-
-/// Puts the length of a record and the record into the image, and fills it up to this end.
-fn put(
-    image: &mut Vec<u8>,
-    length: &[u8],
-    record: &[u8],
-    end: usize,
-    fill: u8,
-) -> Result<(), Fail> {
-    image.extend_from_slice(length)?;
-    image.extend_from_slice(record)?;
+/// Puts two pieces into the image, and fills it up to this end.
+fn put(image: &mut Vec<u8>, first: &[u8], second: &[u8], end: usize, fill: u8) -> Result<(), Fail> {
+    image.extend_from_slice(first)?;
+    image.extend_from_slice(second)?;
     image.resize(end, fill)?;
     Ok(())
 }
@@ -457,26 +475,74 @@ fn put_areas(alloc: Global, image: &mut Vec<u8>, record: &str, end: usize) -> Re
     put(image, &length.to_be_bytes(), &record, end, 0)
 }
 
-/// Puts the flash with the public record.
+/// Puts both header areas.
+fn put_headers(
+    alloc: Global,
+    image: &mut Vec<u8>,
+    left: &Left,
+    next: Option<&Next>,
+) -> Result<(), Fail> {
+    put(image, &hex::decode(alloc, left.header)?, &[], SECTOR, 0xff)?;
+    let second = match next {
+        Some(next) => hex::decode(alloc, next.header)?,
+        None => Vec::new(alloc),
+    };
+    put(image, &second, &[], CODE, 0xff)
+}
+
+/// Puts the code of each layer into its slot 1.
+fn put_codes(alloc: Global, image: &mut Vec<u8>, left: &Left) -> Result<(), Fail> {
+    for (layer, code) in left.codes.iter().enumerate() {
+        let end = CODE + SLOTS * layer.min(2) + SLOTS;
+        put(image, &hex::decode(alloc, code)?, &[], end, 0xff)?;
+    }
+    Ok(())
+}
+
+/// Puts the signed entries into the sectors of the log, and one more after them.
+fn put_log<L: Ledger>(
+    alloc: Global,
+    image: &mut Vec<u8>,
+    left: &Left,
+    next: Option<&Next>,
+    hashes: &mut HashCount<L>,
+) -> Result<(), Fail> {
+    let signed = left.entries.len().saturating_sub(left.unsigned);
+    put(image, &[], &[], LOG, 0xff)?;
+    for (number, entry) in left.entries.iter().enumerate() {
+        if number < signed {
+            put_entry(alloc, image, left, number, entry, hashes)?;
+        }
+    }
+    match next {
+        Some(next) => put_entry(alloc, image, left, signed, next.entry, hashes),
+        None => Ok(()),
+    }
+}
+
+/// Puts the flash.
 fn put_flash<L: Ledger>(
     alloc: Global,
     image: &mut Vec<u8>,
     left: &Left,
+    next: Option<&Next>,
     hashes: &mut HashCount<L>,
 ) -> Result<(), Fail> {
-    let record = record_of(alloc, left, hashes)?;
-    let length = u32::try_from(record.len())?;
-    put(image, &length.to_be_bytes(), &record, FLASH_LENGTH, 0xff)
+    put_headers(alloc, image, left, next)?;
+    put_codes(alloc, image, left)?;
+    put_log(alloc, image, left, next, hashes)?;
+    put(image, &[], &[], FLASH_LENGTH, 0xff)
 }
 
 /// The image, with the first of two areas in force everywhere.
 fn image_of<L: Ledger>(
     alloc: Global,
     left: &Left,
+    next: Option<&Next>,
     hashes: &mut HashCount<L>,
 ) -> Result<Vec<u8>, Fail> {
     let mut image = Vec::new(alloc);
-    put_flash(alloc, &mut image, left, hashes)?;
+    put_flash(alloc, &mut image, left, next, hashes)?;
     put(&mut image, &[], &[0xa5], FLASH_LENGTH + 4096, 0)?;
     put_areas(alloc, &mut image, left.root, FLASH_LENGTH + 12288)?;
     put_areas(alloc, &mut image, left.two, FLASH_LENGTH + 20480)?;
@@ -484,25 +550,10 @@ fn image_of<L: Ledger>(
     Ok(image)
 }
 
-/// The image of a new device whose flash has the same record in both areas, but for the signature of the birth.
-fn with_two_records(alloc: Global, image: &[u8]) -> Result<Vec<u8>, Fail> {
-    let area = image.get(..SECOND_AREA).ok_or("the image is short")?;
-    let front = image.get(..SIGNATURE).ok_or("the image is short")?;
-    let rest = image
-        .get(SECOND_AREA + RECORD_END..)
-        .ok_or("the image is short")?;
-    let mut both = Vec::new(alloc);
-    both.extend_from_slice(area)?;
-    both.extend_from_slice(front)?;
-    both.resize(SECOND_AREA + RECORD_END, OTHER)?;
-    both.extend_from_slice(rest)?;
-    Ok(both)
-}
-
 fn device_counted<L: Ledger>(
     alloc: Global,
     left: &Left,
-    is_copied: bool,
+    next: Option<&Next>,
     blank: Blank,
 ) -> Result<Box<Device>, Fail>
     requires name { blank.name ≡ L.name }
@@ -511,16 +562,13 @@ fn device_counted<L: Ledger>(
     ensures { IfOk result (λ device. IsLiveImage device.value.image.items) }
 {
     let mut hashes = HashCount::<L>::begin(alloc, blank);
-    let mut image = image_of(alloc, left, &mut hashes)?;
-    if is_copied {
-        image = with_two_records(alloc, &image)?;
-    }
+    let image = image_of(alloc, left, next, &mut hashes)?;
     read(alloc, image, &mut hashes)
 }
 
-/// The device that an order left; its flash may have another such record in its second area.
-pub fn device_of(alloc: Global, left: &Left, is_copied: bool) -> Result<Box<Device>, Fail>
+/// The device that an order left; its flash may hold what another root names besides.
+pub fn device_of(alloc: Global, left: &Left, next: Option<&Next>) -> Result<Box<Device>, Fail>
     ensures { IfOk result (λ device. IsLiveImage device.value.image.items) }
 {
-    device_counted::<Brand>(alloc, left, is_copied, Blank::new(1))
+    device_counted::<Brand>(alloc, left, next, Blank::new(1))
 }

@@ -60,7 +60,7 @@ struct Wanted {
 fn before(alloc: Global, call: Call) -> Result<Box<Device>, Fail>
     ensures { IfOk result (λ device. IsLiveImage device.value.image.items) }
 {
-    let left = device_of(alloc, &ENTRY, false)?;
+    let left = device_of(alloc, &ENTRY, None)?;
     match call {
         Call::Boot => Ok(left),
         _ => Ok(stopped(alloc, &left.image, Call::Boot, MANY, 0)?.device),

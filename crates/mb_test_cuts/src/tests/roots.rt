@@ -5,25 +5,30 @@ ghost use Rattle.mb_test_cuts.specs.Staged.{IsLiveImage};
 
 use super::boots::comes_up_at_last;
 use super::calls::{Call, stopped};
-use super::images::{BORN, OTHER, device_of};
+use super::images::{BORN, Next, device_of};
 use super::states::Device;
 use mb_model::State;
 use std::alloc::Global;
 use std::process::Abort;
 use std::test::Fail;
 
-/// The root of a new device whose public record stands in the second area of the flash.
+/// The header, in the second header area, of that new device once layer 2 has an owner, and the entry of that change.
+const NEXT: Next = Next {
+    header: "4d424831010000000f00000000000000000000000200",
+    entry: "01000000010000000101020000070000000005000000035fbf6e19e56a012089bf1ee10e30e07dc43caf0ed4b61d72dc\
+        82c678bbb59b85f770acbdd748edd0b30b8ed1543afdbf3cdc5a15226b47b541482fdb80594d173303cdde06a5cf5212\
+        0227461d1ba1ed0000000101000000000500000003d7fa2bbf985c7c1b2fcd5493f0d0ab60e05304e71bd5429fe4a75a\
+        367036f41aff327c57e5a17d8e9f94ae177816f284000100",
+};
+
+/// The root of that device, which names the second header area.
 const NEXT_ROOT: &str =
     "01010144b1defcf7561087015f8d830d65b1e4f1a113ee7ce457619d3d0d324c363a9340c5a93a0446d41683fa018ee7055348\
-    4f9ac0794cd0c20074f6d1e05dddd00000";
+    4f9ac0794cd0c20074f6d1e05dddd00100";
 
-/// Whether the state is that of the second record.
+/// Whether the state is the one that the next root means.
 fn is_next(state: &State) -> bool {
-    state
-        .log
-        .as_slice()
-        .first()
-        .is_some_and(|signed| signed.signature[0] == OTHER)
+    state.log.as_slice().len() == 2
 }
 
 /// Power fails in the write of this number of a root: this one of the two is in force then, and the device comes up with
@@ -52,7 +57,7 @@ fn expect(rt: &impl Abort, alloc: Global, count: u32, rows: &[(u8, bool)]) -> Re
     requires least { 1 ≤ count }
     requires most { count ≤ 100000 }
 {
-    let device = device_of(alloc, &BORN, true)?;
+    let device = device_of(alloc, &BORN, Some(&NEXT))?;
     for (fill, is_put) in rows {
         expect_torn(rt, alloc, &device, count, *fill, *is_put)?;
     }

@@ -31,7 +31,7 @@ pub const OTHER_OWNER: &str =
 pub const SERIAL: &str = "serial c10b471ceff881272aa5ed819fd9a0e0\n";
 
 /// The hash of the device's image.
-pub const IMAGE: &str = "5efad9dd608cc5caf178c0d7fc67a633fbea2e0955ab94abba4ff1c318487aaa";
+pub const IMAGE: &str = "26d49fb85b2008888126b6f88eb5bbb2d4a6caf06a64fcc80c3228e2e8e71db0";
 
 const FILES: &[Given] = &[
     Given {

@@ -5,7 +5,7 @@ use super::{Play, Step, perform};
 use std::test::Fail;
 
 /// The hash of the image of each workload of the number 1, before it is served.
-const NEW: &str = "36d16bff94bbca1772ed140c1601274d32f047e708c272635126ced362674d5c";
+const NEW: &str = "ac2b99f28ab0832fde01ca7c2ff08e95dccc8209db93bd03fd75d53ffe0f2394";
 
 /// A workload of three rounds, and that its image then comes to what its summary told.
 const SMALL: Play = Play {

@@ -15,22 +15,35 @@ use std::test::Fail;
 const ROOT: &str =
     "00440100000102030405060708090a0b0c0d0e0f415f9f8fc3e618dd8524180f3db6a7c9eb495b20b522240648df79d22ec304c592f6d73c19b49bf70f19f34f72888b1a0000";
 
-/// The public record of a new device up to its one signature, after its length with the signature: version, the code
-/// `abc` of layer 1, no other code, one entry, which is a birth, and that it is signed.
-const PUBLIC: &str = "000009e5010100000003616263000000010000\
-0102030405060708090a0b0c0d0e0f0000000500000003415f9f8fc3e618dd8524180f3db6a7c9a7881c4ccb3521694cbdd14fd42b0822cdfb7c6f9fc531cab957f755e6a2d2bc\
-07000000000500000003f5d541e6c1f5736fac8d67703916a7e43b6ec035344e351fe5527a7c1f6b590c34bc0a1eca4c29075b6155648ccc2b87\
-ba7816bf8f01cfea414140de5dae2223b00361a396177a9cb410ff61f20015ad000000010001000101";
+/// The header of a new device: the code of layer 1 in slot 1, and one signed entry.
+const HEADER: &str = "4d424831010000000300000000000000000000000100";
 
-/// Where the signature ends in the flash.
-const SIGNED: usize = 4 + 2533;
+/// The code of layer 1, `abc`.
+const CODE: &str = "616263";
+
+/// The birth of a new device, after its length.
+const BIRTH: &str = "00ab00000102030405060708090a0b0c0d0e0f\
+0000000500000003415f9f8fc3e618dd8524180f3db6a7c9a7881c4ccb3521694cbdd14fd42b0822cdfb7c6f9fc531cab957f755e6a2d2bc\
+07000000000500000003f5d541e6c1f5736fac8d67703916a7e43b6ec035344e351fe5527a7c1f6b590c34bc0a1eca4c29075b6155648ccc2b87\
+ba7816bf8f01cfea414140de5dae2223b00361a396177a9cb410ff61f20015ad0000000100010001";
+
+/// Where code begins in the flash.
+const SLOTS: usize = 2 * 4096;
+
+/// Where the log begins in the flash.
+const LOG: usize = 64 * 4096;
+
+/// Where the signature of the birth ends in the flash.
+const SIGNED: usize = LOG + 2 + 171 + 2348;
 
 /// Where the battery-backed memory has its first area.
 const FIRST_AREA: usize = FLASH_LENGTH + 4096;
 
 /// The pieces of an image: what each begins with, where it ends, and the byte up to there.
 const PIECES: &[(&str, usize, u8)] = &[
-    (PUBLIC, SIGNED, 0),
+    (HEADER, SLOTS, 0xff),
+    (CODE, LOG, 0xff),
+    (BIRTH, SIGNED, 0),
     ("", FLASH_LENGTH, 0xff),
     ("a5", FIRST_AREA, 0),
     (ROOT, IMAGE_LENGTH, 0),
@@ -137,7 +150,19 @@ const IMAGES: &[(Change, Answer)] = &[
         Change::Byte(FIRST_AREA + 2, 2),
         Answer::Fault(ImageEnd::Root),
     ),
-    (Change::Byte(4, 2), Answer::Fault(ImageEnd::Public)),
+    // no header: another word, and an unsigned entry whose length is not allowed
+    (Change::Byte(0, 0x4e), Answer::Fault(ImageEnd::Public)),
+    (Change::Byte(21, 1), Answer::Fault(ImageEnd::Public)),
+    // the second of two signed entries is missing, and the bytes of the birth begin like those of no entry
+    (Change::Byte(20, 2), Answer::Fault(ImageEnd::Public)),
+    (Change::Byte(LOG + 2, 9), Answer::Fault(ImageEnd::Public)),
+    // the bytes of the birth are one less than it has
+    (Change::Byte(LOG + 1, 0xaa), Answer::Fault(ImageEnd::Public)),
+    // what follows counts for nothing: the rest of a header area, of a slot and of a sector, and the second header area
+    (Change::Byte(22, 0), Answer::New),
+    (Change::Byte(SLOTS - 1, 0), Answer::New),
+    (Change::Byte(SLOTS + 3, 0), Answer::New),
+    (Change::Byte(SIGNED, 0), Answer::New),
     (
         Change::Byte(FLASH_LENGTH + 12288, 0xff),
         Answer::Fault(ImageEnd::RegionTwo),
@@ -146,7 +171,10 @@ const IMAGES: &[(Change, Answer)] = &[
         Change::Byte(FLASH_LENGTH + 20480, 0xff),
         Answer::Fault(ImageEnd::RegionThree),
     ),
-    (Change::Byte(12, 0x64), Answer::Fault(ImageEnd::State)),
+    // other code, code in the empty slot, and less code
+    (Change::Byte(SLOTS, 0x64), Answer::Fault(ImageEnd::State)),
+    (Change::Byte(4, 2), Answer::Fault(ImageEnd::State)),
+    (Change::Byte(8, 2), Answer::Fault(ImageEnd::State)),
 ];
 
 #[test]
