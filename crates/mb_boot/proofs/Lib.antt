@@ -1,3 +1,3 @@
-pub mod Signed
+pub mod Completed
 pub mod Settled
 pub mod Booted

@@ -1,37 +1,46 @@
 -- How the steps of settling join.
-use Rattle.std.proofs.Common.{◌≡◌, ◌≢◌, ℕ, ◌-◌, ◌≤◌, inl, inr, List, [], length, refl, sym, ap, subst, ◌∙◌, arith}
+use Rattle.std.proofs.Common.{◌≡◌, ◌≢◌, ℕ, zero, suc, ◌+◌, ◌-◌, ◌*◌, ◌<◌, ◌≤◌, inl, inr, List, [], ◌∷◌, ◌++◌, length, take, drop, Option, None, Some, refl, sym, ap, subst, ◌∙◌, arith, append_assoc, length-append}
+use Rattle.std.proofs.lemmas.List.{append-nil, length-take}
 use Rattle.mb_format.specs.Format.{Spells}
-use Rattle.mb_model.specs.declared.state.State.{State}
-use Rattle.mb_model.specs.declared.stored.Root.{Root}
-use Rattle.mb_model.specs.declared.stored.Fate.{Fate}
-use Rattle.std.specs.Global.{Vec}
-use Rattle.std.specs.Vec.{vec_capacity}
-use Rattle.mb_model.proofs.FormatBounds.{public_short}
 use Rattle.mb_model.specs.declared.entry.SignedEntry.{SignedEntry}
+use Rattle.mb_model.specs.declared.state.State.{State}
+use Rattle.mb_model.specs.declared.stored.Fate.{Fate}
+use Rattle.mb_model.specs.declared.stored.Header.{Header}
+use Rattle.mb_model.specs.declared.stored.Root.{Root}
+use Rattle.mb_model.specs.HeaderFormat.{header_format}
 use Rattle.mb_model.specs.Log.{entries_of, layers_of}
 use Rattle.mb_model.specs.RootFormat.{root_format}
 use Rattle.mb_model.specs.Board.{Memory, IsLoaded}
 use Rattle.mb_model.specs.Memory.{IsBlank, HoldsRecord}
-use Rattle.mb_model.specs.StoredLog.{completed, AreCounted}
-use Rattle.mb_model.specs.PublicRecord.{public_format}
-use Rattle.mb_model.specs.OldFlash.{public_of_parts, flash_area, BeginsArea}
+use Rattle.mb_model.specs.Sectors.{header_sector, log_sector, BeginsAs}
+use Rattle.mb_model.specs.Flash.{sector, HoldsHeader, HoldsLog, HoldsPublic}
+use Rattle.mb_model.specs.StoredLog.{outgoing_of, completed}
 use Rattle.mb_model.specs.Meaning.{RootIn, Contents, meant, fated, fate_of_two, fate_of_three}
+use Rattle.mb_model.specs.Clean.{root_of}
 use Rattle.mb_model.specs.Valid.{IsValidState}
-use Rattle.mb_model_lemmas.proofs.PublicLemmas.{IsBounded, bounded_by}
+use Rattle.mb_model_lemmas.proofs.HeldSegments.{begins_with, segments_fit}
+use Rattle.mb_model_lemmas.proofs.PublicLemmas.{IsBounded, bounded_by, length-signed_for}
 use Rattle.mb_model_memory.specs.Commits.{two_done, both_done, at_rest, has_both}
+use Rattle.mb_model_memory.specs.FlashInForce.{AgreeForArea, KeepsSignedLog, IsUncounted, IsSectorWritten}
 use Rattle.mb_model_memory.specs.Holding.{Holds, Means, KeepsContents, KeepsMeaning}
 use Rattle.mb_model_memory.specs.InForce.{AgreeBesides}
+use Rattle.mb_model_memory.specs.NextHeaders.{header_settled}
 use Rattle.mb_model_memory.specs.Storable.{IsStorableState, HasRegionRecord}
 use Rattle.mb_model_memory.proofs.HoldingLemmas.{contents_keep, keeps_then}
 use Rattle.mb_model_memory.proofs.CommitLemmas.{live_contents, both_done_means, work_ends}
+use Rattle.mb_model_memory.proofs.FlashFrames.{log_stays, signed_log_stays}
+use Rattle.mb_model_memory.proofs.FlashWrites.{log_appended, log_settled}
 use Rattle.mb_model_memory.proofs.RestLemmas.{rest_stands, meant_layers}
 use Rattle.mb_model_memory.proofs.StorableMemories.{stands_storable}
-use Rattle.mb_model_memory.proofs.StorableRecords.{region_record, public_room}
+use Rattle.mb_model_memory.proofs.StorableRecords.{region_record}
+use Rattle.mb_layout.specs.declared.room.Room.{Room}
+use Rattle.mb_area.specs.Flashes.{HasSomeHeader, IsPublicWritten, IsSpared}
 use Rattle.mb_area.specs.Roots.{HasSomeRoot, Finishes, KeepsOrFinishes, IsReadyToFinish}
-use Rattle.mb_area.specs.Records.{BeginsSome}
 use Rattle.mb_region.specs.Fates.{IsPending, AppliesFate}
-use Rattle.mb_boot.specs.Completions.{HasLog, PendingIsSigned}
-use Rattle.mb_boot.specs.Settling.{IsLive, IsOnlyRoot, AppliesBoth, SpellsSigned, SignsRecord, Settles}
+use Rattle.mb_boot.specs.Completions.{BeginsWithHeader, text_in, text_count, signer_of, IsLogOf, SignsText, SignsNext}
+use Rattle.mb_boot.specs.declared.pending.Signer.{Signer}
+use Rattle.mb_boot.specs.Settling.{IsLive, IsOnlyRoot, AppliesBoth, signed_anew, log_until, AddsToLog, CompletesLog, CountsLog, SignsRecord, Settles}
+use Rattle.mb_boot.proofs.Completed.{texts_counted, made_at, IsNext, next_is, none_next, two_are_all}
 
 -- ---- the meaning
 
@@ -126,68 +135,213 @@ both_applied before between after root two three only is_two is_three first seco
       subst (λ (f : Fate). Holds after (record (two_done contents) { three = fated f contents.three })) own_three (second.applied (two_done contents) now));
 }
 
--- ---- the public record
+-- ---- the header in force
 
-pub some_record : (memory : Memory) (root : Root) → IsLive memory → IsOnlyRoot memory.bbram root → BeginsSome (flash_area memory.flash root.area)
-some_record memory root live only =
-    let held = live_contents memory.flash memory.bbram live.state live.means in
-    let public = held.holds.public.begins in
-    record {
-      bytes = public.bytes;
-      begins = subst (λ (r : Root). BeginsArea (flash_area memory.flash r.area) public.bytes) (only.only held.contents.root held.holds.root) public.begins;
-    }
-
-log_is : (contents : Contents) → (meant contents).log ≡ completed contents.root contents.signed contents.unsigned
-unfolding meant
+log_is : (contents : Contents) → (meant contents).log ≡ contents.signed ++ signed_anew contents
+unfolding meant completed
 log_is contents = refl
 
--- the record in force was read, and its pending entries were signed
-log_spelled : (memory : Memory) (root : Root) (read signed : Vec ℕ) (contents : Contents) → Holds memory contents → IsOnlyRoot memory.bbram root → ((bytes : List ℕ) → BeginsArea (flash_area memory.flash root.area) bytes → read.items ≡ bytes)
-    → PendingIsSigned root read signed → HasLog contents.codes (completed root contents.signed contents.unsigned) read signed
-log_spelled memory root read signed contents holds only reads signs =
-    let same : contents.root ≡ root = only.only contents.root holds.root in
-    let public = holds.public.begins in
-    let is : read.items ≡ public.bytes = reads public.bytes (subst (λ (r : Root). BeginsArea (flash_area memory.flash r.area) public.bytes) same public.begins) in
-    let here : Spells public_format read.items (public_of_parts contents.codes contents.signed contents.unsigned) =
-    subst (λ (bytes : List ℕ). Spells public_format bytes (public_of_parts contents.codes contents.signed contents.unsigned)) (sym is) public.spelled in
-    let counted : AreCounted root.pending contents.unsigned = subst (λ (r : Root). AreCounted r.pending contents.unsigned) same holds.public.counted in
-    signs contents.codes contents.signed contents.unsigned counted here
+-- what the area of the header in force holds begins with the header of any contents
+begins_here : (memory : Memory) (root : Root) (bytes : List ℕ) (contents : Contents) → IsOnlyRoot memory.bbram root → bytes ≡ sector memory.flash (header_sector root.area) → (holds : Holds memory contents)
+    → BeginsAs header_format bytes holds.public.header
+begins_here memory root bytes contents only is holds =
+    subst (λ (xs : List ℕ). BeginsAs header_format xs holds.public.header) (sym is)
+    (subst (λ (r : Root). HoldsHeader memory.flash r.area holds.public.header) (only.only contents.root holds.root) holds.public.begins)
 
-pub still_roomy : (memory : Memory) (root : Root) (read signed : Vec ℕ) → IsLive memory → IsOnlyRoot memory.bbram root → ((bytes : List ℕ) → BeginsArea (flash_area memory.flash root.area) bytes → read.items ≡ bytes)
-    → PendingIsSigned root read signed → vec_capacity read ≤ vec_capacity signed
-still_roomy memory root read signed live only reads signs =
+sector_short : (flash : List ℕ) (n : ℕ) → length (sector flash n) ≤ 4096
+unfolding sector
+sector_short flash n = omega (arith, length-take 4096 (drop (4096 * n) flash))
+
+pub header_is_read : (memory : Memory) (root : Root) (bytes : List ℕ) → IsLive memory → IsOnlyRoot memory.bbram root → bytes ≡ sector memory.flash (header_sector root.area) → BeginsWithHeader bytes
+header_is_read memory root bytes live only is =
     let held = live_contents memory.flash memory.bbram live.state live.means in
-    (log_spelled memory root read signed held.contents held.holds only reads signs).room
+    record {
+      header = held.holds.public.header;
+      begins = begins_here memory root bytes held.contents only is held.holds;
+      short = omega (arith, ap length is, sector_short memory.flash (header_sector root.area));
+    }
 
-pub signed_here : (memory : Memory) (root : Root) (read signed : Vec ℕ) → IsOnlyRoot memory.bbram root → ((bytes : List ℕ) → BeginsArea (flash_area memory.flash root.area) bytes → read.items ≡ bytes)
-    → PendingIsSigned root read signed → SpellsSigned memory signed.items
-signed_here memory root read signed only reads signs = record {
-  spelled = λ contents holds. (
+pub some_header : (memory : Memory) → IsLive memory → HasSomeHeader memory
+some_header memory live =
+    let held = live_contents memory.flash memory.bbram live.state live.means in
+    record { root = held.contents.root; in_force = held.holds.root; header = held.holds.public.header; holds = held.holds.public.begins }
+
+-- ---- the log
+
+-- the sector of an entry that is signed next can be written
+pub record CanBeWritten (memory : Memory) (position : ℕ) (log : List ℕ) : Type 0 where
+  pub within : position < 128
+  pub some : 1 ≤ length log
+  pub short : length log ≤ 4096
+  pub uncounted : (any : Root) → RootIn memory.bbram any → IsUncounted memory.flash any.area position
+
+position_is : (signer : Signer) (text : Option (List ℕ)) (expected position : ℕ) (log : List ℕ) → SignsText signer text expected (Some position) log → position ≡ expected
+position_is signer None expected position log signs = absurd signs
+position_is signer (Some text) expected position log signs = signs.0
+
+record IsSome (text : Option (List ℕ)) (signer : Signer) (sector_bytes : List ℕ) : Type 0 where
+  pub bytes : List ℕ
+  pub is : text ≡ Some bytes
+  pub log : IsLogOf signer bytes sector_bytes
+
+some_signed : (signer : Signer) (text : Option (List ℕ)) (expected position : ℕ) (log : List ℕ) → SignsText signer text expected (Some position) log → IsSome text signer log
+some_signed signer None expected position log signs = absurd signs
+some_signed signer (Some bytes) expected position log signs = record { bytes = bytes; is = refl; log = signs.1 }
+
+none_signed : (signer : Signer) (text : Option (List ℕ)) (expected : ℕ) (log : List ℕ) → SignsText signer text expected None log → text ≡ None
+none_signed signer None expected log signs = refl
+none_signed signer (Some bytes) expected log signs = absurd signs
+
+-- the entry at this place comes next after so many signed ones of these contents, and these bytes are what its sector is
+-- to hold
+record IsNextHere (contents : Contents) (place position : ℕ) (sector_bytes : List ℕ) (count : ℕ) : Type 0 where
+  pub at : position ≡ count + place
+  pub text : List ℕ
+  pub log : IsLogOf (signer_of contents.root place) text sector_bytes
+  pub next : IsNext contents.root.device contents.root.uses (outgoing_of contents.root.pending) place text (signed_anew contents)
+
+next_here : (memory : Memory) (root : Root) (place position : ℕ) (bytes log : List ℕ) (contents : Contents) → place ≤ 1 → IsOnlyRoot memory.bbram root
+    → bytes ≡ sector memory.flash (header_sector root.area) → SignsNext root place bytes (Some position) log → (holds : Holds memory contents)
+    → IsNextHere contents place position log holds.public.header.signed
+next_here memory root place position bytes log contents low only is signs holds =
+    let header = holds.public.header in
+    let own = signs header (begins_here memory root bytes contents only is holds) in
+    let here : SignsText (signer_of contents.root place) (text_in header place) (header.signed + place) (Some position) log =
+    subst (λ (r : Root). SignsText (signer_of r place) (text_in header place) (header.signed + place) (Some position) log) (sym (only.only contents.root holds.root)) own
+    in
+    let some = some_signed (signer_of contents.root place) (text_in header place) (header.signed + place) position log here in
+    record {
+      at = position_is (signer_of contents.root place) (text_in header place) (header.signed + place) position log here;
+      text = some.bytes;
+      log = some.log;
+      next = next_is contents.root.device contents.root.uses (outgoing_of contents.root.pending) place header contents.unsigned some.bytes low holds.public.unsigned_are some.is;
+    }
+
+pub can_be_written : (memory : Memory) (root : Root) (place position : ℕ) (bytes log : List ℕ) → place ≤ 1 → IsLive memory → IsOnlyRoot memory.bbram root
+    → bytes ≡ sector memory.flash (header_sector root.area) → SignsNext root place bytes (Some position) log → CanBeWritten memory position log
+can_be_written memory root place position bytes log low live only is signs =
+    let held = live_contents memory.flash memory.bbram live.state live.means in
+    let contents : Contents = held.contents in
+    let here = next_here memory root place position bytes log contents low only is signs held.holds in
+    let more : List SignedEntry = signed_anew contents in
+    let room = segments_fit memory.flash contents.root contents.codes contents.signed contents.unsigned held.holds.public in
+    let count : length more ≡ length contents.unsigned = length-signed_for contents.root.device contents.root.uses (outgoing_of contents.root.pending) contents.unsigned in
+    let next : length (take (place + 1) more) ≡ place + 1 = ap length here.next.next ∙ length-append (take place more) (_ ∷ []) ∙ ap (λ (n : ℕ). n + 1) here.next.size in
+    record {
+      within = omega (arith, here.at, held.holds.public.count, room.together, count, next, length-take (place + 1) more);
+      some = here.log.some;
+      short = here.log.short;
+      uncounted = λ any has header begins. (
+          let there : BeginsAs header_format bytes header = subst (λ (xs : List ℕ). BeginsAs header_format xs header) (sym is) (subst (λ (r : Root). HoldsHeader memory.flash r.area header) (only.only any has) begins) in
+          omega (arith, position_is (signer_of root place) (text_in header place) (header.signed + place) position log (signs header there)));
+    }
+
+-- one entry more stands in the log
+pub entry_added : (before after : Memory) (root : Root) (place position : ℕ) (bytes log : List ℕ) → place ≤ 1 → IsLoaded before → IsLive before → IsOnlyRoot before.bbram root
+    → bytes ≡ sector before.flash (header_sector root.area) → SignsNext root place bytes (Some position) log → IsSectorWritten (log_sector position) log before.flash after.flash → AddsToLog place before after
+entry_added before after root place position bytes log low sized live only is signs written = record {
+  added = λ contents holds held. (
+      let here = next_here before root place position bytes log contents low only is signs holds in
+      let more : List SignedEntry = signed_anew contents in
+      let signed : SignedEntry = made_at contents.root.device contents.root.uses (outgoing_of contents.root.pending) place here.next.entry in
+      let count : length (log_until place contents) ≡ position =
+      length-append contents.signed (take place more) ∙ ap (λ (n : ℕ). length contents.signed + n) here.next.size ∙ ap (λ (n : ℕ). n + place) holds.public.count ∙ sym here.at
+      in
+      let within : length (log_until place contents) < 128 = omega (arith, count, (can_be_written before root place position bytes log low live only is signs).within) in
+      let whole : HoldsLog after.flash (log_until place contents ++ signed ∷ []) =
+      log_appended before.flash after.flash (log_until place contents) signed log within sized.flash (here.log.spelled here.next.entry here.next.spelled)
+      (subst (λ (n : ℕ). IsSectorWritten (log_sector n) log before.flash after.flash) (sym count) written) held
+      in
+      subst (HoldsLog after.flash) (append_assoc contents.signed (take place more) (signed ∷ []) ∙ ap (λ (xs : List SignedEntry). contents.signed ++ xs) (sym here.next.next)) whole);
+}
+
+-- or there is none to be added
+pub none_added : (memory : Memory) (root : Root) (place : ℕ) (bytes log : List ℕ) → place ≤ 1 → IsOnlyRoot memory.bbram root
+    → bytes ≡ sector memory.flash (header_sector root.area) → SignsNext root place bytes None log → AddsToLog place memory memory
+none_added memory root place bytes log low only is signs = record {
+  added = λ contents holds held. (
+      let header = holds.public.header in
+      let none : text_in header place ≡ None = none_signed (signer_of root place) (text_in header place) (header.signed + place) log (signs header (begins_here memory root bytes contents only is holds)) in
+      let same = none_next contents.root.device contents.root.uses (outgoing_of contents.root.pending) place header contents.unsigned low holds.public.unsigned_are none in
+      subst (λ (xs : List SignedEntry). HoldsLog memory.flash (contents.signed ++ xs)) (sym same) held);
+}
+
+pub log_completed : (first between last : Memory) → KeepsContents first between → AddsToLog 0 first between → AddsToLog 1 between last → CompletesLog first last
+log_completed first between last kept one two = record {
+  whole = λ contents holds. (
+      let more : List SignedEntry = signed_anew contents in
+      let start : HoldsLog first.flash (contents.signed ++ take 0 more) = subst (HoldsLog first.flash) (sym (append-nil contents.signed)) holds.public.log in
+      let both : HoldsLog last.flash (contents.signed ++ take 2 more) = two.added contents (kept.kept contents holds) (one.added contents holds start) in
+      let all = two_are_all contents.root.device contents.root.uses (outgoing_of contents.root.pending) holds.public.header.first holds.public.header.second contents.unsigned holds.public.unsigned_are in
+      subst (HoldsLog last.flash) (ap (λ (xs : List SignedEntry). contents.signed ++ xs) all ∙ sym (log_is contents)) both);
+}
+
+-- ---- the header that counts all
+
+-- the room holds the settled header, and no code
+pub record IsSettledRoom (bytes : List ℕ) (room : Room) : Type 0 where
+  pub settled : (header : Header) → BeginsAs header_format bytes header → Spells header_format room.header.items (header_settled header (text_count header))
+  pub layer : room.code_layer ≡ 0
+
+not_either : (area n : ℕ) → n ≢ 0 → n ≢ 1 → n ≢ header_sector (1 - area)
+not_either zero n not_zero not_one same = not_one (omega (arith, same))
+not_either (suc m) n not_zero not_one same = not_zero (omega (arith, same))
+
+log_over : (before after : List ℕ) (log : List SignedEntry) → length log ≤ 128 → ((n : ℕ) → n < 256 → n ≢ 0 → n ≢ 1 → sector after n ≡ sector before n) → HoldsLog before log → HoldsLog after log
+log_over before after log few same holds =
+    log_stays before after log (λ position less. same (log_sector position) (omega (arith, few, less)) (λ e. omega (arith, e)) (λ e. omega (arith, e))) holds
+
+pub log_counted : (before after : Memory) (root : Root) (bytes : List ℕ) (room : Room) → IsOnlyRoot before.bbram root → bytes ≡ sector before.flash (header_sector root.area) → IsSettledRoom bytes room
+    → KeepsContents before after → AgreeForArea before.flash after.flash root.area
+    → ((any : Root) (header : Header) → RootIn before.bbram any → HoldsHeader before.flash any.area header → IsPublicWritten room header any.area before.flash after.flash)
+    → ((any : Root) (header : Header) → RootIn before.bbram any → HoldsHeader before.flash any.area header → (n : ℕ) → n < 256 → IsSpared room header any.area n → sector after.flash n ≡ sector before.flash n)
+    → CountsLog before after
+log_counted before after root bytes room only is settled kept agree written spared = record {
+  counted = λ contents holds log. (
       let same : contents.root ≡ root = only.only contents.root holds.root in
-      let done = (log_spelled memory root read signed contents holds only reads signs).spelled in
-      subst (λ (log : List SignedEntry). Spells public_format signed.items (public_of_parts contents.codes log []))
-      (ap (λ (r : Root). completed r contents.signed contents.unsigned) (sym same) ∙ sym (log_is contents)) done);
+      let now : Holds after contents = kept.kept contents holds in
+      let header = now.public.header in
+      let more : List SignedEntry = signed_anew contents in
+      let area : ℕ = contents.root.area in
+      let before_is : sector after.flash (header_sector area) ≡ sector before.flash (header_sector area) =
+      subst (λ (r : Root). sector after.flash (header_sector r.area) ≡ sector before.flash (header_sector r.area)) (sym same) agree.header
+      in
+      let was : HoldsHeader before.flash area header = subst (λ (xs : List ℕ). BeginsAs header_format xs header) before_is now.public.begins in
+      let read : BeginsAs header_format bytes header = subst (λ (xs : List ℕ). BeginsAs header_format xs header) (ap (λ (r : Root). sector before.flash (header_sector r.area)) same ∙ sym is) was in
+      let count : text_count header ≡ length more =
+      sym (length-signed_for contents.root.device contents.root.uses (outgoing_of contents.root.pending) contents.unsigned ∙ texts_counted header.first header.second contents.unsigned now.public.unsigned_are)
+      in
+      let put = (written contents.root header holds.root was).header in
+      let stands : HoldsHeader after.flash (1 - area) (header_settled header (text_count header)) =
+      begins_with header_format (sector after.flash (header_sector (1 - area))) room.header.items (header_settled header (text_count header)) (settled.settled header read) put.begins
+      in
+      let few : length (contents.signed ++ more) ≤ 128 =
+      omega (arith, length-append contents.signed more, length-signed_for contents.root.device contents.root.uses (outgoing_of contents.root.pending) contents.unsigned, (segments_fit before.flash contents.root contents.codes contents.signed contents.unsigned holds.public).together)
+      in
+      let whole : HoldsLog after.flash (contents.signed ++ more) =
+      log_over before.flash after.flash (contents.signed ++ more) few
+      (λ n less not_zero not_one. spared contents.root header holds.root was n less (record { not_header = not_either area n not_zero not_one; not_code = inr (inr settled.layer) }))
+      (subst (HoldsLog before.flash) (log_is contents) log)
+      in
+      let done = log_settled after.flash contents.root (root_of (meant contents) (1 - area)) contents.codes contents.signed more contents.unsigned now.public whole
+      (subst (λ (n : ℕ). HoldsHeader after.flash (1 - area) (header_settled header n)) count stands) refl
+      in
+      subst (λ (log : List SignedEntry). HoldsPublic after.flash (root_of (meant contents) (1 - area)) contents.codes log []) (sym (log_is contents)) done);
 }
 
-pub record_is_short : (memory : Memory) (bytes : List ℕ) → IsLive memory → SpellsSigned memory bytes → length bytes ≤ 470000
-record_is_short memory bytes live signed =
-    let held = live_contents memory.flash memory.bbram live.state live.means in
-    let spelled = signed.spelled held.contents held.holds in
-    omega (arith, ap length spelled.whole, public_room _ spelled.allowed)
+pub record_signed : (first between last : Memory) → KeepsContents first between → CompletesLog first between → CountsLog between last → SignsRecord first last
+record_signed first between last kept completes counts = record { signed = λ contents holds. counts.counted contents (kept.kept contents holds) (completes.whole contents holds) }
 
-pub record_signed : (before after : Memory) (root : Root) (bytes : List ℕ) → IsOnlyRoot before.bbram root → SpellsSigned before bytes → BeginsArea (flash_area after.flash (1 - root.area)) bytes → SignsRecord before after
-record_signed before after root bytes only signed begins = record {
-  signed = λ contents holds. (
-      let same : root ≡ contents.root = sym (only.only contents.root holds.root) in
-      record {
-        begins = record {
-          bytes = bytes;
-          begins = subst (λ (r : Root). BeginsArea (flash_area after.flash (1 - r.area)) bytes) same begins;
-          spelled = signed.spelled contents holds;
-        };
-        counted = record { counted = refl; can_sign = tt };
-      });
+-- ---- the signed log stays
+
+pub log_then : (before between after : Memory) → KeepsSignedLog before between → after.flash ≡ between.flash → KeepsSignedLog before after
+log_then before between after kept same = record {
+  kept = λ root header has holds position less. ap (λ (xs : List ℕ). sector xs (log_sector position)) same ∙ kept.kept root header has holds position less;
 }
+
+pub log_kept : (before applied after : Memory) (root : Root) → IsOnlyRoot before.bbram root → applied.flash ≡ before.flash → AgreeForArea applied.flash after.flash root.area → KeepsSignedLog before after
+log_kept before applied after root only same agree =
+    signed_log_stays before after (λ any has. subst (λ (r : Root). AgreeForArea before.flash after.flash r.area) (sym (only.only any has)) (subst (λ (xs : List ℕ). AgreeForArea xs after.flash root.area) same agree))
 
 -- ---- all of it
 
@@ -227,11 +381,3 @@ finish_keeps first applied written last sized before fates kept signs (inr finis
 
 pub bounded : (bbram : List ℕ) (root : Root) → IsOnlyRoot bbram root → IsBounded root
 bounded bbram root only = bounded_by root only.holds.holds.spelled.allowed
-
--- the record that was read leaves room for its signatures
-pub leaves_room : (memory : Memory) (root : Root) (read : List ℕ) → IsLive memory → IsOnlyRoot memory.bbram root → ((bytes : List ℕ) → BeginsArea (flash_area memory.flash root.area) bytes → read ≡ bytes) → length read ≤ 444818
-leaves_room memory root read live only reads =
-    let held = live_contents memory.flash memory.bbram live.state live.means in
-    let public = held.holds.public.begins in
-    let is : read ≡ public.bytes = reads public.bytes (subst (λ (r : Root). BeginsArea (flash_area memory.flash r.area) public.bytes) (only.only held.contents.root held.holds.root) public.begins) in
-    omega (arith, ap length is, ap length public.spelled.whole, public_short.short _ public.spelled.allowed)

@@ -1,40 +1,72 @@
--- The bytes of a public record after its last entries are signed. Do they spell the log for which they stood before?
-use Rattle.std.specs.Prelude.{ℕ, ◌≤◌, List, [], ◌∷◌, ◌++◌}
-use Rattle.std.specs.Global.{Vec}
-use Rattle.std.specs.Vec.{vec_capacity}
+-- The sectors of the log that unsigned entries get, and the header that counts them. Do they hold the log for which
+-- the unsigned entries stood?
+use Rattle.std.specs.Prelude.{◌≡◌, ℕ, ◌+◌, ◌-◌, ◌==◌, ◌≤◌, List, length, Option, None, Some, if◌then◌else◌}
 use Rattle.mb_format.specs.Format.{Spells}
-use Rattle.mb_model.specs.declared.key.KeySeed.{KeySeed}
+use Rattle.mb_model.specs.declared.limits.TheConstants.{SECTOR_LENGTH}
 use Rattle.mb_model.specs.declared.entry.Entry.{Entry}
-use Rattle.mb_model.specs.declared.entry.SignedEntry.{SignedEntry}
-use Rattle.mb_model.specs.declared.state.Codes.{Codes}
+use Rattle.mb_model.specs.declared.key.KeySeed.{KeySeed}
+use Rattle.mb_model.specs.declared.stored.Header.{Header}
+use Rattle.mb_model.specs.declared.stored.Outgoing.{Outgoing}
 use Rattle.mb_model.specs.declared.stored.Root.{Root}
-use Rattle.mb_model.specs.PublicRecord.{public_format}
-use Rattle.mb_model.specs.OldFlash.{public_of_parts}
+use Rattle.mb_model.specs.EntryFormat.{entry_format}
+use Rattle.mb_model.specs.HeaderFormat.{header_format}
+use Rattle.mb_model.specs.Sectors.{BeginsAs}
 use Rattle.mb_model.specs.OrderEffects.{signed_by}
-use Rattle.mb_model.specs.StoredLog.{AreCounted, completed}
+use Rattle.mb_model.specs.StoredLog.{outgoing_of}
+use Rattle.mb_model_lemmas.specs.SegmentLaws.{SpellsLog}
+use Rattle.mb_boot.specs.declared.pending.Signer.{Signer}
 
--- the bytes spell the record of these codes and of this log, and their buffer has kept its room
-pub record HasLog (codes : Codes) (log : List SignedEntry) (old new : Vec ℕ) : Type 0 where
-  pub spelled : Spells public_format new.items (public_of_parts codes log [])
-  pub room : vec_capacity old ≤ vec_capacity new
+-- ---- headers
 
--- if one entry was unsigned, the key has signed it at the index
-abbrev pub LastIsSigned : KeySeed → ℕ → Vec ℕ → Vec ℕ → Type 0
-LastIsSigned key index old new =
-    (codes : Codes) (signed : List SignedEntry) (entry : Entry)
-    → Spells public_format old.items (public_of_parts codes signed (entry ∷ []))
-    → HasLog codes (signed ++ signed_by key index entry ∷ []) old new
+-- a sector that begins with some header
+pub record BeginsWithHeader (bytes : List ℕ) : Type 0 where
+  pub header : Header
+  pub begins : BeginsAs header_format bytes header
+  pub short : length bytes ≤ SECTOR_LENGTH
 
--- if two were, the outgoing key has signed the first at the index, and the device key the second at its first index
-abbrev pub LastTwoAreSigned : KeySeed → ℕ → KeySeed → Vec ℕ → Vec ℕ → Type 0
-LastTwoAreSigned outgoing index device old new =
-    (codes : Codes) (signed : List SignedEntry) (entry next : Entry)
-    → Spells public_format old.items (public_of_parts codes signed (entry ∷ next ∷ []))
-    → HasLog codes (signed ++ signed_by outgoing index entry ∷ signed_by device 0 next ∷ []) old new
+-- the unsigned entry at a place of a header, 0 or 1
+abbrev pub text_in : Header → ℕ → Option (List ℕ)
+text_in header place = if place == 0 then header.first else header.second
 
--- if as many were as the root record says, the bytes spell the log for which they stood
-abbrev pub PendingIsSigned : Root → Vec ℕ → Vec ℕ → Type 0
-PendingIsSigned root old new =
-    (codes : Codes) (signed : List SignedEntry) (unsigned : List Entry) → AreCounted root.pending unsigned
-    → Spells public_format old.items (public_of_parts codes signed unsigned)
-    → HasLog codes (completed root signed unsigned) old new
+-- one for an entry, none for none
+abbrev pub count_of : Option (List ℕ) → ℕ
+count_of None = 0
+count_of (Some text) = 1
+
+-- how many unsigned entries a header has
+abbrev pub text_count : Header → ℕ
+text_count header = count_of header.first + count_of header.second
+
+-- ---- signatures
+
+-- Who signs the unsigned entry at a place, 0 or 1? The device key does with the index that it used last. Where a key
+-- gives way, this key signs the first entry with the index that it used last, and the device key the second with its
+-- first index.
+abbrev pub signer_by : KeySeed → ℕ → Option Outgoing → ℕ → Signer
+signer_by device uses None place = record { key = device; index = uses - 1 }
+signer_by device uses (Some outgoing) place =
+    if place == 0 then record { key = outgoing.seed; index = outgoing.uses - 1 } else record { key = device; index = 0 }
+
+abbrev pub signer_of : Root → ℕ → Signer
+signer_of root place = signer_by root.device root.uses (outgoing_of root.pending) place
+
+-- These bytes are what the sector of the log holds of the entry with this text, signed by the key at the index, and a
+-- sector has room for them.
+pub record IsLogOf (signer : Signer) (text bytes : List ℕ) : Type 0 where
+  pub spelled : (entry : Entry) → Spells entry_format text entry
+      → SpellsLog bytes (signed_by signer.key signer.index entry)
+  pub some : 1 ≤ length bytes
+  pub short : length bytes ≤ SECTOR_LENGTH
+
+-- if there is a text, its position in the log was returned, and these bytes are what its sector holds
+abbrev pub SignsText : Signer → Option (List ℕ) → ℕ → Option ℕ → List ℕ → Type 0
+SignsText signer None expected None bytes = Unit {0}
+SignsText signer None expected (Some position) bytes = ⊥
+SignsText signer (Some text) expected None bytes = ⊥
+SignsText signer (Some text) expected (Some position) bytes = (position ≡ expected) × IsLogOf signer text bytes
+
+-- so it is with the text at a place of the header that a sector begins with
+abbrev pub SignsNext : Root → ℕ → List ℕ → Option ℕ → List ℕ → Type 0
+SignsNext root place sector position bytes =
+    (header : Header) → BeginsAs header_format sector header
+    → SignsText (signer_of root place) (text_in header place) (header.signed + place) position bytes

@@ -1,12 +1,11 @@
 -- A memory while the work of an order is done. Does it stand for one state wherever power fails?
-use Rattle.std.specs.Prelude.{◌≡◌, ℕ, ◌-◌, List, []}
-use Rattle.mb_format.specs.Format.{Spells}
+use Rattle.std.specs.Prelude.{◌≡◌, ℕ, ◌+◌, ◌-◌, List, [], ◌++◌, take}
+use Rattle.mb_model.specs.declared.entry.SignedEntry.{SignedEntry}
 use Rattle.mb_model.specs.declared.state.State.{State}
 use Rattle.mb_model.specs.declared.stored.Root.{Root}
 use Rattle.mb_model.specs.Board.{Memory}
-use Rattle.mb_model.specs.PublicRecord.{public_format}
-use Rattle.mb_model.specs.OldFlash.{public_of_parts}
-use Rattle.mb_model.specs.Flash.{HoldsPublic}
+use Rattle.mb_model.specs.Flash.{HoldsLog, HoldsPublic}
+use Rattle.mb_model.specs.StoredLog.{signed_for, outgoing_of}
 use Rattle.mb_model.specs.Meaning.{RootIn, Contents, meant}
 use Rattle.mb_model.specs.Clean.{root_of}
 use Rattle.mb_model.specs.Valid.{IsValidState}
@@ -28,12 +27,36 @@ pub record IsOnlyRoot (bbram : List ℕ) (root : Root) : Type 0 where
 pub record AppliesBoth (before after : Memory) : Type 0 where
   pub applied : (contents : Contents) → Holds before contents → Holds after (both_done contents)
 
--- whatever the memory holds, the bytes spell its public record with every entry signed
-pub record SpellsSigned (memory : Memory) (bytes : List ℕ) : Type 0 where
-  pub spelled : (contents : Contents) → Holds memory contents
-      → Spells public_format bytes (public_of_parts contents.codes (meant contents).log [])
+-- the entries of these contents that are not signed yet, with the signatures that they will have
+abbrev pub signed_anew : Contents → List SignedEntry
+signed_anew contents =
+    signed_for contents.root.device contents.root.uses (outgoing_of contents.root.pending) contents.unsigned
 
--- whatever the memory held, the inactive area of the flash holds its public record with every entry signed
+-- the log of these contents, and as many of the entries that are not signed yet
+abbrev pub log_until : ℕ → Contents → List SignedEntry
+log_until place contents = contents.signed ++ take place (signed_anew contents)
+
+-- If the flash held the log up to a place of the unsigned entries, it holds one entry more, if there is one.
+pub record AddsToLog (place : ℕ) (before after : Memory) : Type 0 where
+  pub added : (contents : Contents) → Holds before contents → HoldsLog before.flash (log_until place contents)
+      → HoldsLog after.flash (log_until (place + 1) contents)
+
+-- the flash holds the log of whatever the memory held, with every entry signed
+pub record CompletesLog (before after : Memory) : Type 0 where
+  pub whole : (contents : Contents) → Holds before contents → HoldsLog after.flash (meant contents).log
+
+-- If the flash held the log with every entry signed, the inactive header area counts all of it, and names the codes of
+-- whatever the memory held.
+pub record CountsLog (before after : Memory) : Type 0 where
+  pub counted : (contents : Contents) → Holds before contents → HoldsLog before.flash (meant contents).log
+      → HoldsPublic
+      after.flash
+      (root_of (meant contents) (1 - contents.root.area))
+      contents.codes
+      (meant contents).log
+      []
+
+-- for whatever the memory held, the inactive header area of the flash names the codes and counts every entry as signed
 pub record SignsRecord (before after : Memory) : Type 0 where
   pub signed : (contents : Contents) → Holds before contents
       → HoldsPublic

@@ -6,6 +6,7 @@ ghost use Rattle.mb_model.specs.declared.state.State.{State};
 ghost use Rattle.mb_model.specs.Memory.{life_byte, other};
 ghost use Rattle.mb_model.specs.Meaning.{StandsFor};
 ghost use Rattle.mb_board.specs.Calls.{IsMetered, IsPowered, IsUp, Ran};
+ghost use Rattle.mb_model_memory.specs.FlashInForce.{KeepsSignedLog};
 ghost use Rattle.mb_model_memory.specs.Holding.{KeepsContents, KeepsMeaning};
 ghost use Rattle.mb_boot.specs.Settling.{IsLive};
 ghost use Rattle.mb_boot.specs.Booting.{IsFoundAs, Rests, IsWiped, Cleans, IsQuiet, StandsForValid, KeepsState, IfUnwritten, stop_of, power_at, HasLevel, is_zeroised};
@@ -42,8 +43,8 @@ fn is_dead<B: Board>(b: &B) -> bool
     life[0] == 0
 }
 
-/// Does the pending work, and wipes the root's inactive area. There are at most 237 write calls.
-#[tactic(auto, using(crate::proofs::Booted::settled_rests, mb_model_memory::proofs::HoldingLemmas::contents_keep, mb_model_memory::proofs::HoldingLemmas::keeps_then))]
+/// Does the pending work, and wipes the root's inactive area. There are at most 13 write calls.
+#[tactic(auto, using(crate::proofs::Booted::settled_rests, mb_model_memory::proofs::HoldingLemmas::contents_keep, mb_model_memory::proofs::HoldingLemmas::keeps_then, crate::proofs::Settled::log_then))]
 fn settle_and_wipe<B: Board, L: Ledger>(
     u: Unsettled,
     b: &mut B,
@@ -54,7 +55,8 @@ fn settle_and_wipe<B: Board, L: Ledger>(
     requires live { IsLive (B.seen b.old).memory }
     ensures rests { OnOk result (Rests (B.seen b.old).memory (B.seen b.new).memory) }
     ensures meaning { KeepsMeaning (B.seen b.old).memory (B.seen b.new).memory }
-    ensures ran { Ran 237 result (B.seen b.old) (B.seen b.new) }
+    ensures log { KeepsSignedLog (B.seen b.old).memory (B.seen b.new).memory }
+    ensures ran { Ran 13 result (B.seen b.old) (B.seen b.new) }
     ensures cost { hashes.new ≤ hashes.old + 70946 }
 {
     let w = settle(u, b, room, hashes)?;
@@ -62,7 +64,7 @@ fn settle_and_wipe<B: Board, L: Ledger>(
     Ok(up)
 }
 
-/// Does the work that is left in a live device, and wipes the root's inactive area. There are at most 237 write calls.
+/// Does the work that is left in a live device, and wipes the root's inactive area. There are at most 13 write calls.
 #[tactic(auto, using(crate::proofs::Booted::already_rests, crate::proofs::Booted::wiped_rests, crate::proofs::Booted::already_quiet, crate::proofs::Booted::unwiped_quiet, crate::proofs::Booted::unsettled_quiet, mb_model_memory::proofs::HoldingLemmas::contents_keep, mb_model_memory::proofs::HoldingLemmas::keeps_then, crate::proofs::Booted::keeps_all))]
 fn bring_to_rest<B: Board, L: Ledger>(
     looked: Looked,
@@ -75,9 +77,10 @@ fn bring_to_rest<B: Board, L: Ledger>(
     requires looked { IsFoundAs looked (B.seen b.old).memory.bbram }
     ensures rests { OnOk result (Rests (B.seen b.old).memory (B.seen b.new).memory) }
     ensures meaning { KeepsMeaning (B.seen b.old).memory (B.seen b.new).memory }
+    ensures log { KeepsSignedLog (B.seen b.old).memory (B.seen b.new).memory }
     ensures quiet { IsQuiet (B.seen b.old).memory (B.seen b.new).memory (B.seen b.old).meter
         (B.seen b.new).meter }
-    ensures ran { Ran 237 result (B.seen b.old) (B.seen b.new) }
+    ensures ran { Ran 13 result (B.seen b.old) (B.seen b.new) }
     ensures cost { hashes.new ≤ hashes.old + 70946 }
 {
     match looked {
@@ -94,6 +97,7 @@ fn wipe_regions<B: Board>(up: Up<R1>, b: &mut B) -> Result<Up<R1>, Off>
     ensures wiped { OnOk result (IsWiped (B.seen b.new).memory.bbram) }
     ensures root { other (B.seen b.new).memory.bbram 1 ≡ other (B.seen b.old).memory.bbram 1 }
     ensures contents { KeepsContents (B.seen b.old).memory (B.seen b.new).memory }
+    ensures flash { (B.seen b.new).memory.flash ≡ (B.seen b.old).memory.flash }
     ensures idle { IsWiped (B.seen b.old).memory.bbram
         → ((B.seen b.new).memory ≡ (B.seen b.old).memory)
         × ((B.seen b.new).meter ≡ (B.seen b.old).meter) }
@@ -104,8 +108,8 @@ fn wipe_regions<B: Board>(up: Up<R1>, b: &mut B) -> Result<Up<R1>, Off>
     Ok(up)
 }
 
-/// Does all work that is left in a live device, and wipes all inactive areas. There are at most 239 write calls.
-#[tactic(auto, using(crate::proofs::Booted::found_as, crate::proofs::Settled::some_root, crate::proofs::Booted::cleaned, mb_model_memory::proofs::HoldingLemmas::contents_keep, mb_model_memory::proofs::HoldingLemmas::keeps_then, crate::proofs::Booted::quiet_then))]
+/// Does all work that is left in a live device, and wipes all inactive areas. There are at most 15 write calls.
+#[tactic(auto, using(crate::proofs::Booted::found_as, crate::proofs::Settled::some_root, crate::proofs::Booted::cleaned, mb_model_memory::proofs::HoldingLemmas::contents_keep, mb_model_memory::proofs::HoldingLemmas::keeps_then, crate::proofs::Booted::quiet_then, crate::proofs::Settled::log_then))]
 fn come_up<B: Board, L: Ledger>(
     up: Up<R1>,
     b: &mut B,
@@ -116,9 +120,10 @@ fn come_up<B: Board, L: Ledger>(
     requires live { IsLive (B.seen b.old).memory }
     ensures clean { OnOk result (Cleans (B.seen b.old).memory (B.seen b.new).memory) }
     ensures meaning { KeepsMeaning (B.seen b.old).memory (B.seen b.new).memory }
+    ensures log { KeepsSignedLog (B.seen b.old).memory (B.seen b.new).memory }
     ensures quiet { IsQuiet (B.seen b.old).memory (B.seen b.new).memory (B.seen b.old).meter
         (B.seen b.new).meter }
-    ensures ran { Ran 239 result (B.seen b.old) (B.seen b.new) }
+    ensures ran { Ran 15 result (B.seen b.old) (B.seen b.new) }
     ensures cost { hashes.new ≤ hashes.old + 70946 }
 {
     let looked = match look(up, b, room) {
@@ -132,8 +137,8 @@ fn come_up<B: Board, L: Ledger>(
 
 /// Does the pending work of a committed order, and wipes what it replaced. The memory has to stand for a state that a
 /// device can have. It stands for the same state wherever power fails, and afterwards it is clean. There are at most
-/// 239 write calls, and 70,946 hashes.
-#[tactic(auto, using(crate::proofs::Booted::cleaned, mb_model_memory::proofs::HoldingLemmas::contents_keep, mb_model_memory::proofs::HoldingLemmas::keeps_then))]
+/// 15 write calls, and 70,946 hashes.
+#[tactic(auto, using(crate::proofs::Booted::cleaned, mb_model_memory::proofs::HoldingLemmas::contents_keep, mb_model_memory::proofs::HoldingLemmas::keeps_then, crate::proofs::Settled::log_then))]
 pub fn finish_order<B: Board, L: Ledger>(
     u: Unsettled,
     b: &mut B,
@@ -144,7 +149,8 @@ pub fn finish_order<B: Board, L: Ledger>(
     requires live { IsLive (B.seen b.old).memory }
     ensures clean { OnOk result (Cleans (B.seen b.old).memory (B.seen b.new).memory) }
     ensures meaning { KeepsMeaning (B.seen b.old).memory (B.seen b.new).memory }
-    ensures ran { Ran 239 result (B.seen b.old) (B.seen b.new) }
+    ensures log { KeepsSignedLog (B.seen b.old).memory (B.seen b.new).memory }
+    ensures ran { Ran 15 result (B.seen b.old) (B.seen b.new) }
     ensures cost { hashes.new ≤ hashes.old + 70946 }
 {
     let up = settle_and_wipe(u, b, room, hashes)?;
@@ -189,7 +195,7 @@ fn give_up<B: Board>(up: Up<R1>, b: &mut B) -> Off
 
 /// Brings a device up to level 1, with nothing pending and a clean battery-backed memory, and returns the buffers in
 /// which it works. Wherever power fails, the memory stands for what it stood for. Nothing is written to a clean memory.
-/// There are at most 239 write calls, and 70,946 hashes.
+/// There are at most 15 write calls, and 70,946 hashes.
 ///
 /// Errors: `Zeroised` exactly if the device is dead; `Stopped` if power failed; `NoMemory` if an allocation failed,
 /// before anything was written.
@@ -204,6 +210,7 @@ pub fn boot<B: Board, L: Ledger>(
     requires stands { StandsForValid (B.seen b.old).memory }
     ensures clean { OnOk result (Cleans (B.seen b.old).memory (B.seen b.new).memory) }
     ensures meaning { KeepsState (B.seen b.old).memory (B.seen b.new).memory }
+    ensures log { KeepsSignedLog (B.seen b.old).memory (B.seen b.new).memory }
     ensures zeroised { (state : Option State)
         → StandsFor (B.seen b.old).memory.flash (B.seen b.old).memory.bbram state
         → is_zeroised result ≡ is_none state }
@@ -214,7 +221,7 @@ pub fn boot<B: Board, L: Ledger>(
     ensures power { (B.seen b.new).power ≡ power_at result }
     ensures level { HasLevel result (B.seen b.new).level }
     ensures ledger { (B.seen b.new).ledger ≡ (B.seen b.old).ledger }
-    ensures meter { IsMetered 239 (stop_of result) (B.seen b.old).meter (B.seen b.new).meter }
+    ensures meter { IsMetered 15 (stop_of result) (B.seen b.old).meter (B.seen b.new).meter }
     ensures cost { hashes.new ≤ hashes.old + 70946 }
 {
     let zero = wake(off, b);

@@ -1,18 +1,148 @@
-//! Unsigned entries of the public record, signed in place.
+//! Unsigned entries, signed for their sectors of the log, and the header that counts them as signed.
 
-ghost use Rattle.std.specs.Prelude.{◌≡◌, ◌+◌, ◌-◌, ◌*◌, ◌≤◌, ◌∷◌, IfSome, vec_len, vec_capacity};
-ghost use Rattle.mb_model.specs.declared.limits.TheConstants.{FILE_LIMIT, KEY_USES, LAST_INDEX, SIGNATURE_LENGTH};
+ghost use Rattle.std.specs.Prelude.{◌≡◌, ◌+◌, ◌-◌, ◌*◌, ◌≤◌, ◌∷◌, IfSome, length, vec_len, vec_capacity};
+ghost use Rattle.std.specs.Option.{option_copied};
+ghost use Rattle.mb_format.specs.Format.{Spells};
+ghost use Rattle.mb_model.specs.declared.limits.TheConstants.{ENTRY_LIMIT, KEY_USES, LAST_INDEX, SECTOR_LENGTH, SIGNATURE_LENGTH};
 ghost use Rattle.mb_model.specs.declared.separators.TheConstants.{ENTRY_TEXT};
+ghost use Rattle.mb_model.specs.declared.stored.Header.{Header};
+ghost use Rattle.mb_model.specs.HeaderFormat.{header_format};
+ghost use Rattle.mb_model.specs.Sectors.{BeginsAs};
 ghost use Rattle.mb_model.specs.Signing.{signature_of};
-ghost use Rattle.mb_model.specs.StoredLog.{unsigned_by, outgoing_of};
-ghost use Rattle.mb_boot.specs.Completions.{LastIsSigned, LastTwoAreSigned, PendingIsSigned};
+ghost use Rattle.mb_model.specs.StoredLog.{outgoing_of};
+ghost use Rattle.mb_model_memory.specs.NextHeaders.{header_settled};
+ghost use Rattle.mb_segments.specs.Uncopied.{header_of};
+ghost use Rattle.mb_area.specs.Flashes.{IsPlan};
+ghost use Rattle.mb_boot.specs.Completions.{BeginsWithHeader, signer_of, text_in, count_of, text_count, IsLogOf, SignsNext};
 
-use mb_layout::{complete_record, two_unsigned_entries, unsigned_entry};
+use mb_layout::Room;
 use mb_lms::HashCount;
 use mb_model::separators::ENTRY_TEXT;
-use mb_model::{KeySeed, Root, SIGNATURE_LENGTH};
+use mb_model::{Header, KeySeed, Outgoing, Root, SIGNATURE_LENGTH};
+use mb_segments::{StoredHeader, header_at, put_log, write_header};
 use mb_signer::{Uses, sign, take_index};
 use std::sync::ledger::Ledger;
+
+// ---- headers
+
+/// The header at the beginning of a sector.
+fn held_header(sector: &[u8]) -> StoredHeader<'_>
+    requires { BeginsWithHeader sector.now }
+    ensures holds { BeginsAs header_format sector.now (header_of result) }
+    ensures only { (any : Header) → BeginsAs header_format sector.now any → any ≡ header_of result }
+    ensures few { result.signed + text_count (header_of result) ≤ ENTRY_LIMIT }
+{
+    let Some(header) = header_at(sector) else {
+        unreachable!()
+    };
+    header
+}
+
+/// The unsigned entry at a place of a header, 0 or 1.
+fn text_in<'a>(header: StoredHeader<'a>, place: u32) -> Option<&'a [u8]>
+    ensures { option_copied result ≡ text_in (header_of header.entry) place }
+{
+    if place == 0 {
+        header.first
+    } else {
+        header.second
+    }
+}
+
+/// One for an entry, none for none.
+fn count_of(text: Option<&[u8]>) -> u32
+    ensures { result ≡ count_of (option_copied text.entry) }
+{
+    match text {
+        Some(_) => 1,
+        None => 0,
+    }
+}
+
+/// The header that counts the unsigned entries of another as signed.
+fn settled_header(stored: StoredHeader<'_>) -> Header
+    requires { stored.signed ≤ ENTRY_LIMIT }
+    ensures { result ≡ header_settled (header_of stored.entry) (text_count (header_of stored.entry)) }
+{
+    Header {
+        one: stored.one,
+        two: stored.two,
+        three: stored.three,
+        signed: stored.signed + count_of(stored.first) + count_of(stored.second),
+        first: None,
+        second: None,
+    }
+}
+
+/// Replaces the header in `room.header` by the one that counts its unsigned entries as signed. No code is written next.
+pub(crate) fn settle_header(room: &mut Room)
+    requires header { BeginsWithHeader room.old.header.items }
+    ensures settled { (header : Header) → BeginsAs header_format room.old.header.items header
+        → Spells header_format room.new.header.items (header_settled header (text_count header)) }
+    ensures layer { room.new.code_layer ≡ 0 }
+    ensures plan { IsPlan room.new }
+{
+    let header = settled_header(held_header(room.header.as_slice()));
+    room.code.clear();
+    room.code_layer = 0;
+    room.header.clear();
+    let _ = write_header(&header, &mut room.header);
+}
+
+// ---- signatures
+
+/// A key, and the index at which it signs.
+#[derive(Drop)]
+struct Signer {
+    key: KeySeed,
+    index: u32,
+}
+
+/// The key that signs the unsigned entry at a place, 0 or 1, and its index.
+fn signer_of(root: &Root, place: u32) -> Signer
+    requires uses { root.now.uses ≤ KEY_USES }
+    requires outgoing { IfSome (outgoing_of root.now.pending)
+        (λ outgoing. outgoing.uses ≤ KEY_USES) }
+    ensures signer { result ≡ signer_of root.now place }
+    ensures index { result.index ≤ LAST_INDEX }
+{
+    match outgoing_of(root) {
+        None => Signer {
+            key: root.device,
+            index: last_of(root.uses),
+        },
+        Some(outgoing) => {
+            if place == 0 {
+                Signer {
+                    key: outgoing.seed,
+                    index: last_of(outgoing.uses),
+                }
+            } else {
+                Signer {
+                    key: root.device,
+                    index: 0,
+                }
+            }
+        }
+    }
+}
+
+/// The device key that gives way.
+fn outgoing_of(root: &Root) -> Option<Outgoing>
+    ensures { result ≡ outgoing_of root.now.pending }
+{
+    match &root.pending {
+        Some(pending) => pending.outgoing,
+        None => None,
+    }
+}
+
+/// The last index that a key with this many uses has used.
+fn last_of(uses: u32) -> u32
+    ensures { result ≡ uses - 1 }
+{
+    uses.saturating_sub(1)
+}
 
 /// Signs the bytes of an entry with the key at the index.
 fn sign_entry<L: Ledger>(
@@ -33,80 +163,42 @@ fn sign_entry<L: Ledger>(
     sign(right, key, &[ENTRY_TEXT], entry, signature, hashes);
 }
 
-/// Signs the one unsigned entry of the record.
-fn sign_last<L: Ledger>(key: &KeySeed, index: u32, bytes: &mut Vec<u8>, hashes: &mut HashCount<L>)
-    requires index { index ≤ LAST_INDEX }
-    requires room { vec_len bytes.old + SIGNATURE_LENGTH ≤ vec_capacity bytes.old }
-    requires short { vec_len bytes.old ≤ FILE_LIMIT }
-    ensures signed { LastIsSigned key.now index bytes.old bytes.new }
+/// Replaces `log` by the content of the sector of the log for an unsigned entry: its bytes and its signature.
+fn sign_text<L: Ledger>(signer: &Signer, text: &[u8], log: &mut Vec<u8>, hashes: &mut HashCount<L>)
+    requires index { signer.now.index ≤ LAST_INDEX }
+    requires text { (1 ≤ length text.now) × (length text.now ≤ 400) }
+    requires room { SECTOR_LENGTH ≤ vec_capacity log.old }
+    ensures signed { IsLogOf signer.now text.now log.new.items }
+    ensures room { SECTOR_LENGTH ≤ vec_capacity log.new }
     ensures cost { hashes.new ≤ hashes.old + 35473 }
 {
-    let mut signatures = [[0; SIGNATURE_LENGTH]];
-    sign_entry(
-        key,
-        index,
-        unsigned_entry(bytes.as_slice()),
-        &mut signatures[0],
-        hashes,
-    );
-    complete_record(bytes, &signatures);
+    let mut signature = [0; SIGNATURE_LENGTH];
+    sign_entry(&signer.key, signer.index, text, &mut signature, hashes);
+    log.clear();
+    let _ = put_log(text, &signature, log);
 }
 
-/// Signs the two unsigned entries of the record: the first with the outgoing key at the index, the second with the
-/// device key at its first index.
-fn sign_last_two<L: Ledger>(
-    outgoing: &KeySeed,
-    index: u32,
-    device: &KeySeed,
-    bytes: &mut Vec<u8>,
+/// Signs the unsigned entry at a place, 0 or 1, of the header in `room.header`, once. Replaces `room.log` by the content
+/// of its sector of the log, and returns its position in the log. `None` if the header has no entry at the place.
+pub(crate) fn sign_next<L: Ledger>(
+    root: &Root,
+    place: u32,
+    room: &mut Room,
     hashes: &mut HashCount<L>,
-)
-    requires index { index ≤ LAST_INDEX }
-    requires room { vec_len bytes.old + 2 * SIGNATURE_LENGTH ≤ vec_capacity bytes.old }
-    requires short { vec_len bytes.old ≤ FILE_LIMIT }
-    ensures signed { LastTwoAreSigned outgoing.now index device.now bytes.old bytes.new }
-    ensures cost { hashes.new ≤ hashes.old + 70946 }
-{
-    let mut signatures = [[0; SIGNATURE_LENGTH]; 2];
-    let (first, second) = two_unsigned_entries(bytes.as_slice());
-    sign_entry(outgoing, index, first, &mut signatures[0], hashes);
-    sign_entry(device, 0, second, &mut signatures[1], hashes);
-    complete_record(bytes, &signatures);
-}
-
-/// Completes the public record in place: signs each entry that the root record leaves unsigned once, with the key and
-/// at the index that the root record names, in at most 70,946 hashes. Nothing is said if the bytes are no public record
-/// with as many unsigned entries as the root record says. There is room for the signatures.
-pub(crate) fn sign_pending<L: Ledger>(root: &Root, bytes: &mut Vec<u8>, hashes: &mut HashCount<L>)
+) -> Option<u32>
     requires uses { root.now.uses ≤ KEY_USES }
     requires outgoing { IfSome (outgoing_of root.now.pending)
         (λ outgoing. outgoing.uses ≤ KEY_USES) }
-    requires few { unsigned_by root.now.pending ≤ 2 }
-    requires room { vec_len bytes.old + 2 * SIGNATURE_LENGTH ≤ vec_capacity bytes.old }
-    requires short { vec_len bytes.old ≤ FILE_LIMIT }
-    ensures signed { PendingIsSigned root.now bytes.old bytes.new }
-    ensures cost { hashes.new ≤ hashes.old + 70946 }
+    requires place { place ≤ 1 }
+    requires header { BeginsWithHeader room.old.header.items }
+    ensures signed { SignsNext root.now place room.old.header.items result room.new.log.items }
+    ensures header { room.new.header ≡ room.old.header }
+    ensures cost { hashes.new ≤ hashes.old + 35473 }
 {
-    let Some(pending) = &root.pending else {
-        return;
+    let header = held_header(room.header.as_slice());
+    let Some(text) = text_in(header, place) else {
+        return None;
     };
-    match (&pending.outgoing, pending.unsigned) {
-        (None, _) => sign_last(&root.device, last_of(root.uses), bytes, hashes),
-        (Some(outgoing), 1) => sign_last(&outgoing.seed, last_of(outgoing.uses), bytes, hashes),
-        (Some(outgoing), 2) => sign_last_two(
-            &outgoing.seed,
-            last_of(outgoing.uses),
-            &root.device,
-            bytes,
-            hashes,
-        ),
-        _ => {}
-    }
-}
-
-/// The last index that a key with this many uses has used.
-fn last_of(uses: u32) -> u32
-    ensures { result ≡ uses - 1 }
-{
-    uses.saturating_sub(1)
+    sign_text(&signer_of(root, place), text, &mut room.log, hashes);
+    Some(header.signed + place)
 }

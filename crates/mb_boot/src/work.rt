@@ -1,12 +1,15 @@
 //! The pending work of an order.
 
-ghost use Rattle.std.specs.Prelude.{◌≡◌, ◌≤◌, ◌+◌, length, OnOk};
-ghost use Rattle.mb_board.specs.Calls.{IsPowered, IsUp, Ran};
+ghost use Rattle.std.specs.Prelude.{◌≡◌, ◌≤◌, ◌+◌, OnOk};
+ghost use Rattle.mb_model.specs.Flash.{sector};
+ghost use Rattle.mb_model.specs.Sectors.{header_sector};
+ghost use Rattle.mb_board.specs.Calls.{IsUp, Ran};
+ghost use Rattle.mb_model_memory.specs.FlashInForce.{AgreeForArea, KeepsSignedLog};
 ghost use Rattle.mb_model_memory.specs.Holding.{KeepsContents, KeepsMeaning};
-ghost use Rattle.mb_boot.specs.Settling.{IsLive, IsOnlyRoot, AppliesBoth, SpellsSigned, SignsRecord, Settles};
+ghost use Rattle.mb_boot.specs.Settling.{IsLive, IsOnlyRoot, AppliesBoth, AddsToLog, CompletesLog, CountsLog, SignsRecord, Settles};
 
-use crate::pending::sign_pending;
-use mb_area::{Unsettled, Unwiped, finish_root, read_public, read_root, write_public};
+use crate::pending::{settle_header, sign_next};
+use mb_area::{Unsettled, Unwiped, finish_root, read_header, read_root, write_log, write_public};
 use mb_board::Board;
 use mb_layout::Room;
 use mb_lms::HashCount;
@@ -37,22 +40,93 @@ fn apply_fates<B: Board>(
     Ok(u)
 }
 
-/// Replaces `room.public` by the current public record with every entry signed.
-#[tactic(auto, using(crate::proofs::Settled::some_record))]
-fn sign_record<B: Board, L: Ledger>(b: &B, root: &Root, room: &mut Room, hashes: &mut HashCount<L>)
-    requires powered { IsPowered (B.seen b.now) }
-    requires live { IsLive (B.seen b.now).memory }
-    requires root { IsOnlyRoot (B.seen b.now).memory.bbram root.now }
-    ensures signed { SpellsSigned (B.seen b.now).memory room.new.public.items }
-    ensures short { length room.new.public.items ≤ 470000 }
-    ensures cost { hashes.new ≤ hashes.old + 70946 }
+/// Signs the unsigned entry at a place of the header in force, 0 or 1, and writes it to its sector of the log, in at most
+/// two write calls. Nothing is written if there is no entry at the place. `room.header` holds the header's area.
+fn write_entry<B: Board, L: Ledger>(
+    u: Unsettled,
+    b: &mut B,
+    root: &Root,
+    place: u32,
+    room: &mut Room,
+    hashes: &mut HashCount<L>,
+) -> Result<Unsettled, Off>
+    requires up { IsUp 1 (B.seen b.old) }
+    requires live { IsLive (B.seen b.old).memory }
+    requires root { IsOnlyRoot (B.seen b.old).memory.bbram root.now }
+    requires place { place ≤ 1 }
+    requires header { room.old.header.items
+        ≡ sector (B.seen b.old).memory.flash (header_sector root.now.area) }
+    ensures contents { KeepsContents (B.seen b.old).memory (B.seen b.new).memory }
+    ensures agree { AgreeForArea (B.seen b.old).memory.flash (B.seen b.new).memory.flash
+        root.now.area }
+    ensures added { OnOk result (AddsToLog place (B.seen b.old).memory (B.seen b.new).memory) }
+    ensures header { room.new.header ≡ room.old.header }
+    ensures bbram { (B.seen b.new).memory.bbram ≡ (B.seen b.old).memory.bbram }
+    ensures ran { Ran 2 result (B.seen b.old) (B.seen b.new) }
+    ensures cost { hashes.new ≤ hashes.old + 35473 }
 {
-    read_public(b, root.area, room);
-    sign_pending(root, &mut room.public, hashes);
+    let Some(position) = sign_next(root, place, room, hashes) else {
+        return Ok(u);
+    };
+    let u = write_log(u, b, position, room)?;
+    Ok(u)
 }
 
-/// Writes the public record with every entry signed into the flash's inactive area.
-#[tactic(auto, using(crate::proofs::Settled::some_root, crate::proofs::Settled::record_signed))]
+/// Signs each unsigned entry once, and writes it to its sector of the log. The area of the header in force is left in
+/// `room.header`. There are at most four write calls.
+fn write_entries<B: Board, L: Ledger>(
+    u: Unsettled,
+    b: &mut B,
+    root: &Root,
+    room: &mut Room,
+    hashes: &mut HashCount<L>,
+) -> Result<Unsettled, Off>
+    requires up { IsUp 1 (B.seen b.old) }
+    requires live { IsLive (B.seen b.old).memory }
+    requires root { IsOnlyRoot (B.seen b.old).memory.bbram root.now }
+    ensures contents { KeepsContents (B.seen b.old).memory (B.seen b.new).memory }
+    ensures agree { AgreeForArea (B.seen b.old).memory.flash (B.seen b.new).memory.flash
+        root.now.area }
+    ensures whole { OnOk result (CompletesLog (B.seen b.old).memory (B.seen b.new).memory) }
+    ensures header { room.new.header.items
+        ≡ sector (B.seen b.new).memory.flash (header_sector root.now.area) }
+    ensures bbram { (B.seen b.new).memory.bbram ≡ (B.seen b.old).memory.bbram }
+    ensures ran { Ran 4 result (B.seen b.old) (B.seen b.new) }
+    ensures cost { hashes.new ≤ hashes.old + 70946 }
+{
+    read_header(b, root.area, room);
+    let u = write_entry(u, b, root, 0, room, hashes)?;
+    let u = write_entry(u, b, root, 1, room, hashes)?;
+    Ok(u)
+}
+
+/// Writes the header that counts each entry as signed to the header area that is not in force, in at most two write
+/// calls. `room.header` holds the area of the header in force.
+fn write_settled<B: Board>(
+    u: Unsettled,
+    b: &mut B,
+    root: &Root,
+    room: &mut Room,
+) -> Result<Unsettled, Off>
+    requires up { IsUp 1 (B.seen b.old) }
+    requires live { IsLive (B.seen b.old).memory }
+    requires root { IsOnlyRoot (B.seen b.old).memory.bbram root.now }
+    requires header { room.old.header.items
+        ≡ sector (B.seen b.old).memory.flash (header_sector root.now.area) }
+    ensures contents { KeepsContents (B.seen b.old).memory (B.seen b.new).memory }
+    ensures agree { AgreeForArea (B.seen b.old).memory.flash (B.seen b.new).memory.flash
+        root.now.area }
+    ensures counted { OnOk result (CountsLog (B.seen b.old).memory (B.seen b.new).memory) }
+    ensures bbram { (B.seen b.new).memory.bbram ≡ (B.seen b.old).memory.bbram }
+    ensures ran { Ran 2 result (B.seen b.old) (B.seen b.new) }
+{
+    settle_header(room);
+    let u = write_public(u, b, room)?;
+    Ok(u)
+}
+
+/// Signs each unsigned entry once into the log, and counts it as signed in the header area that is not in force. There
+/// are at most six write calls.
 fn write_signed<B: Board, L: Ledger>(
     u: Unsettled,
     b: &mut B,
@@ -64,19 +138,21 @@ fn write_signed<B: Board, L: Ledger>(
     requires live { IsLive (B.seen b.old).memory }
     requires root { IsOnlyRoot (B.seen b.old).memory.bbram root.now }
     ensures contents { KeepsContents (B.seen b.old).memory (B.seen b.new).memory }
+    ensures agree { AgreeForArea (B.seen b.old).memory.flash (B.seen b.new).memory.flash
+        root.now.area }
     ensures signed { OnOk result (SignsRecord (B.seen b.old).memory (B.seen b.new).memory) }
     ensures bbram { (B.seen b.new).memory.bbram ≡ (B.seen b.old).memory.bbram }
-    ensures ran { Ran 230 result (B.seen b.old) (B.seen b.new) }
+    ensures ran { Ran 6 result (B.seen b.old) (B.seen b.new) }
     ensures cost { hashes.new ≤ hashes.old + 70946 }
 {
-    sign_record(b, root, room, hashes);
-    let u = write_public(u, b, room)?;
+    let u = write_entries(u, b, root, room, hashes)?;
+    let u = write_settled(u, b, root, room)?;
     Ok(u)
 }
 
 /// Does the pending work: applies the fates of the regions, and signs each unsigned entry once. The memory has to stand
 /// for a state that a device can have. It stands for the same state wherever power fails, and afterwards nothing is
-/// pending. There are at most 236 write calls, and 70,946 hashes.
+/// pending. The sectors of the log that the header before counts keep their bytes. There are at most 12 write calls, and 70,946 hashes.
 #[tactic(auto, using(crate::proofs::Settled::some_root, crate::proofs::Settled::only_root, crate::proofs::Settled::live_still, mb_model_memory::proofs::HoldingLemmas::contents_keep, crate::proofs::Settled::finish_keeps, mb_model_memory::proofs::HoldingLemmas::keeps_then, crate::proofs::Settled::settled))]
 pub fn settle<B: Board, L: Ledger>(
     u: Unsettled,
@@ -88,7 +164,8 @@ pub fn settle<B: Board, L: Ledger>(
     requires live { IsLive (B.seen b.old).memory }
     ensures settled { OnOk result (Settles (B.seen b.old).memory (B.seen b.new).memory) }
     ensures meaning { KeepsMeaning (B.seen b.old).memory (B.seen b.new).memory }
-    ensures ran { Ran 236 result (B.seen b.old) (B.seen b.new) }
+    ensures log { KeepsSignedLog (B.seen b.old).memory (B.seen b.new).memory }
+    ensures ran { Ran 12 result (B.seen b.old) (B.seen b.new) }
     ensures cost { hashes.new ≤ hashes.old + 70946 }
 {
     let root = read_root(b, room);

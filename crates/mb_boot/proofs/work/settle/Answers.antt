@@ -1,4 +1,4 @@
-use Rattle.mb_boot.proofs.Settled.{finish_keeps}
+use Rattle.mb_boot.proofs.Settled.{only_root, finish_keeps, log_kept, log_then}
 use Rattle.mb_model_memory.proofs.HoldingLemmas.{keeps_then, contents_keep}
 use Rattle.mb_boot.proofs.work.settle.Goals as goal
 
@@ -21,3 +21,27 @@ returns-clause-meaning g c =
     finish_keeps first applied written last c.finish_root.ensures.ran.sized
     (keeps_then first applied written c.apply_fates.ensures.meaning (contents_keep applied written c.write_signed.ensures.ran.sized c.write_signed.ensures.contents))
     c.in_ok-u.ensures.done c.write_signed.ensures.contents c.in_ok-u-2.ensures.signed c.finish_root.ensures.either
+
+pub returns-in_err-u-2-clause-log : goal.returns-in_err-u-2-clause-log
+returns-in_err-u-2-clause-log g c =
+    let first = (g.B.Board.seen c.args.b.now).memory in
+    log_kept first (g.B.Board.seen c.apply_fates.new.b).memory (g.B.Board.seen c.write_signed.new.b).memory c.read_root-root.result
+    (only_root first.bbram c.read_root-root.result c.read_root-root.ensures.holds c.read_root-root.ensures.root) c.apply_fates.ensures.flash c.write_signed.ensures.agree
+
+pub returns-in_err-w-clause-log : goal.returns-in_err-w-clause-log
+returns-in_err-w-clause-log g c =
+    let first = (g.B.Board.seen c.args.b.now).memory in
+    let written = (g.B.Board.seen c.write_signed.new.b).memory in
+    log_then first written (g.B.Board.seen c.finish_root.new.b).memory
+    (log_kept first (g.B.Board.seen c.apply_fates.new.b).memory written c.read_root-root.result
+    (only_root first.bbram c.read_root-root.result c.read_root-root.ensures.holds c.read_root-root.ensures.root) c.apply_fates.ensures.flash c.write_signed.ensures.agree)
+    c.finish_root.ensures.flash
+
+pub returns-clause-log : goal.returns-clause-log
+returns-clause-log g c =
+    let first = (g.B.Board.seen c.args.b.now).memory in
+    let written = (g.B.Board.seen c.write_signed.new.b).memory in
+    log_then first written (g.B.Board.seen c.finish_root.new.b).memory
+    (log_kept first (g.B.Board.seen c.apply_fates.new.b).memory written c.read_root-root.result
+    (only_root first.bbram c.read_root-root.result c.read_root-root.ensures.holds c.read_root-root.ensures.root) c.apply_fates.ensures.flash c.write_signed.ensures.agree)
+    c.finish_root.ensures.flash

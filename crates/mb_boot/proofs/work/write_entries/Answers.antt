@@ -1,0 +1,24 @@
+use Rattle.mb_model_memory.proofs.FlashFrames.{agree_then}
+use Rattle.mb_model_memory.proofs.HoldingLemmas.{contents_keep}
+use Rattle.mb_boot.proofs.Settled.{bounded, live_still, log_completed}
+use Rattle.mb_boot.proofs.work.write_entries.Goals as goal
+
+pub read_header-requires-clause-area : goal.read_header-requires-clause-area
+read_header-requires-clause-area g c = (bounded (g.B.Board.seen c.args.b.now).memory.bbram c.args.root.now c.requires.root).area
+
+pub write_entry-requires-2-clause-live : goal.write_entry-requires-2-clause-live
+write_entry-requires-2-clause-live g c =
+    let now = (g.B.Board.seen c.write_entry.new.b).memory in
+    live_still (g.B.Board.seen c.args.b.now).memory now c.requires.live (contents_keep (g.B.Board.seen c.args.b.now).memory now c.write_entry.ensures.ran.sized c.write_entry.ensures.contents)
+
+pub returns-in_err-u-2-clause-agree : goal.returns-in_err-u-2-clause-agree
+returns-in_err-u-2-clause-agree g c =
+    agree_then (g.B.Board.seen c.args.b.now).memory.flash (g.B.Board.seen c.write_entry.new.b).memory.flash (g.B.Board.seen c.write_entry-2.new.b).memory.flash c.args.root.now.area c.write_entry.ensures.agree c.write_entry-2.ensures.agree
+
+pub returns-clause-agree : goal.returns-clause-agree
+returns-clause-agree g c =
+    agree_then (g.B.Board.seen c.args.b.now).memory.flash (g.B.Board.seen c.write_entry.new.b).memory.flash (g.B.Board.seen c.write_entry-2.new.b).memory.flash c.args.root.now.area c.write_entry.ensures.agree c.write_entry-2.ensures.agree
+
+pub returns-clause-whole : goal.returns-clause-whole
+returns-clause-whole g c =
+    log_completed (g.B.Board.seen c.args.b.now).memory (g.B.Board.seen c.write_entry.new.b).memory (g.B.Board.seen c.write_entry-2.new.b).memory c.write_entry.ensures.contents c.in_ok-u.ensures.added c.in_ok-u-2.ensures.added
