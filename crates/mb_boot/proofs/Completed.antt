@@ -27,7 +27,7 @@ use Rattle.mb_model_lemmas.proofs.HeldSegments.{small_header, room_for_unsigned}
 use Rattle.mb_model_lemmas.proofs.SignatureLemmas.{length-signature_of}
 use Rattle.mb_model_memory.specs.NextHeaders.{header_settled}
 use Rattle.mb_model_memory.proofs.FlashHeaders.{header_settled_allowed}
-use Rattle.mb_boot.specs.Completions.{count_of, text_count, text_in, signer_by, signer_of, IsLogOf, SignsText, SignsNext}
+use Rattle.mb_boot.specs.Completions.{count_of, unsigned_count, text_at_place, signer_by, signer_of, IsSignedSector, SignsText, SignsTextAt}
 use Rattle.mb_boot.specs.declared.pending.Signer.{Signer}
 
 -- ---- headers
@@ -49,7 +49,7 @@ unfolding header_format
 header_texts header is = is.1.1.1.1.1
 
 -- the log has room for the texts of a header
-pub texts_have_room : (header : Header) → header_format.Allowed header → header.signed + text_count header ≤ 128
+pub texts_have_room : (header : Header) → header_format.Allowed header → header.signed + unsigned_count header ≤ 128
 texts_have_room header is =
     omega (arith, count_few header.signed header.first header.second (header_texts header is), room_for_unsigned header.signed (small_header header is).most)
 
@@ -86,27 +86,27 @@ fits_by signed (suc zero) (Some first) (Some second) text low is own = subst (λ
 fits_by signed (suc (suc n)) first second text low is own = absurd (omega (arith, low))
 
 -- the text at a place of a header has the length of an entry
-pub text_fits : (header : Header) (place : ℕ) (text : List ℕ) → place ≤ 1 → header_format.Allowed header → text_in header place ≡ Some text → (1 ≤ length text) × (length text ≤ 400)
+pub text_fits : (header : Header) (place : ℕ) (text : List ℕ) → place ≤ 1 → header_format.Allowed header → text_at_place header place ≡ Some text → (1 ≤ length text) × (length text ≤ 400)
 text_fits header place text low allowed is = fits_by header.signed place header.first header.second text low (header_texts header allowed) is
 
 -- what was made of the only header was made of each
 pub signed_next : (root : Root) (place position : ℕ) (bytes read text log : List ℕ) (found : Header) → read ≡ bytes → ((any : Header) → BeginsAs header_format read any → any ≡ found)
-    → position ≡ found.signed + place → text_in found place ≡ Some text → IsLogOf (signer_of root place) text log → SignsNext root place bytes (Some position) log
+    → position ≡ found.signed + place → text_at_place found place ≡ Some text → IsSignedSector (signer_of root place) text log → SignsTextAt root place bytes (Some position) log
 signed_next root place position bytes read text log found same only at is made header here =
     let own : header ≡ found = only header (subst (λ (xs : List ℕ). BeginsAs header_format xs header) (sym same) here) in
-    let signed : SignsText (signer_of root place) (text_in found place) (found.signed + place) (Some position) log =
+    let signed : SignsText (signer_of root place) (text_at_place found place) (found.signed + place) (Some position) log =
     subst (λ (t : Option (List ℕ)). SignsText (signer_of root place) t (found.signed + place) (Some position) log) (sym is) (at, made)
     in
-    subst (λ (h : Header). SignsText (signer_of root place) (text_in h place) (h.signed + place) (Some position) log) (sym own) signed
+    subst (λ (h : Header). SignsText (signer_of root place) (text_at_place h place) (h.signed + place) (Some position) log) (sym own) signed
 
 pub nothing_next : (root : Root) (place : ℕ) (bytes read log : List ℕ) (found : Header) → read ≡ bytes → ((any : Header) → BeginsAs header_format read any → any ≡ found)
-    → text_in found place ≡ None → SignsNext root place bytes None log
+    → text_at_place found place ≡ None → SignsTextAt root place bytes None log
 nothing_next root place bytes read log found same only is header here =
     let own : header ≡ found = only header (subst (λ (xs : List ℕ). BeginsAs header_format xs header) (sym same) here) in
-    let signed : SignsText (signer_of root place) (text_in found place) (found.signed + place) None log =
+    let signed : SignsText (signer_of root place) (text_at_place found place) (found.signed + place) None log =
     subst (λ (t : Option (List ℕ)). SignsText (signer_of root place) t (found.signed + place) None log) (sym is) tt
     in
-    subst (λ (h : Header). SignsText (signer_of root place) (text_in h place) (h.signed + place) None log) (sym own) signed
+    subst (λ (h : Header). SignsText (signer_of root place) (text_at_place h place) (h.signed + place) None log) (sym own) signed
 
 -- ---- buffers
 
@@ -126,16 +126,16 @@ header_some header = omega arith
 
 -- the buffer of the settled header
 pub record HasSettled (bytes : List ℕ) (buffer : Vec ℕ) : Type 0 where
-  pub settled : (header : Header) → BeginsAs header_format bytes header → Spells header_format buffer.items (header_settled header (text_count header))
+  pub settled : (header : Header) → BeginsAs header_format bytes header → Spells header_format buffer.items (header_settled header (unsigned_count header))
   pub some : 1 ≤ length buffer.items
   pub short : length buffer.items ≤ 4096
   pub room : 4096 ≤ vec_capacity buffer
 
-pub settled_allowed : (bytes : List ℕ) (found : Header) → BeginsAs header_format bytes found → found.signed + text_count found ≤ 128 → header_format.Allowed (header_settled found (text_count found))
-settled_allowed bytes found begins few = header_settled_allowed found (text_count found) begins.spelled.allowed few
+pub settled_allowed : (bytes : List ℕ) (found : Header) → BeginsAs header_format bytes found → found.signed + unsigned_count found ≤ 128 → header_format.Allowed (header_settled found (unsigned_count found))
+settled_allowed bytes found begins few = header_settled_allowed found (unsigned_count found) begins.spelled.allowed few
 
-pub header_put : {E : Type 0} (bytes read : List ℕ) (found written : Header) (cleared new : Vec ℕ) (result : Result (Unit {0}) E) → read ≡ bytes → written ≡ header_settled found (text_count found)
-    → BeginsAs header_format read found → ((any : Header) → BeginsAs header_format read any → any ≡ found) → found.signed + text_count found ≤ 128
+pub header_put : {E : Type 0} (bytes read : List ℕ) (found written : Header) (cleared new : Vec ℕ) (result : Result (Unit {0}) E) → read ≡ bytes → written ≡ header_settled found (unsigned_count found)
+    → BeginsAs header_format read found → ((any : Header) → BeginsAs header_format read any → any ≡ found) → found.signed + unsigned_count found ≤ 128
     → cleared.items ≡ [] → vec_len cleared ≡ 0 → 4096 ≤ vec_capacity cleared → Writes (header_format.spelling written) cleared result new → HasSettled bytes new
 header_put bytes read found written cleared new result same is begins only few empty none room writes =
     let allowed : header_format.Allowed written = subst header_format.Allowed (sym is) (settled_allowed read found begins few) in
@@ -143,7 +143,7 @@ header_put bytes read found written cleared new result same is begins only few e
     record {
       settled = λ header here. (
           let own : header ≡ found = only header (subst (λ (xs : List ℕ). BeginsAs header_format xs header) (sym same) here) in
-          subst (λ (h : Header). Spells header_format new.items h) (is ∙ ap (λ (h : Header). header_settled h (text_count h)) (sym own)) (record { allowed = allowed; whole = out.items }));
+          subst (λ (h : Header). Spells header_format new.items h) (is ∙ ap (λ (h : Header). header_settled h (unsigned_count h)) (sym own)) (record { allowed = allowed; whole = out.items }));
       some = omega (arith, ap length out.items, header_some written);
       short = omega (arith, ap length out.items, header_short.short written allowed);
       room = out.room;
@@ -161,7 +161,7 @@ log_some text signature = omega arith
 
 -- the text of an entry and the signature of that text are what its sector holds
 log_of_text : (signer : Signer) (text signature bytes : List ℕ) → log_format.Allowed (text, signature) → signature ≡ signature_of signer.key signer.index (3 ∷ text)
-    → bytes ≡ log_format.spelling (text, signature) → IsLogOf signer text bytes
+    → bytes ≡ log_format.spelling (text, signature) → IsSignedSector signer text bytes
 unfolding signed_by entry_text
 log_of_text signer text signature bytes allowed made is = record {
   spelled = λ entry spells. (
@@ -179,7 +179,7 @@ log_of_text signer text signature bytes allowed made is = record {
 
 -- the buffer of a sector that holds it
 pub record HasLog (signer : Signer) (text : List ℕ) (buffer : Vec ℕ) : Type 0 where
-  pub log : IsLogOf signer text buffer.items
+  pub log : IsSignedSector signer text buffer.items
   pub room : 4096 ≤ vec_capacity buffer
 
 pub log_put : {E : Type 0} (signer : Signer) (text signature : List ℕ) (cleared new : Vec ℕ) (result : Result (Unit {0}) E) → 1 ≤ length text → length text ≤ 400
@@ -243,7 +243,7 @@ next_by device uses outgoing (suc zero) (Some first) (Some second) (u ∷ v ∷ 
 next_by device uses outgoing (suc (suc n)) first second us text low are is = absurd (omega (arith, low))
 
 pub next_is : (device : KeySeed) (uses : ℕ) (outgoing : Option Outgoing) (place : ℕ) (header : Header) (unsigned : List Entry) (text : List ℕ) → place ≤ 1
-    → AreBytesOf header.first header.second unsigned → text_in header place ≡ Some text → IsNext device uses outgoing place text (signed_for device uses outgoing unsigned)
+    → AreBytesOf header.first header.second unsigned → text_at_place header place ≡ Some text → IsNext device uses outgoing place text (signed_for device uses outgoing unsigned)
 next_is device uses outgoing place header unsigned text low are is = next_by device uses outgoing place header.first header.second unsigned text low are is
 
 ends_by : (device : KeySeed) (uses : ℕ) (outgoing : Option Outgoing) (place : ℕ) (first second : Option (List ℕ)) (unsigned : List Entry) → place ≤ 1
@@ -262,7 +262,7 @@ ends_by device uses outgoing (suc (suc n)) first second us low are is = absurd (
 
 -- if a header has no text at a place, there is no more to be signed from there on
 pub none_next : (device : KeySeed) (uses : ℕ) (outgoing : Option Outgoing) (place : ℕ) (header : Header) (unsigned : List Entry) → place ≤ 1
-    → AreBytesOf header.first header.second unsigned → text_in header place ≡ None
+    → AreBytesOf header.first header.second unsigned → text_at_place header place ≡ None
     → take (place + 1) (signed_for device uses outgoing unsigned) ≡ take place (signed_for device uses outgoing unsigned)
 none_next device uses outgoing place header unsigned low are is = ends_by device uses outgoing place header.first header.second unsigned low are is
 

@@ -37,7 +37,7 @@ use Rattle.mb_layout.specs.declared.room.Room.{Room}
 use Rattle.mb_area.specs.Flashes.{HasSomeHeader, IsPublicWritten, IsSpared}
 use Rattle.mb_area.specs.Roots.{HasSomeRoot, Finishes, KeepsOrFinishes, IsReadyToFinish}
 use Rattle.mb_region.specs.Fates.{IsPending, AppliesFate}
-use Rattle.mb_boot.specs.Completions.{BeginsWithHeader, text_in, text_count, signer_of, IsLogOf, SignsText, SignsNext}
+use Rattle.mb_boot.specs.Completions.{BeginsWithHeader, text_at_place, unsigned_count, signer_of, IsSignedSector, SignsText, SignsTextAt}
 use Rattle.mb_boot.specs.declared.pending.Signer.{Signer}
 use Rattle.mb_boot.specs.Settling.{IsLive, IsOnlyRoot, AppliesBoth, signed_anew, log_until, AddsToLog, CompletesLog, CountsLog, SignsRecord, Settles}
 use Rattle.mb_boot.proofs.Completed.{texts_counted, made_at, IsNext, next_is, none_next, two_are_all}
@@ -182,7 +182,7 @@ position_is signer (Some text) expected position log signs = signs.0
 record IsSome (text : Option (List ℕ)) (signer : Signer) (sector_bytes : List ℕ) : Type 0 where
   pub bytes : List ℕ
   pub is : text ≡ Some bytes
-  pub log : IsLogOf signer bytes sector_bytes
+  pub log : IsSignedSector signer bytes sector_bytes
 
 some_signed : (signer : Signer) (text : Option (List ℕ)) (expected position : ℕ) (log : List ℕ) → SignsText signer text expected (Some position) log → IsSome text signer log
 some_signed signer None expected position log signs = absurd signs
@@ -197,28 +197,28 @@ none_signed signer (Some bytes) expected log signs = absurd signs
 record IsNextHere (contents : Contents) (place position : ℕ) (sector_bytes : List ℕ) (count : ℕ) : Type 0 where
   pub at : position ≡ count + place
   pub text : List ℕ
-  pub log : IsLogOf (signer_of contents.root place) text sector_bytes
+  pub log : IsSignedSector (signer_of contents.root place) text sector_bytes
   pub next : IsNext contents.root.device contents.root.uses (outgoing_of contents.root.pending) place text (signed_anew contents)
 
 next_here : (memory : Memory) (root : Root) (place position : ℕ) (bytes log : List ℕ) (contents : Contents) → place ≤ 1 → IsOnlyRoot memory.bbram root
-    → bytes ≡ sector memory.flash (header_sector root.area) → SignsNext root place bytes (Some position) log → (holds : Holds memory contents)
+    → bytes ≡ sector memory.flash (header_sector root.area) → SignsTextAt root place bytes (Some position) log → (holds : Holds memory contents)
     → IsNextHere contents place position log holds.public.header.signed
 next_here memory root place position bytes log contents low only is signs holds =
     let header = holds.public.header in
     let own = signs header (begins_here memory root bytes contents only is holds) in
-    let here : SignsText (signer_of contents.root place) (text_in header place) (header.signed + place) (Some position) log =
-    subst (λ (r : Root). SignsText (signer_of r place) (text_in header place) (header.signed + place) (Some position) log) (sym (only.only contents.root holds.root)) own
+    let here : SignsText (signer_of contents.root place) (text_at_place header place) (header.signed + place) (Some position) log =
+    subst (λ (r : Root). SignsText (signer_of r place) (text_at_place header place) (header.signed + place) (Some position) log) (sym (only.only contents.root holds.root)) own
     in
-    let some = some_signed (signer_of contents.root place) (text_in header place) (header.signed + place) position log here in
+    let some = some_signed (signer_of contents.root place) (text_at_place header place) (header.signed + place) position log here in
     record {
-      at = position_is (signer_of contents.root place) (text_in header place) (header.signed + place) position log here;
+      at = position_is (signer_of contents.root place) (text_at_place header place) (header.signed + place) position log here;
       text = some.bytes;
       log = some.log;
       next = next_is contents.root.device contents.root.uses (outgoing_of contents.root.pending) place header contents.unsigned some.bytes low holds.public.unsigned_are some.is;
     }
 
 pub can_be_written : (memory : Memory) (root : Root) (place position : ℕ) (bytes log : List ℕ) → place ≤ 1 → IsLive memory → IsOnlyRoot memory.bbram root
-    → bytes ≡ sector memory.flash (header_sector root.area) → SignsNext root place bytes (Some position) log → CanBeWritten memory position log
+    → bytes ≡ sector memory.flash (header_sector root.area) → SignsTextAt root place bytes (Some position) log → CanBeWritten memory position log
 can_be_written memory root place position bytes log low live only is signs =
     let held = live_contents memory.flash memory.bbram live.state live.means in
     let contents : Contents = held.contents in
@@ -233,12 +233,12 @@ can_be_written memory root place position bytes log low live only is signs =
       short = here.log.short;
       uncounted = λ any has header begins. (
           let there : BeginsAs header_format bytes header = subst (λ (xs : List ℕ). BeginsAs header_format xs header) (sym is) (subst (λ (r : Root). HoldsHeader memory.flash r.area header) (only.only any has) begins) in
-          omega (arith, position_is (signer_of root place) (text_in header place) (header.signed + place) position log (signs header there)));
+          omega (arith, position_is (signer_of root place) (text_at_place header place) (header.signed + place) position log (signs header there)));
     }
 
 -- one entry more stands in the log
 pub entry_added : (before after : Memory) (root : Root) (place position : ℕ) (bytes log : List ℕ) → place ≤ 1 → IsLoaded before → IsLive before → IsOnlyRoot before.bbram root
-    → bytes ≡ sector before.flash (header_sector root.area) → SignsNext root place bytes (Some position) log → IsSectorWritten (log_sector position) log before.flash after.flash → AddsToLog place before after
+    → bytes ≡ sector before.flash (header_sector root.area) → SignsTextAt root place bytes (Some position) log → IsSectorWritten (log_sector position) log before.flash after.flash → AddsToLog place before after
 entry_added before after root place position bytes log low sized live only is signs written = record {
   added = λ contents holds held. (
       let here = next_here before root place position bytes log contents low only is signs holds in
@@ -257,11 +257,11 @@ entry_added before after root place position bytes log low sized live only is si
 
 -- or there is none to be added
 pub none_added : (memory : Memory) (root : Root) (place : ℕ) (bytes log : List ℕ) → place ≤ 1 → IsOnlyRoot memory.bbram root
-    → bytes ≡ sector memory.flash (header_sector root.area) → SignsNext root place bytes None log → AddsToLog place memory memory
+    → bytes ≡ sector memory.flash (header_sector root.area) → SignsTextAt root place bytes None log → AddsToLog place memory memory
 none_added memory root place bytes log low only is signs = record {
   added = λ contents holds held. (
       let header = holds.public.header in
-      let none : text_in header place ≡ None = none_signed (signer_of root place) (text_in header place) (header.signed + place) log (signs header (begins_here memory root bytes contents only is holds)) in
+      let none : text_at_place header place ≡ None = none_signed (signer_of root place) (text_at_place header place) (header.signed + place) log (signs header (begins_here memory root bytes contents only is holds)) in
       let same = none_next contents.root.device contents.root.uses (outgoing_of contents.root.pending) place header contents.unsigned low holds.public.unsigned_are none in
       subst (λ (xs : List SignedEntry). HoldsLog memory.flash (contents.signed ++ xs)) (sym same) held);
 }
@@ -280,7 +280,7 @@ log_completed first between last kept one two = record {
 
 -- the room holds the settled header, and no code
 pub record IsSettledRoom (bytes : List ℕ) (room : Room) : Type 0 where
-  pub settled : (header : Header) → BeginsAs header_format bytes header → Spells header_format room.header.items (header_settled header (text_count header))
+  pub settled : (header : Header) → BeginsAs header_format bytes header → Spells header_format room.header.items (header_settled header (unsigned_count header))
   pub layer : room.code_layer ≡ 0
 
 not_either : (area n : ℕ) → n ≢ 0 → n ≢ 1 → n ≢ header_sector (1 - area)
@@ -308,12 +308,12 @@ log_counted before after root bytes room only is settled kept agree written spar
       in
       let was : HoldsHeader before.flash area header = subst (λ (xs : List ℕ). BeginsAs header_format xs header) before_is now.public.begins in
       let read : BeginsAs header_format bytes header = subst (λ (xs : List ℕ). BeginsAs header_format xs header) (ap (λ (r : Root). sector before.flash (header_sector r.area)) same ∙ sym is) was in
-      let count : text_count header ≡ length more =
+      let count : unsigned_count header ≡ length more =
       sym (length-signed_for contents.root.device contents.root.uses (outgoing_of contents.root.pending) contents.unsigned ∙ texts_counted header.first header.second contents.unsigned now.public.unsigned_are)
       in
       let put = (written contents.root header holds.root was).header in
-      let stands : HoldsHeader after.flash (1 - area) (header_settled header (text_count header)) =
-      begins_with header_format (sector after.flash (header_sector (1 - area))) room.header.items (header_settled header (text_count header)) (settled.settled header read) put.begins
+      let stands : HoldsHeader after.flash (1 - area) (header_settled header (unsigned_count header)) =
+      begins_with header_format (sector after.flash (header_sector (1 - area))) room.header.items (header_settled header (unsigned_count header)) (settled.settled header read) put.begins
       in
       let few : length (contents.signed ++ more) ≤ 128 =
       omega (arith, length-append contents.signed more, length-signed_for contents.root.device contents.root.uses (outgoing_of contents.root.pending) contents.unsigned, (segments_fit before.flash contents.root contents.codes contents.signed contents.unsigned holds.public).together)

@@ -25,8 +25,8 @@ pub record BeginsWithHeader (bytes : List ℕ) : Type 0 where
   pub short : length bytes ≤ SECTOR_LENGTH
 
 -- the unsigned entry at a place of a header, 0 or 1
-abbrev pub text_in : Header → ℕ → Option (List ℕ)
-text_in header place = if place == 0 then header.first else header.second
+abbrev pub text_at_place : Header → ℕ → Option (List ℕ)
+text_at_place header place = if place == 0 then header.first else header.second
 
 -- one for an entry, none for none
 abbrev pub count_of : Option (List ℕ) → ℕ
@@ -34,8 +34,8 @@ count_of None = 0
 count_of (Some text) = 1
 
 -- how many unsigned entries a header has
-abbrev pub text_count : Header → ℕ
-text_count header = count_of header.first + count_of header.second
+abbrev pub unsigned_count : Header → ℕ
+unsigned_count header = count_of header.first + count_of header.second
 
 -- ---- signatures
 
@@ -52,7 +52,7 @@ signer_of root place = signer_by root.device root.uses (outgoing_of root.pending
 
 -- These bytes are what the sector of the log holds of the entry with this text, signed by the key at the index, and a
 -- sector has room for them.
-pub record IsLogOf (signer : Signer) (text bytes : List ℕ) : Type 0 where
+pub record IsSignedSector (signer : Signer) (text bytes : List ℕ) : Type 0 where
   pub spelled : (entry : Entry) → Spells entry_format text entry
       → SpellsLog bytes (signed_by signer.key signer.index entry)
   pub some : 1 ≤ length bytes
@@ -63,10 +63,10 @@ abbrev pub SignsText : Signer → Option (List ℕ) → ℕ → Option ℕ → L
 SignsText signer None expected None bytes = Unit {0}
 SignsText signer None expected (Some position) bytes = ⊥
 SignsText signer (Some text) expected None bytes = ⊥
-SignsText signer (Some text) expected (Some position) bytes = (position ≡ expected) × IsLogOf signer text bytes
+SignsText signer (Some text) expected (Some position) bytes = (position ≡ expected) × IsSignedSector signer text bytes
 
 -- so it is with the text at a place of the header that a sector begins with
-abbrev pub SignsNext : Root → ℕ → List ℕ → Option ℕ → List ℕ → Type 0
-SignsNext root place sector position bytes =
+abbrev pub SignsTextAt : Root → ℕ → List ℕ → Option ℕ → List ℕ → Type 0
+SignsTextAt root place sector position bytes =
     (header : Header) → BeginsAs header_format sector header
-    → SignsText (signer_of root place) (text_in header place) (header.signed + place) position bytes
+    → SignsText (signer_of root place) (text_at_place header place) (header.signed + place) position bytes

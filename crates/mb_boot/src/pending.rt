@@ -13,7 +13,7 @@ ghost use Rattle.mb_model.specs.StoredLog.{outgoing_of};
 ghost use Rattle.mb_model_memory.specs.NextHeaders.{header_settled};
 ghost use Rattle.mb_segments.specs.Uncopied.{header_of};
 ghost use Rattle.mb_area.specs.Flashes.{IsPlan};
-ghost use Rattle.mb_boot.specs.Completions.{BeginsWithHeader, signer_of, text_in, count_of, text_count, IsLogOf, SignsNext};
+ghost use Rattle.mb_boot.specs.Completions.{BeginsWithHeader, signer_of, text_at_place, count_of, unsigned_count, IsSignedSector, SignsTextAt};
 
 use mb_layout::Room;
 use mb_lms::HashCount;
@@ -30,7 +30,7 @@ fn held_header(sector: &[u8]) -> StoredHeader<'_>
     requires { BeginsWithHeader sector.now }
     ensures holds { BeginsAs header_format sector.now (header_of result) }
     ensures only { (any : Header) → BeginsAs header_format sector.now any → any ≡ header_of result }
-    ensures few { result.signed + text_count (header_of result) ≤ ENTRY_LIMIT }
+    ensures few { result.signed + unsigned_count (header_of result) ≤ ENTRY_LIMIT }
 {
     let Some(header) = header_at(sector) else {
         unreachable!()
@@ -40,7 +40,7 @@ fn held_header(sector: &[u8]) -> StoredHeader<'_>
 
 /// The unsigned entry at a place of a header, 0 or 1.
 fn text_in<'a>(header: StoredHeader<'a>, place: u32) -> Option<&'a [u8]>
-    ensures { option_copied result ≡ text_in (header_of header.entry) place }
+    ensures { option_copied result ≡ text_at_place (header_of header.entry) place }
 {
     if place == 0 {
         header.first
@@ -62,7 +62,7 @@ fn count_of(text: Option<&[u8]>) -> u32
 /// The header that counts the unsigned entries of another as signed.
 fn settled_header(stored: StoredHeader<'_>) -> Header
     requires { stored.signed ≤ ENTRY_LIMIT }
-    ensures { result ≡ header_settled (header_of stored.entry) (text_count (header_of stored.entry)) }
+    ensures { result ≡ header_settled (header_of stored.entry) (unsigned_count (header_of stored.entry)) }
 {
     Header {
         one: stored.one,
@@ -78,7 +78,7 @@ fn settled_header(stored: StoredHeader<'_>) -> Header
 pub(crate) fn settle_header(room: &mut Room)
     requires header { BeginsWithHeader room.old.header.items }
     ensures settled { (header : Header) → BeginsAs header_format room.old.header.items header
-        → Spells header_format room.new.header.items (header_settled header (text_count header)) }
+        → Spells header_format room.new.header.items (header_settled header (unsigned_count header)) }
     ensures layer { room.new.code_layer ≡ 0 }
     ensures plan { IsPlan room.new }
 {
@@ -168,7 +168,7 @@ fn sign_text<L: Ledger>(signer: &Signer, text: &[u8], log: &mut Vec<u8>, hashes:
     requires index { signer.now.index ≤ LAST_INDEX }
     requires text { (1 ≤ length text.now) × (length text.now ≤ 400) }
     requires room { SECTOR_LENGTH ≤ vec_capacity log.old }
-    ensures signed { IsLogOf signer.now text.now log.new.items }
+    ensures signed { IsSignedSector signer.now text.now log.new.items }
     ensures room { SECTOR_LENGTH ≤ vec_capacity log.new }
     ensures cost { hashes.new ≤ hashes.old + 35473 }
 {
@@ -191,7 +191,7 @@ pub(crate) fn sign_next<L: Ledger>(
         (λ outgoing. outgoing.uses ≤ KEY_USES) }
     requires place { place ≤ 1 }
     requires header { BeginsWithHeader room.old.header.items }
-    ensures signed { SignsNext root.now place room.old.header.items result room.new.log.items }
+    ensures signed { SignsTextAt root.now place room.old.header.items result room.new.log.items }
     ensures header { room.new.header ≡ room.old.header }
     ensures cost { hashes.new ≤ hashes.old + 35473 }
 {

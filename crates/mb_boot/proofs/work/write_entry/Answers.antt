@@ -1,5 +1,5 @@
 use Rattle.std.proofs.Common.{Option, ℕ, subst}
-use Rattle.mb_boot.specs.Completions.{SignsNext}
+use Rattle.mb_boot.specs.Completions.{SignsTextAt}
 use Rattle.mb_boot.proofs.Settled.{bounded, header_is_read, can_be_written, entry_added, none_added}
 use Rattle.mb_boot.proofs.work.write_entry.Goals as goal
 
@@ -15,26 +15,26 @@ sign_next-requires-clause-header g c = header_is_read (g.B.Board.seen c.args.b.n
 pub returns-in_default-clause-added : goal.returns-in_default-clause-added
 returns-in_default-clause-added g c =
     none_added (g.B.Board.seen c.args.b.now).memory c.args.root.now c.args.place c.args.room.now.header.items c.sign_next.new.room.log.items c.requires.place c.requires.root c.requires.header
-    (subst (λ (position : Option ℕ). SignsNext c.args.root.now c.args.place c.args.room.now.header.items position c.sign_next.new.room.log.items) c.in_default.is c.sign_next.ensures.signed)
+    (subst (λ (position : Option ℕ). SignsTextAt c.args.root.now c.args.place c.args.room.now.header.items position c.sign_next.new.room.log.items) c.in_default.is c.sign_next.ensures.signed)
 
 pub write_log-requires-clause-position : goal.write_log-requires-clause-position
 write_log-requires-clause-position g c =
     let can = can_be_written (g.B.Board.seen c.args.b.now).memory c.args.root.now c.args.place c.in-Some.position c.args.room.now.header.items c.sign_next.new.room.log.items c.requires.place c.requires.live c.requires.root c.requires.header
-    (subst (λ (position : Option ℕ). SignsNext c.args.root.now c.args.place c.args.room.now.header.items position c.sign_next.new.room.log.items) c.in-Some.is c.sign_next.ensures.signed)
+    (subst (λ (position : Option ℕ). SignsTextAt c.args.root.now c.args.place c.args.room.now.header.items position c.sign_next.new.room.log.items) c.in-Some.is c.sign_next.ensures.signed)
     in
     can.within
 
 pub write_log-requires-clause-log : goal.write_log-requires-clause-log
 write_log-requires-clause-log g c =
     let can = can_be_written (g.B.Board.seen c.args.b.now).memory c.args.root.now c.args.place c.in-Some.position c.args.room.now.header.items c.sign_next.new.room.log.items c.requires.place c.requires.live c.requires.root c.requires.header
-    (subst (λ (position : Option ℕ). SignsNext c.args.root.now c.args.place c.args.room.now.header.items position c.sign_next.new.room.log.items) c.in-Some.is c.sign_next.ensures.signed)
+    (subst (λ (position : Option ℕ). SignsTextAt c.args.root.now c.args.place c.args.room.now.header.items position c.sign_next.new.room.log.items) c.in-Some.is c.sign_next.ensures.signed)
     in
     (can.some, can.short)
 
 pub write_log-requires-clause-uncounted : goal.write_log-requires-clause-uncounted
 write_log-requires-clause-uncounted g c =
     let can = can_be_written (g.B.Board.seen c.args.b.now).memory c.args.root.now c.args.place c.in-Some.position c.args.room.now.header.items c.sign_next.new.room.log.items c.requires.place c.requires.live c.requires.root c.requires.header
-    (subst (λ (position : Option ℕ). SignsNext c.args.root.now c.args.place c.args.room.now.header.items position c.sign_next.new.room.log.items) c.in-Some.is c.sign_next.ensures.signed)
+    (subst (λ (position : Option ℕ). SignsTextAt c.args.root.now c.args.place c.args.room.now.header.items position c.sign_next.new.room.log.items) c.in-Some.is c.sign_next.ensures.signed)
     in
     can.uncounted
 
@@ -42,5 +42,5 @@ pub returns-clause-added : goal.returns-clause-added
 returns-clause-added g c =
     entry_added (g.B.Board.seen c.args.b.now).memory (g.B.Board.seen c.write_log.new.b).memory c.args.root.now c.args.place c.in-Some.position c.args.room.now.header.items c.sign_next.new.room.log.items c.requires.place c.requires.up.loaded
     c.requires.live c.requires.root c.requires.header
-    (subst (λ (position : Option ℕ). SignsNext c.args.root.now c.args.place c.args.room.now.header.items position c.sign_next.new.room.log.items) c.in-Some.is c.sign_next.ensures.signed)
+    (subst (λ (position : Option ℕ). SignsTextAt c.args.root.now c.args.place c.args.room.now.header.items position c.sign_next.new.room.log.items) c.in-Some.is c.sign_next.ensures.signed)
     c.in_ok-u.ensures.written
