@@ -1,9 +1,9 @@
 -- What writes of code, header and log leave of a flash, and of what the memory holds.
 use Rattle.std.proofs.Common.{◌≡◌, ◌≢◌, ℕ, ◌+◌, ◌*◌, ◌-◌, ◌<◌, ◌≤◌, ◌==◌, ◌⊎◌, inl, inr, Bool, true, false, List, length, drop, OnOk, Result, refl, sym, ap, subst, ◌∙◌, arith, eqb-true}
-use Rattle.std.specs.Prelude.{None, Some, if◌then◌else◌}
+use Rattle.std.specs.Prelude.{IfSome, None, Some, if◌then◌else◌}
 use Rattle.std.specs.Global.{Vec}
 use Rattle.std.proofs.lemmas.Bool.{cases_order, ne_eqb}
-use Rattle.std.proofs.lemmas.List.{length-take}
+use Rattle.std.proofs.lemmas.List.{length-take, take-take}
 use Rattle.mb_format.specs.Format.{IsBytes}
 use Rattle.mb_format.proofs.Exact.{IsClear-from_exact}
 use Rattle.mb_model.proofs.HeaderFormatLaws.{header_exact}
@@ -28,7 +28,7 @@ use Rattle.mb_slot.proofs.Slotted.{on_ok}
 use Rattle.mb_flash.specs.Sectors.{sectors_for}
 use Rattle.mb_layout.specs.declared.room.Room.{Room}
 use Rattle.mb_layout.specs.Plans.{SamePlans}
-use Rattle.mb_area.specs.Flashes.{HasSomeHeader, HoldsSomeHeader, IsPublicWritten, IsSpared, code_sectors}
+use Rattle.mb_area.specs.Flashes.{HasSomeHeader, HoldsSomeHeader, IsPublicWritten, IsPublicThere, IsSpared, code_sectors}
 
 -- ---- sectors
 
@@ -49,6 +49,17 @@ pub code_stands : {E : Type 0} (layer slot n : ℕ) (flash code : List ℕ) (res
     → OnOk result (part (4096 * n) (length code) flash ≡ code) → OnOk result (BeginsWithBytes (code_slot flash layer slot) code)
 code_stands layer slot n flash code result is short =
     on_ok result (λ stands. front_of_slot flash code layer slot short (ap (λ k. part (4096 * k) (length code) flash) (sym is) ∙ stands))
+
+-- bytes with which a sector begins stand where they are written
+pub sector_there : (flash front : List ℕ) (n : ℕ) → length front ≤ 4096 → BeginsWithBytes (sector flash n) front → part (4096 * n) (length front) flash ≡ front
+unfolding sector
+sector_there flash front n short there = sym (take-take (length front) 4096 (drop (4096 * n) flash) short) ∙ there
+
+pub code_there : (flash front : List ℕ) (layer slot n : ℕ) → n ≡ code_sector layer slot → length front ≤ 32768 → BeginsWithBytes (code_slot flash layer slot) front
+    → part (4096 * n) (length front) flash ≡ front
+unfolding code_slot
+code_there flash front layer slot n is short there =
+    ap (λ k. part (4096 * k) (length front) flash) is ∙ sym (take-take (length front) 32768 (drop (4096 * code_sector layer slot) flash) short) ∙ there
 
 -- ---- the header of an area
 
@@ -166,6 +177,15 @@ spared_moved old room header area n same spared = record {
       (subst (λ (v : Vec ℕ). (n < code_sector old.code_layer (free_slot (slot_in header old.code_layer)))
       ⊎ (code_sector old.code_layer (free_slot (slot_in header old.code_layer)) + (if old.code_layer == 0 then 0 else sectors_for (length v.items)) ≤ n) ⊎ (old.code_layer ≡ 0))
       (sym same.code) spared.not_code);
+}
+
+-- and the same stands there already
+pub there_moved : (old room : Room) (header : Header) (area : ℕ) (flash : List ℕ) → SamePlans old room → IsPublicThere old header area flash → IsPublicThere room header area flash
+there_moved old room header area flash same there = record {
+  code = subst (λ (n : ℕ). IfSome (if n == 0 then None else Some room.code.items) (BeginsWithBytes (code_slot flash n (free_slot (slot_in header n))))) (sym same.code_layer)
+      (subst (λ (v : Vec ℕ). IfSome (if old.code_layer == 0 then None else Some v.items) (BeginsWithBytes (code_slot flash old.code_layer (free_slot (slot_in header old.code_layer)))))
+      (sym same.code) there.code);
+  header = subst (λ (v : Vec ℕ). BeginsWithBytes (sector flash (header_sector (1 - area))) v.items) (sym same.header) there.header;
 }
 
 -- ---- the root in force

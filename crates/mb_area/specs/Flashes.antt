@@ -1,15 +1,15 @@
 -- What is written to the flash of a device, and where. Does a write reach anything that counts?
-use Rattle.std.specs.Prelude.{◌≡◌, ◌≢◌, ℕ, ◌+◌, ◌-◌, ◌<◌, ◌≤◌, ◌==◌, ◌⊎◌, List, length, Option}
-use Rattle.std.specs.Prelude.{None, Some, if◌then◌else◌}
+use Rattle.std.specs.Prelude.{◌≡◌, ◌≢◌, ℕ, ◌+◌, ◌-◌, ◌<◌, ◌≤◌, ◌==◌, ◌⊎◌, if◌then◌else◌}
+use Rattle.std.specs.Prelude.{List, length, Option, None, Some, IfSome}
 use Rattle.mb_model.specs.declared.limits.TheConstants.{CODE_LIMIT, SECTOR_LENGTH}
 use Rattle.mb_model.specs.declared.stored.Header.{Header}
 use Rattle.mb_model.specs.declared.stored.Root.{Root}
 use Rattle.mb_model.specs.Board.{Memory}
-use Rattle.mb_model.specs.Flash.{sector, HoldsHeader}
+use Rattle.mb_model.specs.Flash.{sector, code_slot, HoldsHeader}
 use Rattle.mb_model.specs.HeaderFormat.{header_format}
 use Rattle.mb_model.specs.Meaning.{RootIn}
 use Rattle.mb_model.specs.Sectors.{header_sector, code_sector, BeginsAs}
-use Rattle.mb_model_memory.specs.FlashInForce.{slot_in, IsSectorWritten}
+use Rattle.mb_model_memory.specs.FlashInForce.{slot_in, BeginsWithBytes, IsSectorWritten}
 use Rattle.mb_model_memory.specs.NextHeaders.{free_slot, IsCodeWritten}
 use Rattle.mb_flash.specs.Sectors.{sectors_for}
 use Rattle.mb_layout.specs.declared.room.Room.{Room}
@@ -51,6 +51,17 @@ pub record IsPublicWritten (room : Room) (current : Header) (area : ℕ) (before
   pub between : List ℕ
   pub code : IsCodeWritten room.code_layer (slot_in current room.code_layer) (code_in room) before between
   pub header : IsSectorWritten (header_sector (1 - area)) room.header.items between after
+
+-- the code of the room, if it has any, stands in the slot that it would be written to
+abbrev pub IsCodeThere : Room → Header → List ℕ → Type 0
+IsCodeThere room current flash =
+    IfSome (code_in room) (BeginsWithBytes
+    (code_slot flash room.code_layer (free_slot (slot_in current room.code_layer))))
+
+-- What would be written stands there already: the code of the room, and its header.
+pub record IsPublicThere (room : Room) (current : Header) (area : ℕ) (flash : List ℕ) : Type 0 where
+  pub code : IsCodeThere room current flash
+  pub header : BeginsWithBytes (sector flash (header_sector (1 - area))) room.header.items
 
 -- Sector n is neither the header area that is written, nor one of the sectors that the code is written to.
 pub record IsSpared (room : Room) (header : Header) (area n : ℕ) : Type 0 where

@@ -1,6 +1,6 @@
 //! The code, headers and log in the flash.
 
-ghost use Rattle.std.specs.Prelude.{◌≡◌, ◌≤◌, ◌<◌, ◌+◌, ◌-◌, ◌*◌, ℕ, length, vec_capacity, OnOk};
+ghost use Rattle.std.specs.Prelude.{◌≡◌, ◌≤◌, ◌<◌, ◌+◌, ◌-◌, ◌*◌, ℕ, length, vec_capacity, OnOk, IsOk, Ok};
 ghost use Rattle.mb_model.specs.declared.limits.TheConstants.{CODE_LIMIT, ENTRY_LIMIT, SECTOR_LENGTH};
 ghost use Rattle.mb_model.specs.declared.stored.Header.{Header};
 ghost use Rattle.mb_model.specs.declared.stored.Root.{Root};
@@ -10,13 +10,13 @@ ghost use Rattle.mb_model.specs.Meaning.{RootIn};
 ghost use Rattle.mb_model.specs.Sectors.{header_sector, code_sector, log_sector, BeginsAs};
 ghost use Rattle.mb_board.specs.Calls.{IsPowered, IsUp, Ran};
 ghost use Rattle.mb_flash.specs.Sectors.{sectors_for};
-ghost use Rattle.mb_model_memory.specs.FlashInForce.{slot_in, AgreeForArea, BeginsWithBytes};
+ghost use Rattle.mb_model_memory.specs.FlashInForce.{slot_in, AgreeForArea, KeepsSignedLog, BeginsWithBytes};
 ghost use Rattle.mb_model_memory.specs.FlashInForce.{DiffersOnlyIn, IsSectorWritten, IsUncounted};
 ghost use Rattle.mb_model_memory.specs.Holding.{KeepsContents};
 ghost use Rattle.mb_model_memory.specs.NextHeaders.{free_slot, IsCodeWritten};
 ghost use Rattle.mb_layout.specs.Plans.{SamePlans};
 ghost use Rattle.mb_area.specs.Flashes.{HasSomeHeader, BeginWithHeader, HoldsSomeHeader, IsPlan, IsPublicWritten};
-ghost use Rattle.mb_area.specs.Flashes.{IsSpared, code_in, code_sectors};
+ghost use Rattle.mb_area.specs.Flashes.{IsCodeThere, IsPublicThere, IsSpared, code_in, code_sectors};
 
 use crate::root::read_root;
 use mb_board::{Board, Stopped};
@@ -66,7 +66,8 @@ pub fn read_log<B: Board>(b: &B, position: u32, room: &mut Room)
 
 // ---- one sector, and one slot
 
-/// Makes a sector begin with these bytes, 1 to 4,096 of them. There are at most two write calls.
+/// Makes a sector begin with these bytes, 1 to 4,096 of them. There are at most two write calls, and none if the bytes
+/// stand there already.
 fn store_sector<B: Board>(b: &mut B, number: u16, bytes: &[u8]) -> Result<(), Stopped>
     requires powered { IsPowered (B.seen b.old) }
     requires number { number < 256 }
@@ -74,6 +75,9 @@ fn store_sector<B: Board>(b: &mut B, number: u16, bytes: &[u8]) -> Result<(), St
     ensures same { DiffersOnlyIn number 1 (B.seen b.old).memory.flash (B.seen b.new).memory.flash }
     ensures written { OnOk result (IsSectorWritten number bytes.now (B.seen b.old).memory.flash
         (B.seen b.new).memory.flash) }
+    ensures idle { BeginsWithBytes (sector (B.seen b.old).memory.flash number) bytes.now
+        → (result ≡ Ok tt) × ((B.seen b.new).memory ≡ (B.seen b.old).memory)
+        × ((B.seen b.new).meter ≡ (B.seen b.old).meter) }
     ensures bbram { (B.seen b.new).memory.bbram ≡ (B.seen b.old).memory.bbram }
     ensures ran { Ran 2 result (B.seen b.old) (B.seen b.new) }
 {
@@ -91,6 +95,9 @@ fn store_code<B: Board>(b: &mut B, layer: u8, slot: u8, code: &[u8]) -> Result<(
         (B.seen b.old).memory.flash (B.seen b.new).memory.flash }
     ensures written { OnOk result (BeginsWithBytes
         (code_slot (B.seen b.new).memory.flash layer slot) code.now) }
+    ensures idle { BeginsWithBytes (code_slot (B.seen b.old).memory.flash layer slot) code.now
+        → (result ≡ Ok tt) × ((B.seen b.new).memory ≡ (B.seen b.old).memory)
+        × ((B.seen b.new).meter ≡ (B.seen b.old).meter) }
     ensures bbram { (B.seen b.new).memory.bbram ≡ (B.seen b.old).memory.bbram }
     ensures ran { Ran (2 * sectors_for (length code.now)) result (B.seen b.old) (B.seen b.new) }
 {
@@ -151,6 +158,10 @@ fn write_code<B: Board>(b: &mut B, area: u8, room: &mut Room) -> Result<(), Stop
     ensures written { (header : Header) → HoldsHeader (B.seen b.old).memory.flash area header
         → OnOk result (IsCodeWritten room.old.code_layer (slot_in header room.old.code_layer)
         (code_in room.old) (B.seen b.old).memory.flash (B.seen b.new).memory.flash) }
+    ensures idle { (header : Header) → HoldsHeader (B.seen b.old).memory.flash area header
+        → IsCodeThere room.old header (B.seen b.old).memory.flash
+        → (result ≡ Ok tt) × ((B.seen b.new).memory ≡ (B.seen b.old).memory)
+        × ((B.seen b.new).meter ≡ (B.seen b.old).meter) }
     ensures bbram { (B.seen b.new).memory.bbram ≡ (B.seen b.old).memory.bbram }
     ensures ran { Ran (2 * code_sectors room.old) result (B.seen b.old) (B.seen b.new) }
     ensures plans { SamePlans room.old room.new }
@@ -175,6 +186,10 @@ fn write_both<B: Board>(b: &mut B, area: u8, room: &mut Room) -> Result<(), Stop
     ensures spared { (header : Header) → HoldsHeader (B.seen b.old).memory.flash area header
         → (n : ℕ) → n < 256 → IsSpared room.old header area n
         → sector (B.seen b.new).memory.flash n ≡ sector (B.seen b.old).memory.flash n }
+    ensures idle { (header : Header) → HoldsHeader (B.seen b.old).memory.flash area header
+        → IsPublicThere room.old header area (B.seen b.old).memory.flash
+        → (result ≡ Ok tt) × ((B.seen b.new).memory ≡ (B.seen b.old).memory)
+        × ((B.seen b.new).meter ≡ (B.seen b.old).meter) }
     ensures bbram { (B.seen b.new).memory.bbram ≡ (B.seen b.old).memory.bbram }
     ensures ran { Ran (2 * code_sectors room.old + 2) result (B.seen b.old) (B.seen b.new) }
     ensures plans { SamePlans room.old room.new }
@@ -185,7 +200,7 @@ fn write_both<B: Board>(b: &mut B, area: u8, room: &mut Room) -> Result<(), Stop
 
 /// Writes what the room holds: the code of a load into the slot of its layer that the header in force does not name, or
 /// into slot 1 if it names none, and then the header into the other header area. The contents of the memory stay,
-/// wherever power fails. There are at most two write calls for each sector.
+/// wherever power fails. There are at most two write calls for each sector, and none if its bytes stand there already.
 pub fn write_public<S: Reaches<One>, B: Board>(s: S, b: &mut B, room: &mut Room) -> Result<S, Off>
     requires up { IsUp S.stage (B.seen b.old) }
     requires header { HasSomeHeader (B.seen b.old).memory }
@@ -201,6 +216,11 @@ pub fn write_public<S: Reaches<One>, B: Board>(s: S, b: &mut B, room: &mut Room)
         → HoldsHeader (B.seen b.old).memory.flash root.area header
         → (n : ℕ) → n < 256 → IsSpared room.old header root.area n
         → sector (B.seen b.new).memory.flash n ≡ sector (B.seen b.old).memory.flash n }
+    ensures idle { (root : Root) (header : Header) → RootIn (B.seen b.old).memory.bbram root
+        → HoldsHeader (B.seen b.old).memory.flash root.area header
+        → IsPublicThere room.old header root.area (B.seen b.old).memory.flash
+        → IsOk result × ((B.seen b.new).memory ≡ (B.seen b.old).memory)
+        × ((B.seen b.new).meter ≡ (B.seen b.old).meter) }
     ensures bbram { (B.seen b.new).memory.bbram ≡ (B.seen b.old).memory.bbram }
     ensures ran { Ran (2 * code_sectors room.old + 2) result (B.seen b.old) (B.seen b.new) }
     ensures plans { SamePlans room.old room.new }
@@ -215,7 +235,8 @@ pub fn write_public<S: Reaches<One>, B: Board>(s: S, b: &mut B, room: &mut Room)
 // ---- the log
 
 /// Writes the entry and signature that `room.log` holds into the sector of the log's entry at a position, which the
-/// header in force does not count. The contents of the memory stay, wherever power fails.
+/// header in force does not count. The contents of the memory stay, wherever power fails. There are at most two write
+/// calls, and none if the bytes stand there already.
 pub fn write_log<S: Reaches<One>, B: Board>(
     s: S,
     b: &mut B,
@@ -230,10 +251,15 @@ pub fn write_log<S: Reaches<One>, B: Board>(
     ensures contents { KeepsContents (B.seen b.old).memory (B.seen b.new).memory }
     ensures agree { (root : Root) → RootIn (B.seen b.old).memory.bbram root
         → AgreeForArea (B.seen b.old).memory.flash (B.seen b.new).memory.flash root.area }
+    ensures log { KeepsSignedLog (B.seen b.old).memory (B.seen b.new).memory }
     ensures same { DiffersOnlyIn (log_sector position) 1 (B.seen b.old).memory.flash
         (B.seen b.new).memory.flash }
     ensures written { OnOk result (IsSectorWritten (log_sector position) room.old.log.items
         (B.seen b.old).memory.flash (B.seen b.new).memory.flash) }
+    ensures idle { BeginsWithBytes (sector (B.seen b.old).memory.flash (log_sector position))
+        room.old.log.items
+        → IsOk result × ((B.seen b.new).memory ≡ (B.seen b.old).memory)
+        × ((B.seen b.new).meter ≡ (B.seen b.old).meter) }
     ensures bbram { (B.seen b.new).memory.bbram ≡ (B.seen b.old).memory.bbram }
     ensures ran { Ran 2 result (B.seen b.old) (B.seen b.new) }
     ensures plans { SamePlans room.old room.new }

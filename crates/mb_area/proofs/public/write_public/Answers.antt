@@ -1,7 +1,7 @@
-use Rattle.std.proofs.Common.{sym}
+use Rattle.std.proofs.Common.{sym, refl}
 use Rattle.mb_model.specs.Flash.{HoldsHeader}
-use Rattle.mb_area.specs.Flashes.{IsPublicWritten, IsSpared}
-use Rattle.mb_area.proofs.Published.{some_header, agree_for_roots, flash_kept, for_root, written_moved, spared_moved}
+use Rattle.mb_area.specs.Flashes.{IsPublicWritten, IsPublicThere, IsSpared}
+use Rattle.mb_area.proofs.Published.{some_header, agree_for_roots, flash_kept, for_root, written_moved, spared_moved, there_moved}
 use Rattle.mb_area.proofs.public.write_public.Goals as goal
 
 pub write_both-requires-clause-header : goal.write_both-requires-clause-header
@@ -48,3 +48,19 @@ returns-in-Err-clause-spared g c = λ root header is holds n less spared.
     (for_root (λ area. HoldsHeader (g.B.Board.seen c.args.b.now).memory.flash area header) root c.read_root-root.result (sym (c.read_root-root.ensures.root root is)) holds) n less
     (for_root (λ area. IsSpared c.read_root-root.new.room header area n) root c.read_root-root.result (sym (c.read_root-root.ensures.root root is))
     (spared_moved c.args.room.now c.read_root-root.new.room header root.area n c.read_root-root.ensures.plans spared))
+
+pub returns-in-Ok-clause-idle : goal.returns-in-Ok-clause-idle
+returns-in-Ok-clause-idle g c = λ root header is holds there. (
+    let idle = c.write_both.ensures.idle header
+    (for_root (λ area. HoldsHeader (g.B.Board.seen c.args.b.now).memory.flash area header) root c.read_root-root.result (sym (c.read_root-root.ensures.root root is)) holds)
+    (for_root (λ area. IsPublicThere c.read_root-root.new.room header area (g.B.Board.seen c.args.b.now).memory.flash) root c.read_root-root.result (sym (c.read_root-root.ensures.root root is))
+    (there_moved c.args.room.now c.read_root-root.new.room header root.area (g.B.Board.seen c.args.b.now).memory.flash c.read_root-root.ensures.plans there)) in
+    (refl, idle.1, idle.2))
+
+pub returns-in-Err-clause-idle : goal.returns-in-Err-clause-idle
+returns-in-Err-clause-idle g c = λ root header is holds there. (
+    let idle = c.write_both.ensures.idle header
+    (for_root (λ area. HoldsHeader (g.B.Board.seen c.args.b.now).memory.flash area header) root c.read_root-root.result (sym (c.read_root-root.ensures.root root is)) holds)
+    (for_root (λ area. IsPublicThere c.read_root-root.new.room header area (g.B.Board.seen c.args.b.now).memory.flash) root c.read_root-root.result (sym (c.read_root-root.ensures.root root is))
+    (there_moved c.args.room.now c.read_root-root.new.room header root.area (g.B.Board.seen c.args.b.now).memory.flash c.read_root-root.ensures.plans there)) in
+    absurd (cc (idle.0, c.in-Err.is)))
