@@ -1,2 +1,1 @@
 pub mod Sectored
-pub mod Areas
