@@ -2,7 +2,8 @@
 
 use std::alloc::{AllocError, AllocFailed};
 
-/// An allocation failed. What stands then is as it was before the call.
+/// An allocation failed. No clause says when one does: any call that takes an allocator may give this answer. Nothing
+/// has changed then, unless the call says otherwise.
 #[derive(Clone, Copy, Debug, PartialEq, Eq)]
 pub struct NoMemory;
 
