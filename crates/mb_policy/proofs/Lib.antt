@@ -1,0 +1,11 @@
+pub mod Parts
+pub mod Names
+pub mod Leaves
+pub mod Exact
+pub mod Steps
+pub mod Hashes
+pub mod ItemLines
+pub mod PolicyReading
+pub mod Judged
+pub mod Clearness
+pub mod ExampleProofs

@@ -1,0 +1,119 @@
+-- Small policies, and what they come to; the checker computes each line. Which rule decides?
+use Rattle.std.specs.Prelude.{◌≡◌, ℕ, List, [], ◌∷◌, ◌++◌, codes, replicate, None, Some, true, false}
+use Rattle.mb_model.specs.declared.key.Trust.TheVariants as trust
+use Rattle.mb_model.specs.declared.layer.Layer.{Layer}
+use Rattle.mb_model.specs.declared.order.KeyKind.TheVariants as kinds
+use Rattle.mb_model.specs.declared.state.Configuration.{Configuration}
+use Rattle.mb_model.specs.declared.state.Report.{Report}
+use Rattle.mb_model.specs.Layers.{unowned, equal_trusts}
+use Rattle.mb_model.specs.Lines.{TextFailsAtLine}
+use Rattle.mb_policy.specs.declared.judging.Judgement.TheVariants as judgement
+use Rattle.mb_policy.specs.Policies.{HashSet, Test, PolicyRule, PolicyItem, set_item, rule_item, test_depth, SaysRule}
+use Rattle.mb_policy.specs.Policies.{opposite, code_in, trust_is, number_between, comes_last, key_lives, has_message}
+use Rattle.mb_policy.specs.Policies.{IsPolicy}
+use Rattle.mb_policy.specs.Judging.{Situation, holds, IsJudged}
+
+-- ---- values
+
+abbrev pub allow_rule : List ℕ → Test → PolicyItem
+allow_rule name test = rule_item (record { name = name; allows = true; test = test })
+
+abbrev pub deny_rule : List ℕ → Test → PolicyItem
+deny_rule name test = rule_item (record { name = name; allows = false; test = test })
+
+-- a reliable layer with code of 32 bytes of this number
+abbrev pub coded_layer : ℕ → Layer
+coded_layer byte = record {
+  owner = None;
+  code = Some (record { hash = replicate 32 byte; version = 1 });
+  reliable = true;
+  trust = equal_trusts trust.Always;
+}
+
+-- a configuration of a key of layer 2
+abbrev pub small_configuration : ℕ → Configuration
+small_configuration number = record {
+  number = number;
+  upto = 2;
+  layers = record { one = coded_layer 17; two = coded_layer 34; three = unowned };
+}
+
+-- a key that lived in configurations 4 and 5
+abbrev pub small_report : Report
+small_report = record {
+  layer = 2;
+  kind = kinds.Epoch;
+  alive = true;
+  lives = small_configuration 4 ∷ small_configuration 5 ∷ [];
+  entries = 6;
+  message = None;
+}
+
+abbrev pub small_situation : Situation
+small_situation = record { report = small_report; index = 0; configuration = small_configuration 4 }
+
+-- the set whose one hash is 32 bytes of this number
+abbrev pub small_set : ℕ → HashSet
+small_set byte = record { name = codes "good"; hashes = replicate 32 byte ∷ [] }
+
+-- ---- lines
+
+pub record PolicyExamples : Type 0 where
+  -- no line, and lines that say nothing
+  pub empty : IsPolicy [] []
+  pub skipped : IsPolicy ([] ∷ codes "# nothing" ∷ []) []
+  -- two rules, with a note between them
+  pub rules : IsPolicy (codes "deny early number 4 4" ∷ codes "# others" ∷ codes "allow any not statement" ∷ [])
+      (deny_rule (codes "early") (number_between 4 4) ∷ allow_rule (codes "any") (opposite has_message) ∷ [])
+  -- a set, and a rule that names it
+  pub set : IsPolicy
+      (codes "set good 1111111111111111111111111111111111111111111111111111111111111111"
+      ∷ codes "allow a code 2 good" ∷ [])
+      (set_item (small_set 17) ∷ allow_rule (codes "a") (code_in 2 (small_set 17)) ∷ [])
+  -- a text of a rule whose set does not stand: line 1 is the first that is wrong
+  pub first_line : TextFailsAtLine IsPolicy (codes "allow a code 3 good" ++ 10 ∷ []) 1
+
+pub record PolicyCounterExamples : Type 0 where
+  -- not line 2
+  pub second_line : TextFailsAtLine IsPolicy (codes "allow a code 3 good" ++ 10 ∷ []) 2 → ⊥
+  -- a set that does not stand
+  pub missing_set : (items : List PolicyItem) → IsPolicy (codes "allow a code 3 good" ∷ []) items → ⊥
+  -- a rule that is named `default`, two of one name, a word too many, a layer that there is not
+  pub named_default : (items : List PolicyItem) → IsPolicy (codes "allow default alive" ∷ []) items → ⊥
+  pub named_twice : (items : List PolicyItem)
+      → IsPolicy (codes "allow a alive" ∷ codes "deny a last" ∷ []) items → ⊥
+  pub word_left : (items : List PolicyItem) → IsPolicy (codes "allow a alive alive" ∷ []) items → ⊥
+  pub fourth_layer : (items : List PolicyItem) → IsPolicy (codes "allow a reliable 4" ∷ []) items → ⊥
+  -- a test nested 33 deep
+  pub too_deep : (before : List PolicyItem) (words : List (List ℕ)) (rule : PolicyRule) → test_depth rule.test ≡ 33
+      → SaysRule before words rule → ⊥
+
+-- ---- judgements
+
+pub record JudgementExamples : Type 0 where
+  -- `default` denies the first configuration
+  pub nothing : IsJudged [] small_report (judgement.Denied 4 (codes "default"))
+  pub all : IsJudged (allow_rule (codes "a") key_lives ∷ []) small_report judgement.Allowed
+  -- the first rule that holds decides
+  pub denied : IsJudged (deny_rule (codes "late") comes_last ∷ allow_rule (codes "a") key_lives ∷ []) small_report
+      (judgement.Denied 5 (codes "late"))
+  pub allowed : IsJudged (allow_rule (codes "a") key_lives ∷ deny_rule (codes "late") comes_last ∷ []) small_report
+      judgement.Allowed
+  -- the code of layer 2 is in a set, or not
+  pub code : holds (code_in 2 (small_set 34)) small_situation ≡ true
+  pub other_code : holds (code_in 2 (small_set 17)) small_situation ≡ false
+  -- layer 3 stands as one without an owner, whose trusts are never; it is not listed, so the test does not hold
+  pub not_listed : holds (trust_is 3 1 trust.Never) small_situation ≡ false
+  pub not_trusted : holds (opposite (trust_is 3 1 trust.Never)) small_situation ≡ true
+
+pub record JudgementCounterExamples : Type 0 where
+  -- nothing is allowed by no rule, or where a rule denies first
+  pub no_rule : IsJudged [] small_report judgement.Allowed → ⊥
+  pub denied_first : IsJudged (deny_rule (codes "late") comes_last ∷ allow_rule (codes "a") key_lives ∷ []) small_report
+      judgement.Allowed → ⊥
+  -- not the second configuration is denied, where the first is, and not by another name
+  pub later : IsJudged [] small_report (judgement.Denied 5 (codes "default")) → ⊥
+  pub other_name : IsJudged [] small_report (judgement.Denied 4 (codes "a")) → ⊥
+  -- what is allowed is not denied
+  pub allowed : (number : ℕ) (name : List ℕ)
+      → IsJudged (allow_rule (codes "a") key_lives ∷ []) small_report (judgement.Denied number name) → ⊥

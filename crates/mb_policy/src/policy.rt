@@ -1,0 +1,76 @@
+//! The policy, as it is kept.
+
+ghost use Rattle.std.specs.Prelude.{◌≡◌, IfOk};
+
+use mb_model::{Bytes, Items, KeyKind, NoMemory, Trust};
+use std::alloc::Global;
+
+/// A relying party's policy, as `read_policy` makes it.
+#[derive(Drop)]
+pub struct Policy {
+    /// What the lines say that are not skipped, in order.
+    pub(crate) lines: Items<Line>,
+}
+
+/// What a line says.
+#[derive(Drop)]
+pub enum Line {
+    Set(NamedSet),
+    Rule(Rule),
+}
+
+/// A set of hashes, under its name.
+#[derive(Drop)]
+pub struct NamedSet {
+    pub name: Bytes,
+    pub hashes: Items<[u8; 32]>,
+}
+
+/// A rule, under its name.
+#[derive(Drop)]
+pub struct Rule {
+    pub name: Bytes,
+    /// Whether a configuration is allowed for which the test is the first that holds.
+    pub allows: bool,
+    pub test: Test,
+}
+
+/// A test of a configuration. A set is given by its index among the lines before the rule.
+#[derive(Drop)]
+pub enum Test {
+    /// `and`: both hold.
+    And(Box<Test>, Box<Test>),
+    /// `or`: one or both hold.
+    Or(Box<Test>, Box<Test>),
+    /// `not`: it does not hold.
+    Not(Box<Test>),
+    /// `owner`: the layer is listed, and the hash of its owner is in the set.
+    Owner { layer: u8, set: usize },
+    /// `code`: the layer is listed, and the hash of its code is in the set.
+    Code { layer: u8, set: usize },
+    /// `version`: the layer is listed with code of one of these versions.
+    Version { layer: u8, least: u32, most: u32 },
+    /// `trust`: the layer is listed, and this is its trust in changes of the lower layer.
+    Trust { layer: u8, lower: u8, trust: Trust },
+    /// `reliable`: the layer is listed and reliable.
+    Reliable { layer: u8 },
+    /// `number`: the configuration has one of these numbers.
+    Number { least: u32, most: u32 },
+    /// `first`: it is the first of the report.
+    First,
+    /// `last`: it is the last of the report.
+    Last,
+    /// `kind`: the key is of this kind.
+    Kind(KeyKind),
+    /// `alive`: the key is alive.
+    Alive,
+    /// `statement`: the chain has a statement.
+    Statement,
+}
+
+/// The test on the heap.
+pub(crate) fn boxed(alloc: Global, test: Test) -> Result<Box<Test>, NoMemory>
+    ensures { IfOk result (λ b. b.value ≡ test) }
+{
+    Ok(Box::new(alloc, test)?)
+}
