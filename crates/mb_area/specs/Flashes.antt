@@ -38,8 +38,8 @@ pub record IsPlan (room : Room) : Type 0 where
   pub header : length room.header.items ≤ SECTOR_LENGTH
 
 -- the code that is written next
-abbrev pub code_in : Room → Option (List ℕ)
-code_in room = if room.code_layer == 0 then None else Some room.code.items
+abbrev pub code_to_write : Room → Option (List ℕ)
+code_to_write room = if room.code_layer == 0 then None else Some room.code.items
 
 -- how many sectors it takes
 abbrev pub code_sectors : Room → ℕ
@@ -49,13 +49,13 @@ code_sectors room = if room.code_layer == 0 then 0 else sectors_for (length room
 -- room to the other area than this one.
 pub record IsPublicWritten (room : Room) (current : Header) (area : ℕ) (before after : List ℕ) : Type 0 where
   pub between : List ℕ
-  pub code : IsCodeWritten room.code_layer (slot_in current room.code_layer) (code_in room) before between
+  pub code : IsCodeWritten room.code_layer (slot_in current room.code_layer) (code_to_write room) before between
   pub header : IsSectorWritten (header_sector (1 - area)) room.header.items between after
 
 -- the code of the room, if it has any, stands in the slot that it would be written to
 abbrev pub IsCodeThere : Room → Header → List ℕ → Type 0
 IsCodeThere room current flash =
-    IfSome (code_in room) (BeginsWithBytes
+    IfSome (code_to_write room) (BeginsWithBytes
     (code_slot flash room.code_layer (free_slot (slot_in current room.code_layer))))
 
 -- What would be written stands there already: the code of the room, and its header.

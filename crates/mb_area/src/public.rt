@@ -16,7 +16,7 @@ ghost use Rattle.mb_model_memory.specs.Holding.{KeepsContents};
 ghost use Rattle.mb_model_memory.specs.NextHeaders.{free_slot, IsCodeWritten};
 ghost use Rattle.mb_layout.specs.Plans.{SamePlans};
 ghost use Rattle.mb_area.specs.Flashes.{HasSomeHeader, BeginWithHeader, HoldsSomeHeader, IsPlan, IsPublicWritten};
-ghost use Rattle.mb_area.specs.Flashes.{IsCodeThere, IsPublicThere, IsSpared, code_in, code_sectors};
+ghost use Rattle.mb_area.specs.Flashes.{IsCodeThere, IsPublicThere, IsSpared, code_to_write, code_sectors};
 
 use crate::root::read_root;
 use mb_board::{Board, Stopped};
@@ -157,7 +157,7 @@ fn write_code<B: Board>(b: &mut B, area: u8, room: &mut Room) -> Result<(), Stop
         (B.seen b.old).memory.flash (B.seen b.new).memory.flash }
     ensures written { (header : Header) → HoldsHeader (B.seen b.old).memory.flash area header
         → OnOk result (IsCodeWritten room.old.code_layer (slot_in header room.old.code_layer)
-        (code_in room.old) (B.seen b.old).memory.flash (B.seen b.new).memory.flash) }
+        (code_to_write room.old) (B.seen b.old).memory.flash (B.seen b.new).memory.flash) }
     ensures idle { (header : Header) → HoldsHeader (B.seen b.old).memory.flash area header
         → IsCodeThere room.old header (B.seen b.old).memory.flash
         → (result ≡ Ok tt) × ((B.seen b.new).memory ≡ (B.seen b.old).memory)
