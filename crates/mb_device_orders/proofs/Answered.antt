@@ -12,6 +12,7 @@ use Rattle.mb_model.specs.OrderEffects.{obeyed}
 use Rattle.mb_model.specs.OrderStep.{OrderStep, is_obeyed}
 use Rattle.mb_model.specs.declared.state.Figures.{Figures}
 use Rattle.mb_model_memory.specs.Holding.{Means, IsReady}
+use Rattle.mb_layout.specs.declared.room.Room.{Room}
 use Rattle.mb_boot.specs.Settling.{IsOnlyRoot}
 use Rattle.mb_device_orders.specs.declared.judging.Judged.{Judged}
 use Rattle.mb_device_orders.specs.declared.remembering.Known.{Known}
@@ -32,10 +33,10 @@ has_passed known memory text draw judged is passes root = record {
   root = root;
 }
 
-pub has_commit : (known : Known) (memory : Memory) (text draw : List ℕ) (judged : Judged) (root : Root) (bytes : List ℕ) → IsRemembered known memory
+pub has_commit : (known : Known) (memory : Memory) (text draw : List ℕ) (judged : Judged) (root : Root) (room : Room) → IsRemembered known memory
     → ((state : State) → IsReady memory state → Knows known state → PassesAs state text draw judged)
-    → ((state : State) (text draw : List ℕ) → IsReady memory state → PassesAs state text draw judged → IsCommit memory root bytes state judged.order draw) → HasCommit memory root bytes
-has_commit known memory text draw judged root bytes is passes commits = record {
+    → ((state : State) (text draw : List ℕ) → IsReady memory state → PassesAs state text draw judged → IsCommit memory root room state judged.order draw) → HasCommit memory root room
+has_commit known memory text draw judged root room is passes commits = record {
   state = is.state;
   order = judged.order;
   draw = draw;

@@ -1,104 +1,247 @@
 -- How the steps of a commit join.
-use Rattle.std.proofs.Common.{◌≤◌, ◌⊎◌, inl, inr, ℕ, ◌-◌, List, length, sym, ap, subst, arith}
+use Rattle.std.proofs.Common.{◌≡◌, ◌≤◌, ◌<◌, ◌⊎◌, inl, inr, ℕ, ◌+◌, ◌-◌, ◌/◌, List, length, Bool, true, false, Option, None, Some, Result, Ok, Err, refl, sym, ap, subst, ◌∙◌, arith, eqb-true}
+use Rattle.std.specs.Prelude.{◌==◌, IfSome, if◌then◌else◌}
 use Rattle.mb_model.specs.declared.order.Order.{Order}
+use Rattle.mb_model.specs.declared.state.Codes.{Codes}
 use Rattle.mb_model.specs.declared.state.State.{State}
+use Rattle.mb_model.specs.declared.stored.Header.{Header}
 use Rattle.mb_model.specs.declared.stored.Root.{Root}
-use Rattle.mb_model.specs.Board.{Memory, IsLoaded}
+use Rattle.mb_model.specs.Board.{Memory, Meter, IsLoaded}
 use Rattle.mb_model.specs.Clean.{root_of}
-use Rattle.mb_model.specs.OldFlash.{flash_area, BeginsArea}
-use Rattle.mb_model.specs.Flash.{HoldsPublic}
+use Rattle.mb_model.specs.Flash.{sector, HoldsHeader, HoldsPublic}
+use Rattle.mb_model.specs.HeaderFormat.{header_format}
 use Rattle.mb_model.specs.Meaning.{RootIn}
 use Rattle.mb_model.specs.OrderEffects.{obeyed}
 use Rattle.mb_model.specs.RootFormat.{root_format}
-use Rattle.mb_model_memory.specs.Commits.{new_entries}
+use Rattle.mb_model.specs.Sectors.{header_sector, log_sector}
+use Rattle.mb_model.specs.StoredLog.{AreCounted}
+use Rattle.mb_model_lemmas.proofs.HeldSegments.{begins_with}
 use Rattle.mb_model_lemmas.proofs.ValidSteps.{obeyed_valid}
-use Rattle.mb_model_memory.specs.Commits.{committed, at_rest}
+use Rattle.mb_model_memory.specs.Commits.{committed, at_rest, new_entries}
+use Rattle.mb_model_memory.specs.FlashInForce.{slot_in, AgreeForArea, KeepsSignedLog}
 use Rattle.mb_model_memory.specs.Holding.{Holds, Means, KeepsContents, KeepsMeaning, IsReady}
+use Rattle.mb_model_memory.specs.NextHeaders.{code_brought, IsCodeWritten, header_after}
 use Rattle.mb_model_memory.proofs.CommitLemmas.{commit_counted, commit_stands, committed_area_is}
+use Rattle.mb_model_memory.proofs.FlashFrames.{signed_log_stays}
+use Rattle.mb_model_memory.proofs.FlashHeaders.{code_brought_short}
+use Rattle.mb_model_memory.proofs.FlashWrites.{order_written}
 use Rattle.mb_model_memory.proofs.HoldingLemmas.{contents_keep}
 use Rattle.mb_model_memory.proofs.StorableMemories.{stands_storable}
-use Rattle.mb_model_memory.proofs.StorableRecords.{committed_root, public_room}
-use Rattle.mb_area.specs.Roots.{HasSomeRoot, CommitsRoot}
+use Rattle.mb_model_memory.proofs.StorableRecords.{committed_root}
+use Rattle.mb_board.specs.Calls.{IsMetered, Seen, Ran}
+use Rattle.mb_layout.specs.declared.room.Room.{Room}
+use Rattle.mb_area.specs.Flashes.{HasSomeHeader, IsPlan, IsPublicWritten, code_in, code_sectors}
+use Rattle.mb_area.specs.Roots.{CommitsRoot}
 use Rattle.mb_boot.specs.Settling.{IsLive}
 use Rattle.mb_boot.specs.Booting.{Cleans}
-use Rattle.mb_device_orders.specs.Planning.{IsCommit, HasCommit}
+use Rattle.mb_device_orders.specs.Planning.{IsToWrite, IsCommit, HasCommit}
+use Rattle.mb_device_orders.proofs.Headers.{header_size}
+use Rattle.mb_device_orders.proofs.Planned.{obeyed_codes, order_layer}
+use Rattle.mb_device_orders.proofs.Remembered.{small_area}
 
 -- ---- before the first write
 
-pub root_there : (memory : Memory) (root : Root) (bytes : List ℕ) → HasCommit memory root bytes → HasSomeRoot memory
-root_there memory root bytes has = record { root = root_of has.state has.commit.area; holds = has.commit.holds.root }
+pub header_there : (memory : Memory) (root : Root) (room : Room) → HasCommit memory root room → HasSomeHeader memory
+header_there memory root room has = record {
+  root = root_of has.state has.commit.area;
+  in_force = has.commit.holds.root;
+  header = has.commit.holds.public.header;
+  holds = has.commit.holds.public.begins;
+}
 
-pub record_fits : (memory : Memory) (root : Root) (bytes : List ℕ) → HasCommit memory root bytes → length bytes ≤ 470000
-record_fits memory root bytes has = omega (arith, ap length has.commit.spelled.whole, public_room _ has.commit.spelled.allowed)
+code_fits : (room : Room) (layer : ℕ) (brought : Option (List ℕ)) → layer ≤ 3 → IfSome brought (λ code. length code ≤ 32768) → IsToWrite room layer brought → (room.code_layer ≤ 3) × (length room.code.items ≤ 32768)
+code_fits room layer None most short is = (omega (arith, is.0), omega (arith, ap length is.1))
+code_fits room layer (Some code) most short is = (omega (arith, is.0, most), omega (arith, ap length is.1, short))
 
-pub root_allowed : (memory : Memory) (root : Root) (bytes : List ℕ) → HasCommit memory root bytes → root_format.Allowed root
-root_allowed memory root bytes has =
+pub plan_is : (memory : Memory) (root : Root) (room : Room) → HasCommit memory root room → IsPlan room
+plan_is memory root room has =
+    let fits = code_fits room has.order.layer (code_brought has.order.act) (order_layer has.order has.commit.allowed).1 (code_brought_short has.order has.commit.allowed) has.commit.code in
+    let size = header_size room.header.items _ has.commit.header in
+    record { layer = fits.0; code = fits.1; some = size.0; header = size.1 }
+
+pub root_allowed : (memory : Memory) (root : Root) (room : Room) → HasCommit memory root room → root_format.Allowed root
+root_allowed memory root room has =
     let is = has.commit in
     subst root_format.Allowed (sym is.root_is)
     (committed_root has.state has.order has.draw (1 - is.area) (omega arith) is.ready.valid (stands_storable memory.flash memory.bbram has.state is.ready.means is.ready.valid) is.allowed is.passes)
 
 -- ---- the commit
 
--- once the record is written, the flash holds it for the root
-held_public : (before between : Memory) (root : Root) (bytes : List ℕ) (state : State) (order : Order) (draw : List ℕ) (is : IsCommit before root bytes state order draw)
-    → BeginsArea (flash_area between.flash (1 - is.area)) bytes → HoldsPublic between.flash root (obeyed state order draw).codes state.log (new_entries state order draw)
-held_public before between root bytes state order draw is begins =
-    subst (λ (r : Root). HoldsPublic between.flash r (obeyed state order draw).codes state.log (new_entries state order draw)) (sym is.root_is)
-    (record {
-      begins = record {
-        bytes = bytes;
-        begins = subst (λ (n : ℕ). BeginsArea (flash_area between.flash n) bytes) (sym (committed_area_is state order draw (1 - is.area))) begins;
-        spelled = is.spelled;
-      };
-      counted = commit_counted state order draw (1 - is.area);
-    })
+-- both are written, whatever root and header are in force
+abbrev pub Written : Memory → Memory → Room → Type 0
+Written before between room = (root : Root) (header : Header) → RootIn before.bbram root → HoldsHeader before.flash root.area header → IsPublicWritten room header root.area before.flash between.flash
 
--- the record stands where it is not in force, whatever root is
-abbrev pub Written : Memory → Memory → List ℕ → Type 0
-Written before between bytes = (root : Root) → RootIn before.bbram root → BeginsArea (flash_area between.flash (1 - root.area)) bytes
+-- what was written of the code is what the order brings
+code_by : (n layer : ℕ) (code : List ℕ) (b : Bool) (header : Header) (before between : List ℕ) → (layer == 0) ≡ b → 1 ≤ layer → n ≡ layer
+    → IsCodeWritten n (slot_in header n) (if n == 0 then None else Some code) before between → IsCodeWritten layer (slot_in header layer) (Some code) before between
+code_by n layer code true header before between e some same written = absurd (omega (arith, eqb-true layer 0 e, some))
+code_by n layer code false header before between e some same written =
+    subst (λ (c : Bool). IsCodeWritten layer (slot_in header layer) (if c then None else Some code) before between) e
+    (subst (λ k. IsCodeWritten k (slot_in header k) (if k == 0 then None else Some code) before between) same written)
 
-holds_committed : (before between after : Memory) (root : Root) (bytes : List ℕ) (state : State) (order : Order) (draw : List ℕ) (is : IsCommit before root bytes state order draw)
-    → KeepsContents before between → Written before between bytes → CommitsRoot root between after → Holds after (committed state order draw (1 - is.area))
+code_none : (n : ℕ) (code : List ℕ) (layer : ℕ) (header : Header) (before between : List ℕ) → n ≡ 0 → IsCodeWritten n (slot_in header n) (if n == 0 then None else Some code) before between → IsCodeWritten layer (slot_in header layer) None before between
+code_none n code layer header before between same written = subst (λ k. IsCodeWritten k (slot_in header k) (if k == 0 then None else Some code) before between) same written
+
+code_written : (room : Room) (layer : ℕ) (brought : Option (List ℕ)) (header : Header) (before between : List ℕ) → 1 ≤ layer → IsToWrite room layer brought
+    → IsCodeWritten room.code_layer (slot_in header room.code_layer) (code_in room) before between → IsCodeWritten layer (slot_in header layer) brought before between
+code_written room layer None header before between some is written = code_none room.code_layer room.code.items layer header before between is.0 written
+code_written room layer (Some code) header before between some is written =
+    subst (λ (xs : List ℕ). IsCodeWritten layer (slot_in header layer) (Some xs) before between) is.1 (code_by room.code_layer layer room.code.items (layer == 0) header before between refl some is.0 written)
+
+module _ (before between : Memory) (root : Root) (room : Room) (state : State) (order : Order) (draw : List ℕ) (is : IsCommit before root room state order draw) where
+  area_is : root.area ≡ 1 - is.area
+  area_is = ap (λ (r : Root). r.area) is.root_is ∙ committed_area_is state order draw (1 - is.area)
+
+  small : is.area ≤ 1
+  small = small_area before.bbram (root_of state is.area) is.only_root
+
+  -- the new root names the area that now holds the new header
+  pub header_stands : Written before between room → HoldsHeader between.flash root.area (header_after is.holds.public.header order.layer order.act is.first is.second)
+  header_stands written =
+      let w = written (root_of state is.area) is.holds.public.header is.holds.root is.holds.public.begins in
+      subst (λ n. HoldsHeader between.flash n (header_after is.holds.public.header order.layer order.act is.first is.second)) (sym area_is)
+      (begins_with header_format (sector between.flash (header_sector (1 - is.area))) room.header.items _ is.header w.header.begins)
+
+  -- once both are written, the flash holds for the root what the order leaves
+  pub held_public : IsLoaded before → Written before between room → HoldsPublic between.flash root (obeyed state order draw).codes state.log (new_entries state order draw)
+  held_public sized written =
+      let w = written (root_of state is.area) is.holds.public.header is.holds.root is.holds.public.begins in
+      let layer = order_layer order is.allowed in
+      let code = code_written room order.layer (code_brought order.act) is.holds.public.header before.flash w.between layer.0 is.code w.code in
+      let counted : AreCounted root.pending (new_entries state order draw) = subst (λ (r : Root). AreCounted r.pending (new_entries state order draw)) (sym is.root_is) (commit_counted state order draw (1 - is.area)) in
+      subst (λ (codes : Codes). HoldsPublic between.flash root codes state.log (new_entries state order draw)) (sym (obeyed_codes state order draw))
+      (order_written before.flash w.between between.flash (root_of state is.area) root state.codes state.log (new_entries state order draw) order.layer order.act is.first is.second room.header.items is.holds.public is.only_header small layer.0 layer.1
+      sized.flash code w.header is.header area_is is.texts counted).0
+
+holds_committed : (before between after : Memory) (root : Root) (room : Room) (state : State) (order : Order) (draw : List ℕ) (is : IsCommit before root room state order draw) → IsLoaded before
+    → KeepsContents before between → Written before between room → CommitsRoot root between after → Holds after (committed state order draw (1 - is.area))
 unfolding committed
-holds_committed before between after root bytes state order draw is kept written commits =
-    let public = held_public before between root bytes state order draw is (written (root_of state is.area) is.holds.root) in
+holds_committed before between after root room state order draw is sized kept written commits =
+    let public = held_public before between root room state order draw is sized written in
     subst
     (λ (r : Root). Holds after (record (at_rest state is.area) { root = r; codes = (obeyed state order draw).codes; signed = state.log; unsigned = new_entries state order draw }))
     is.root_is
     (commits.committed (at_rest state is.area) (obeyed state order draw).codes state.log (new_entries state order draw) (kept.kept (at_rest state is.area) is.holds) public)
 
-pub means_committed : (before between after : Memory) (root : Root) (bytes : List ℕ) (state : State) (order : Order) (draw : List ℕ) → IsCommit before root bytes state order draw
-    → KeepsContents before between → Written before between bytes → CommitsRoot root between after → IsLoaded after → Means after (obeyed state order draw)
-means_committed before between after root bytes state order draw is kept written commits sized =
-    commit_stands after.flash after.bbram state order draw (1 - is.area) sized is.ready.valid is.allowed is.passes
-    (holds_committed before between after root bytes state order draw is kept written commits)
+-- what was there before the writes, and what each of them left
+pub record IsCommitted (before between after : Memory) (root : Root) (room : Room) : Type 0 where
+  pub sized : IsLoaded before
+  pub kept : KeepsContents before between
+  pub written : Written before between room
+  pub commits : CommitsRoot root between after
+  pub sized_after : IsLoaded after
 
-pub live_committed : (before between after : Memory) (root : Root) (bytes : List ℕ) → HasCommit before root bytes
-    → KeepsContents before between → Written before between bytes → CommitsRoot root between after → IsLoaded after → IsLive after
-live_committed before between after root bytes has kept written commits sized = record {
+pub means_committed : (before between after : Memory) (root : Root) (room : Room) (state : State) (order : Order) (draw : List ℕ) → IsCommit before root room state order draw → IsCommitted before between after root room → Means after (obeyed state order draw)
+means_committed before between after root room state order draw is done =
+    commit_stands after.flash after.bbram state order draw (1 - is.area) done.sized_after is.ready.valid is.allowed is.passes
+    (holds_committed before between after root room state order draw is done.sized done.kept done.written done.commits)
+
+pub live_committed : (before between after : Memory) (root : Root) (room : Room) → HasCommit before root room → IsCommitted before between after root room → IsLive after
+live_committed before between after root room has done = record {
   state = obeyed has.state has.order has.draw;
-  means = means_committed before between after root bytes has.state has.order has.draw has.commit kept written commits sized;
+  means = means_committed before between after root room has.state has.order has.draw has.commit done;
   valid = obeyed_valid has.state has.order has.draw has.commit.ready.valid has.commit.allowed has.commit.passes;
 }
 
+root_committed : (before between after : Memory) (root : Root) (room : Room) (state : State) (order : Order) (draw : List ℕ) → IsCommit before root room state order draw → IsCommitted before between after root room → RootIn after.bbram root
+unfolding committed
+root_committed before between after root room state order draw is done =
+    subst (RootIn after.bbram) (sym is.root_is) (holds_committed before between after root room state order draw is done.sized done.kept done.written done.commits).root
+
 -- ---- at the stops, and at the end
 
-pub means_old : (before between : Memory) (root : Root) (bytes : List ℕ) (state : State) (order : Order) (draw : List ℕ) → IsCommit before root bytes state order draw → KeepsContents before between → IsLoaded between → Means between state
-means_old before between root bytes state order draw is kept sized = (contents_keep before between sized kept).kept state is.ready.means
+pub means_old : (before between : Memory) (root : Root) (room : Room) (state : State) (order : Order) (draw : List ℕ) → IsCommit before root room state order draw → KeepsContents before between → IsLoaded between → Means between state
+means_old before between root room state order draw is kept sized = (contents_keep before between sized kept).kept state is.ready.means
 
-pub means_either : (before between after : Memory) (root : Root) (bytes : List ℕ) (state : State) (order : Order) (draw : List ℕ) → IsCommit before root bytes state order draw
-    → KeepsContents before between → IsLoaded between → Written before between bytes → IsLoaded after → KeepsContents between after ⊎ CommitsRoot root between after → Means after state ⊎ Means after (obeyed state order draw)
-means_either before between after root bytes state order draw is kept first written sized (inl stays) =
-    inl ((contents_keep between after sized stays).kept state (means_old before between root bytes state order draw is kept first))
-means_either before between after root bytes state order draw is kept first written sized (inr commits) =
-    inr (means_committed before between after root bytes state order draw is kept written commits sized)
+pub means_either : (before between after : Memory) (root : Root) (room : Room) (state : State) (order : Order) (draw : List ℕ) → IsCommit before root room state order draw → IsLoaded before
+    → KeepsContents before between → IsLoaded between → Written before between room → IsLoaded after → KeepsContents between after ⊎ CommitsRoot root between after → Means after state ⊎ Means after (obeyed state order draw)
+means_either before between after root room state order draw is sized kept first written last (inl stays) =
+    inl ((contents_keep between after last stays).kept state (means_old before between root room state order draw is kept first))
+means_either before between after root room state order draw is sized kept first written last (inr commits) =
+    inr (means_committed before between after root room state order draw is (record { sized = sized; kept = kept; written = written; commits = commits; sized_after = last }))
 
-pub ready_committed : (before between after last : Memory) (root : Root) (bytes : List ℕ) (state : State) (order : Order) (draw : List ℕ) → IsCommit before root bytes state order draw
-    → KeepsContents before between → Written before between bytes → CommitsRoot root between after → IsLoaded after → KeepsMeaning after last → Cleans after last → IsReady last (obeyed state order draw)
-ready_committed before between after last root bytes state order draw is kept written commits sized keeps cleans =
-    let means : Means after (obeyed state order draw) = means_committed before between after root bytes state order draw is kept written commits sized in
+pub ready_committed : (before between after last : Memory) (root : Root) (room : Room) (state : State) (order : Order) (draw : List ℕ) → IsCommit before root room state order draw
+    → IsCommitted before between after root room → KeepsMeaning after last → Cleans after last → IsReady last (obeyed state order draw)
+ready_committed before between after last root room state order draw is done keeps cleans =
+    let means : Means after (obeyed state order draw) = means_committed before between after root room state order draw is done in
     record {
       means = keeps.kept (obeyed state order draw) means;
       valid = obeyed_valid state order draw is.ready.valid is.allowed is.passes;
       clean = cleans.cleans (obeyed state order draw) means;
     }
+
+-- ---- the signed log
+
+-- it stays until the root is written, which leaves the flash
+pub log_before : (before between after : Memory) → ((root : Root) → RootIn before.bbram root → AgreeForArea before.flash between.flash root.area) → after.flash ≡ between.flash → KeepsSignedLog before after
+log_before before between after agree same = record {
+  kept = λ root header has holds position less.
+      ap (λ (flash : List ℕ). sector flash (log_sector position)) same ∙ (signed_log_stays before between agree).kept root header has holds position less;
+}
+
+-- and then, since the new header counts as many entries
+pub log_after : (before between after last : Memory) (root : Root) (room : Room) (has : HasCommit before root room) → IsCommitted before between after root room
+    → ((root : Root) → RootIn before.bbram root → AgreeForArea before.flash between.flash root.area) → after.flash ≡ between.flash → KeepsSignedLog after last → KeepsSignedLog before last
+log_after before between after last root room has done agree same keeps =
+    let is = has.commit in
+    let own : RootIn after.bbram root =
+    root_committed before between after root room has.state has.order has.draw is done in
+    let stands = subst (λ (flash : List ℕ). HoldsHeader flash root.area (header_after is.holds.public.header has.order.layer has.order.act is.first is.second)) (sym same) (header_stands before between root room has.state has.order has.draw is done.written) in
+    record {
+      kept = λ any header in_force holds position less. (
+          let same_root : any ≡ root_of has.state is.area = is.only_root.only any in_force in
+          let here : HoldsHeader before.flash is.area header = subst (λ (r : Root). HoldsHeader before.flash r.area header) same_root holds in
+          let counts : position < is.holds.public.header.signed = omega (arith, less, ap (λ (h : Header). h.signed) (is.only_header header here)) in
+          keeps.kept root (header_after is.holds.public.header has.order.layer has.order.act is.first is.second) own stands position counts
+          ∙ (log_before before between after agree same).kept any header in_force holds position less);
+    }
+
+-- ---- how many writes there are
+
+sectors_by : (b : Bool) (n : ℕ) → n ≤ 32768 → (if b then 0 else (n + 4096 - 1) / 4096) ≤ 8
+sectors_by true n short = omega arith
+sectors_by false n short = omega (arith, short)
+
+pub few_sectors : (room : Room) → IsPlan room → code_sectors room ≤ 8
+few_sectors room is = sectors_by (room.code_layer == 0) (length room.code.items) is.code
+
+-- calls after calls that power did not stop
+metered_then : {A E C D : Type 0} (n m : ℕ) (value : A) (result : Result C D) (before between after : Meter) → IsMetered n {A = A} {E = E} (Ok value) before between → IsMetered m result between after → IsMetered (n + m) result before after
+metered_then n m value (Ok next) before between after first second = record { armed = second.armed ∙ first.armed; stops = second.stops ∙ first.stops; writes = omega (arith, first.writes, second.writes); cut = tt }
+metered_then n m value (Err stop) before between after first second =
+    record { armed = second.armed; stops = second.stops ∙ ap (λ k. k + 1) first.stops; writes = omega (arith, first.writes, second.writes); cut = sym first.armed ∙ second.cut }
+
+pub ran_then : {A E C D : Type 0} (n m : ℕ) (value : A) (result : Result C D) (before between after : Seen) → Ran n {A = A} {E = E} (Ok value) before between → Ran m result between after → Ran (n + m) result before after
+ran_then {A} {E} n m value (Ok next) before between after first second = record {
+  power = second.power;
+  level = second.level ∙ first.level;
+  sized = second.sized;
+  ledger = second.ledger ∙ first.ledger;
+  meter = metered_then n m value (Ok next) before.meter between.meter after.meter first.meter second.meter;
+}
+ran_then {A} {E} n m value (Err stop) before between after first second = record {
+  power = second.power;
+  level = second.level;
+  sized = second.sized;
+  ledger = second.ledger ∙ first.ledger;
+  meter = metered_then n m value (Err stop) before.meter between.meter after.meter first.meter second.meter;
+}
+
+-- what is handed on counts the same
+pub ok_most : {A B C D : Type 0} (n m : ℕ) (value : A) (other : B) (before after : Seen) → n ≤ m → Ran n {A = A} {E = C} (Ok value) before after → Ran m {A = B} {E = D} (Ok other) before after
+ok_most n m value other before after most ran = record {
+  power = ran.power;
+  level = ran.level;
+  sized = ran.sized;
+  ledger = ran.ledger;
+  meter = record { armed = ran.meter.armed; stops = ran.meter.stops; writes = omega (arith, most, ran.meter.writes); cut = tt };
+}
+
+pub err_most : {A B C D : Type 0} (n m : ℕ) (stop : C) (other : D) (before after : Seen) → n ≤ m → Ran n {A = A} {E = C} (Err stop) before after → Ran m {A = B} {E = D} (Err other) before after
+err_most n m stop other before after most ran = record {
+  power = ran.power;
+  level = ran.level;
+  sized = ran.sized;
+  ledger = ran.ledger;
+  meter = record { armed = ran.meter.armed; stops = ran.meter.stops; writes = omega (arith, most, ran.meter.writes); cut = ran.meter.cut };
+}

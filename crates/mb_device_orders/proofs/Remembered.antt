@@ -1,22 +1,34 @@
 -- What the memory of a device that is ready tells of its state.
-use Rattle.std.proofs.Common.{◌≡◌, ◌≤◌, ℕ, List, [], length, sym, ap, subst, arith}
-use Rattle.mb_format.specs.Format.{IsBytes, Spells}
+use Rattle.std.proofs.Common.{◌≡◌, ◌≤◌, ◌*◌, ℕ, List, [], length, drop, Some, Result, Ok, Err, sym, ap, subst, ◌∙◌, arith}
+use Rattle.std.specs.Result.{result_ok}
+use Rattle.std.proofs.lemmas.List.{length-take, take_all}
+use Rattle.mb_format.specs.Format.{Format, IsBytes, SpelledAt, Spells}
+use Rattle.mb_format.specs.Reading.{IsExact}
+use Rattle.mb_format.proofs.Exact.{IsClear-from_exact}
+use Rattle.mb_bytes.specs.declared.cursor.Cursor.{Cursor}
+use Rattle.mb_bytes.specs.Reads.{bad_at, ReadsExactly}
+use Rattle.mb_model.specs.declared.tools.BadRecord.{BadRecord}
+use Rattle.mb_model.specs.declared.entry.Entry.{Entry}
 use Rattle.mb_model.specs.declared.entry.SignedEntry.{SignedEntry}
-use Rattle.mb_model.specs.declared.state.Codes.{Codes}
+use Rattle.mb_model.specs.declared.state.Figures.{Figures}
 use Rattle.mb_model.specs.declared.state.State.{State}
+use Rattle.mb_model.specs.declared.stored.Header.{Header}
 use Rattle.mb_model.specs.declared.stored.Root.{Root}
 use Rattle.mb_model.specs.Board.{Memory}
-use Rattle.mb_model.specs.Log.{figures_of, entries_of}
-use Rattle.mb_model.specs.PublicRecord.{public_format}
-use Rattle.mb_model.specs.OldFlash.{public_of_parts, flash_area, BeginsArea, BeginsWithRecord}
-use Rattle.mb_model.specs.Meaning.{RootIn}
 use Rattle.mb_model.specs.Clean.{root_of}
-use Rattle.mb_model.specs.declared.state.Figures.{Figures}
+use Rattle.mb_model.specs.EntryFormat.{entry_format}
+use Rattle.mb_model.specs.Flash.{sector, HoldsHeader, HoldsEntry, HoldsLog, HoldsPublic}
+use Rattle.mb_model.specs.HeaderFormat.{entry_bytes_format, header_format, log_format}
+use Rattle.mb_model.specs.Log.{figures_of, entries_of}
+use Rattle.mb_model.specs.Meaning.{RootIn}
+use Rattle.mb_model.specs.Sectors.{BeginsAs}
+use Rattle.mb_model.proofs.EntryFormatLaws.{entry_exact}
+use Rattle.mb_model.proofs.HeaderFormatLaws.{header_exact, log_exact}
+use Rattle.mb_model_lemmas.proofs.HeldSegments.{begins_with, small_header}
 use Rattle.mb_model_memory.specs.Commits.{at_rest}
 use Rattle.mb_model_memory.specs.Holding.{Holds, IsReady, HasReady}
 use Rattle.mb_model_memory.proofs.RestLemmas.{clean_and_stands, rests_by_root}
 use Rattle.mb_area.specs.Roots.{HasSomeRoot}
-use Rattle.mb_area.specs.Records.{BeginsSome}
 use Rattle.mb_boot.specs.Settling.{IsOnlyRoot}
 use Rattle.mb_boot.proofs.Settled.{bounded}
 use Rattle.mb_device_orders.specs.declared.judging.Judged.{Judged}
@@ -44,39 +56,80 @@ remembered_root known memory is = ready_root memory (remembered_ready known memo
 pub root_is : (memory : Memory) (root : Root) (state : State) (ready : IsReady memory state) → ((any : Root) → RootIn memory.bbram any → any ≡ root) → root_of state ready.clean.area ≡ root
 root_is memory root state ready only = only (root_of state ready.clean.area) ready.clean.root
 
--- the flash area that it names begins with the record of the state
-pub record_begins : (memory : Memory) (root : Root) (state : State) → IsReady memory state → ((any : Root) → RootIn memory.bbram any → any ≡ root)
-    → BeginsWithRecord public_format (flash_area memory.flash root.area) (public_of_parts state.codes state.log [])
-record_begins memory root state ready only =
-    subst (λ (r : Root). BeginsWithRecord public_format (flash_area memory.flash r.area) (public_of_parts state.codes state.log []))
-    (root_is memory root state ready only) (rests_in memory root state ready only).public.begins
+-- ---- what its flash holds
 
-pub some_begins : (memory : Memory) (root : Root) → HasReady memory → ((any : Root) → RootIn memory.bbram any → any ≡ root) → BeginsSome (flash_area memory.flash root.area)
-some_begins memory root has only =
-    let begun = record_begins memory root has.state has.ready only in
-    record { bytes = begun.bytes; begins = begun.begins }
+-- the flash holds the log of the state, all of it signed, for the root
+pub public_in : (memory : Memory) (root : Root) (state : State) → IsReady memory state → ((any : Root) → RootIn memory.bbram any → any ≡ root) → HoldsPublic memory.flash root state.codes state.log []
+public_in memory root state ready only =
+    subst (λ (r : Root). HoldsPublic memory.flash r state.codes state.log []) (root_is memory root state ready only) (rests_in memory root state ready only).public
 
--- what was read of it spells that record
-pub read_spells : (memory : Memory) (root : Root) (read : List ℕ) (state : State) → IsReady memory state → ((any : Root) → RootIn memory.bbram any → any ≡ root)
-    → ((bytes : List ℕ) → BeginsArea (flash_area memory.flash root.area) bytes → read ≡ bytes) → Spells public_format read (public_of_parts state.codes state.log [])
-read_spells memory root read state ready only reads =
-    let begun = record_begins memory root state ready only in
-    subst (λ (bytes : List ℕ). Spells public_format bytes (public_of_parts state.codes state.log [])) (sym (reads begun.bytes begun.begins)) begun.spelled
-
-pub read_short : (memory : Memory) (root : Root) (read : List ℕ) → HasReady memory → ((any : Root) → RootIn memory.bbram any → any ≡ root)
-    → ((bytes : List ℕ) → BeginsArea (flash_area memory.flash root.area) bytes → read ≡ bytes) → length read ≤ 470000
-read_short memory root read has only reads =
-    let begun = record_begins memory root has.state has.ready only in
-    omega (arith, ap length (reads begun.bytes begun.begins), begun.begins.short)
-
-pub knows_of : (memory : Memory) (root : Root) (read : List ℕ) (figures : Figures) (state : State) → IsReady memory state → ((any : Root) → RootIn memory.bbram any → any ≡ root)
-    → ((bytes : List ℕ) → BeginsArea (flash_area memory.flash root.area) bytes → read ≡ bytes)
-    → ((codes : Codes) (log : List SignedEntry) → Spells public_format read (public_of_parts codes log []) → figures ≡ figures_of (entries_of log))
+pub knows_of : (memory : Memory) (root : Root) (signed : ℕ) (figures : Figures) (state : State) → IsReady memory state → ((any : Root) → RootIn memory.bbram any → any ≡ root)
+    → ((header : Header) → HoldsHeader memory.flash root.area header → signed ≡ header.signed)
+    → ((log : List SignedEntry) → HoldsLog memory.flash log → length log ≡ signed → figures ≡ figures_of (entries_of log))
     → Knows (record { serial = root.serial; figures = figures }) state
-knows_of memory root read figures state ready only reads counts = record {
-  serial = sym (ap (λ (r : Root). r.serial) (root_is memory root state ready only));
-  figures = counts state.codes state.log (read_spells memory root read state ready only reads);
-}
+knows_of memory root signed figures state ready only counted counts =
+    let public = public_in memory root state ready only in
+    record {
+      serial = sym (ap (λ (r : Root). r.serial) (root_is memory root state ready only));
+      figures = counts state.log public.log (public.count ∙ sym (counted public.header public.begins));
+    }
+
+-- ---- what bytes begin with
+
+pub small_header_signed : (bytes : List ℕ) (header : Header) → BeginsAs header_format bytes header → header.signed ≤ 128
+small_header_signed bytes header begins = (small_header header begins.spelled.allowed).most
+
+pub sector_short : (flash : List ℕ) (n : ℕ) → length (sector flash n) ≤ 4096
+unfolding sector
+sector_short flash n = omega (arith, length-take 4096 (drop (4096 * n) flash))
+
+one_begun : {A : Type 0} (format : Format A) → IsExact format → (bytes : List ℕ) (a b : A) → IsBytes bytes → BeginsAs format bytes a → BeginsAs format bytes b → a ≡ b
+one_begun format exact bytes a b are one other =
+    ((IsClear-from_exact exact).one_value bytes 0 a b one.after other.after (record { are_bytes = are; within = omega arith }) one.spelled other.spelled).0
+
+pub one_header : (bytes : List ℕ) (a b : Header) → IsBytes bytes → BeginsAs header_format bytes a → BeginsAs header_format bytes b → a ≡ b
+one_header bytes a b are one other = one_begun header_format header_exact bytes a b are one other
+
+-- the text of an entry, and its signature
+one_log : (bytes text other_text signature other_signature : List ℕ) → IsBytes bytes → BeginsAs log_format bytes (text, signature) → BeginsAs log_format bytes (other_text, other_signature) → text ≡ other_text
+one_log bytes text other_text signature other_signature are one other =
+    ap (λ (p : List ℕ × List ℕ). p.0) (one_begun log_format log_exact bytes (text, signature) (other_text, other_signature) are one other)
+
+-- the text that was read is that of the entry
+pub text_is : (bytes text signature : List ℕ) (signed : SignedEntry) → IsBytes bytes → BeginsAs log_format bytes (text, signature) → HoldsEntry bytes signed → Spells entry_format text signed.entry
+text_is bytes text signature signed are read holds =
+    subst (λ (t : List ℕ). Spells entry_format t signed.entry) (one_log bytes holds.text text signed.signature signature are holds.begins read) holds.spelled
+
+-- what is spelled by the whole of some bytes is spelled at their beginning
+at_start : (text : List ℕ) (entry : Entry) → Spells entry_format text entry → BeginsAs entry_format text entry
+at_start text entry spells = begins_with entry_format text text entry spells (take_all (length text) text (omega arith))
+
+pub entry_read : (text : List ℕ) (entry read : Entry) (after : ℕ) → IsBytes text → Spells entry_format text entry → SpelledAt entry_format.spelling entry_format.Allowed text 0 read after → read ≡ entry
+entry_read text entry read after are spells spelled = one_begun entry_format entry_exact text read entry are (record { after = after; spelled = spelled }) (at_start text entry spells)
+
+pub entry_fails : (text : List ℕ) (entry : Entry) (at : ℕ) → IsBytes text → Spells entry_format text entry → entry_format.FailsAt text 0 at → ⊥
+entry_fails text entry at are spells fails =
+    (IsClear-from_exact entry_exact).never_both text 0 entry (at_start text entry spells).after at (record { are_bytes = are; within = omega arith }) (at_start text entry spells).spelled fails
+
+pub no_entry : (bytes : List ℕ) (signed : SignedEntry) → ((any : List ℕ × List ℕ) → BeginsAs log_format bytes any → ⊥) → HoldsEntry bytes signed → ⊥
+no_entry bytes signed none holds = none (holds.text, signed.signature) holds.begins
+
+pub text_short : (bytes text signature : List ℕ) → BeginsAs log_format bytes (text, signature) → length text ≤ 400
+unfolding log_format entry_bytes_format
+text_short bytes text signature begins = begins.spelled.allowed.0.0.1
+
+-- what was read of the text is the entry
+pub entry_told : (bytes text signature : List ℕ) (signed : SignedEntry) (old new : Cursor) (result : Result Entry BadRecord) → IsBytes bytes → IsBytes old.bytes.now → BeginsAs log_format bytes (text, signature) → HoldsEntry bytes signed
+    → old.bytes.now ≡ text → old.offset ≡ 0 → ReadsExactly bad_at entry_format old result new → result_ok result ≡ Some signed.entry
+entry_told bytes text signature signed old new (Ok read) are are_text begins holds same first reads =
+    let spells : Spells entry_format old.bytes.now signed.entry = subst (λ (t : List ℕ). Spells entry_format t signed.entry) (sym same) (text_is bytes text signature signed are begins holds) in
+    let here : SpelledAt entry_format.spelling entry_format.Allowed old.bytes.now 0 read new.offset = subst (λ n. SpelledAt entry_format.spelling entry_format.Allowed old.bytes.now n read new.offset) first reads.spelled in
+    ap Some (entry_read old.bytes.now signed.entry read new.offset are_text spells here)
+entry_told bytes text signature signed old new (Err bad) are are_text begins holds same first reads =
+    let spells : Spells entry_format old.bytes.now signed.entry = subst (λ (t : List ℕ). Spells entry_format t signed.entry) (sym same) (text_is bytes text signature signed are begins holds) in
+    absurd (entry_fails old.bytes.now signed.entry bad.at are_text spells (subst (λ n. entry_format.FailsAt old.bytes.now n bad.at) first reads.fails))
+
+-- ---- the root that was read
 
 pub small_area : (bbram : List ℕ) (root : Root) → IsOnlyRoot bbram root → root.area ≤ 1
 small_area bbram root only = (bounded bbram root only).area

@@ -1,27 +1,34 @@
 -- How the bytes of an order are judged, and how its commit is planned. Is all that is written fixed before any write?
-use Rattle.std.specs.Prelude.{◌≡◌, ℕ, ◌-◌, ◌⊎◌, List, ◌++◌, map, Option, None, Some, Result, Ok, Err}
+use Rattle.std.specs.Prelude.{◌≡◌, ℕ, ◌+◌, ◌-◌, ◌≤◌, ◌⊎◌, List, [], length, All}
+use Rattle.std.specs.Prelude.{IfSome, Option, None, Some, Result, Ok, Err}
 use Rattle.mb_format.specs.Format.{Spells}
+use Rattle.mb_model.specs.declared.limits.TheConstants.{CODE_LIMIT, ENTRY_LIMIT}
 use Rattle.mb_model.specs.declared.entry.Entry.{Entry}
 use Rattle.mb_model.specs.declared.order.Act.{Act}
 use Rattle.mb_model.specs.declared.order.Order.{Order}
 use Rattle.mb_model.specs.declared.reply.Reply.{Reply}
 use Rattle.mb_model.specs.declared.reply.Reply.TheVariants as reply
 use Rattle.mb_model.specs.declared.state.State.{State}
-use Rattle.mb_model.specs.declared.stored.Public.{Public}
+use Rattle.mb_model.specs.declared.stored.Header.{Header}
 use Rattle.mb_model.specs.declared.stored.Root.{Root}
 use Rattle.mb_model.specs.Board.{Memory}
-use Rattle.mb_model.specs.PublicRecord.{public_format}
-use Rattle.mb_model.specs.OldFlash.{public_of_parts, without_signature}
+use Rattle.mb_model.specs.Clean.{root_of}
+use Rattle.mb_model.specs.EntryFormat.{entry_format}
+use Rattle.mb_model.specs.Flash.{AreBytesOf}
+use Rattle.mb_model.specs.HeaderFormat.{header_format}
 use Rattle.mb_model.specs.OrderFormat.{order_format}
+use Rattle.mb_model.specs.Sectors.{BeginsAs}
 use Rattle.mb_model.specs.declared.reply.Refusal.{Refusal}
 use Rattle.mb_model.specs.declared.reply.Refusal.TheVariants.{BadText}
 use Rattle.mb_model.specs.Refusals.{refused}
 use Rattle.mb_model.specs.OrderChecks.{view_of, Passes}
-use Rattle.mb_model.specs.OrderEffects.{codes_after, obeyed}
 use Rattle.mb_model.specs.OrderStep.{OrderStep}
 use Rattle.mb_orders.specs.Judging.{plan_by}
+use Rattle.mb_model_lemmas.specs.SegmentLaws.{IsOnlyHeader}
 use Rattle.mb_model_memory.specs.Commits.{root_for, new_entries, at_rest}
 use Rattle.mb_model_memory.specs.Holding.{Holds, IsReady}
+use Rattle.mb_model_memory.specs.NextHeaders.{code_brought, header_after}
+use Rattle.mb_layout.specs.declared.room.Room.{Room}
 use Rattle.mb_boot.specs.Settling.{IsOnlyRoot}
 use Rattle.mb_device_orders.specs.declared.judging.Judged.{Judged}
 
@@ -60,42 +67,49 @@ pub record HasPassed (memory : Memory) (judged : Judged) : Type 0 where
 
 -- ---- planning
 
--- a public record after an order that does `act` to the layer, with more entries, not signed yet
-abbrev pub with_order : ℕ → Act → List Entry → Public → Public
-with_order layer act entries public = record {
-  codes = codes_after public.codes layer act;
-  entries = public.entries ++ map without_signature entries;
-}
+-- the code that an order brings fits a slot
+abbrev pub BringsShortCode : Act → Type 0
+BringsShortCode act = IfSome (code_brought act) (λ code. length code ≤ CODE_LIMIT)
 
--- some public record is spelled
-pub record SpellsRecord (bytes : List ℕ) : Type 0 where
-  pub public : Public
-  pub spelled : Spells public_format bytes public
-
--- a public record is spelled, and the record after the order has a spelling, too
+-- bytes begin with a header, and the header after the order has a spelling
 pub record CanTake (layer : ℕ) (act : Act) (entries : List Entry) (bytes : List ℕ) : Type 0 where
-  pub public : Public
-  pub spelled : Spells public_format bytes public
-  pub allowed : public_format.Allowed (with_order layer act entries public)
+  pub header : Header
+  pub begins : BeginsAs header_format bytes header
+  pub few : length entries ≤ 2
+  pub together : header.signed + length entries ≤ ENTRY_LIMIT
+  pub entries_allowed : All entry_format.Allowed entries
+  pub short : BringsShortCode act
 
--- The memory is ready with this state, in which the order passes. The root commits the order, with the public record in
--- the inactive flash area, and the bytes spell that record.
+-- this code of the layer is what the room has to be written, or none is
+abbrev pub IsToWrite : Room → ℕ → Option (List ℕ) → Type 0
+IsToWrite room layer None = (room.code_layer ≡ 0) × (room.code.items ≡ [])
+IsToWrite room layer (Some code) = (room.code_layer ≡ layer) × (room.code.items ≡ code)
+
+-- The memory is ready with this state, in which the order passes. The root commits the order; it names the other header
+-- area than the current root does. The room has what is written to the flash before: the header after the order, whose
+-- texts spell the new entries, and the code that the order brings.
 pub record IsCommit
-    (memory : Memory) (root : Root) (bytes : List ℕ) (state : State) (order : Order) (draw : List ℕ) : Type 0 where
+    (memory : Memory) (root : Root) (room : Room) (state : State) (order : Order) (draw : List ℕ) : Type 0 where
   pub ready : IsReady memory state
   pub allowed : order_format.Allowed order
   pub passes : Passes (view_of state) order
   pub area : ℕ
   pub holds : Holds memory (at_rest state area)
+  pub only_root : IsOnlyRoot memory.bbram (root_of state area)
+  pub only_header : IsOnlyHeader memory.flash area holds.public.header
   pub root_is : root ≡ root_for state order draw (1 - area)
-  pub spelled : Spells
-      public_format
-      bytes
-      (public_of_parts (obeyed state order draw).codes state.log (new_entries state order draw))
+  pub first : Option (List ℕ)
+  pub second : Option (List ℕ)
+  pub texts : AreBytesOf first second (new_entries state order draw)
+  pub header : Spells
+      header_format
+      room.header.items
+      (header_after holds.public.header order.layer order.act first second)
+  pub code : IsToWrite room order.layer (code_brought order.act)
 
 -- it is the commit of some order
-pub record HasCommit (memory : Memory) (root : Root) (bytes : List ℕ) : Type 0 where
+pub record HasCommit (memory : Memory) (root : Root) (room : Room) : Type 0 where
   pub state : State
   pub order : Order
   pub draw : List ℕ
-  pub commit : IsCommit memory root bytes state order draw
+  pub commit : IsCommit memory root room state order draw

@@ -5,6 +5,7 @@ ghost use Rattle.mb_model.specs.declared.order.Order.{Order};
 ghost use Rattle.mb_model.specs.declared.state.State.{State};
 ghost use Rattle.mb_model.specs.OrderEffects.{obeyed};
 ghost use Rattle.mb_board.specs.Calls.{IsUp, Ran};
+ghost use Rattle.mb_model_memory.specs.FlashInForce.{KeepsSignedLog};
 ghost use Rattle.mb_model_memory.specs.Holding.{Means, IsReady};
 ghost use Rattle.mb_device_orders.specs.Planning.{IsCommit, HasCommit};
 
@@ -17,11 +18,11 @@ use mb_model::Root;
 use mb_ratchet::{Off, R1, Up};
 use std::sync::ledger::Ledger;
 
-/// Commits an order: writes its public record, which `public` of the room holds, into the inactive flash area, makes
-/// its root record current, which is when the order counts, and completes the order's pending work. If power fails, the
-/// memory stands for the state before the order or for the state after it. There are at most 471 write calls and 70,946
-/// hashes. Takes no memory.
-#[tactic(auto, using(crate::proofs::Committed::root_there))]
+/// Commits an order: writes its code and header, which the room holds, where they do not count yet, makes its root
+/// record current, which is when the order counts, and completes the order's pending work. If power fails, the memory
+/// stands for the state before the order or for the state after it. No signed entry of the log is written to. There are
+/// at most 35 write calls and 70,946 hashes. Takes no memory.
+#[tactic(auto, using(crate::proofs::Committed::header_there, crate::proofs::Committed::plan_is, crate::proofs::Committed::root_allowed))]
 pub fn commit<B: Board, L: Ledger>(
     up: Up<R1>,
     b: &mut B,
@@ -30,15 +31,16 @@ pub fn commit<B: Board, L: Ledger>(
     hashes: &mut HashCount<L>,
 ) -> Result<Up<R1>, Off>
     requires up { IsUp 1 (B.seen b.old) }
-    requires commit { HasCommit (B.seen b.old).memory root.now room.old.public.items }
+    requires commit { HasCommit (B.seen b.old).memory root.now room.old }
     ensures done { (state : State) (order : Order) (draw : List ℕ)
-        → IsCommit (B.seen b.old).memory root.now room.old.public.items state order draw
+        → IsCommit (B.seen b.old).memory root.now room.old state order draw
         → OnOk result (IsReady (B.seen b.new).memory (obeyed state order draw)) }
     ensures counts { (state : State) (order : Order) (draw : List ℕ)
-        → IsCommit (B.seen b.old).memory root.now room.old.public.items state order draw
+        → IsCommit (B.seen b.old).memory root.now room.old state order draw
         → Means (B.seen b.new).memory state
         ⊎ Means (B.seen b.new).memory (obeyed state order draw) }
-    ensures ran { Ran 471 result (B.seen b.old) (B.seen b.new) }
+    ensures log { KeepsSignedLog (B.seen b.old).memory (B.seen b.new).memory }
+    ensures ran { Ran 35 result (B.seen b.old) (B.seen b.new) }
     ensures cost { hashes.new ≤ hashes.old + 70946 }
 {
     let up = write_public(up, b, room)?;

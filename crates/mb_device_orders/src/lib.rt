@@ -2,10 +2,11 @@
 //!
 //! This crate owns what a device remembers of its state while power is on, and how an order is answered: it is
 //! read, and judged by what is remembered and stored; its effect is spelled in full, and all memory taken; only then
-//! it is written into the inactive area, and committed by one root record.
+//! it is written where it does not count yet, and committed by one root record.
 #![tactic(auto)]
 
 mod committing;
+mod header;
 mod judging;
 mod obeying;
 mod planning;

@@ -4,6 +4,7 @@ ghost use Rattle.std.specs.Prelude.{◌≡◌, ◌≤◌, ◌+◌};
 ghost use Rattle.mb_format.specs.Format.{IsBytes};
 ghost use Rattle.mb_model.specs.declared.state.State.{State};
 ghost use Rattle.mb_board.specs.Calls.{IsUp, Ran};
+ghost use Rattle.mb_model_memory.specs.FlashInForce.{KeepsSignedLog};
 ghost use Rattle.mb_model_memory.specs.Holding.{IsReady};
 ghost use Rattle.mb_model_memory.specs.Answering.{TellsOfWrites};
 ghost use Rattle.mb_device_orders.specs.Remembering.{Knows, IsRemembered};
@@ -23,8 +24,9 @@ use std::sync::ledger::Ledger;
 
 /// Answers the bytes of an order: obeys it, or refuses it (bytes that are no order included). New keys are derived from
 /// `draw`. A device that has answered is ready and remembers its state. If power fails, the memory stands for the state
-/// before the order or for the state after it. Nothing is written for an order that is refused, nor if an allocation
-/// fails, which is an answer of its own. There are at most 471 write calls and 139,744 hashes.
+/// before the order or for the state after it. No signed entry of the log is written to. Nothing is written for an
+/// order that is refused, nor if an allocation fails, which is an answer of its own. There are at most 35 write calls
+/// and 139,744 hashes.
 #[tactic(auto, using(crate::proofs::Answered::has_passed))]
 pub fn obey<B: Board, L: Ledger>(
     alloc: Global,
@@ -44,7 +46,8 @@ pub fn obey<B: Board, L: Ledger>(
         result }
     ensures writes { TellsOfWrites result (B.seen b.old).memory (B.seen b.new).memory
         (B.seen b.old).meter (B.seen b.new).meter }
-    ensures ran { Ran 471 result (B.seen b.old) (B.seen b.new) }
+    ensures log { KeepsSignedLog (B.seen b.old).memory (B.seen b.new).memory }
+    ensures ran { Ran 35 result (B.seen b.old) (B.seen b.new) }
     ensures cost { hashes.new ≤ hashes.old + 139744 }
 {
     let judged = match judge_text(alloc, &up, b, known, text, draw, room, hashes) {

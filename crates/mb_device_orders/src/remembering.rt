@@ -1,24 +1,26 @@
 //! What a device remembers of its state.
 
-ghost use Rattle.std.specs.Prelude.{◌≡◌, ◌≤◌, [], List, length};
-ghost use Rattle.mb_format.specs.Format.{Spells};
-ghost use Rattle.mb_model.specs.declared.limits.TheConstants.{FILE_LIMIT};
+ghost use Rattle.std.specs.Prelude.{◌≡◌, ◌≤◌, ◌<◌, List, length, Some};
+ghost use Rattle.mb_model.specs.declared.limits.TheConstants.{ENTRY_LIMIT, FILE_LIMIT};
 ghost use Rattle.mb_model.specs.declared.entry.SignedEntry.{SignedEntry};
-ghost use Rattle.mb_model.specs.declared.state.Codes.{Codes};
 ghost use Rattle.mb_model.specs.declared.state.State.{State};
-ghost use Rattle.mb_model.specs.PublicRecord.{public_format};
-ghost use Rattle.mb_model.specs.OldFlash.{public_of_parts};
+ghost use Rattle.mb_model.specs.declared.stored.Header.{Header};
+ghost use Rattle.mb_model.specs.Flash.{sector, HoldsHeader, HoldsEntry, HoldsLog};
+ghost use Rattle.mb_model.specs.HeaderFormat.{header_format};
 ghost use Rattle.mb_model.specs.Log.{figures_of, entries_of};
-ghost use Rattle.mb_board.specs.Calls.{IsUp};
+ghost use Rattle.mb_model.specs.Sectors.{log_sector, BeginsAs};
+ghost use Rattle.mb_board.specs.Calls.{IsPowered, IsUp};
 ghost use Rattle.mb_model_memory.specs.Holding.{IsReady, HasReady};
 ghost use Rattle.mb_device_orders.specs.Remembering.{Knows};
 
-use mb_area::{read_public, read_root};
+use mb_area::{read_header, read_log, read_root};
 use mb_board::Board;
-use mb_layout::{Room, StoredEntries};
+use mb_bytes::Cursor;
+use mb_layout::{Room, read_entry};
 use mb_log::{add_entry, no_figures};
-use mb_model::Figures;
+use mb_model::{Entry, Figures};
 use mb_ratchet::{R1, Up};
+use mb_segments::{header_at, log_at};
 
 /// What a device remembers of its state while power is on.
 #[derive(Clone, Copy)]
@@ -29,18 +31,63 @@ pub struct Known {
     pub figures: Figures,
 }
 
-/// The figures of the log in a public record whose every entry is signed. Bytes that spell no such record give
-/// arbitrary figures.
-fn figures_in(bytes: &[u8]) -> Figures
-    requires { length bytes.now ≤ FILE_LIMIT }
-    ensures { (codes : Codes) (log : List SignedEntry)
-        → Spells public_format bytes.now (public_of_parts codes log [])
-        → result ≡ figures_of (entries_of log) }
+/// The number of signed entries by the header at the beginning of a sector; 0 if there is no header.
+fn signed_in(sector: &[u8]) -> u32
+    requires { length sector.now ≤ FILE_LIMIT }
+    ensures signed { (header : Header) → BeginsAs header_format sector.now header
+        → result ≡ header.signed }
+    ensures few { result ≤ ENTRY_LIMIT }
 {
-    let mut stored = StoredEntries::of(bytes);
+    match header_at(sector) {
+        Some(header) => header.signed,
+        None => 0,
+    }
+}
+
+/// The entry in a sector of the log. If it holds no entry, the result is arbitrary.
+fn entry_in(sector: &[u8]) -> Option<Entry>
+    requires { length sector.now ≤ FILE_LIMIT }
+    ensures { (signed : SignedEntry) → HoldsEntry sector.now signed → result ≡ Some signed.entry }
+{
+    let stored = log_at(sector)?;
+    let mut cursor = Cursor::new(stored.text);
+    read_entry(&mut cursor).ok()
+}
+
+/// The number of signed entries by the header in an area, 0 or 1; 0 if the area holds no header.
+fn count_signed<B: Board>(b: &B, area: u8, room: &mut Room) -> u32
+    requires powered { IsPowered (B.seen b.now) }
+    requires area { area ≤ 1 }
+    ensures signed { (header : Header) → HoldsHeader (B.seen b.now).memory.flash area header
+        → result ≡ header.signed }
+    ensures few { result ≤ ENTRY_LIMIT }
+{
+    read_header(b, area, room);
+    signed_in(&room.header)
+}
+
+/// The entry of the log at a position, 0 to 127. If its sector holds no entry, the result is arbitrary.
+fn entry_at<B: Board>(b: &B, position: u32, room: &mut Room) -> Option<Entry>
+    requires powered { IsPowered (B.seen b.now) }
+    requires position { position < ENTRY_LIMIT }
+    ensures { (signed : SignedEntry)
+        → HoldsEntry (sector (B.seen b.now).memory.flash (log_sector position)) signed
+        → result ≡ Some signed.entry }
+{
+    read_log(b, position, room);
+    entry_in(&room.log)
+}
+
+/// The figures of a log of this many entries, each of which stands in the sector of its position.
+fn figures_in<B: Board>(b: &B, signed: u32, room: &mut Room) -> Figures
+    requires powered { IsPowered (B.seen b.now) }
+    requires few { signed ≤ ENTRY_LIMIT }
+    ensures { (log : List SignedEntry) → HoldsLog (B.seen b.now).memory.flash log
+        → length log ≡ signed → result ≡ figures_of (entries_of log) }
+{
     let mut figures = no_figures();
-    for _i in 0..stored.left() {
-        if let Some(entry) = stored.next() {
+    for position in 0..signed {
+        if let Some(entry) = entry_at(b, position, room) {
             add_entry(&mut figures, &entry);
         }
     }
@@ -48,15 +95,15 @@ fn figures_in(bytes: &[u8]) -> Figures
 }
 
 /// Reads what the device remembers from its memory, which is ready. Takes no memory.
-#[tactic(auto, using(crate::proofs::Remembered::ready_root, crate::proofs::Remembered::some_begins))]
+#[tactic(auto, using(crate::proofs::Remembered::ready_root))]
 pub fn remember<B: Board>(_up: &Up<R1>, b: &B, room: &mut Room) -> Known
     requires up { IsUp 1 (B.seen b.now) }
     requires ready { HasReady (B.seen b.now).memory }
     ensures knows { (state : State) → IsReady (B.seen b.now).memory state → Knows result state }
 {
     let root = read_root(b, room);
-    read_public(b, root.area, room);
+    let signed = count_signed(b, root.area, room);
     let serial = root.serial;
-    let figures = figures_in(&room.public);
+    let figures = figures_in(b, signed, room);
     Known { serial, figures }
 }

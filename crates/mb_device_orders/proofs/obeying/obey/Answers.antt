@@ -8,7 +8,7 @@ returns-in-Err-clause-told g c = λ state ready knows.
 
 pub commit-requires-clause-commit : goal.commit-requires-clause-commit
 commit-requires-clause-commit g c =
-    has_commit c.args.known.now (g.B.Board.seen c.args.b.now).memory c.args.text.now c.args.draw.now c.in-Ok.judged c.in-Ok-plan_commit.planned.root c.plan_commit.new.room.public.items c.requires.remembered c.in-Ok.ensures.judged
+    has_commit c.args.known.now (g.B.Board.seen c.args.b.now).memory c.args.text.now c.args.draw.now c.in-Ok.judged c.in-Ok-plan_commit.planned.root c.plan_commit.new.room c.requires.remembered c.in-Ok.ensures.judged
     c.in-Ok-plan_commit.ensures.commit
 
 pub returns-in_err-up-clause-told : goal.returns-in_err-up-clause-told

@@ -1,19 +1,13 @@
 use Rattle.std.proofs.Common.{◌+◌, ◌∙◌, sym, subst}
 use Rattle.mb_model.specs.declared.state.Figures.{Figures}
-use Rattle.mb_device_orders.proofs.Counting.{Counts, counts_none, counts_more, counts_still, counts_all}
+use Rattle.mb_device_orders.proofs.Counting.{Counts, counts_more, counts_still}
 use Rattle.mb_device_orders.proofs.remembering.figures_in.Goals.{in-Some, in_default}
 use Rattle.mb_device_orders.proofs.remembering.figures_in.Goals as goal
 
-pub loop-i-init : goal.loop-i-init
-loop-i-init c = counts_none c.args.bytes.now c.of-stored.result c.no_figures-figures.result c.left-i-end.result c.of-stored.ensures c.no_figures-figures.ensures c.left-i-end.ensures
-
-pub loop-i-preserved : goal.loop-i-preserved
-loop-i-preserved c = elim c.match-next.branch [
-  | in-Some w ↦ counts_more c.args.bytes.now c.loop-i.stored c.next.new.self c.loop-i.figures c.match-next.figures c.left-i-end.result c.loop-i._i w.in-Some.entry c.loop-i-test.true c.loop-i.invariant w.in-Some.ensures
+pub loop-position-preserved : goal.loop-position-preserved
+loop-position-preserved g c = elim c.match-entry_at.branch [
+  | in-Some w ↦ counts_more (g.B.Board.seen c.args.b.now).memory.flash c.args.signed c.loop-position.figures c.match-entry_at.figures c.loop-position.position w.in-Some.entry c.loop-position-test.true c.requires.few c.loop-position.invariant w.in-Some.ensures
       (λ before few is. w.figures-is ∙ w.add_entry.ensures before few is)
-  | in_default w ↦ subst (λ (f : Figures). Counts c.args.bytes.now c.next.new.self f c.left-i-end.result (c.loop-i._i + 1)) (sym w.figures-is)
-      (counts_still c.args.bytes.now c.loop-i.stored c.next.new.self c.loop-i.figures c.left-i-end.result c.loop-i._i c.loop-i-test.true c.loop-i.invariant w.in_default.ensures)
+  | in_default w ↦ subst (λ (f : Figures). Counts (g.B.Board.seen c.args.b.now).memory.flash c.args.signed f (c.loop-position.position + 1)) (sym w.figures-is)
+      (counts_still (g.B.Board.seen c.args.b.now).memory.flash c.args.signed c.loop-position.figures c.loop-position.position c.loop-position-test.true c.loop-position.invariant w.in_default.ensures)
 ]
-
-pub returns : goal.returns
-returns c = counts_all c.args.bytes.now c.loop-i.stored c.loop-i.figures c.left-i-end.result c.loop-i._i c.loop-i-test.false c.loop-i.invariant
