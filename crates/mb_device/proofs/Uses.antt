@@ -1,6 +1,6 @@
 -- A layer's use of its region, as a step of the machine.
-use Rattle.std.proofs.Common.{◌≡◌, ℕ, ◌≤◌, Bool, true, false, Option, None, Some, refl, sym, ap, subst, ◌∙◌, inl, inr, arith, List, length}
-use Rattle.std.specs.Prelude.{find, filter, ◌&&◌, nat_le, Result, Ok, Err, IsTrue, ◌⊎◌, not, ◌||◌, nat_lt, if◌then◌else◌}
+use Rattle.std.proofs.Common.{◌≡◌, ℕ, ◌≤◌, Bool, true, false, Option, None, Some, refl, sym, ap, subst, ◌∙◌, inl, inr, arith, eqb-true, List, length}
+use Rattle.std.specs.Prelude.{◌==◌, find, filter, ◌&&◌, nat_le, Result, Ok, Err, IsTrue, ◌⊎◌, not, ◌||◌, nat_lt, if◌then◌else◌}
 use Rattle.std.proofs.lemmas.Bool.{le-ltb}
 use mathlib.Core.Bool.{or-true}
 use Rattle.mb_ratchet.specs.declared.state.Off.{Off}
@@ -15,7 +15,7 @@ use Rattle.mb_model.specs.ChainFormat.{statement_format}
 use Rattle.std.specs.List.{list_any}
 use Rattle.mb_model.specs.declared.state.State.{State}
 use Rattle.mb_model.specs.Board.{Memory, Meter, Held}
-use Rattle.mb_model.specs.Layers.{is_runnable}
+use Rattle.mb_model.specs.Layers.{is_runnable, is_upper}
 use Rattle.mb_model.specs.LayerEvents.{Outcome, put_event, get_event, drop_event, sign_event, sign_with, value_reply, has_name, has_number, with_secret, with_use, statement_of}
 use Rattle.mb_model.specs.Log.{entries_of, number_of}
 use Rattle.mb_model.specs.Machine.{ratchet, World, Told, awake_in, region_event, Machine, answered, may_want_memory}
@@ -23,6 +23,7 @@ use Rattle.mb_model.specs.Regions.{region_of, with_region}
 use Rattle.mb_model.specs.declared.reply.Refusal.{Refusal}
 use Rattle.mb_model.specs.declared.reply.Refusal.TheVariants.{WrongLayer, RegionFull, KeySpent}
 use Rattle.mb_model.specs.Refusals.{refused}
+use Rattle.mb_model.specs.Script.{IsScriptEvent}
 use Rattle.mb_model.specs.Valid.{Valid, IsValidState}
 use Rattle.mb_board.specs.Calls.{held_by, held_in, IsMetered, IsUp, Seen}
 use Rattle.mb_model_lemmas.proofs.ValidSteps.{machine_valid}
@@ -291,3 +292,27 @@ is_up device r seen world sound is =
 pub remembers : (device : Device) (r : ℕ) (seen : Seen) (running : Running) (world : World) → IsSoundDevice device (held_in seen) world → IsRunning r running world → IsRemembered running.known seen.memory
 remembers device r seen running world sound own =
     record { state = own.state; ready = running_ready device r (held_in seen) world own.state sound own.phase own.live; knows = own.knows }
+
+-- ---- the region that an event of a script names
+
+upper_by : (b c : Bool) (region : ℕ) → (region == 2) ≡ b → (region == 3) ≡ c → IsTrue (b || c) → (region ≡ 2 → ⊥) → 3 ≡ region
+upper_by true c region two three is apart = absurd (apart (eqb-true region 2 two))
+upper_by false true region two three is apart = sym (eqb-true region 3 three)
+upper_by false false region two three is apart = absurd (grind (arith, is))
+
+upper_three : (region : ℕ) → IsTrue (is_upper region) → (region ≡ 2 → ⊥) → 3 ≡ region
+upper_three region is apart = upper_by (region == 2) (region == 3) region refl refl is apart
+
+-- one that is not region 2 is region 3
+pub named_three : (e : Event) (region : ℕ) → IsLayerEvent e → IsScriptEvent e → region ≡ region_named e → (region ≡ 2 → ⊥) → 3 ≡ region_named e
+named_three event.Boot region is script same apart = absurd is
+named_three event.Off region is script same apart = absurd is
+named_three event.Tamper region is script same apart = absurd is
+named_three event.Status region is script same apart = absurd is
+named_three event.Go region is script same apart = absurd is
+named_three (event.Cut count tear) region is script same apart = absurd is
+named_three (event.Command text draw) region is script same apart = absurd is
+named_three (event.Put L name value) region is script same apart = upper_three L script.0 (λ e. apart (same ∙ e))
+named_three (event.Get L name) region is script same apart = upper_three L script.0 (λ e. apart (same ∙ e))
+named_three (event.Drop L name) region is script same apart = upper_three L script.0 (λ e. apart (same ∙ e))
+named_three (event.Sign L key message) region is script same apart = upper_three L script.0 (λ e. apart (same ∙ e))

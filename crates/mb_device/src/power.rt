@@ -3,6 +3,7 @@
 ghost use Rattle.std.specs.Prelude.{◌≡◌, ◌+◌, ◌≤◌, false};
 ghost use Rattle.mb_model.specs.declared.event.Event.TheVariants as event;
 ghost use Rattle.mb_board.specs.Calls.{held_in, IsMetered};
+ghost use Rattle.mb_model_memory.specs.FlashInForce.{KeepsSignedLog};
 ghost use Rattle.mb_boot.specs.Booting.{IsQuiet};
 ghost use Rattle.mb_device.specs.Sound.{HasSound, StepsFrom};
 ghost use Rattle.mb_device.specs.Stepping.{stop_told, IfNothingTold, IsOff};
@@ -31,8 +32,9 @@ fn come_up<B: Board, L: Ledger>(
         (B.seen b.new).meter }
     ensures untold { IfNothingTold result.1 (B.seen b.old).memory (B.seen b.new).memory
         (B.seen b.old).meter (B.seen b.new).meter }
+    ensures log { KeepsSignedLog (B.seen b.old).memory (B.seen b.new).memory }
     ensures ledger { (B.seen b.new).ledger ≡ (B.seen b.old).ledger }
-    ensures meter { IsMetered 239 (stop_told result.1) (B.seen b.old).meter (B.seen b.new).meter }
+    ensures meter { IsMetered 15 (stop_told result.1) (B.seen b.old).meter (B.seen b.new).meter }
     ensures cost { hashes.new ≤ hashes.old + 70946 }
 {
     match boot(alloc, off, b, hashes) {
@@ -62,8 +64,9 @@ impl Device {
             (B.seen b.new).meter }
         ensures untold { IfNothingTold result.1 (B.seen b.old).memory (B.seen b.new).memory
             (B.seen b.old).meter (B.seen b.new).meter }
+        ensures log { KeepsSignedLog (B.seen b.old).memory (B.seen b.new).memory }
         ensures ledger { (B.seen b.new).ledger ≡ (B.seen b.old).ledger }
-        ensures meter { IsMetered 239 (stop_told result.1) (B.seen b.old).meter
+        ensures meter { IsMetered 15 (stop_told result.1) (B.seen b.old).meter
             (B.seen b.new).meter }
         ensures cost { hashes.new ≤ hashes.old + 70946 }
     {

@@ -45,6 +45,7 @@ fn ask<S: Reaches<L>, L: Named, B: Board, C: Ledger>(
         (B.seen b.new).memory result }
     ensures writes { TellsOfWrites result (B.seen b.old).memory (B.seen b.new).memory
         (B.seen b.old).meter (B.seen b.new).meter }
+    ensures flash { (B.seen b.new).memory.flash ≡ (B.seen b.old).memory.flash }
     ensures known { running.new.known ≡ running.old.known }
     ensures ran { Ran 3 result (B.seen b.old) (B.seen b.new) }
     ensures cost { hashes.new ≤ hashes.old + 35473 }
@@ -87,6 +88,7 @@ fn use_at<S: Reaches<L> + Runs, L: Named, B: Board, C: Ledger>(
         (held_in (B.seen b.new)) }
     ensures untold { IfNothingTold result.1 (B.seen b.old).memory (B.seen b.new).memory
         (B.seen b.old).meter (B.seen b.new).meter }
+    ensures flash { (B.seen b.new).memory.flash ≡ (B.seen b.old).memory.flash }
     ensures ledger { (B.seen b.new).ledger ≡ (B.seen b.old).ledger }
     ensures meter { IsMetered 3 (stop_told result.1) (B.seen b.old).meter (B.seen b.new).meter }
     ensures cost { hashes.new ≤ hashes.old + 35473 }
@@ -120,6 +122,7 @@ impl Device {
             (held_in (B.seen b.new)) }
         ensures untold { IfNothingTold result.1 (B.seen b.old).memory (B.seen b.new).memory
             (B.seen b.old).meter (B.seen b.new).meter }
+        ensures flash { (B.seen b.new).memory.flash ≡ (B.seen b.old).memory.flash }
         ensures ledger { (B.seen b.new).ledger ≡ (B.seen b.old).ledger }
         ensures meter { IsMetered 3 (stop_told result.1) (B.seen b.old).meter (B.seen b.new).meter }
         ensures cost { hashes.new ≤ hashes.old + 35473 }

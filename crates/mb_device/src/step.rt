@@ -5,6 +5,7 @@ ghost use Rattle.mb_model.specs.Board.{AreBytes, Held, IsLoaded};
 ghost use Rattle.mb_model.specs.Machine.{World};
 ghost use Rattle.mb_model.specs.Script.{IsScriptEvent};
 ghost use Rattle.mb_board.specs.Calls.{held_in, IsMetered};
+ghost use Rattle.mb_model_memory.specs.FlashInForce.{KeepsSignedLog};
 ghost use Rattle.mb_boot.specs.Booting.{IsQuiet};
 ghost use Rattle.mb_device.specs.Sound.{IsSoundDevice, HasSound, taken, CanStep, Steps};
 ghost use Rattle.mb_device.specs.Stepping.{stop_told, IfNothingTold, IfBoot};
@@ -20,8 +21,10 @@ use std::sync::ledger::Ledger;
 impl Device {
     /// Answers an event that the board has handed out. Together with the handing out, the answer is one step of the
     /// machine, from the world that the board held before. Nothing is written if the event is refused, if an allocation
-    /// fails, or if the answer tells of no change; and nothing at the boot of a clean memory. There are at most 471
-    /// write calls and 139,744 hashes. The answer is `Stopped` exactly if a write call was stopped.
+    /// fails, or if the answer tells of no change; and nothing at the boot of a clean memory. Each sector that holds a
+    /// signed entry of the log keeps its bytes, also if power fails. There are at most 35 write calls and 139,744
+    /// hashes. The answer is `Stopped` exactly if a write call was stopped.
+    #[tactic(auto, using(mb_device_orders::proofs::SignedLog::same_flash_keeps, mb_device_orders::proofs::SignedLog::same_memory_keeps))]
     pub fn step<B: Board, L: Ledger>(
         self,
         alloc: Global,
@@ -39,8 +42,9 @@ impl Device {
         ensures quiet { IfBoot event.now
             (IsQuiet (B.seen b.old).memory (B.seen b.new).memory (B.seen b.old).meter
             (B.seen b.new).meter) }
+        ensures log { KeepsSignedLog (B.seen b.old).memory (B.seen b.new).memory }
         ensures ledger { (B.seen b.new).ledger ≡ (B.seen b.old).ledger }
-        ensures meter { IsMetered 471 (stop_told result.1) (B.seen b.old).meter
+        ensures meter { IsMetered 35 (stop_told result.1) (B.seen b.old).meter
             (B.seen b.new).meter }
         ensures cost { hashes.new ≤ hashes.old + 139744 }
     {

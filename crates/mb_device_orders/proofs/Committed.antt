@@ -1,9 +1,7 @@
 -- How the steps of a commit join.
-use Rattle.std.proofs.Common.{◌≡◌, ◌≤◌, ◌<◌, ◌⊎◌, inl, inr, ℕ, ◌+◌, ◌-◌, ◌*◌, ◌/◌, List, [], length, Bool, true, false, Option, None, Some, Result, Ok, Err, refl, sym, ap, subst, ◌∙◌, arith, eqb-true}
+use Rattle.std.proofs.Common.{◌≡◌, ◌≤◌, ◌<◌, ◌⊎◌, inl, inr, ℕ, ◌+◌, ◌-◌, ◌/◌, List, length, Bool, true, false, Option, None, Some, Result, Ok, Err, refl, sym, ap, subst, ◌∙◌, arith, eqb-true}
 use Rattle.std.specs.Prelude.{◌==◌, IfSome, if◌then◌else◌}
 use Rattle.mb_model.specs.declared.order.Order.{Order}
-use Rattle.mb_model.specs.declared.entry.SignedEntry.{SignedEntry}
-use Rattle.mb_model.specs.declared.entry.Entry.{Entry}
 use Rattle.mb_model.specs.declared.state.Codes.{Codes}
 use Rattle.mb_model.specs.declared.state.State.{State}
 use Rattle.mb_model.specs.declared.stored.Header.{Header}
@@ -13,13 +11,13 @@ use Rattle.mb_model.specs.Clean.{root_of}
 use Rattle.mb_model.specs.Flash.{sector, HoldsHeader, HoldsPublic}
 use Rattle.mb_model.specs.HeaderFormat.{header_format}
 use Rattle.mb_model.specs.Meaning.{RootIn}
-use Rattle.mb_model.specs.OrderEffects.{codes_after, obeyed}
+use Rattle.mb_model.specs.OrderEffects.{obeyed}
 use Rattle.mb_model.specs.RootFormat.{root_format}
-use Rattle.mb_model.specs.Sectors.{header_sector, log_sector, BeginsAs}
+use Rattle.mb_model.specs.Sectors.{header_sector, log_sector}
 use Rattle.mb_model.specs.StoredLog.{AreCounted}
 use Rattle.mb_model_lemmas.proofs.HeldSegments.{begins_with}
 use Rattle.mb_model_lemmas.proofs.ValidSteps.{obeyed_valid}
-use Rattle.mb_model_memory.specs.Commits.{committed, at_rest, new_entries, root_for}
+use Rattle.mb_model_memory.specs.Commits.{committed, at_rest, new_entries}
 use Rattle.mb_model_memory.specs.FlashInForce.{slot_in, AgreeForArea, KeepsSignedLog}
 use Rattle.mb_model_memory.specs.Holding.{Holds, Means, KeepsContents, KeepsMeaning, IsReady}
 use Rattle.mb_model_memory.specs.NextHeaders.{code_brought, IsCodeWritten, header_after}
@@ -32,11 +30,11 @@ use Rattle.mb_model_memory.proofs.StorableMemories.{stands_storable}
 use Rattle.mb_model_memory.proofs.StorableRecords.{committed_root}
 use Rattle.mb_board.specs.Calls.{IsMetered, Seen, Ran}
 use Rattle.mb_layout.specs.declared.room.Room.{Room}
-use Rattle.mb_area.specs.Flashes.{HasSomeHeader, IsPlan, IsPublicWritten, code_to_write, code_sectors}
+use Rattle.mb_area.specs.Flashes.{HasSomeHeader, IsPlan, IsPublicWritten, code_in, code_sectors}
 use Rattle.mb_area.specs.Roots.{CommitsRoot}
 use Rattle.mb_boot.specs.Settling.{IsLive}
 use Rattle.mb_boot.specs.Booting.{Cleans}
-use Rattle.mb_device_orders.specs.Planning.{BringsShortCode, IsToWrite, IsCommit, HasCommit}
+use Rattle.mb_device_orders.specs.Planning.{IsToWrite, IsCommit, HasCommit}
 use Rattle.mb_device_orders.proofs.Headers.{header_size}
 use Rattle.mb_device_orders.proofs.Planned.{obeyed_codes, order_layer}
 use Rattle.mb_device_orders.proofs.Remembered.{small_area}
@@ -85,7 +83,7 @@ code_none : (n : ℕ) (code : List ℕ) (layer : ℕ) (header : Header) (before 
 code_none n code layer header before between same written = subst (λ k. IsCodeWritten k (slot_in header k) (if k == 0 then None else Some code) before between) same written
 
 code_written : (room : Room) (layer : ℕ) (brought : Option (List ℕ)) (header : Header) (before between : List ℕ) → 1 ≤ layer → IsToWrite room layer brought
-    → IsCodeWritten room.code_layer (slot_in header room.code_layer) (code_to_write room) before between → IsCodeWritten layer (slot_in header layer) brought before between
+    → IsCodeWritten room.code_layer (slot_in header room.code_layer) (code_in room) before between → IsCodeWritten layer (slot_in header layer) brought before between
 code_written room layer None header before between some is written = code_none room.code_layer room.code.items layer header before between is.0 written
 code_written room layer (Some code) header before between some is written =
     subst (λ (xs : List ℕ). IsCodeWritten layer (slot_in header layer) (Some xs) before between) is.1 (code_by room.code_layer layer room.code.items (layer == 0) header before between refl some is.0 written)

@@ -146,13 +146,13 @@ new_fit state order draw valid is allowed passes =
     record {
       new_allowed = all_back (entries_of state.log) (new_entries state order draw) (subst (All entry_format.Allowed) are (entries_allowed (obeyed state order draw).log after.log));
       together = omega (
-            arith,
-            after.few,
-            ap length are,
-            length-append (entries_of state.log) (new_entries state order draw),
-            length-map state.log (λ (signed : SignedEntry). signed.entry),
-            length-map (obeyed state order draw).log (λ (signed : SignedEntry). signed.entry),
-          );
+        arith,
+        after.few,
+        ap length are,
+        length-append (entries_of state.log) (new_entries state order draw),
+        length-map state.log (λ (signed : SignedEntry). signed.entry),
+        length-map (obeyed state order draw).log (λ (signed : SignedEntry). signed.entry),
+      );
     }
 
 -- ---- the header

@@ -1,6 +1,6 @@
 -- How the bytes of an order are judged, and how its commit is planned. Is all that is written fixed before any write?
-use Rattle.std.specs.Prelude.{◌≡◌, ℕ, ◌+◌, ◌-◌, ◌≤◌, ◌⊎◌, List, []}
-use Rattle.std.specs.Prelude.{length, All, IfSome, Option, None, Some, Result, Ok, Err}
+use Rattle.std.specs.Prelude.{◌≡◌, ℕ, ◌+◌, ◌-◌, ◌≤◌, ◌⊎◌, List, [], length, All}
+use Rattle.std.specs.Prelude.{IfSome, Option, None, Some, Result, Ok, Err}
 use Rattle.mb_format.specs.Format.{Spells}
 use Rattle.mb_model.specs.declared.limits.TheConstants.{CODE_LIMIT, ENTRY_LIMIT}
 use Rattle.mb_model.specs.declared.entry.Entry.{Entry}

@@ -1,9 +1,14 @@
 use Rattle.std.proofs.Common.{sym, ◌∙◌}
 use Rattle.mb_device.specs.declared.device.Device.TheVariants as device
-use Rattle.mb_device.proofs.Uses.{running_on, metered_by}
+use Rattle.mb_device.proofs.Uses.{is_up, running_on, metered_by}
 use Rattle.mb_device.proofs.Steps.{running_ready}
 use Rattle.mb_device.proofs.Ordered.{order_told, order_cut, order_goes_on}
 use Rattle.mb_device.proofs.orders.take_order.Goals as goal
+
+pub obey-requires-clause-up : goal.obey-requires-clause-up
+obey-requires-clause-up g c =
+    let has = c.requires.sound in
+    is_up (device.One c.args.up c.args.running) 1 (g.B.Board.seen c.args.b.now) has.world has.sound has.sound.fits.phase
 
 pub returns-in-Ok-clause-steps : goal.returns-in-Ok-clause-steps
 returns-in-Ok-clause-steps g c = λ world sound.
@@ -18,7 +23,7 @@ returns-in-Ok-clause-meter g c =
     let world = c.requires.sound.world in
     let sound = c.requires.sound.sound in
     let ready = running_ready (device.One c.args.up c.args.running) 1 _ world sound.fits.state sound sound.fits.phase sound.fits.live in
-    metered_by 471 (c.in-Ok.up, c.in-Ok.reply) c.in-Ok.reply (g.B.Board.seen c.args.b.now).meter (g.B.Board.seen c.obey.new.b).meter
+    metered_by 35 (c.in-Ok.up, c.in-Ok.reply) c.in-Ok.reply (g.B.Board.seen c.args.b.now).meter (g.B.Board.seen c.obey.new.b).meter
     (order_goes_on sound.fits.state c.args.text.now c.args.draw.now c.obey.new.known c.in-Ok.reply (g.B.Board.seen c.args.b.now).memory (g.B.Board.seen c.obey.new.b).memory (c.in-Ok.ensures.told sound.fits.state ready sound.fits.knows)) c.in-Ok.ensures.ran.meter
 
 pub returns-in-Err-clause-steps : goal.returns-in-Err-clause-steps

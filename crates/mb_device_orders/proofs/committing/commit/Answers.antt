@@ -37,9 +37,6 @@ returns-in_err-unsettled-clause-ran g c =
     let p = err_from_is_err_and c.from_residual-in_err-unsettled.result c.from_residual-in_err-unsettled.ensures.1 in
     rw p.1 (err_most _ 35 _ _ _ _ (omega (arith, few)) (ran_then _ _ _ _ _ _ _ c.in_ok-up.ensures.ran c.in_err-unsettled.ensures.ran))
 
-pub finish_order-requires-clause-stub : goal.finish_order-requires-clause-stub
-finish_order-requires-clause-stub g c = ?
-
 pub finish_order-requires-clause-live : goal.finish_order-requires-clause-live
 finish_order-requires-clause-live g c =
     live_committed (g.B.Board.seen c.args.b.now).memory (g.B.Board.seen c.write_public.new.b).memory (g.B.Board.seen c.commit_root.new.b).memory c.args.root.now c.args.room.now c.requires.commit

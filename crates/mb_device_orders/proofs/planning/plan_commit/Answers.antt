@@ -1,4 +1,3 @@
-use Rattle.std.proofs.Common.{arith}
 use Rattle.mb_device_orders.proofs.Remembered.{small_area}
 use Rattle.mb_device_orders.proofs.Planned.{read_short, planned_takes, planned_short, planned_few, commit_is, knows_next}
 use Rattle.mb_device_orders.proofs.planning.plan_commit.Goals as goal

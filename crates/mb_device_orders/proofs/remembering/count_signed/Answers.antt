@@ -1,4 +1,4 @@
-use Rattle.std.proofs.Common.{sym, subst, ap, List, ℕ, ◌∙◌, arith}
+use Rattle.std.proofs.Common.{sym, subst, List, ℕ, ◌∙◌}
 use Rattle.mb_model.specs.HeaderFormat.{header_format}
 use Rattle.mb_model.specs.Sectors.{BeginsAs}
 use Rattle.mb_device_orders.proofs.Planned.{read_short}

@@ -1,4 +1,4 @@
-use Rattle.std.proofs.Common.{sym, ap, arith}
+use Rattle.std.proofs.Common.{ap, arith}
 use Rattle.mb_format.specs.Format.{IsBytes}
 use Rattle.mb_model.specs.declared.stored.Header.{Header}
 use Rattle.mb_device_orders.proofs.Remembered.{one_header, small_header_signed}

@@ -39,7 +39,7 @@ returns-in-Status-clause-steps g c = λ before world sound same.
     (stays c.args.self c.args.self (held_by (g.B.Board.seen c.args.b.now).memory (g.B.Board.seen c.args.b.now).power (g.B.Board.seen c.args.b.now).level (g.B.Board.seen c.args.b.now).meter) world event.Status c.status-reply.result (c.status-reply.ensures.told world sound.fits sound.valid) own own.fits)
 
 pub returns-in-Status-clause-meter : goal.returns-in-Status-clause-meter
-returns-in-Status-clause-meter g c = unmetered 471 c.status-reply.result _ _ c.status-reply.ensures.goes_on refl
+returns-in-Status-clause-meter g c = unmetered 35 c.status-reply.result _ _ c.status-reply.ensures.goes_on refl
 
 pub returns-in-Go-clause-meter : goal.returns-in-Go-clause-meter
-returns-in-Go-clause-meter g c = unmetered 471 c.go.result.1 _ _ c.go.ensures.goes_on c.go.ensures.meter
+returns-in-Go-clause-meter g c = unmetered 35 c.go.result.1 _ _ c.go.ensures.goes_on c.go.ensures.meter

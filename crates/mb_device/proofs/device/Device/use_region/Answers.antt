@@ -6,7 +6,7 @@ use Rattle.mb_device.specs.declared.device.Device.TheVariants as device
 use Rattle.mb_device.specs.Sound.{IsSoundDevice}
 use Rattle.mb_device.proofs.Worlds.{awake_off, awake_dead}
 use Rattle.mb_device.proofs.Steps.{refuses_as}
-use Rattle.mb_device.proofs.Uses.{use_asleep, use_refused}
+use Rattle.mb_device.proofs.Uses.{use_asleep, use_refused, named_three}
 use Rattle.mb_device.proofs.device.Device.use_region.Goals as goal
 
 pub returns-in-Off-clause-steps : goal.returns-in-Off-clause-steps
@@ -22,3 +22,12 @@ returns-then-region-eq2-3-clause-steps g c = λ world sound.
     let own : IsSoundDevice (device.Three c.in-Three.up c.in-Three.running) (held_in (g.B.Board.seen c.args.b.now)) world = subst (λ (d : Device). IsSoundDevice d (held_in (g.B.Board.seen c.args.b.now)) world) c.in-Three.is sound in
     use_refused (device.Three c.in-Three.up c.in-Three.running) 3 2 c.in-Three.running (held_in (g.B.Board.seen c.args.b.now)) world c.args.event.now c.reply-then-region-eq2-3.result c.requires.event
     (sym c.if-region-eq2-3.true ∙ c.requires.region) c.reply-then-region-eq2-3.ensures own own.fits own.fits (inl refl)
+
+pub use_at-requires-else-region-eq2-clause-region : goal.use_at-requires-else-region-eq2-clause-region
+use_at-requires-else-region-eq2-clause-region g c = named_three c.args.event.now c.args.region c.requires.event c.requires.script c.requires.region c.if-region-eq2.false
+
+pub use_at-requires-else-region-eq2-2-clause-region : goal.use_at-requires-else-region-eq2-2-clause-region
+use_at-requires-else-region-eq2-2-clause-region g c = named_three c.args.event.now c.args.region c.requires.event c.requires.script c.requires.region c.if-region-eq2-2.false
+
+pub use_at-requires-else-region-eq2-3-clause-region : goal.use_at-requires-else-region-eq2-3-clause-region
+use_at-requires-else-region-eq2-3-clause-region g c = named_three c.args.event.now c.args.region c.requires.event c.requires.script c.requires.region c.if-region-eq2-3.false
