@@ -30,7 +30,7 @@ use Rattle.mb_model_memory.proofs.StorableMemories.{stands_storable}
 use Rattle.mb_model_memory.proofs.StorableRecords.{committed_root}
 use Rattle.mb_board.specs.Calls.{IsMetered, Seen, Ran}
 use Rattle.mb_layout.specs.declared.room.Room.{Room}
-use Rattle.mb_area.specs.Flashes.{HasSomeHeader, IsPlan, IsPublicWritten, code_in, code_sectors}
+use Rattle.mb_area.specs.Flashes.{HasSomeHeader, IsPlan, IsPublicWritten, code_to_write, code_sectors}
 use Rattle.mb_area.specs.Roots.{CommitsRoot}
 use Rattle.mb_boot.specs.Settling.{IsLive}
 use Rattle.mb_boot.specs.Booting.{Cleans}
@@ -83,7 +83,7 @@ code_none : (n : ℕ) (code : List ℕ) (layer : ℕ) (header : Header) (before 
 code_none n code layer header before between same written = subst (λ k. IsCodeWritten k (slot_in header k) (if k == 0 then None else Some code) before between) same written
 
 code_written : (room : Room) (layer : ℕ) (brought : Option (List ℕ)) (header : Header) (before between : List ℕ) → 1 ≤ layer → IsToWrite room layer brought
-    → IsCodeWritten room.code_layer (slot_in header room.code_layer) (code_in room) before between → IsCodeWritten layer (slot_in header layer) brought before between
+    → IsCodeWritten room.code_layer (slot_in header room.code_layer) (code_to_write room) before between → IsCodeWritten layer (slot_in header layer) brought before between
 code_written room layer None header before between some is written = code_none room.code_layer room.code.items layer header before between is.0 written
 code_written room layer (Some code) header before between some is written =
     subst (λ (xs : List ℕ). IsCodeWritten layer (slot_in header layer) (Some xs) before between) is.1 (code_by room.code_layer layer room.code.items (layer == 0) header before between refl some is.0 written)
