@@ -31,4 +31,3 @@ public_format = then_value (mark (1 ∷ []))
     (as_record (pair codes_format (counted (between w16 1 ENTRY_LIMIT) public_entry_format))
     (λ (codes, entries). record { codes = codes; entries = entries })
     (λ stored. (stored.codes, stored.entries)))
-
