@@ -22,8 +22,8 @@ pub struct PublicParts {
     pub unsigned: Entries,
 }
 
-/// The contents of the area of the flash that the root names; `None` exactly if it holds no public record, or not one as
-/// the root says. `NoMemory` if an allocation fails.
+/// The contents of the area of the flash that the root names; `None` exactly if it holds no public record, or not one
+/// as the root says. `NoMemory` if an allocation fails.
 pub fn public_in(alloc: Global, flash: &[u8], root: &Root) -> Result<Option<PublicParts>, NoMemory>
     requires sized { length flash.now ≡ FLASH_LENGTH }
     requires area { root.now.area ≤ 1 }

@@ -116,8 +116,8 @@ fn expect_writes(
 }
 
 /// The device has the state that the other program tells wherever power fails as it comes up, and once it is up. There are
-/// two writes for each sector of the public record, two for each region that something is to be done to, two for the root,
-/// and one for each area that is left with old bytes.
+/// two writes for each region that something is to be done to, two for each entry that is not signed, two for the header,
+/// two for the root, and one for each area that is left with old bytes.
 fn expect(rt: &impl Abort, alloc: Global, left: &Left, writes: u32) -> Result<(), Fail> {
     let device = device_of(alloc, left, None)?;
     expect_state(rt, &device.state, left)?;
@@ -134,20 +134,20 @@ fn new_device_writes_nothing(rt: HostRuntime) -> Result<(), Fail> {
 
 #[test]
 fn one_entry_is_signed(rt: HostRuntime) -> Result<(), Fail> {
-    expect(&rt, rt.alloc(), &ENTRY, 16)
+    expect(&rt, rt.alloc(), &ENTRY, 10)
 }
 
 #[test]
 fn next_device_key_is_signed(rt: HostRuntime) -> Result<(), Fail> {
-    expect(&rt, rt.alloc(), &RENEWAL, 19)
+    expect(&rt, rt.alloc(), &RENEWAL, 13)
 }
 
 #[test]
 fn new_key_is_stored(rt: HostRuntime) -> Result<(), Fail> {
-    expect(&rt, rt.alloc(), &NEW_KEY, 16)
+    expect(&rt, rt.alloc(), &NEW_KEY, 10)
 }
 
 #[test]
 fn succession_is_signed(rt: HostRuntime) -> Result<(), Fail> {
-    expect(&rt, rt.alloc(), &SUCCESSION, 49)
+    expect(&rt, rt.alloc(), &SUCCESSION, 13)
 }

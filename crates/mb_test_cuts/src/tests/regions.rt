@@ -155,7 +155,7 @@ const COMES_UP: Row = Row {
     call: Call::Boot,
     two: TWO,
     three: THREE,
-    writes: 16,
+    writes: 10,
     fills: &[0xff],
 };
 

@@ -5,8 +5,8 @@ use super::chains::{A_NEW_DEVICE, ITS_CHAIN, ITS_LISTING};
 use super::{Content, Given, Part, Step};
 use std::test::Fail;
 
-/// An order writes both header areas, the sector of its entry and the sectors that its code takes, and no other. Layer 2
-/// has its first code in slot 1, from sector 18 on, and its next in slot 2, from sector 26 on.
+/// An order writes both header areas, the sector of its entry and the sectors that its code takes, and no other. Layer
+/// 2 has its first code in slot 1, from sector 18 on, and its next in slot 2, from sector 26 on.
 const SECTORS_ARE_TOUCHED: &[Step] = &[
     Step::Serves(
         &[Part::Text("boot\n"), Part::File("order1")],
@@ -63,9 +63,9 @@ const A_LIFE_BEGINS: &[Step] = &[Step::Serves(
     booted\ndone 5 7\noff\n",
 )];
 
-/// Power is lost while the entry of a load of layer 3 is programmed, the tenth write: two of the code, two of the header,
-/// two of the root, by which the load is committed, two of region 3, and the erasure of the log's sector. The sector
-/// holds no entry then, the header does not count it, and the device comes up and writes it.
+/// Power is lost while the entry of a load of layer 3 is programmed, the tenth write: two of the code come first, two of
+/// the header, two of the root, by which the load is committed, two of region 3, and the erasure of the log's sector.
+/// The sector holds no entry then, the header does not count it, and the device comes up and writes it.
 const A_LOG_SECTOR_IS_CUT: &[Step] = &[
     Step::Serves(
         &[Part::Text("boot\ncut 10 fill ff\n"), Part::File("order7")],
