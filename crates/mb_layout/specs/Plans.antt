@@ -8,3 +8,15 @@ pub record SamePlans (before after : Room) : Type 0 where
   pub code_layer : after.code_layer ≡ before.code_layer
   pub header : after.header ≡ before.header
   pub log : after.log ≡ before.log
+
+-- all that is written next stays, but the header
+pub record SameBesidesHeader (before after : Room) : Type 0 where
+  pub code : after.code ≡ before.code
+  pub code_layer : after.code_layer ≡ before.code_layer
+  pub log : after.log ≡ before.log
+
+-- all that is written next stays, but the sector of the log
+pub record SameBesidesLog (before after : Room) : Type 0 where
+  pub code : after.code ≡ before.code
+  pub code_layer : after.code_layer ≡ before.code_layer
+  pub header : after.header ≡ before.header
