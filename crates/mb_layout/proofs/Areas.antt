@@ -3,16 +3,15 @@ use Rattle.std.proofs.Common.{◌≡◌, ℕ, zero, suc, false, ◌==◌, ◌+�
 use Rattle.std.proofs.lemmas.List.{length-take-le, drop-drop, drop-replicate}
 use Rattle.std.proofs.lemmas.List.Elements.{All-replicate}
 use Rattle.std.proofs.Math.Seq.{take-append_seam, drop-append_seam}
-use Rattle.std.specs.Int.{Width, w16, w32, byte_len, to_be_bytes, from_be_bytes}
+use Rattle.std.specs.Int.{Width, w16, byte_len, to_be_bytes, from_be_bytes}
 use Rattle.mb_format.specs.Format.{Format, IsBytes, Spells, FailsWhole}
 use Rattle.mb_format.specs.Reading.{IsExact}
 use Rattle.mb_format.specs.Combinators.{limit}
-use Rattle.mb_format.proofs.Fields.{IsWide, wide16, wide32}
+use Rattle.mb_format.proofs.Fields.{IsWide, wide16}
 use Rattle.mb_format.proofs.Exact.{IsBytes-spelled, IsBytes-drop}
 use Rattle.mb_format.proofs.Whole.{IsClearWhole-from_exact}
 use Rattle.mb_model.specs.declared.region.Region.{Region}
 use Rattle.mb_model.specs.Memory.{IsBlank, HoldsInArea, HoldsRecord}
-use Rattle.mb_model.specs.OldFlash.{BeginsArea, BeginsWithRecord}
 use Rattle.mb_model.specs.RegionFormat.{region_format, SpellsRegion}
 use Rattle.mb_model.specs.Meaning.{HoldsRegion}
 use Rattle.mb_model.proofs.RecordFormatLaws.{region_exact}
@@ -67,20 +66,6 @@ one_held {area} a b h k =
     let small_b : length b < 65536 = omega (arith, k.short) in
     bytes_are wide16 area a h.rest small_a h.whole ∙ sym (bytes_are wide16 area b k.rest small_b k.whole)
 
--- ---- areas of the flash
-
-pub begins : {area front rest bytes : List ℕ} {n : ℕ} → IsBytes area → front ≡ take 4 area → rest ≡ drop 4 area → length rest + 4 ≡ length area → n ≡ from_be_bytes w32 front → n ≤ 470000 → n ≤ length rest
-    → bytes ≡ take n rest → BeginsArea area bytes
-begins {area} {front} {rest} {bytes} {n} are f r len e short le b =
-    let p = area_is wide32 area front rest bytes (drop n rest) n are f r len e le b refl in
-    record { rest = drop n rest; short = omega (arith, p.0); whole = p.1 }
-
-pub one_begun : {area : List ℕ} (a b : List ℕ) → BeginsArea area a → BeginsArea area b → a ≡ b
-one_begun {area} a b h k =
-    let small_a : length a < 4294967296 = omega (arith, h.short) in
-    let small_b : length b < 4294967296 = omega (arith, k.short) in
-    bytes_are wide32 area a h.rest small_a h.whole ∙ sym (bytes_are wide32 area b k.rest small_b k.whole)
-
 -- ---- records in areas
 
 -- bytes that fail as a whole spell no value
@@ -88,18 +73,13 @@ pub spells_none : {A : Type 0} {f : Format A} {bytes : List ℕ} {at : ℕ} → 
 spells_none {A} {f} {bytes} {at} exact are fails a spells = (IsClearWhole-from_exact exact).never_both bytes a at are spells fails
 
 -- the bytes after the number are bytes
-bytes_after : {w : Width} → IsWide w → (area bytes rest : List ℕ) → IsBytes area → area ≡ to_be_bytes w (length bytes) ++ bytes ++ rest → IsBytes bytes
+pub bytes_after : {w : Width} → IsWide w → (area bytes rest : List ℕ) → IsBytes area → area ≡ to_be_bytes w (length bytes) ++ bytes ++ rest → IsBytes bytes
 bytes_after {w} wide area bytes rest are e = IsBytes-spelled (drop (byte_len w) area) bytes rest (IsBytes-drop (byte_len w) area are) (after_number wide area bytes rest e)
 
 pub area_none : {A : Type 0} {f : Format A} {area bytes : List ℕ} {at : ℕ} → IsExact f → IsBytes area → HoldsInArea area bytes → FailsWhole f bytes at → (a : A) → HoldsRecord f area a → ⊥
 area_none {A} {f} {area} {bytes} {at} exact are h fails a other =
     let same : other.bytes ≡ bytes = one_held other.bytes bytes other.holds h in
     spells_none exact (bytes_after wide16 area bytes h.rest are h.whole) fails a (rw same at other.spelled)
-
-pub start_none : {A : Type 0} {f : Format A} {area bytes : List ℕ} {at : ℕ} → IsExact f → IsBytes area → BeginsArea area bytes → FailsWhole f bytes at → (a : A) → BeginsWithRecord f area a → ⊥
-start_none {A} {f} {area} {bytes} {at} exact are h fails a other =
-    let same : other.bytes ≡ bytes = one_begun other.bytes bytes other.begins h in
-    spells_none exact (bytes_after wide32 area bytes h.rest are h.whole) fails a (rw same at other.spelled)
 
 no_region : {bytes : List ℕ} {at : ℕ} → IsBytes bytes → 0 < length bytes → FailsWhole region_format bytes at → (region : Region) → SpellsRegion bytes region → ⊥
 no_region are some fails region (inl none) = omega (arith, some, ap length none.0)

@@ -1,22 +1,14 @@
 -- What an edit of a stored record, without memory, leaves. Which record do the bytes spell afterwards?
-use Rattle.std.specs.Prelude.{◌≡◌, ℕ, ◌<◌, ◌≤◌, ◌⊎◌, List, [], ◌∷◌, ◌++◌, length, find}
+use Rattle.std.specs.Prelude.{◌≡◌, ℕ, ◌<◌, ◌≤◌, ◌⊎◌, List, find}
 use Rattle.std.specs.Prelude.{Some, None, Result, Ok, Err}
-use Rattle.std.specs.Global.{Vec}
-use Rattle.std.specs.Vec.{vec_capacity}
-use Rattle.mb_format.specs.Format.{Spells}
-use Rattle.mb_model.specs.declared.entry.Entry.{Entry}
-use Rattle.mb_model.specs.declared.entry.SignedEntry.{SignedEntry}
 use Rattle.mb_model.specs.declared.limits.TheConstants.{KEY_USES}
 use Rattle.mb_model.specs.declared.region.Region.{Region}
 use Rattle.mb_model.specs.declared.region.RegionKey.{RegionKey}
-use Rattle.mb_model.specs.declared.state.Codes.{Codes}
 use Rattle.mb_model.specs.declared.stored.Fate.{Fate}
 use Rattle.mb_model.specs.Regions.{empty_region}
 use Rattle.mb_model.specs.LayerEvents.{has_number, with_use}
 use Rattle.mb_model.specs.Meaning.{fated}
 use Rattle.mb_model.specs.RegionFormat.{region_format, SpellsRegion}
-use Rattle.mb_model.specs.PublicRecord.{public_format}
-use Rattle.mb_model.specs.OldFlash.{public_of_parts}
 use Rattle.mb_layout.specs.declared.usage.NotUsed.{NotUsed}
 use Rattle.mb_layout.specs.declared.usage.NotUsed.TheVariants.{NoKey, Spent}
 
@@ -51,25 +43,3 @@ abbrev pub UseOf : Region → ℕ → Result RegionKey NotUsed → List ℕ → 
 UseOf region number (Ok key) new = IsUsed region number key new
 UseOf region number (Err NoKey) new = find (has_number number) region.keys ≡ None
 UseOf region number (Err Spent) new = IsSpent region number
-
--- the entries with a signature each, in order
-abbrev pub signed_each : List Entry → List (List ℕ) → List SignedEntry
-signed_each [] signatures = []
-signed_each (entry ∷ entries) [] = []
-signed_each (entry ∷ entries) (signature ∷ signatures) =
-    record { entry = entry; signature = signature } ∷ signed_each entries signatures
-
--- If the old bytes spelled a public record with as many unsigned entries as there are signatures, their buffer keeps
--- its room.
-abbrev pub KeepsRoom : List (List ℕ) → Vec ℕ → Vec ℕ → Type 0
-KeepsRoom signatures old new =
-    (codes : Codes) (signed : List SignedEntry) (unsigned : List Entry) → length unsigned ≡ length signatures
-    → Spells public_format old.items (public_of_parts codes signed unsigned) → vec_capacity old ≤ vec_capacity new
-
--- If the old bytes spelled a public record with as many unsigned entries as there are signatures, the new ones spell
--- it with each of them signed.
-abbrev pub IsCompleted : List (List ℕ) → List ℕ → List ℕ → Type 0
-IsCompleted signatures old new =
-    (codes : Codes) (signed : List SignedEntry) (unsigned : List Entry) → length unsigned ≡ length signatures
-    → Spells public_format old (public_of_parts codes signed unsigned)
-    → Spells public_format new (public_of_parts codes (signed ++ signed_each unsigned signatures) [])

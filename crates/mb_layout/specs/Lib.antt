@@ -2,11 +2,8 @@ pub mod Bounds
 pub mod Edits
 pub mod Ends
 pub mod Found
-pub mod LastEntries
 pub mod Parts
 pub mod StoredRegion
-pub mod StoredEntries
 pub mod Uncopied
 pub mod Walks
-pub mod UnsignedEntries
 pub mod Plans

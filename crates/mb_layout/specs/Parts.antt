@@ -1,21 +1,17 @@
 -- The bytes of parts of records, as the code writes them one after another. What stands after the numbers of an entry?
-use Rattle.std.specs.Prelude.{ℕ, Bool, true, false, List, ◌++◌, length, Option}
-use Rattle.std.specs.Int.{w8, w16, w32}
-use Rattle.mb_format.specs.Format.{Format}
-use Rattle.mb_format.specs.Combinators.{number, between, optional, times, counted}
+use Rattle.std.specs.Prelude.{ℕ, Bool, true, false, List, ◌++◌, Option}
+use Rattle.std.specs.Int.{w8, w32}
+use Rattle.mb_format.specs.Combinators.{number, optional}
 use Rattle.mb_model.specs.declared.key.PublicKey.{PublicKey}
 use Rattle.mb_model.specs.declared.layer.Layers.{Layers}
 use Rattle.mb_model.specs.declared.layer.Pair.{Pair}
-use Rattle.mb_model.specs.declared.limits.TheConstants.{ENTRY_LIMIT}
 use Rattle.mb_model.specs.declared.order.ChangeKind.{ChangeKind}
 use Rattle.mb_model.specs.declared.order.KeyKind.{KeyKind}
-use Rattle.mb_model.specs.declared.entry.PublicEntry.{PublicEntry}
 use Rattle.mb_model.specs.declared.stored.Root.{Root}
 use Rattle.mb_model.specs.KeyFormat.{public_key_format, key_seed_format}
 use Rattle.mb_model.specs.LayerFormat.{layers_format}
 use Rattle.mb_model.specs.EntryFormat.{change_byte, pair_format, key_kind_format}
 use Rattle.mb_model.specs.RootFormat.{pending_format}
-use Rattle.mb_model.specs.PublicRecord.{public_entry_format}
 
 -- the regions kept, the layers and the next key of a change, in a version
 abbrev pub kept_bytes : ℕ → Pair → Layers → Option PublicKey → List ℕ
@@ -39,14 +35,6 @@ abbrev pub root_key_bytes : Root → List ℕ
 root_key_bytes root =
     key_seed_format.spelling root.device
     ++ ((number w8).spelling root.uses ++ (optional pending_format).spelling root.pending)
-
--- the entries of a public record, after their number
-unfoldable pub entries_format : Format (List PublicEntry)
-entries_format = counted (between w16 1 ENTRY_LIMIT) public_entry_format
-
--- their bytes
-abbrev pub entries_bytes : List PublicEntry → List ℕ
-entries_bytes entries = (times (length entries) public_entry_format).spelling entries
 
 -- what a layer with code has, as a byte
 abbrev pub loaded_byte : Bool → ℕ

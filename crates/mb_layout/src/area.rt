@@ -1,24 +1,18 @@
-//! Records in areas: after their length, and before zeros (battery-backed memory) or arbitrary bytes (flash).
+//! Records in areas of the battery-backed memory: after their length, and before zeros.
 
 ghost use Rattle.std.specs.Prelude.{◌≡◌, ◌≤◌, ◌↔◌, length, IfOk, IsTrue};
 ghost use Rattle.mb_model.specs.declared.limits.TheConstants.{AREA_LENGTH, RECORD_LIMIT};
 ghost use Rattle.mb_model.specs.RootFormat.{root_format};
 ghost use Rattle.mb_model.specs.Memory.{IsBlank, HoldsInArea, HoldsRecord};
 ghost use Rattle.mb_model.specs.Meaning.{HoldsRegion};
-ghost use Rattle.mb_model.specs.PublicRecord.{public_format};
-ghost use Rattle.mb_model.specs.OldFlash.{BeginsArea, BeginsWithRecord};
 ghost use Rattle.mb_layout.specs.Found.{FindsBy};
 
 use crate::end::LayoutEnd;
-use crate::public::public_of_bytes;
 use crate::region::region_of_bytes;
 use crate::root::root_of_bytes;
 use mb_bytes::put_at;
-use mb_model::{Items, NoMemory, Public, RECORD_LIMIT, Region, Root};
+use mb_model::{Items, NoMemory, RECORD_LIMIT, Region, Root};
 use std::alloc::Global;
-
-/// The longest record in an area of the flash, in bytes.
-pub const PUBLIC_LIMIT: usize = 470_000;
 
 /// Whether all bytes are zero.
 pub fn is_blank(bytes: &[u8]) -> bool
@@ -39,19 +33,6 @@ pub fn record_in(area: &[u8]) -> Option<&[u8]>
     }
     let (bytes, blank) = rest.split_at(length);
     if is_blank(blank) { Some(bytes) } else { None }
-}
-
-/// The record with which an area of the flash begins, after its length in four bytes and before arbitrary ones. `None`
-/// if it has more than 470,000 bytes or more than the area.
-pub fn record_at_start(area: &[u8]) -> Option<&[u8]>
-    ensures { FindsBy (λ bytes. bytes.now) (BeginsArea area.now) result }
-{
-    let (number, rest) = area.split_first_chunk::<4>()?;
-    let length = u32::from_be_bytes(*number) as usize;
-    if length > PUBLIC_LIMIT || length > rest.len() {
-        return None;
-    }
-    Some(&rest[..length])
 }
 
 /// Replaces an area of the battery-backed memory, 4,096 bytes, by these bytes, at most 4,094: their length, the bytes,
@@ -95,22 +76,6 @@ pub fn region_in(alloc: Global, area: &[u8]) -> Result<Option<Region>, NoMemory>
     }
     match region_of_bytes(alloc, bytes) {
         Ok(region) => Ok(Some(region)),
-        Err(LayoutEnd::Bad(_)) => Ok(None),
-        Err(LayoutEnd::NoMemory) => Err(NoMemory),
-    }
-}
-
-/// The public record with which an area of the flash begins; `None` exactly if it begins with none; `NoMemory` if an
-/// allocation fails.
-pub fn public_at_start(alloc: Global, flash_area: &[u8]) -> Result<Option<Public>, NoMemory>
-    ensures { IfOk result (λ found. FindsBy (λ stored. stored)
-        (BeginsWithRecord public_format flash_area.now) found) }
-{
-    let Some(bytes) = record_at_start(flash_area) else {
-        return Ok(None);
-    };
-    match public_of_bytes(alloc, bytes) {
-        Ok(public) => Ok(Some(public)),
         Err(LayoutEnd::Bad(_)) => Ok(None),
         Err(LayoutEnd::NoMemory) => Err(NoMemory),
     }

@@ -1,2 +1,5 @@
+pub mod Areas
 pub mod EntryLists
+pub mod ExactReads
 pub mod Reading
+pub mod Sizes

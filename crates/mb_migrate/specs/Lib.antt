@@ -1,2 +1,4 @@
+pub mod Bounds
 pub mod Entries
 pub mod Held
+pub mod Parts

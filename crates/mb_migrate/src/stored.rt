@@ -5,8 +5,8 @@ ghost use Rattle.mb_model.specs.declared.limits.TheConstants.{FLASH_LENGTH};
 ghost use Rattle.mb_model.specs.OldFlash.{flash_area, HeldPublic};
 ghost use Rattle.mb_migrate.specs.Held.{SomeHeldPublic};
 
+use crate::area::public_at_start;
 use crate::entries::split_entries;
-use mb_layout::public_at_start;
 use mb_model::{Codes, Entries, Log, NoMemory, Public, Root};
 use std::alloc::Global;
 

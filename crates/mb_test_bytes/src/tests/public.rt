@@ -1,20 +1,19 @@
-//! The public record, by bytes of another program, and the entries that are signed in it.
+//! The public record of a flash that is not divided into segments, by bytes of another program.
 
 ghost use Rattle.std.specs.Prelude.{◌≤◌, length};
 
-use super::spelled::{bytes_of, entry_of, joined};
+use super::spelled::{bytes_of, joined};
 use super::values::{BIRTH, NEW_KEY, SUCCESSION};
 use super::vectors;
 use hex::FromHex;
 use mb_bytes::Cursor;
-use mb_layout::{
-    LayoutEnd, Public, complete_record, public_at_start, public_of_bytes, read_public,
-    record_at_start, write_public_parts, write_public_record,
+use mb_layout::LayoutEnd;
+use mb_migrate::{
+    public_at_start, public_of_bytes, read_public, record_at_start, write_public_record,
 };
-use mb_model::{Bytes, Codes, NoMemory, SignedEntry};
+use mb_model::{Bytes, NoMemory, Public};
 use sha2::{Digest, Sha256};
 use std::alloc::Global;
-use std::process::Abort;
 use std::test::Fail;
 
 /// The codes, and the number of three entries.
@@ -31,20 +30,6 @@ const STORED: &[(&str, usize)] = &[
     ("62", 2_348),
     (vectors::SUCCESSION, 1),
     ("00", 1),
-];
-
-/// The same with the succession signed.
-const COMPLETED: &[(&str, usize)] = &[
-    (CODES_OF_THREE, 1),
-    (vectors::BIRTH, 1),
-    ("01", 1),
-    ("61", 2_348),
-    (vectors::NEW_KEY, 1),
-    ("01", 1),
-    ("62", 2_348),
-    (vectors::SUCCESSION, 1),
-    ("01", 1),
-    ("63", 2_348),
 ];
 
 /// The start of the record of the vectors, and its SHA-256.
@@ -155,94 +140,5 @@ fn a_flash_area_begins_with_a_public_record(rt: HostRuntime) -> Result<(), Fail>
     assert!(rt; holds_public(alloc, area.as_slice()) == Ok(true));
     area.truncate(5_023);
     assert!(rt; record_at_start(area.as_slice()).is_none());
-    Ok(())
-}
-
-/// A record of a birth and a succession, neither of which is signed.
-const NONE_SIGNED: &[(&str, usize)] = &[
-    ("010000000002", 1),
-    (vectors::BIRTH, 1),
-    ("00", 1),
-    (vectors::SUCCESSION, 1),
-    ("00", 1),
-];
-
-/// The same with the birth signed.
-const BIRTH_SIGNED: &[(&str, usize)] = &[
-    ("010000000002", 1),
-    (vectors::BIRTH, 1),
-    ("01", 1),
-    ("61", 2_348),
-    (vectors::SUCCESSION, 1),
-    ("00", 1),
-];
-
-/// The same with both signed.
-const BOTH_SIGNED: &[(&str, usize)] = &[
-    ("010000000002", 1),
-    (vectors::BIRTH, 1),
-    ("01", 1),
-    ("61", 2_348),
-    (vectors::SUCCESSION, 1),
-    ("01", 1),
-    ("62", 2_348),
-];
-
-/// The record is completed by the signatures to the expected one.
-fn completes(
-    rt: &impl Abort,
-    alloc: Global,
-    pieces: &[(&str, usize)],
-    signatures: &[[u8; 2348]],
-    expected: &[(&str, usize)],
-) -> Result<(), Fail>
-    requires { length signatures.now ≤ 2 }
-{
-    let wanted = joined(alloc, expected)?;
-    let mut bytes = joined(alloc, pieces)?;
-    bytes.reserve(4_696)?;
-    complete_record(&mut bytes, signatures);
-    assert!(rt; bytes.as_slice() == wanted.as_slice());
-    Ok(())
-}
-
-#[test]
-fn entries_are_completed(rt: HostRuntime) -> Result<(), Fail> {
-    let alloc = rt.alloc();
-    completes(&rt, alloc, STORED, &[[0x63; 2348]], COMPLETED)?;
-    completes(
-        &rt,
-        alloc,
-        NONE_SIGNED,
-        &[[0x61; 2348], [0x62; 2348]],
-        BOTH_SIGNED,
-    )
-}
-
-/// The record of a birth that is signed and a succession that is not.
-fn parts_written(alloc: Global) -> Result<Vec<u8>, Fail> {
-    let entry = entry_of(alloc, vectors::BIRTH)?;
-    let last = entry_of(alloc, vectors::SUCCESSION)?;
-    let signature = [0x61; 2348];
-    let codes = Codes {
-        one: None,
-        two: None,
-        three: None,
-    };
-    let mut out = Vec::new(alloc);
-    write_public_parts(
-        &codes,
-        &[SignedEntry { entry, signature }],
-        &[last],
-        &mut out,
-    )?;
-    Ok(out)
-}
-
-#[test]
-fn a_public_record_is_written_from_parts(rt: HostRuntime) -> Result<(), Fail> {
-    let alloc = rt.alloc();
-    let expected = joined(alloc, BIRTH_SIGNED)?;
-    assert!(rt; parts_written(alloc)?.as_slice() == expected.as_slice());
     Ok(())
 }
