@@ -1,7 +1,7 @@
 -- What is written to the flash of a device, and where. Does a write reach anything that counts?
 use Rattle.std.specs.Prelude.{◌≡◌, ◌≢◌, ℕ, ◌+◌, ◌-◌, ◌<◌, ◌≤◌, ◌==◌, ◌⊎◌, if◌then◌else◌}
 use Rattle.std.specs.Prelude.{List, length, Option, None, Some, IfSome}
-use Rattle.mb_model.specs.declared.limits.TheConstants.{CODE_LIMIT, SECTOR_LENGTH}
+use Rattle.mb_model.specs.declared.limits.TheConstants.{CODE_LIMIT, ENTRY_LIMIT, SECTOR_LENGTH}
 use Rattle.mb_model.specs.declared.stored.Header.{Header}
 use Rattle.mb_model.specs.declared.stored.Root.{Root}
 use Rattle.mb_model.specs.Board.{Memory}
@@ -9,7 +9,7 @@ use Rattle.mb_model.specs.Flash.{sector, code_slot, HoldsHeader}
 use Rattle.mb_model.specs.HeaderFormat.{header_format}
 use Rattle.mb_model.specs.Meaning.{RootIn}
 use Rattle.mb_model.specs.Sectors.{header_sector, code_sector, BeginsAs}
-use Rattle.mb_model_memory.specs.FlashInForce.{slot_in, BeginsWithBytes, IsSectorWritten}
+use Rattle.mb_model_memory.specs.FlashInForce.{slot_in, BeginsWithBytes, IsSectorWritten, IsUncounted}
 use Rattle.mb_model_memory.specs.NextHeaders.{free_slot, IsCodeWritten}
 use Rattle.mb_flash.specs.Sectors.{sectors_for}
 use Rattle.mb_layout.specs.declared.room.Room.{Room}
@@ -29,6 +29,11 @@ pub record BeginWithHeader (bytes : List ℕ) : Type 0 where
 -- a header area of a flash holds some header
 abbrev pub HoldsSomeHeader : List ℕ → ℕ → Type 0
 HoldsSomeHeader flash area = BeginWithHeader (sector flash (header_sector area))
+
+-- a position of the log, 0 to 127, whose entry the header in force does not count
+pub record IsFreePosition (memory : Memory) (position : ℕ) : Type 0 where
+  pub within : position < ENTRY_LIMIT
+  pub uncounted : (root : Root) → RootIn memory.bbram root → IsUncounted memory.flash root.area position
 
 -- what is written next can be: code of a layer from 1 to 3, or none, and the bytes of a header
 pub record IsPlan (room : Room) : Type 0 where

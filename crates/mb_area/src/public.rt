@@ -8,14 +8,14 @@ ghost use Rattle.mb_model.specs.Flash.{sector, code_slot, HoldsHeader};
 ghost use Rattle.mb_model.specs.HeaderFormat.{header_format};
 ghost use Rattle.mb_model.specs.Meaning.{RootIn};
 ghost use Rattle.mb_model.specs.Sectors.{header_sector, code_sector, log_sector, BeginsAs};
-ghost use Rattle.mb_board.specs.Calls.{IsPowered, IsUp, Ran};
+ghost use Rattle.mb_board.specs.Calls.{IsPowered, IsUp, RanOnFlash};
 ghost use Rattle.mb_flash.specs.Sectors.{sectors_for};
-ghost use Rattle.mb_model_memory.specs.FlashInForce.{slot_in, AgreeForArea, KeepsSignedLog, BeginsWithBytes};
-ghost use Rattle.mb_model_memory.specs.FlashInForce.{DiffersOnlyIn, IsSectorWritten, IsUncounted};
+ghost use Rattle.mb_model_memory.specs.FlashInForce.{slot_in, AgreeForArea, BeginsWithBytes};
+ghost use Rattle.mb_model_memory.specs.FlashInForce.{DiffersOnlyIn, IsSectorWritten};
 ghost use Rattle.mb_model_memory.specs.Holding.{KeepsContents};
 ghost use Rattle.mb_model_memory.specs.NextHeaders.{free_slot, IsCodeWritten};
-ghost use Rattle.mb_layout.specs.Plans.{SamePlans};
-ghost use Rattle.mb_area.specs.Flashes.{HasSomeHeader, BeginWithHeader, HoldsSomeHeader, IsPlan, IsPublicWritten};
+ghost use Rattle.mb_layout.specs.Plans.{SamePlans, SameBesidesHeader, SameBesidesLog};
+ghost use Rattle.mb_area.specs.Flashes.{IsFreePosition, HasSomeHeader, BeginWithHeader, HoldsSomeHeader, IsPlan, IsPublicWritten};
 ghost use Rattle.mb_area.specs.Flashes.{IsCodeThere, IsPublicThere, IsSpared, code_to_write, code_sectors};
 
 use crate::root::read_root;
@@ -45,9 +45,7 @@ pub fn read_header<B: Board>(b: &B, area: u8, room: &mut Room)
     requires powered { IsPowered (B.seen b.now) }
     requires area { area ≤ 1 }
     ensures read { room.new.header.items ≡ sector (B.seen b.now).memory.flash (header_sector area) }
-    ensures code { room.new.code ≡ room.old.code }
-    ensures code_layer { room.new.code_layer ≡ room.old.code_layer }
-    ensures log { room.new.log ≡ room.old.log }
+    ensures plans { SameBesidesHeader room.old room.new }
 {
     read_sector(b, header_sector(area), &mut room.header);
 }
@@ -57,9 +55,7 @@ pub fn read_log<B: Board>(b: &B, position: u32, room: &mut Room)
     requires powered { IsPowered (B.seen b.now) }
     requires position { position < ENTRY_LIMIT }
     ensures read { room.new.log.items ≡ sector (B.seen b.now).memory.flash (log_sector position) }
-    ensures code { room.new.code ≡ room.old.code }
-    ensures code_layer { room.new.code_layer ≡ room.old.code_layer }
-    ensures header { room.new.header ≡ room.old.header }
+    ensures plans { SameBesidesLog room.old room.new }
 {
     read_sector(b, log_sector(position), &mut room.log);
 }
@@ -78,8 +74,7 @@ fn store_sector<B: Board>(b: &mut B, number: u16, bytes: &[u8]) -> Result<(), St
     ensures idle { BeginsWithBytes (sector (B.seen b.old).memory.flash number) bytes.now
         → (result ≡ Ok tt) × ((B.seen b.new).memory ≡ (B.seen b.old).memory)
         × ((B.seen b.new).meter ≡ (B.seen b.old).meter) }
-    ensures bbram { (B.seen b.new).memory.bbram ≡ (B.seen b.old).memory.bbram }
-    ensures ran { Ran 2 result (B.seen b.old) (B.seen b.new) }
+    ensures ran { RanOnFlash 2 result (B.seen b.old) (B.seen b.new) }
 {
     write_sector(b, number, bytes)
 }
@@ -98,8 +93,7 @@ fn store_code<B: Board>(b: &mut B, layer: u8, slot: u8, code: &[u8]) -> Result<(
     ensures idle { BeginsWithBytes (code_slot (B.seen b.old).memory.flash layer slot) code.now
         → (result ≡ Ok tt) × ((B.seen b.new).memory ≡ (B.seen b.old).memory)
         × ((B.seen b.new).meter ≡ (B.seen b.old).meter) }
-    ensures bbram { (B.seen b.new).memory.bbram ≡ (B.seen b.old).memory.bbram }
-    ensures ran { Ran (2 * sectors_for (length code.now)) result (B.seen b.old) (B.seen b.new) }
+    ensures ran { RanOnFlash (2 * sectors_for (length code.now)) result (B.seen b.old) (B.seen b.new) }
 {
     write_sectors(b, code_sector(layer, slot), code)
 }
@@ -162,8 +156,7 @@ fn write_code<B: Board>(b: &mut B, area: u8, room: &mut Room) -> Result<(), Stop
         → IsCodeThere room.old header (B.seen b.old).memory.flash
         → (result ≡ Ok tt) × ((B.seen b.new).memory ≡ (B.seen b.old).memory)
         × ((B.seen b.new).meter ≡ (B.seen b.old).meter) }
-    ensures bbram { (B.seen b.new).memory.bbram ≡ (B.seen b.old).memory.bbram }
-    ensures ran { Ran (2 * code_sectors room.old) result (B.seen b.old) (B.seen b.new) }
+    ensures ran { RanOnFlash (2 * code_sectors room.old) result (B.seen b.old) (B.seen b.new) }
     ensures plans { SamePlans room.old room.new }
 {
     if room.code_layer == 0 {
@@ -190,8 +183,7 @@ fn write_both<B: Board>(b: &mut B, area: u8, room: &mut Room) -> Result<(), Stop
         → IsPublicThere room.old header area (B.seen b.old).memory.flash
         → (result ≡ Ok tt) × ((B.seen b.new).memory ≡ (B.seen b.old).memory)
         × ((B.seen b.new).meter ≡ (B.seen b.old).meter) }
-    ensures bbram { (B.seen b.new).memory.bbram ≡ (B.seen b.old).memory.bbram }
-    ensures ran { Ran (2 * code_sectors room.old + 2) result (B.seen b.old) (B.seen b.new) }
+    ensures ran { RanOnFlash (2 * code_sectors room.old + 2) result (B.seen b.old) (B.seen b.new) }
     ensures plans { SamePlans room.old room.new }
 {
     write_code(b, area, room)?;
@@ -221,8 +213,7 @@ pub fn write_public<S: Reaches<One>, B: Board>(s: S, b: &mut B, room: &mut Room)
         → IsPublicThere room.old header root.area (B.seen b.old).memory.flash
         → IsOk result × ((B.seen b.new).memory ≡ (B.seen b.old).memory)
         × ((B.seen b.new).meter ≡ (B.seen b.old).meter) }
-    ensures bbram { (B.seen b.new).memory.bbram ≡ (B.seen b.old).memory.bbram }
-    ensures ran { Ran (2 * code_sectors room.old + 2) result (B.seen b.old) (B.seen b.new) }
+    ensures ran { RanOnFlash (2 * code_sectors room.old + 2) result (B.seen b.old) (B.seen b.new) }
     ensures plans { SamePlans room.old room.new }
 {
     let root = read_root(b, room);
@@ -244,14 +235,11 @@ pub fn write_log<S: Reaches<One>, B: Board>(
     room: &mut Room,
 ) -> Result<S, Off>
     requires up { IsUp S.stage (B.seen b.old) }
-    requires position { position < ENTRY_LIMIT }
+    requires position { IsFreePosition (B.seen b.old).memory position }
     requires log { (1 ≤ length room.old.log.items) × (length room.old.log.items ≤ SECTOR_LENGTH) }
-    requires uncounted { (root : Root) → RootIn (B.seen b.old).memory.bbram root
-        → IsUncounted (B.seen b.old).memory.flash root.area position }
     ensures contents { KeepsContents (B.seen b.old).memory (B.seen b.new).memory }
     ensures agree { (root : Root) → RootIn (B.seen b.old).memory.bbram root
         → AgreeForArea (B.seen b.old).memory.flash (B.seen b.new).memory.flash root.area }
-    ensures log { KeepsSignedLog (B.seen b.old).memory (B.seen b.new).memory }
     ensures same { DiffersOnlyIn (log_sector position) 1 (B.seen b.old).memory.flash
         (B.seen b.new).memory.flash }
     ensures written { OnOk result (IsSectorWritten (log_sector position) room.old.log.items
@@ -260,8 +248,7 @@ pub fn write_log<S: Reaches<One>, B: Board>(
         room.old.log.items
         → IsOk result × ((B.seen b.new).memory ≡ (B.seen b.old).memory)
         × ((B.seen b.new).meter ≡ (B.seen b.old).meter) }
-    ensures bbram { (B.seen b.new).memory.bbram ≡ (B.seen b.old).memory.bbram }
-    ensures ran { Ran 2 result (B.seen b.old) (B.seen b.new) }
+    ensures ran { RanOnFlash 2 result (B.seen b.old) (B.seen b.new) }
     ensures plans { SamePlans room.old room.new }
 {
     match store_sector(b, log_sector(position), &room.log) {

@@ -8,9 +8,9 @@ ghost use Rattle.mb_model.specs.declared.stored.Root.{Root};
 ghost use Rattle.mb_model.specs.RootFormat.{root_format};
 ghost use Rattle.mb_model.specs.Memory.{IsBlank, current, other, HoldsRecord};
 ghost use Rattle.mb_model.specs.Meaning.{RootIn};
-ghost use Rattle.mb_board.specs.Calls.{IsUp, Ran};
+ghost use Rattle.mb_board.specs.Calls.{IsUp};
 ghost use Rattle.mb_model_memory.specs.InForce.{AgreeBesides};
-ghost use Rattle.mb_slot.specs.Slots.{CanUse, IsSameBut, IsSameButOther};
+ghost use Rattle.mb_slot.specs.Slots.{CanUse, RanInOther, RanInSlot};
 ghost use Rattle.mb_model_memory.specs.Holding.{KeepsContents};
 ghost use Rattle.mb_area.specs.Roots.{HoldsSomeRoot, HasSomeRoot, CommitsRoot, Finishes, KeepsOrFinishes, MeansByRoot, KeepsOrMeansByRoot, MeansAsReady, settled_root};
 
@@ -74,9 +74,7 @@ fn store_root<B: Board>(b: &mut B, root: &Root, room: &mut Room) -> Result<(), S
     ensures left { OnOk result (other (B.seen b.new).memory.bbram 1
         ≡ current (B.seen b.old).memory.bbram 1) }
     ensures besides { AgreeBesides 1 (B.seen b.old).memory.bbram (B.seen b.new).memory.bbram }
-    ensures rest { IsSameBut 1 (B.seen b.old).memory.bbram (B.seen b.new).memory.bbram }
-    ensures flash { (B.seen b.new).memory.flash ≡ (B.seen b.old).memory.flash }
-    ensures ran { Ran 2 result (B.seen b.old) (B.seen b.new) }
+    ensures ran { RanInSlot 2 1 result (B.seen b.old) (B.seen b.new) }
     ensures plans { SamePlans room.old room.new }
 {
     root_bytes(root, &mut room.other);
@@ -101,9 +99,7 @@ pub fn commit_root<B: Board>(
         ⊎ CommitsRoot root.now (B.seen b.old).memory (B.seen b.new).memory }
     ensures means { OnOk result (MeansByRoot root.now (B.seen b.old).memory (B.seen b.new).memory) }
     ensures means_either { KeepsOrMeansByRoot root.now (B.seen b.old).memory (B.seen b.new).memory }
-    ensures rest { IsSameBut 1 (B.seen b.old).memory.bbram (B.seen b.new).memory.bbram }
-    ensures flash { (B.seen b.new).memory.flash ≡ (B.seen b.old).memory.flash }
-    ensures ran { Ran 2 result (B.seen b.old) (B.seen b.new) }
+    ensures ran { RanInSlot 2 1 result (B.seen b.old) (B.seen b.new) }
     ensures plans { SamePlans room.old room.new }
 {
     match store_root(b, root, room) {
@@ -136,9 +132,7 @@ pub fn finish_root<B: Board>(u: Unsettled, b: &mut B, room: &mut Room) -> Result
     ensures done { OnOk result (Finishes (B.seen b.old).memory (B.seen b.new).memory) }
     ensures either { KeepsOrFinishes (B.seen b.old).memory (B.seen b.new).memory }
     ensures means { MeansAsReady (B.seen b.old).memory (B.seen b.new).memory }
-    ensures rest { IsSameBut 1 (B.seen b.old).memory.bbram (B.seen b.new).memory.bbram }
-    ensures flash { (B.seen b.new).memory.flash ≡ (B.seen b.old).memory.flash }
-    ensures ran { Ran 2 result (B.seen b.old) (B.seen b.new) }
+    ensures ran { RanInSlot 2 1 result (B.seen b.old) (B.seen b.new) }
     ensures plans { SamePlans room.old room.new }
 {
     let root = settled_root(&read_root(b, room));
@@ -164,9 +158,7 @@ pub fn wipe_root<B: Board>(w: Unwiped, b: &mut B) -> Result<Up<R1>, Off>
     ensures idle { IsBlank (other (B.seen b.old).memory.bbram 1)
         → IsOk result × ((B.seen b.new).memory ≡ (B.seen b.old).memory)
         × ((B.seen b.new).meter ≡ (B.seen b.old).meter) }
-    ensures rest { IsSameButOther 1 (B.seen b.old).memory.bbram (B.seen b.new).memory.bbram }
-    ensures flash { (B.seen b.new).memory.flash ≡ (B.seen b.old).memory.flash }
-    ensures ran { Ran 1 result (B.seen b.old) (B.seen b.new) }
+    ensures ran { RanInOther 1 1 result (B.seen b.old) (B.seen b.new) }
 {
     let Unwiped { up } = w;
     match wipe_other(b, ROOT_SLOT) {

@@ -1,6 +1,6 @@
 -- What a write call of a board leaves. What can a power loss do in the middle of a write?
 use Rattle.std.specs.Prelude.{◌≡◌, ℕ, ◌+◌, ◌≤◌, nat_lt, List, length, Bool, true, false, if◌then◌else◌}
-use Rattle.std.specs.Prelude.{Result, Ok, Err, OnErr}
+use Rattle.std.specs.Prelude.{Result, Ok, Err, OnErr, None}
 use Rattle.mb_model.specs.Board.{Memory, Ledger, Meter, Held, IsLoaded, phase_at, put}
 
 -- after a stop power is off
@@ -86,3 +86,29 @@ pub record Ran (n : ℕ) {A E : Type 0} (result : Result A E) (before after : Se
   pub sized : IsLoaded after.memory
   pub ledger : after.ledger ≡ before.ledger
   pub meter : IsMetered n result before.meter after.meter
+
+-- Calls with this result, none of which wrote to the battery-backed memory.
+pub record RanOnFlash (n : ℕ) {A E : Type 0} (result : Result A E) (before after : Seen) : Type 0 where
+  pub ran : Ran n result before after
+  pub bbram : after.memory.bbram ≡ before.memory.bbram
+
+-- Calls with this result, none of which wrote to the flash.
+pub record RanOnBbram (n : ℕ) {A E : Type 0} (result : Result A E) (before after : Seen) : Type 0 where
+  pub ran : Ran n result before after
+  pub flash : after.memory.flash ≡ before.memory.flash
+
+-- The events and answers stay, and calls with this result, at most n of them write calls, were counted.
+pub record KeepsEvents (n : ℕ) {A E : Type 0} (result : Result A E) (before after : Seen) : Type 0 where
+  pub ledger : after.ledger ≡ before.ledger
+  pub meter : IsMetered n result before.meter after.meter
+
+-- a board shows the same as before but for its power and its level
+pub record IsSwitched (before after : Seen) : Type 0 where
+  pub memory : after.memory ≡ before.memory
+  pub ledger : after.ledger ≡ before.ledger
+  pub meter : after.meter ≡ before.meter
+
+-- No event is out, and the board holds what it held at the last answer or, if there is none, at the load.
+pub record IsBetweenEvents (seen : Seen) : Type 0 where
+  pub none_out : seen.ledger.out ≡ None
+  pub standing : seen.ledger.standing ≡ held_in seen

@@ -21,7 +21,7 @@ use Rattle.mb_model.specs.Valid.{IsValidState}
 use Rattle.mb_model_lemmas.proofs.HeldSegments.{begins_with, segments_fit}
 use Rattle.mb_model_lemmas.proofs.PublicLemmas.{IsBounded, bounded_by, length-signed_for}
 use Rattle.mb_model_memory.specs.Commits.{two_done, both_done, at_rest, has_both}
-use Rattle.mb_model_memory.specs.FlashInForce.{AgreeForArea, KeepsSignedLog, IsUncounted, IsSectorWritten}
+use Rattle.mb_model_memory.specs.FlashInForce.{AgreeForArea, SparesSectors, IsUncounted, IsSectorWritten}
 use Rattle.mb_model_memory.specs.Holding.{Holds, Means, KeepsContents, KeepsMeaning}
 use Rattle.mb_model_memory.specs.InForce.{AgreeBesides}
 use Rattle.mb_model_memory.specs.NextHeaders.{header_settled}
@@ -332,16 +332,23 @@ log_counted before after root bytes room only is settled kept agree written spar
 pub record_signed : (first between last : Memory) → KeepsContents first between → CompletesLog first between → CountsLog between last → SignsRecord first last
 record_signed first between last kept completes counts = record { signed = λ contents holds. counts.counted contents (kept.kept contents holds) (completes.whole contents holds) }
 
--- ---- the signed log stays
+-- ---- the signed log stays, and the sectors that hold nothing
 
-pub log_then : (before between after : Memory) → KeepsSignedLog before between → after.flash ≡ between.flash → KeepsSignedLog before after
-log_then before between after kept same = record {
-  kept = λ root header has holds position less. ap (λ (xs : List ℕ). sector xs (log_sector position)) same ∙ kept.kept root header has holds position less;
+pub spared_then : (before between after : Memory) → SparesSectors before between → after.flash ≡ between.flash → SparesSectors before after
+spared_then before between after spared same = record {
+  log = record {
+    kept = λ root header has holds position less. ap (λ (xs : List ℕ). sector xs (log_sector position)) same ∙ spared.log.kept root header has holds position less;
+  };
+  unused = λ n is. ap (λ (xs : List ℕ). sector xs n) same ∙ spared.unused n is;
 }
 
-pub log_kept : (before applied after : Memory) (root : Root) → IsOnlyRoot before.bbram root → applied.flash ≡ before.flash → AgreeForArea applied.flash after.flash root.area → KeepsSignedLog before after
-log_kept before applied after root only same agree =
-    signed_log_stays before after (λ any has. subst (λ (r : Root). AgreeForArea before.flash after.flash r.area) (sym (only.only any has)) (subst (λ (xs : List ℕ). AgreeForArea xs after.flash root.area) same agree))
+pub spared_by_writes : (before applied after : Memory) (root : Root) → IsOnlyRoot before.bbram root → applied.flash ≡ before.flash → AgreeForArea applied.flash after.flash root.area → SparesSectors before after
+spared_by_writes before applied after root only same agree =
+    let agrees : AgreeForArea before.flash after.flash root.area = subst (λ (xs : List ℕ). AgreeForArea xs after.flash root.area) same agree in
+    record {
+      log = signed_log_stays before after (λ any has. subst (λ (r : Root). AgreeForArea before.flash after.flash r.area) (sym (only.only any has)) agrees);
+      unused = agrees.unused;
+    }
 
 -- ---- all of it
 

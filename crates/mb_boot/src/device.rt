@@ -5,8 +5,8 @@ ghost use Rattle.std.specs.Option.{is_none};
 ghost use Rattle.mb_model.specs.declared.state.State.{State};
 ghost use Rattle.mb_model.specs.Memory.{life_byte, other};
 ghost use Rattle.mb_model.specs.Meaning.{StandsFor};
-ghost use Rattle.mb_board.specs.Calls.{IsMetered, IsPowered, IsUp, Ran};
-ghost use Rattle.mb_model_memory.specs.FlashInForce.{KeepsSignedLog};
+ghost use Rattle.mb_board.specs.Calls.{IsPowered, IsUp, Ran, KeepsEvents, RanOnBbram, IsSwitched};
+ghost use Rattle.mb_model_memory.specs.FlashInForce.{SparesSectors};
 ghost use Rattle.mb_model_memory.specs.Holding.{KeepsContents, KeepsMeaning};
 ghost use Rattle.mb_boot.specs.Settling.{IsLive};
 ghost use Rattle.mb_boot.specs.Booting.{IsFoundAs, Rests, IsWiped, Cleans, IsQuiet, StandsForValid, KeepsState, IfUnwritten, stop_of, power_at, HasLevel, is_zeroised};
@@ -44,7 +44,7 @@ fn is_dead<B: Board>(b: &B) -> bool
 }
 
 /// Does the pending work, and wipes the root's inactive area. There are at most 13 write calls.
-#[tactic(auto, using(crate::proofs::Booted::settled_rests, mb_model_memory::proofs::HoldingLemmas::contents_keep, mb_model_memory::proofs::HoldingLemmas::keeps_then, crate::proofs::Settled::log_then))]
+#[tactic(auto, using(crate::proofs::Booted::settled_rests, mb_model_memory::proofs::HoldingLemmas::contents_keep, mb_model_memory::proofs::HoldingLemmas::keeps_then, crate::proofs::Settled::spared_then))]
 fn settle_and_wipe<B: Board, L: Ledger>(
     u: Unsettled,
     b: &mut B,
@@ -55,7 +55,7 @@ fn settle_and_wipe<B: Board, L: Ledger>(
     requires live { IsLive (B.seen b.old).memory }
     ensures rests { OnOk result (Rests (B.seen b.old).memory (B.seen b.new).memory) }
     ensures meaning { KeepsMeaning (B.seen b.old).memory (B.seen b.new).memory }
-    ensures log { KeepsSignedLog (B.seen b.old).memory (B.seen b.new).memory }
+    ensures spared { SparesSectors (B.seen b.old).memory (B.seen b.new).memory }
     ensures ran { Ran 13 result (B.seen b.old) (B.seen b.new) }
     ensures cost { hashes.new ≤ hashes.old + 70946 }
 {
@@ -77,7 +77,7 @@ fn bring_to_rest<B: Board, L: Ledger>(
     requires looked { IsFoundAs looked (B.seen b.old).memory.bbram }
     ensures rests { OnOk result (Rests (B.seen b.old).memory (B.seen b.new).memory) }
     ensures meaning { KeepsMeaning (B.seen b.old).memory (B.seen b.new).memory }
-    ensures log { KeepsSignedLog (B.seen b.old).memory (B.seen b.new).memory }
+    ensures spared { SparesSectors (B.seen b.old).memory (B.seen b.new).memory }
     ensures quiet { IsQuiet (B.seen b.old).memory (B.seen b.new).memory (B.seen b.old).meter
         (B.seen b.new).meter }
     ensures ran { Ran 13 result (B.seen b.old) (B.seen b.new) }
@@ -97,11 +97,10 @@ fn wipe_regions<B: Board>(up: Up<R1>, b: &mut B) -> Result<Up<R1>, Off>
     ensures wiped { OnOk result (IsWiped (B.seen b.new).memory.bbram) }
     ensures root { other (B.seen b.new).memory.bbram 1 ≡ other (B.seen b.old).memory.bbram 1 }
     ensures contents { KeepsContents (B.seen b.old).memory (B.seen b.new).memory }
-    ensures flash { (B.seen b.new).memory.flash ≡ (B.seen b.old).memory.flash }
     ensures idle { IsWiped (B.seen b.old).memory.bbram
         → ((B.seen b.new).memory ≡ (B.seen b.old).memory)
         × ((B.seen b.new).meter ≡ (B.seen b.old).meter) }
-    ensures ran { Ran 2 result (B.seen b.old) (B.seen b.new) }
+    ensures ran { RanOnBbram 2 result (B.seen b.old) (B.seen b.new) }
 {
     let up = wipe_region::<Up<R1>, Two, B>(up, b)?;
     let up = wipe_region::<Up<R1>, Three, B>(up, b)?;
@@ -109,7 +108,7 @@ fn wipe_regions<B: Board>(up: Up<R1>, b: &mut B) -> Result<Up<R1>, Off>
 }
 
 /// Does all work that is left in a live device, and wipes all inactive areas. There are at most 15 write calls.
-#[tactic(auto, using(crate::proofs::Booted::found_as, crate::proofs::Settled::some_root, crate::proofs::Booted::cleaned, mb_model_memory::proofs::HoldingLemmas::contents_keep, mb_model_memory::proofs::HoldingLemmas::keeps_then, crate::proofs::Booted::quiet_then, crate::proofs::Settled::log_then))]
+#[tactic(auto, using(crate::proofs::Booted::found_as, crate::proofs::Settled::some_root, crate::proofs::Booted::cleaned, mb_model_memory::proofs::HoldingLemmas::contents_keep, mb_model_memory::proofs::HoldingLemmas::keeps_then, crate::proofs::Booted::quiet_then, crate::proofs::Settled::spared_then))]
 fn come_up<B: Board, L: Ledger>(
     up: Up<R1>,
     b: &mut B,
@@ -120,7 +119,7 @@ fn come_up<B: Board, L: Ledger>(
     requires live { IsLive (B.seen b.old).memory }
     ensures clean { OnOk result (Cleans (B.seen b.old).memory (B.seen b.new).memory) }
     ensures meaning { KeepsMeaning (B.seen b.old).memory (B.seen b.new).memory }
-    ensures log { KeepsSignedLog (B.seen b.old).memory (B.seen b.new).memory }
+    ensures spared { SparesSectors (B.seen b.old).memory (B.seen b.new).memory }
     ensures quiet { IsQuiet (B.seen b.old).memory (B.seen b.new).memory (B.seen b.old).meter
         (B.seen b.new).meter }
     ensures ran { Ran 15 result (B.seen b.old) (B.seen b.new) }
@@ -138,7 +137,7 @@ fn come_up<B: Board, L: Ledger>(
 /// Does the pending work of a committed order, and wipes what it replaced. The memory has to stand for a state that a
 /// device can have. It stands for the same state wherever power fails, and afterwards it is clean. There are at most
 /// 15 write calls, and 70,946 hashes.
-#[tactic(auto, using(crate::proofs::Booted::cleaned, mb_model_memory::proofs::HoldingLemmas::contents_keep, mb_model_memory::proofs::HoldingLemmas::keeps_then, crate::proofs::Settled::log_then))]
+#[tactic(auto, using(crate::proofs::Booted::cleaned, mb_model_memory::proofs::HoldingLemmas::contents_keep, mb_model_memory::proofs::HoldingLemmas::keeps_then, crate::proofs::Settled::spared_then))]
 pub fn finish_order<B: Board, L: Ledger>(
     u: Unsettled,
     b: &mut B,
@@ -149,7 +148,7 @@ pub fn finish_order<B: Board, L: Ledger>(
     requires live { IsLive (B.seen b.old).memory }
     ensures clean { OnOk result (Cleans (B.seen b.old).memory (B.seen b.new).memory) }
     ensures meaning { KeepsMeaning (B.seen b.old).memory (B.seen b.new).memory }
-    ensures log { KeepsSignedLog (B.seen b.old).memory (B.seen b.new).memory }
+    ensures spared { SparesSectors (B.seen b.old).memory (B.seen b.new).memory }
     ensures ran { Ran 15 result (B.seen b.old) (B.seen b.new) }
     ensures cost { hashes.new ≤ hashes.old + 70946 }
 {
@@ -163,9 +162,7 @@ fn wake<B: Board>(off: Off, b: &mut B) -> Zero
     requires { (B.seen b.old).power ≡ false }
     ensures power { (B.seen b.new).power ≡ true }
     ensures level { (B.seen b.new).level ≡ 0 }
-    ensures memory { (B.seen b.new).memory ≡ (B.seen b.old).memory }
-    ensures ledger { (B.seen b.new).ledger ≡ (B.seen b.old).ledger }
-    ensures meter { (B.seen b.new).meter ≡ (B.seen b.old).meter }
+    ensures switched { IsSwitched (B.seen b.old) (B.seen b.new) }
 {
     off.power_on(b)
 }
@@ -176,9 +173,7 @@ fn climb<B: Board>(zero: Zero, b: &mut B) -> Up<R1>
     requires level { (B.seen b.old).level ≡ 0 }
     ensures power { (B.seen b.new).power ≡ true }
     ensures level { (B.seen b.new).level ≡ 1 }
-    ensures memory { (B.seen b.new).memory ≡ (B.seen b.old).memory }
-    ensures ledger { (B.seen b.new).ledger ≡ (B.seen b.old).ledger }
-    ensures meter { (B.seen b.new).meter ≡ (B.seen b.old).meter }
+    ensures switched { IsSwitched (B.seen b.old) (B.seen b.new) }
 {
     zero.advance(b)
 }
@@ -186,9 +181,7 @@ fn climb<B: Board>(zero: Zero, b: &mut B) -> Up<R1>
 /// Turns power off.
 fn give_up<B: Board>(up: Up<R1>, b: &mut B) -> Off
     ensures power { (B.seen b.new).power ≡ false }
-    ensures memory { (B.seen b.new).memory ≡ (B.seen b.old).memory }
-    ensures ledger { (B.seen b.new).ledger ≡ (B.seen b.old).ledger }
-    ensures meter { (B.seen b.new).meter ≡ (B.seen b.old).meter }
+    ensures switched { IsSwitched (B.seen b.old) (B.seen b.new) }
 {
     up.off(b)
 }
@@ -210,7 +203,7 @@ pub fn boot<B: Board, L: Ledger>(
     requires stands { StandsForValid (B.seen b.old).memory }
     ensures clean { OnOk result (Cleans (B.seen b.old).memory (B.seen b.new).memory) }
     ensures meaning { KeepsState (B.seen b.old).memory (B.seen b.new).memory }
-    ensures log { KeepsSignedLog (B.seen b.old).memory (B.seen b.new).memory }
+    ensures spared { SparesSectors (B.seen b.old).memory (B.seen b.new).memory }
     ensures zeroised { (state : Option State)
         → StandsFor (B.seen b.old).memory.flash (B.seen b.old).memory.bbram state
         → is_zeroised result ≡ is_none state }
@@ -220,8 +213,7 @@ pub fn boot<B: Board, L: Ledger>(
         ((B.seen b.new).meter ≡ (B.seen b.old).meter) }
     ensures power { (B.seen b.new).power ≡ power_at result }
     ensures level { HasLevel result (B.seen b.new).level }
-    ensures ledger { (B.seen b.new).ledger ≡ (B.seen b.old).ledger }
-    ensures meter { IsMetered 15 (stop_of result) (B.seen b.old).meter (B.seen b.new).meter }
+    ensures events { KeepsEvents 15 (stop_of result) (B.seen b.old) (B.seen b.new) }
     ensures cost { hashes.new ≤ hashes.old + 70946 }
 {
     let zero = wake(off, b);

@@ -3,8 +3,8 @@
 ghost use Rattle.std.specs.Prelude.{◌≡◌, ◌≤◌, ◌+◌, OnOk};
 ghost use Rattle.mb_model.specs.Flash.{sector};
 ghost use Rattle.mb_model.specs.Sectors.{header_sector};
-ghost use Rattle.mb_board.specs.Calls.{IsUp, Ran};
-ghost use Rattle.mb_model_memory.specs.FlashInForce.{AgreeForArea, KeepsSignedLog};
+ghost use Rattle.mb_board.specs.Calls.{IsUp, Ran, RanOnBbram, RanOnFlash};
+ghost use Rattle.mb_model_memory.specs.FlashInForce.{AgreeForArea, SparesSectors};
 ghost use Rattle.mb_model_memory.specs.Holding.{KeepsContents, KeepsMeaning};
 ghost use Rattle.mb_boot.specs.Settling.{IsLive, IsOnlyRoot, AppliesBoth, AddsToLog, CompletesLog, CountsLog, SignsRecord, Settles};
 
@@ -32,8 +32,7 @@ fn apply_fates<B: Board>(
     ensures done { OnOk result (AppliesBoth (B.seen b.old).memory (B.seen b.new).memory) }
     ensures meaning { KeepsMeaning (B.seen b.old).memory (B.seen b.new).memory }
     ensures root { IsOnlyRoot (B.seen b.new).memory.bbram root.now }
-    ensures flash { (B.seen b.new).memory.flash ≡ (B.seen b.old).memory.flash }
-    ensures ran { Ran 4 result (B.seen b.old) (B.seen b.new) }
+    ensures ran { RanOnBbram 4 result (B.seen b.old) (B.seen b.new) }
 {
     let u = apply_fate::<Unsettled, Two, B>(u, b, &root.fate_of_two(), room)?;
     let u = apply_fate::<Unsettled, Three, B>(u, b, &root.fate_of_three(), room)?;
@@ -61,8 +60,7 @@ fn write_entry<B: Board, L: Ledger>(
         root.now.area }
     ensures added { OnOk result (AddsToLog place (B.seen b.old).memory (B.seen b.new).memory) }
     ensures header { room.new.header ≡ room.old.header }
-    ensures bbram { (B.seen b.new).memory.bbram ≡ (B.seen b.old).memory.bbram }
-    ensures ran { Ran 2 result (B.seen b.old) (B.seen b.new) }
+    ensures ran { RanOnFlash 2 result (B.seen b.old) (B.seen b.new) }
     ensures cost { hashes.new ≤ hashes.old + 35473 }
 {
     let Some(position) = sign_next(root, place, room, hashes) else {
@@ -90,8 +88,7 @@ fn write_entries<B: Board, L: Ledger>(
     ensures whole { OnOk result (CompletesLog (B.seen b.old).memory (B.seen b.new).memory) }
     ensures header { room.new.header.items
         ≡ sector (B.seen b.new).memory.flash (header_sector root.now.area) }
-    ensures bbram { (B.seen b.new).memory.bbram ≡ (B.seen b.old).memory.bbram }
-    ensures ran { Ran 4 result (B.seen b.old) (B.seen b.new) }
+    ensures ran { RanOnFlash 4 result (B.seen b.old) (B.seen b.new) }
     ensures cost { hashes.new ≤ hashes.old + 70946 }
 {
     read_header(b, root.area, room);
@@ -117,8 +114,7 @@ fn write_settled<B: Board>(
     ensures agree { AgreeForArea (B.seen b.old).memory.flash (B.seen b.new).memory.flash
         root.now.area }
     ensures counted { OnOk result (CountsLog (B.seen b.old).memory (B.seen b.new).memory) }
-    ensures bbram { (B.seen b.new).memory.bbram ≡ (B.seen b.old).memory.bbram }
-    ensures ran { Ran 2 result (B.seen b.old) (B.seen b.new) }
+    ensures ran { RanOnFlash 2 result (B.seen b.old) (B.seen b.new) }
 {
     settle_header(room);
     let u = write_public(u, b, room)?;
@@ -141,8 +137,7 @@ fn write_signed<B: Board, L: Ledger>(
     ensures agree { AgreeForArea (B.seen b.old).memory.flash (B.seen b.new).memory.flash
         root.now.area }
     ensures signed { OnOk result (SignsRecord (B.seen b.old).memory (B.seen b.new).memory) }
-    ensures bbram { (B.seen b.new).memory.bbram ≡ (B.seen b.old).memory.bbram }
-    ensures ran { Ran 6 result (B.seen b.old) (B.seen b.new) }
+    ensures ran { RanOnFlash 6 result (B.seen b.old) (B.seen b.new) }
     ensures cost { hashes.new ≤ hashes.old + 70946 }
 {
     let u = write_entries(u, b, root, room, hashes)?;
@@ -164,7 +159,7 @@ pub fn settle<B: Board, L: Ledger>(
     requires live { IsLive (B.seen b.old).memory }
     ensures settled { OnOk result (Settles (B.seen b.old).memory (B.seen b.new).memory) }
     ensures meaning { KeepsMeaning (B.seen b.old).memory (B.seen b.new).memory }
-    ensures log { KeepsSignedLog (B.seen b.old).memory (B.seen b.new).memory }
+    ensures spared { SparesSectors (B.seen b.old).memory (B.seen b.new).memory }
     ensures ran { Ran 12 result (B.seen b.old) (B.seen b.new) }
     ensures cost { hashes.new ≤ hashes.old + 70946 }
 {

@@ -143,7 +143,6 @@ served start first at_first device ledger after held now world inv sound bytes n
       grown = ap (λ (l : Ledger). l.answered) is_after ∙ so.grown;
       all = sym (append-nil (map (λ a. a.event) so.more)) ∙ ap (λ (w : List Event). map (λ a. a.event) so.more ++ w) (sym none) ∙ so.all;
       none_waits = ap (λ (l : Ledger). l.waiting) is_after ∙ none;
-      none_out = ap (λ (l : Ledger). l.out) is_after ∙ inv.none_out;
       last = so.last;
       run = so.run;
       shown = subst (λ (h : Held). Shows h so.last) (sym is_now) so.sound.shown;

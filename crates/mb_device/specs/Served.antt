@@ -1,5 +1,5 @@
 -- What serving the events of a board comes to. Is each event answered, once and in order, by one step of the machine?
-use Rattle.std.specs.Prelude.{◌≡◌, ◌≢◌, ◌⊎◌, ◌++◌, List, [], map, None}
+use Rattle.std.specs.Prelude.{◌≡◌, ◌≢◌, ◌⊎◌, ◌++◌, List, [], map}
 use Rattle.mb_model.specs.declared.event.Answered.{Answered}
 use Rattle.mb_model.specs.Acknowledged.{Shows, AreWiping}
 use Rattle.mb_model.specs.Board.{Held, Ledger, AreBytes}
@@ -14,7 +14,6 @@ pub record IsServedFrom (world : World) (before after : Ledger) (held : Held) : 
   pub grown : after.answered ≡ before.answered ++ more
   pub all : map (λ a. a.event) more ≡ before.waiting
   pub none_waits : after.waiting ≡ []
-  pub none_out : after.out ≡ None
   pub last : World
   pub run : Run world more last
   pub shown : Shows held last

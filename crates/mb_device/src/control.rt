@@ -3,7 +3,7 @@
 ghost use Rattle.std.specs.Prelude.{◌≡◌, Ok};
 ghost use Rattle.mb_model.specs.declared.event.Event.TheVariants as event;
 ghost use Rattle.mb_model.specs.Layers.{is_runnable};
-ghost use Rattle.mb_board.specs.Calls.{held_in};
+ghost use Rattle.mb_board.specs.Calls.{held_in, IsSwitched};
 ghost use Rattle.mb_device.specs.Sound.{HasSound, StepsFrom};
 ghost use Rattle.mb_device.specs.Stepping.{stop_told};
 
@@ -28,9 +28,7 @@ impl Device {
         ensures steps { StepsFrom self (held_in (B.seen b.old)) event.Go result
             (held_in (B.seen b.new)) }
         ensures goes_on { stop_told result.1 ≡ Ok tt }
-        ensures memory { (B.seen b.new).memory ≡ (B.seen b.old).memory }
-        ensures ledger { (B.seen b.new).ledger ≡ (B.seen b.old).ledger }
-        ensures meter { (B.seen b.new).meter ≡ (B.seen b.old).meter }
+        ensures switched { IsSwitched (B.seen b.old) (B.seen b.new) }
     {
         match self {
             Device::Off(off) => (Device::Off(off), Refusal::PoweredOff.reply()),

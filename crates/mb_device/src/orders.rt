@@ -3,8 +3,8 @@
 ghost use Rattle.std.specs.Prelude.{◌≡◌, ◌+◌, ◌≤◌};
 ghost use Rattle.mb_model.specs.declared.event.Event.TheVariants as event;
 ghost use Rattle.mb_model.specs.Board.{AreBytes};
-ghost use Rattle.mb_board.specs.Calls.{held_in, IsMetered};
-ghost use Rattle.mb_model_memory.specs.FlashInForce.{KeepsSignedLog};
+ghost use Rattle.mb_board.specs.Calls.{held_in, KeepsEvents};
+ghost use Rattle.mb_model_memory.specs.FlashInForce.{SparesSectors};
 ghost use Rattle.mb_device.specs.Sound.{HasSound, StepsFrom};
 ghost use Rattle.mb_device.specs.Stepping.{stop_told, IfNothingTold};
 
@@ -33,9 +33,8 @@ fn take_order<B: Board, L: Ledger>(
         (event.Command text.now draw.now) result (held_in (B.seen b.new)) }
     ensures untold { IfNothingTold result.1 (B.seen b.old).memory (B.seen b.new).memory
         (B.seen b.old).meter (B.seen b.new).meter }
-    ensures log { KeepsSignedLog (B.seen b.old).memory (B.seen b.new).memory }
-    ensures ledger { (B.seen b.new).ledger ≡ (B.seen b.old).ledger }
-    ensures meter { IsMetered 35 (stop_told result.1) (B.seen b.old).meter (B.seen b.new).meter }
+    ensures spared { SparesSectors (B.seen b.old).memory (B.seen b.new).memory }
+    ensures events { KeepsEvents 35 (stop_told result.1) (B.seen b.old) (B.seen b.new) }
     ensures cost { hashes.new ≤ hashes.old + 139744 }
 {
     let mut known = running.known;
@@ -62,10 +61,8 @@ impl Device {
             result (held_in (B.seen b.new)) }
         ensures untold { IfNothingTold result.1 (B.seen b.old).memory (B.seen b.new).memory
             (B.seen b.old).meter (B.seen b.new).meter }
-        ensures log { KeepsSignedLog (B.seen b.old).memory (B.seen b.new).memory }
-        ensures ledger { (B.seen b.new).ledger ≡ (B.seen b.old).ledger }
-        ensures meter { IsMetered 35 (stop_told result.1) (B.seen b.old).meter
-            (B.seen b.new).meter }
+        ensures spared { SparesSectors (B.seen b.old).memory (B.seen b.new).memory }
+        ensures events { KeepsEvents 35 (stop_told result.1) (B.seen b.old) (B.seen b.new) }
         ensures cost { hashes.new ≤ hashes.old + 139744 }
     {
         match self {

@@ -2,8 +2,8 @@
 
 ghost use Rattle.std.specs.Prelude.{◌≡◌, ◌+◌, ◌≤◌, false};
 ghost use Rattle.mb_model.specs.declared.event.Event.TheVariants as event;
-ghost use Rattle.mb_board.specs.Calls.{held_in, IsMetered};
-ghost use Rattle.mb_model_memory.specs.FlashInForce.{KeepsSignedLog};
+ghost use Rattle.mb_board.specs.Calls.{held_in, KeepsEvents, IsSwitched};
+ghost use Rattle.mb_model_memory.specs.FlashInForce.{SparesSectors};
 ghost use Rattle.mb_boot.specs.Booting.{IsQuiet};
 ghost use Rattle.mb_device.specs.Sound.{HasSound, StepsFrom};
 ghost use Rattle.mb_device.specs.Stepping.{stop_told, IfNothingTold, IsOff};
@@ -32,9 +32,8 @@ fn come_up<B: Board, L: Ledger>(
         (B.seen b.new).meter }
     ensures untold { IfNothingTold result.1 (B.seen b.old).memory (B.seen b.new).memory
         (B.seen b.old).meter (B.seen b.new).meter }
-    ensures log { KeepsSignedLog (B.seen b.old).memory (B.seen b.new).memory }
-    ensures ledger { (B.seen b.new).ledger ≡ (B.seen b.old).ledger }
-    ensures meter { IsMetered 15 (stop_told result.1) (B.seen b.old).meter (B.seen b.new).meter }
+    ensures spared { SparesSectors (B.seen b.old).memory (B.seen b.new).memory }
+    ensures events { KeepsEvents 15 (stop_told result.1) (B.seen b.old) (B.seen b.new) }
     ensures cost { hashes.new ≤ hashes.old + 70946 }
 {
     match boot(alloc, off, b, hashes) {
@@ -64,10 +63,8 @@ impl Device {
             (B.seen b.new).meter }
         ensures untold { IfNothingTold result.1 (B.seen b.old).memory (B.seen b.new).memory
             (B.seen b.old).meter (B.seen b.new).meter }
-        ensures log { KeepsSignedLog (B.seen b.old).memory (B.seen b.new).memory }
-        ensures ledger { (B.seen b.new).ledger ≡ (B.seen b.old).ledger }
-        ensures meter { IsMetered 15 (stop_told result.1) (B.seen b.old).meter
-            (B.seen b.new).meter }
+        ensures spared { SparesSectors (B.seen b.old).memory (B.seen b.new).memory }
+        ensures events { KeepsEvents 15 (stop_told result.1) (B.seen b.old) (B.seen b.new) }
         ensures cost { hashes.new ≤ hashes.old + 70946 }
     {
         match self {
@@ -84,16 +81,14 @@ impl Device {
         requires off { (B.seen b.old).power ≡ false }
         ensures device { IsOff result }
         ensures power { (B.seen b.new).power ≡ false }
-        ensures memory { (B.seen b.new).memory ≡ (B.seen b.old).memory }
-        ensures ledger { (B.seen b.new).ledger ≡ (B.seen b.old).ledger }
-        ensures meter { (B.seen b.new).meter ≡ (B.seen b.old).meter }
+        ensures switched { IsSwitched (B.seen b.old) (B.seen b.new) }
     {
-        Device::Off(match self {
-            Device::Off(off) => off,
-            Device::Dead(dead) => dead.off(b),
-            Device::One(up, _) => up.off(b),
-            Device::Two(up, _) => up.off(b),
-            Device::Three(up, _) => up.off(b),
-        })
+        match self {
+            Device::Off(off) => Device::Off(off),
+            Device::Dead(dead) => Device::Off(dead.off(b)),
+            Device::One(up, _) => Device::Off(up.off(b)),
+            Device::Two(up, _) => Device::Off(up.off(b)),
+            Device::Three(up, _) => Device::Off(up.off(b)),
+        }
     }
 }

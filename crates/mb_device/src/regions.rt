@@ -5,7 +5,7 @@ ghost use Rattle.mb_format.specs.Format.{IsBytes};
 ghost use Rattle.mb_model.specs.declared.state.State.{State};
 ghost use Rattle.mb_model.specs.Layers.{is_runnable};
 ghost use Rattle.mb_model.specs.Script.{IsScriptEvent};
-ghost use Rattle.mb_board.specs.Calls.{held_in, IsMetered, Ran};
+ghost use Rattle.mb_board.specs.Calls.{held_in, KeepsEvents, RanOnBbram};
 ghost use Rattle.mb_model_memory.specs.Holding.{IsReady};
 ghost use Rattle.mb_model_memory.specs.Answering.{ComesTo, TellsOfWrites};
 ghost use Rattle.mb_device_regions.specs.Uses.{CanAnswer};
@@ -45,9 +45,8 @@ fn ask<S: Reaches<L>, L: Named, B: Board, C: Ledger>(
         (B.seen b.new).memory result }
     ensures writes { TellsOfWrites result (B.seen b.old).memory (B.seen b.new).memory
         (B.seen b.old).meter (B.seen b.new).meter }
-    ensures flash { (B.seen b.new).memory.flash ≡ (B.seen b.old).memory.flash }
     ensures known { running.new.known ≡ running.old.known }
-    ensures ran { Ran 3 result (B.seen b.old) (B.seen b.new) }
+    ensures ran { RanOnBbram 3 result (B.seen b.old) (B.seen b.new) }
     ensures cost { hashes.new ≤ hashes.old + 35473 }
 {
     let number = running.known.figures.number;
@@ -89,8 +88,7 @@ fn use_at<S: Reaches<L> + Runs, L: Named, B: Board, C: Ledger>(
     ensures untold { IfNothingTold result.1 (B.seen b.old).memory (B.seen b.new).memory
         (B.seen b.old).meter (B.seen b.new).meter }
     ensures flash { (B.seen b.new).memory.flash ≡ (B.seen b.old).memory.flash }
-    ensures ledger { (B.seen b.new).ledger ≡ (B.seen b.old).ledger }
-    ensures meter { IsMetered 3 (stop_told result.1) (B.seen b.old).meter (B.seen b.new).meter }
+    ensures events { KeepsEvents 3 (stop_told result.1) (B.seen b.old) (B.seen b.new) }
     ensures cost { hashes.new ≤ hashes.old + 35473 }
 {
     let mut running = running;
@@ -123,8 +121,7 @@ impl Device {
         ensures untold { IfNothingTold result.1 (B.seen b.old).memory (B.seen b.new).memory
             (B.seen b.old).meter (B.seen b.new).meter }
         ensures flash { (B.seen b.new).memory.flash ≡ (B.seen b.old).memory.flash }
-        ensures ledger { (B.seen b.new).ledger ≡ (B.seen b.old).ledger }
-        ensures meter { IsMetered 3 (stop_told result.1) (B.seen b.old).meter (B.seen b.new).meter }
+        ensures events { KeepsEvents 3 (stop_told result.1) (B.seen b.old) (B.seen b.new) }
         ensures cost { hashes.new ≤ hashes.old + 35473 }
     {
         match self {

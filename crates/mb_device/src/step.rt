@@ -1,11 +1,11 @@
 //! How a device answers the events of its board.
 
-ghost use Rattle.std.specs.Prelude.{◌≡◌, ◌+◌, ◌≤◌, All, None};
+ghost use Rattle.std.specs.Prelude.{◌≡◌, ◌+◌, ◌≤◌, All};
 ghost use Rattle.mb_model.specs.Board.{AreBytes, Held, IsLoaded};
 ghost use Rattle.mb_model.specs.Machine.{World};
 ghost use Rattle.mb_model.specs.Script.{IsScriptEvent};
-ghost use Rattle.mb_board.specs.Calls.{held_in, IsMetered};
-ghost use Rattle.mb_model_memory.specs.FlashInForce.{KeepsSignedLog};
+ghost use Rattle.mb_board.specs.Calls.{held_in, KeepsEvents, IsBetweenEvents};
+ghost use Rattle.mb_model_memory.specs.FlashInForce.{SparesSectors};
 ghost use Rattle.mb_boot.specs.Booting.{IsQuiet};
 ghost use Rattle.mb_device.specs.Sound.{IsSoundDevice, HasSound, taken, CanStep, Steps};
 ghost use Rattle.mb_device.specs.Stepping.{stop_told, IfNothingTold, IfBoot};
@@ -22,9 +22,10 @@ impl Device {
     /// Answers an event that the board has handed out. Together with the handing out, the answer is one step of the
     /// machine, from the world that the board held before. Nothing is written if the event is refused, if an allocation
     /// fails, or if the answer tells of no change; and nothing at the boot of a clean memory. Each sector that holds a
-    /// signed entry of the log keeps its bytes, also if power fails. There are at most 35 write calls and 139,744
-    /// hashes. The answer is `Stopped` exactly if a write call was stopped.
-    #[tactic(auto, using(mb_device_orders::proofs::SignedLog::same_flash_keeps, mb_device_orders::proofs::SignedLog::same_memory_keeps))]
+    /// signed entry of the log keeps its bytes, also if power fails, and so do the sectors 50 to 63 and 192 to 255, which
+    /// hold nothing. There are at most 35 write calls and 139,744 hashes. The answer is `Stopped` exactly if a write
+    /// call was stopped.
+    #[tactic(auto, using(mb_device_orders::proofs::Spared::same_flash_spared, mb_device_orders::proofs::Spared::same_memory_spared))]
     pub fn step<B: Board, L: Ledger>(
         self,
         alloc: Global,
@@ -42,10 +43,8 @@ impl Device {
         ensures quiet { IfBoot event.now
             (IsQuiet (B.seen b.old).memory (B.seen b.new).memory (B.seen b.old).meter
             (B.seen b.new).meter) }
-        ensures log { KeepsSignedLog (B.seen b.old).memory (B.seen b.new).memory }
-        ensures ledger { (B.seen b.new).ledger ≡ (B.seen b.old).ledger }
-        ensures meter { IsMetered 35 (stop_told result.1) (B.seen b.old).meter
-            (B.seen b.new).meter }
+        ensures spared { SparesSectors (B.seen b.old).memory (B.seen b.new).memory }
+        ensures events { KeepsEvents 35 (stop_told result.1) (B.seen b.old) (B.seen b.new) }
         ensures cost { hashes.new ≤ hashes.old + 139744 }
     {
         match event {
@@ -74,14 +73,13 @@ impl Device {
         b: &mut B,
         hashes: &mut HashCount<L>,
     ) -> Device
-        requires none_out { (B.seen b.old).ledger.out ≡ None }
+        requires between { IsBetweenEvents (B.seen b.old) }
         requires events { All IsScriptEvent (B.seen b.old).ledger.waiting }
-        requires standing { (B.seen b.old).ledger.standing ≡ held_in (B.seen b.old) }
         requires sound { HasSound self (held_in (B.seen b.old)) }
         ensures served { (world : World) → IsSoundDevice self (held_in (B.seen b.old)) world
             → IsServedFrom world (B.seen b.old).ledger (B.seen b.new).ledger
             (held_in (B.seen b.new)) }
-        ensures standing { (B.seen b.new).ledger.standing ≡ held_in (B.seen b.new) }
+        ensures between { IsBetweenEvents (B.seen b.new) }
         ensures loaded { IsLoaded (B.seen b.new).memory }
     {
         let mut device = self;

@@ -18,7 +18,7 @@ use Rattle.mb_model.specs.StoredLog.{AreCounted}
 use Rattle.mb_model_lemmas.proofs.HeldSegments.{begins_with}
 use Rattle.mb_model_lemmas.proofs.ValidSteps.{obeyed_valid}
 use Rattle.mb_model_memory.specs.Commits.{committed, at_rest, new_entries}
-use Rattle.mb_model_memory.specs.FlashInForce.{slot_in, AgreeForArea, KeepsSignedLog}
+use Rattle.mb_model_memory.specs.FlashInForce.{slot_in, AgreeForArea, SparesSectors}
 use Rattle.mb_model_memory.specs.Holding.{Holds, Means, KeepsContents, KeepsMeaning, IsReady}
 use Rattle.mb_model_memory.specs.NextHeaders.{code_brought, IsCodeWritten, header_after}
 use Rattle.mb_model_memory.proofs.CommitLemmas.{commit_counted, commit_stands, committed_area_is}
@@ -170,30 +170,37 @@ ready_committed before between after last root room state order draw is done kee
       clean = cleans.cleans (obeyed state order draw) means;
     }
 
--- ---- the signed log
+-- ---- the signed log, and the sectors that hold nothing
 
--- it stays until the root is written, which leaves the flash
-pub log_before : (before between after : Memory) → ((root : Root) → RootIn before.bbram root → AgreeForArea before.flash between.flash root.area) → after.flash ≡ between.flash → KeepsSignedLog before after
-log_before before between after agree same = record {
-  kept = λ root header has holds position less.
-      ap (λ (flash : List ℕ). sector flash (log_sector position)) same ∙ (signed_log_stays before between agree).kept root header has holds position less;
+-- they stay until the root is written, which leaves the flash
+pub spared_before : (before between after : Memory) (root : Root) (room : Room) → HasCommit before root room → ((root : Root) → RootIn before.bbram root → AgreeForArea before.flash between.flash root.area) → after.flash ≡ between.flash → SparesSectors before after
+spared_before before between after root room has agree same = record {
+  log = record {
+    kept = λ root header has holds position less.
+        ap (λ (flash : List ℕ). sector flash (log_sector position)) same ∙ (signed_log_stays before between agree).kept root header has holds position less;
+  };
+  unused = λ n is. ap (λ (flash : List ℕ). sector flash n) same ∙ (agree (root_of has.state has.commit.area) has.commit.only_root.holds).unused n is;
 }
 
 -- and then, since the new header counts as many entries
-pub log_after : (before between after last : Memory) (root : Root) (room : Room) (has : HasCommit before root room) → IsCommitted before between after root room
-    → ((root : Root) → RootIn before.bbram root → AgreeForArea before.flash between.flash root.area) → after.flash ≡ between.flash → KeepsSignedLog after last → KeepsSignedLog before last
-log_after before between after last root room has done agree same keeps =
+pub spared_after : (before between after last : Memory) (root : Root) (room : Room) (has : HasCommit before root room) → IsCommitted before between after root room
+    → ((root : Root) → RootIn before.bbram root → AgreeForArea before.flash between.flash root.area) → after.flash ≡ between.flash → SparesSectors after last → SparesSectors before last
+spared_after before between after last root room has done agree same keeps =
     let is = has.commit in
     let own : RootIn after.bbram root =
     root_committed before between after root room has.state has.order has.draw is done in
     let stands = subst (λ (flash : List ℕ). HoldsHeader flash root.area (header_after is.holds.public.header has.order.layer has.order.act is.first is.second)) (sym same) (header_stands before between root room has.state has.order has.draw is done.written) in
+    let first : SparesSectors before after = spared_before before between after root room has agree same in
     record {
-      kept = λ any header in_force holds position less. (
+      log = record {
+        kept = λ any header in_force holds position less. (
           let same_root : any ≡ root_of has.state is.area = is.only_root.only any in_force in
           let here : HoldsHeader before.flash is.area header = subst (λ (r : Root). HoldsHeader before.flash r.area header) same_root holds in
           let counts : position < is.holds.public.header.signed = omega (arith, less, ap (λ (h : Header). h.signed) (is.only_header header here)) in
-          keeps.kept root (header_after is.holds.public.header has.order.layer has.order.act is.first is.second) own stands position counts
-          ∙ (log_before before between after agree same).kept any header in_force holds position less);
+          keeps.log.kept root (header_after is.holds.public.header has.order.layer has.order.act is.first is.second) own stands position counts
+          ∙ first.log.kept any header in_force holds position less);
+      };
+      unused = λ n is. keeps.unused n is ∙ first.unused n is;
     }
 
 -- ---- how many writes there are

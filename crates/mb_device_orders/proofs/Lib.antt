@@ -1,4 +1,4 @@
-pub mod SignedLog
+pub mod Spared
 mod Remembered
 mod Counting
 mod Judgement

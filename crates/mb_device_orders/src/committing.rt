@@ -5,7 +5,7 @@ ghost use Rattle.mb_model.specs.declared.order.Order.{Order};
 ghost use Rattle.mb_model.specs.declared.state.State.{State};
 ghost use Rattle.mb_model.specs.OrderEffects.{obeyed};
 ghost use Rattle.mb_board.specs.Calls.{IsUp, Ran};
-ghost use Rattle.mb_model_memory.specs.FlashInForce.{KeepsSignedLog};
+ghost use Rattle.mb_model_memory.specs.FlashInForce.{SparesSectors};
 ghost use Rattle.mb_model_memory.specs.Holding.{Means, IsReady};
 ghost use Rattle.mb_device_orders.specs.Planning.{IsCommit, HasCommit};
 
@@ -39,7 +39,7 @@ pub fn commit<B: Board, L: Ledger>(
         → IsCommit (B.seen b.old).memory root.now room.old state order draw
         → Means (B.seen b.new).memory state
         ⊎ Means (B.seen b.new).memory (obeyed state order draw) }
-    ensures log { KeepsSignedLog (B.seen b.old).memory (B.seen b.new).memory }
+    ensures spared { SparesSectors (B.seen b.old).memory (B.seen b.new).memory }
     ensures ran { Ran 35 result (B.seen b.old) (B.seen b.new) }
     ensures cost { hashes.new ≤ hashes.old + 70946 }
 {

@@ -9,7 +9,7 @@ ghost use Rattle.mb_model.specs.LayerEvents.{put_event, get_event, drop_event};
 ghost use Rattle.mb_model.specs.Log.{entries_of, number_of};
 ghost use Rattle.mb_model.specs.Regions.{region_of};
 ghost use Rattle.mb_model.specs.Script.{IsName, FitsMessage};
-ghost use Rattle.mb_board.specs.Calls.{IsUp, Ran};
+ghost use Rattle.mb_board.specs.Calls.{IsUp, RanOnBbram};
 ghost use Rattle.mb_model_memory.specs.Holding.{IsReady, HasReady};
 ghost use Rattle.mb_model_memory.specs.Answering.{IsAnswered, ComesTo, TellsOfWrites};
 ghost use Rattle.mb_model_memory.specs.Storable.{HasRegionRecord};
@@ -77,8 +77,7 @@ pub fn put_secret<S: Reaches<L>, L: Named, B: Board>(
         (B.seen b.new).memory result }
     ensures writes { TellsOfWrites result (B.seen b.old).memory (B.seen b.new).memory
         (B.seen b.old).meter (B.seen b.new).meter }
-    ensures flash { (B.seen b.new).memory.flash ≡ (B.seen b.old).memory.flash }
-    ensures ran { Ran 3 result (B.seen b.old) (B.seen b.new) }
+    ensures ran { RanOnBbram 3 result (B.seen b.old) (B.seen b.new) }
     ensures plans { SamePlans room.old room.new }
 {
     let region = match region_with::<S, L, B>(alloc, &s, b, name, value, number, room) {
@@ -150,8 +149,7 @@ pub fn drop_secret<S: Reaches<L>, L: Named, B: Board>(
         (B.seen b.new).memory result }
     ensures writes { TellsOfWrites result (B.seen b.old).memory (B.seen b.new).memory
         (B.seen b.old).meter (B.seen b.new).meter }
-    ensures flash { (B.seen b.new).memory.flash ≡ (B.seen b.old).memory.flash }
-    ensures ran { Ran 3 result (B.seen b.old) (B.seen b.new) }
+    ensures ran { RanOnBbram 3 result (B.seen b.old) (B.seen b.new) }
     ensures plans { SamePlans room.old room.new }
 {
     let region = match region_without::<S, L, B>(alloc, &s, b, name, room) {

@@ -7,7 +7,7 @@ ghost use Rattle.mb_model.specs.Layers.{Runnable};
 ghost use Rattle.mb_model.specs.LayerEvents.{sign_event};
 ghost use Rattle.mb_model.specs.Log.{entries_of, number_of};
 ghost use Rattle.mb_model.specs.Script.{FitsMessage};
-ghost use Rattle.mb_board.specs.Calls.{Ran};
+ghost use Rattle.mb_board.specs.Calls.{RanOnBbram};
 ghost use Rattle.mb_model_memory.specs.Holding.{IsReady};
 ghost use Rattle.mb_model_memory.specs.Answering.{ComesTo, TellsOfWrites};
 ghost use Rattle.mb_device_regions.specs.Uses.{CanAnswer};
@@ -110,8 +110,7 @@ pub fn sign_message<S: Reaches<L>, L: Named, B: Board, Lg: Ledger>(
         (B.seen b.new).memory result }
     ensures writes { TellsOfWrites result (B.seen b.old).memory (B.seen b.new).memory
         (B.seen b.old).meter (B.seen b.new).meter }
-    ensures flash { (B.seen b.new).memory.flash ≡ (B.seen b.old).memory.flash }
-    ensures ran { Ran 3 result (B.seen b.old) (B.seen b.new) }
+    ensures ran { RanOnBbram 3 result (B.seen b.old) (B.seen b.new) }
     ensures plans { SamePlans room.old room.new }
     ensures cost { hashes.new ≤ hashes.old + 35473 }
 {

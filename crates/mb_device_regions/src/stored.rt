@@ -8,10 +8,10 @@ ghost use Rattle.mb_model.specs.declared.state.State.{State};
 ghost use Rattle.mb_model.specs.Memory.{IsBlank, other};
 ghost use Rattle.mb_model.specs.Regions.{region_of, with_region};
 ghost use Rattle.mb_model.specs.Valid.{IsValidState};
-ghost use Rattle.mb_board.specs.Calls.{IsUp, Ran};
+ghost use Rattle.mb_board.specs.Calls.{IsUp, RanOnBbram};
 ghost use Rattle.mb_model_memory.specs.Holding.{Means, IsReady, HasReady};
 ghost use Rattle.mb_model_memory.specs.Storable.{HasRegionRecord};
-ghost use Rattle.mb_slot.specs.Slots.{IsSameBut};
+ghost use Rattle.mb_slot.specs.Slots.{RanInSlot};
 ghost use Rattle.mb_region.specs.Regions.{ReplacesRegion, KeepsOrReplaces};
 ghost use Rattle.mb_device_regions.specs.Secrets.{IsKeptRegion};
 
@@ -53,9 +53,7 @@ fn exchange<S: Reaches<L>, L: Named, B: Board>(
     ensures either { KeepsOrReplaces L.place region.now (B.seen b.old).memory
         (B.seen b.new).memory }
     ensures blank { OnOk result (IsBlank (other (B.seen b.new).memory.bbram L.place)) }
-    ensures rest { IsSameBut L.place (B.seen b.old).memory.bbram (B.seen b.new).memory.bbram }
-    ensures flash { (B.seen b.new).memory.flash ≡ (B.seen b.old).memory.flash }
-    ensures ran { Ran 3 result (B.seen b.old) (B.seen b.new) }
+    ensures ran { RanInSlot 3 L.place result (B.seen b.old) (B.seen b.new) }
     ensures plans { SamePlans room.old room.new }
 {
     let s = commit_region::<S, L, B>(s, b, region, room)?;
@@ -79,8 +77,7 @@ pub(crate) fn replace<S: Reaches<L>, L: Named, B: Board>(
     ensures either { (state : State) → IsReady (B.seen b.old).memory state
         → Means (B.seen b.new).memory state
         ⊎ Means (B.seen b.new).memory (with_region state L.place region.now) }
-    ensures flash { (B.seen b.new).memory.flash ≡ (B.seen b.old).memory.flash }
-    ensures ran { Ran 3 result (B.seen b.old) (B.seen b.new) }
+    ensures ran { RanOnBbram 3 result (B.seen b.old) (B.seen b.new) }
     ensures plans { SamePlans room.old room.new }
 {
     exchange::<S, L, B>(s, b, region, room)

@@ -4,7 +4,7 @@ ghost use Rattle.std.specs.Prelude.{◌≡◌, ℕ, ◌+◌, ◌*◌, ◌<◌, �
 ghost use Rattle.mb_model.specs.declared.limits.TheConstants.{SECTOR_LENGTH};
 ghost use Rattle.mb_model.specs.Pieces.{part};
 ghost use Rattle.mb_model.specs.Board.{erased};
-ghost use Rattle.mb_board.specs.Calls.{IsPowered, Ran};
+ghost use Rattle.mb_board.specs.Calls.{IsPowered, RanOnFlash};
 ghost use Rattle.mb_slot.specs.Slots.{IsSameOutside};
 ghost use Rattle.mb_flash.specs.Sectors.{sectors_for};
 
@@ -33,8 +33,7 @@ fn erase<B: Board>(b: &mut B, sector: u16) -> Result<(), Stopped>
         → part (SECTOR_LENGTH * sector) n (B.seen b.new).memory.flash ≡ erased n) }
     ensures same { IsSameOutside (SECTOR_LENGTH * sector) SECTOR_LENGTH (B.seen b.old).memory.flash
         (B.seen b.new).memory.flash }
-    ensures bbram { (B.seen b.new).memory.bbram ≡ (B.seen b.old).memory.bbram }
-    ensures ran { Ran 1 result (B.seen b.old) (B.seen b.new) }
+    ensures ran { RanOnFlash 1 result (B.seen b.old) (B.seen b.new) }
 {
     b.flash_erase(sector)
 }
@@ -51,8 +50,7 @@ fn program<B: Board>(b: &mut B, sector: u16, bytes: &[u8]) -> Result<(), Stopped
         (B.seen b.new).memory.flash ≡ bytes.now) }
     ensures same { IsSameOutside (SECTOR_LENGTH * sector) SECTOR_LENGTH (B.seen b.old).memory.flash
         (B.seen b.new).memory.flash }
-    ensures bbram { (B.seen b.new).memory.bbram ≡ (B.seen b.old).memory.bbram }
-    ensures ran { Ran 1 result (B.seen b.old) (B.seen b.new) }
+    ensures ran { RanOnFlash 1 result (B.seen b.old) (B.seen b.new) }
 {
     b.flash_program(SECTOR_LENGTH as u32 * sector as u32, bytes)
 }
@@ -62,8 +60,7 @@ fn program<B: Board>(b: &mut B, sector: u16, bytes: &[u8]) -> Result<(), Stopped
 pub fn write_sector<B: Board>(b: &mut B, sector: u16, bytes: &[u8]) -> Result<(), Stopped>
     requires powered { IsPowered (B.seen b.old) }
     requires sector { sector < 256 }
-    requires some { 0 < length bytes.now }
-    requires bytes { length bytes.now ≤ SECTOR_LENGTH }
+    requires bytes { (0 < length bytes.now) × (length bytes.now ≤ SECTOR_LENGTH) }
     ensures written { OnOk result (part (SECTOR_LENGTH * sector) (length bytes.now)
         (B.seen b.new).memory.flash ≡ bytes.now) }
     ensures idle { part (SECTOR_LENGTH * sector) (length bytes.now) (B.seen b.old).memory.flash
@@ -72,8 +69,7 @@ pub fn write_sector<B: Board>(b: &mut B, sector: u16, bytes: &[u8]) -> Result<()
         × ((B.seen b.new).meter ≡ (B.seen b.old).meter) }
     ensures same { IsSameOutside (SECTOR_LENGTH * sector) SECTOR_LENGTH (B.seen b.old).memory.flash
         (B.seen b.new).memory.flash }
-    ensures bbram { (B.seen b.new).memory.bbram ≡ (B.seen b.old).memory.bbram }
-    ensures ran { Ran 2 result (B.seen b.old) (B.seen b.new) }
+    ensures ran { RanOnFlash 2 result (B.seen b.old) (B.seen b.new) }
 {
     if begins_with(b, sector, bytes) {
         return Ok(());
@@ -109,8 +105,7 @@ pub fn write_sectors<B: Board>(b: &mut B, first: u16, bytes: &[u8]) -> Result<()
     ensures same { IsSameOutside (SECTOR_LENGTH * first)
         (SECTOR_LENGTH * sectors_for (length bytes.now)) (B.seen b.old).memory.flash
         (B.seen b.new).memory.flash }
-    ensures bbram { (B.seen b.new).memory.bbram ≡ (B.seen b.old).memory.bbram }
-    ensures ran { Ran (2 * sectors_for (length bytes.now)) result (B.seen b.old) (B.seen b.new) }
+    ensures ran { RanOnFlash (2 * sectors_for (length bytes.now)) result (B.seen b.old) (B.seen b.new) }
 {
     if bytes.is_empty() {
         return Ok(());

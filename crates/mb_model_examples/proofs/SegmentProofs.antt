@@ -1,5 +1,5 @@
 -- The examples of flashes in segments, computed, and the counterexamples, refuted.
-use Rattle.std.proofs.Common.{◌≡◌, ◌≢◌, ◌≤◌, ℕ, List, [], ◌∷◌, ◌++◌, length, take, replicate, Option, None, Some, Result, Ok, Err, true, refl, sym, ap, subst, ◌∙◌, arith, lit<, inl}
+use Rattle.std.proofs.Common.{◌≡◌, ◌≢◌, ◌≤◌, ℕ, List, [], ◌∷◌, ◌++◌, length, take, replicate, Option, None, Some, Result, Ok, Err, true, refl, sym, ap, subst, ◌∙◌, arith, lit<, inl, ◌<◌, ◌⊎◌, inr}
 use Rattle.std.specs.Prelude.{slice_index, codes, IfSome}
 use Rattle.hex.specs.Hex.{decode_pairs}
 use Rattle.mb_format.specs.Format.{Format, IsBytes, Spells}
@@ -26,7 +26,7 @@ use Rattle.mb_model.proofs.HeaderFormatLaws.{header_exact, log_exact}
 use Rattle.mb_model.specs.WrittenFlash.{CodesFitSlots}
 use Rattle.mb_model_lemmas.specs.SegmentLaws.{SpellsLog}
 use Rattle.mb_model_lemmas.proofs.WrittenLemmas.{written_is_whole}
-use Rattle.mb_model_memory.specs.FlashInForce.{AgreeInSlots}
+use Rattle.mb_model_memory.specs.FlashInForce.{AgreeInSlots, IsUnused}
 use Rattle.mb_model_lemmas.proofs.HeldSegments.{holds_entry}
 use Rattle.mb_model_lemmas.proofs.OneFlash.{one_entry}
 use Rattle.mb_model_examples.specs.RecordValues.{bytes_of, birth, birth_digits, succession}
@@ -246,13 +246,27 @@ agreement other = record {
   slot = λ differ agree. slots_differ other differ (agree.slots (header_of_one 1 None None) header_stands);
   slots = slots_differ other;
   log = λ differ agree. differ (agree.log (header_of_one 1 None None) header_stands 0 (omega arith));
+  unused = λ differ agree. differ (agree.unused 192 (inr (omega arith, omega arith)));
   counted = λ none. omega (arith, none (header_of_one 1 None None) header_stands);
   named = λ free. free (header_of_one 1 None None) header_stands refl;
   entry = λ signed holds none. none signed holds;
 }
 
 pub keeping : (before after : Memory) → counter.KeepingCounterExamples before after
-keeping before after = record { changed = λ root header has holds some differ keeps. differ (keeps.kept root header has holds 0 some) }
+keeping before after = record {
+  changed = λ root header has holds some differ keeps. differ (keeps.kept root header has holds 0 some);
+  log = λ other spares. other spares.log;
+  unused = λ differ spares. differ (spares.unused 50 (inl (omega arith, omega arith)));
+  code = λ is. beside 49 (inl (omega arith)) is;
+  first = λ is. beside 64 (inr (omega arith, omega arith)) is;
+  last = λ is. beside 191 (inr (omega arith, omega arith)) is;
+}
+  where
+    beside : (n : ℕ) → (n < 50) ⊎ ((64 ≤ n) × (n < 192)) → IsUnused n → ⊥
+    beside n (inl below) (inl is) = omega (arith, below, is.0)
+    beside n (inl below) (inr is) = omega (arith, below, is.0)
+    beside n (inr log) (inl is) = omega (arith, log.0, is.1)
+    beside n (inr log) (inr is) = omega (arith, log.1, is.0)
 
 -- ---- writes
 

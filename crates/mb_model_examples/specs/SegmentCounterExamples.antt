@@ -14,8 +14,8 @@ use Rattle.mb_model.specs.Flash.{sector, code_slot, HoldsHeader, HoldsCode, Hold
 use Rattle.mb_model.specs.Flash.{HoldsPublic}
 use Rattle.mb_model.specs.WrittenFlash.{CodesFitSlots, LogFitsSectors, IsFactoryFlash}
 use Rattle.mb_model_lemmas.specs.SegmentLaws.{IsOnlyHeader, HoldsNoEntry, IsSmallHeader, SegmentsFit, SpellsLog}
-use Rattle.mb_model_memory.specs.FlashInForce.{AgreeInSlots, AgreeForArea, KeepsSignedLog, IsUncounted, IsFreeSlot}
-use Rattle.mb_model_memory.specs.FlashInForce.{DiffersOnlyIn, BeginsWithBytes, IsSectorWritten}
+use Rattle.mb_model_memory.specs.FlashInForce.{AgreeInSlots, AgreeForArea, KeepsSignedLog, SparesSectors, IsUncounted, IsFreeSlot}
+use Rattle.mb_model_memory.specs.FlashInForce.{IsUnused, DiffersOnlyIn, BeginsWithBytes, IsSectorWritten}
 use Rattle.mb_model_memory.specs.NextHeaders.{HasNewCode, IsCodeWritten}
 use Rattle.mb_model_examples.specs.RecordValues.{bytes_of, birth, birth_digits, succession}
 use Rattle.mb_model_examples.specs.RecordExamples.{with_byte}
@@ -86,22 +86,29 @@ pub record HoldingCounterExamples (root : Root) (codes : Codes) (signed : List S
 -- ---- what does not stay
 
 pub record AgreementCounterExamples (other : List ℕ) : Type 0 where
-  -- the header is another, or the slot that it names, or the sector that it counts
+  -- the header is another, or the slot that it names, or the sector that it counts, or one that holds nothing
   pub header : AgreeForArea only_header [] 0 → ⊥
   pub slot : code_slot other 1 1 ≢ code_slot only_header 1 1 → AgreeForArea only_header other 0 → ⊥
   pub slots : code_slot other 1 1 ≢ code_slot only_header 1 1
       → AgreeInSlots only_header other (header_of_one 1 None None) → ⊥
   pub log : sector other 64 ≢ sector only_header 64 → AgreeForArea only_header other 0 → ⊥
+  pub unused : sector other 192 ≢ sector only_header 192 → AgreeForArea only_header other 0 → ⊥
   -- the header counts the first entry, and names slot 1 of layer 1
   pub counted : IsUncounted only_header 0 0 → ⊥
   pub named : IsFreeSlot only_header 0 1 1 → ⊥
   -- the first sector of the log holds an entry
   pub entry : (signed : SignedEntry) → HoldsEntry (sector other 64) signed → HoldsNoEntry other 0 → ⊥
 
--- a signed entry changes
+-- a signed entry changes, or a sector that holds nothing
 pub record KeepingCounterExamples (before after : Memory) : Type 0 where
   pub changed : (root : Root) (header : Header) → RootIn before.bbram root → HoldsHeader before.flash root.area header
       → 0 < header.signed → sector after.flash 64 ≢ sector before.flash 64 → KeepsSignedLog before after → ⊥
+  pub log : (KeepsSignedLog before after → ⊥) → SparesSectors before after → ⊥
+  pub unused : sector after.flash 50 ≢ sector before.flash 50 → SparesSectors before after → ⊥
+  -- the sectors beside those that hold nothing hold code, the first entry and the last
+  pub code : IsUnused 49 → ⊥
+  pub first : IsUnused 64 → ⊥
+  pub last : IsUnused 191 → ⊥
 
 pub record WriteCounterExamples : Type 0 where
   -- a byte of sector 0 has changed, or is gone

@@ -16,7 +16,7 @@ use Rattle.mb_model.specs.Flash.{sector, code_slot, HoldsHeader, HoldsCode, Hold
 use Rattle.mb_model.proofs.Places.{length-part}
 use Rattle.mb_model_lemmas.specs.SegmentLaws.{IsSmallHeader}
 use Rattle.mb_model_lemmas.proofs.HeldSegments.{small_held}
-use Rattle.mb_model_memory.specs.FlashInForce.{slot_in, AgreeForArea, DiffersOnlyIn}
+use Rattle.mb_model_memory.specs.FlashInForce.{slot_in, AgreeForArea, DiffersOnlyIn, IsUnused}
 use Rattle.mb_model_memory.specs.FlashLaws.{AgreeingFlashesHoldTheSame, AgreementKeepsTheLog, FlashesAgreeWithThemselves, AgreementGoesOn, AgreementGoesBack, UncountedSectorsAreFree, OtherHeadersAreFree, UnnamedSlotsAreFree}
 
 -- ---- parts apart from what was written
@@ -41,6 +41,19 @@ pub sector_apart : (m n count : ℕ) (before after : List ℕ) → m < 256 → (
 unfolding sector
 sector_apart m n count before after within (inl less) sized same = apart_same (4096 * m) 4096 n count before after same (omega arith) (inl (omega arith))
 sector_apart m n count before after within (inr more) sized same = apart_same (4096 * m) 4096 n count before after same (omega arith) (inr (omega arith))
+
+above_codes : (n : ℕ) → IsUnused n → 50 ≤ n
+above_codes n (inl low) = low.0
+above_codes n (inr high) = omega (arith, high.0)
+
+below_end : (n : ℕ) → IsUnused n → n < 256
+below_end n (inl low) = omega (arith, low.1)
+below_end n (inr high) = high.1
+
+-- a sector that holds nothing stays
+unused_apart : (m n count : ℕ) (before after : List ℕ) → IsUnused m → (m < n) ⊎ (n + count ≤ m) → length before ≡ 1048576
+    → DiffersOnlyIn n count before after → sector after m ≡ sector before m
+unused_apart m n count before after is apart sized same = sector_apart m n count before after (below_end m is) apart sized same
 
 pub slot_apart : (layer slot n count : ℕ) (before after : List ℕ) → layer ≤ 3 → slot ≤ 2 → (n + count ≤ code_sector layer slot) ⊎ (code_sector layer slot + 8 ≤ n) → length before ≡ 1048576
     → DiffersOnlyIn n count before after → code_slot after layer slot ≡ code_slot before layer slot
@@ -128,7 +141,12 @@ torn_log before after area position low few free sized same = record {
   log = λ header holds other less. (
       let is = small_held before area header holds in
       sector_apart (log_sector other) (log_sector position) 1 before after (omega (arith, less, is.most)) (inl (omega (arith, less, free header holds))) sized same);
+  unused = λ n is. unused_apart n (log_sector position) 1 before after is (by_place n is) sized same;
 }
+  where
+    by_place : (n : ℕ) → IsUnused n → (n < log_sector position) ⊎ (log_sector position + 1 ≤ n)
+    by_place n (inl low) = inl (omega (arith, low.1))
+    by_place n (inr high) = inr (omega (arith, few, high.0))
 
 -- the other header area
 pub torn_header : OtherHeadersAreFree
@@ -142,6 +160,7 @@ torn_header before after area low sized same = record {
   log = λ header holds other less. (
       let is = small_held before area header holds in
       sector_apart (log_sector other) (header_sector (1 - area)) 1 before after (omega (arith, less, is.most)) (inr (omega (arith, low))) sized same);
+  unused = λ n is. unused_apart n (header_sector (1 - area)) 1 before after is (inr (omega (arith, above_codes n is))) sized same;
 }
   where
     other_area : (a : ℕ) → a ≤ 1 → DiffersOnlyIn (header_sector (1 - a)) 1 before after → sector after (header_sector a) ≡ sector before (header_sector a)
@@ -165,12 +184,13 @@ torn_code before after area layer free low least most one two is_free sized same
   log = λ header holds other less. (
       let is = small_held before area header holds in
       sector_apart (log_sector other) (code_sector layer free) 8 before after (omega (arith, less, is.most)) (inr (omega (arith, most, two))) sized same);
+  unused = λ n is. unused_apart n (code_sector layer free) 8 before after is (inr (omega (arith, most, two, above_codes n is))) sized same;
 }
 
 -- ---- agreement
 
 pub agree_same : FlashesAgreeWithThemselves
-agree_same flash area = record { header = refl; slots = λ header holds. record { slots = λ layer least most named. refl }; log = λ header holds position less. refl }
+agree_same flash area = record { header = refl; slots = λ header holds. record { slots = λ layer least most named. refl }; log = λ header holds position less. refl; unused = λ n is. refl }
 
 moved : (flash other : List ℕ) (area : ℕ) (header : Header) → sector other (header_sector area) ≡ sector flash (header_sector area) → HoldsHeader flash area header → HoldsHeader other area header
 moved flash other area header same holds = subst (λ (bytes : List ℕ). BeginsAs header_format bytes header) (sym same) holds
@@ -184,6 +204,7 @@ agree_then flash between other area first second = record {
       let two = (second.slots header (moved flash between area header first.header holds)).slots in
       record { slots = λ layer least most named. two layer least most named ∙ one layer least most named });
   log = λ header holds position less. second.log header (moved flash between area header first.header holds) position less ∙ first.log header holds position less;
+  unused = λ n is. second.unused n is ∙ first.unused n is;
 }
 
 -- whichever of the two comes first
@@ -194,4 +215,5 @@ agree_turned flash other area agree = record {
       let slots = (agree.slots header (moved other flash area header (sym agree.header) holds)).slots in
       record { slots = λ layer least most named. sym (slots layer least most named) });
   log = λ header holds position less. sym (agree.log header (moved other flash area header (sym agree.header) holds) position less);
+  unused = λ n is. sym (agree.unused n is);
 }

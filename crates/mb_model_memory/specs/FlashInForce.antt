@@ -1,5 +1,5 @@
--- Which bytes of a flash in segments count for a header area. What may be written elsewhere, while codes and entries
--- stay?
+-- Which bytes of a flash in segments count for a header area, and which sectors hold nothing. What may be written
+-- elsewhere, while codes and entries stay?
 use Rattle.std.specs.Prelude.{◌≡◌, ◌≢◌, ℕ, ◌+◌, ◌*◌, ◌<◌, ◌≤◌, ◌⊎◌, ◌==◌, if◌then◌else◌}
 use Rattle.std.specs.Prelude.{List, length, take, slice_index}
 use Rattle.mb_model.specs.declared.limits.TheConstants.{SECTOR_LENGTH}
@@ -22,19 +22,34 @@ pub record AgreeInSlots (flash other : List ℕ) (header : Header) : Type 0 wher
   pub slots : (layer : ℕ) → 1 ≤ layer → layer ≤ 3 → (slot_in header layer).which ≢ 0
       → code_slot other layer (slot_in header layer).which ≡ code_slot flash layer (slot_in header layer).which
 
+-- a sector that holds nothing: it stands between the code slots and the log, or behind the log
+abbrev pub IsUnused : ℕ → Type 0
+IsUnused n = ((50 ≤ n) × (n < 64)) ⊎ ((192 ≤ n) × (n < 256))
+
+-- two flashes have the same bytes in the sectors that hold nothing
+abbrev pub AgreeInUnused : List ℕ → List ℕ → Type 0
+AgreeInUnused flash other = (n : ℕ) → IsUnused n → sector other n ≡ sector flash n
+
 -- Two flashes have the same bytes wherever these count for a header area: in the area itself, in the slots that its
--- header names, and in the sectors of the log below its count.
+-- header names, and in the sectors of the log below its count. They have the same bytes in the sectors that hold nothing
+-- too, to which no write goes.
 pub record AgreeForArea (flash other : List ℕ) (area : ℕ) : Type 0 where
   pub header : sector other (header_sector area) ≡ sector flash (header_sector area)
   pub slots : (header : Header) → HoldsHeader flash area header → AgreeInSlots flash other header
   pub log : (header : Header) → HoldsHeader flash area header → (position : ℕ) → position < header.signed
       → sector other (log_sector position) ≡ sector flash (log_sector position)
+  pub unused : AgreeInUnused flash other
 
 -- The signed log stays: each log sector below the count of the header that the root names holds the same bytes.
 pub record KeepsSignedLog (before after : Memory) : Type 0 where
   pub kept : (root : Root) (header : Header) → RootIn before.bbram root → HoldsHeader before.flash root.area header
       → (position : ℕ) → position < header.signed
       → sector after.flash (log_sector position) ≡ sector before.flash (log_sector position)
+
+-- The signed log stays, and so do the sectors that hold nothing.
+pub record SparesSectors (before after : Memory) : Type 0 where
+  pub log : KeepsSignedLog before after
+  pub unused : AgreeInUnused before.flash after.flash
 
 -- ---- what does not count
 

@@ -8,10 +8,10 @@ ghost use Rattle.mb_model.specs.declared.state.State.{State};
 ghost use Rattle.mb_model.specs.Memory.{IsBlank, current, other};
 ghost use Rattle.mb_model.specs.Meaning.{HoldsRegion};
 ghost use Rattle.mb_model.specs.RegionFormat.{SpellsRegion};
-ghost use Rattle.mb_board.specs.Calls.{IsUp, Ran};
+ghost use Rattle.mb_board.specs.Calls.{IsUp};
 ghost use Rattle.mb_model_memory.specs.Holding.{Means};
 ghost use Rattle.mb_model_memory.specs.InForce.{AgreeBesides};
-ghost use Rattle.mb_slot.specs.Slots.{CanUse, IsSameBut};
+ghost use Rattle.mb_slot.specs.Slots.{CanUse, RanInSlot};
 ghost use Rattle.mb_region.specs.Regions.{HasNoFate, ReplacesRegion, KeepsOrReplaces};
 ghost use Rattle.mb_outbound.specs.Binding.{HoldsOrdered, BindOf, power_in, StaysUnbound, StoresUse, KeepsOrStoresUse, state_used};
 ghost use Rattle.mb_outbound.specs.Using.{FindsUse};
@@ -60,9 +60,7 @@ fn store<S: Reaches<L>, L: Named, B: Board>(s: S, b: &mut B, room: &mut Room) ->
         → KeepsOrReplaces L.place region (B.seen b.old).memory (B.seen b.new).memory }
     ensures blank { OnOk result (IsBlank (other (B.seen b.new).memory.bbram L.place)) }
     ensures besides { AgreeBesides L.place (B.seen b.old).memory.bbram (B.seen b.new).memory.bbram }
-    ensures rest { IsSameBut L.place (B.seen b.old).memory.bbram (B.seen b.new).memory.bbram }
-    ensures flash { (B.seen b.new).memory.flash ≡ (B.seen b.old).memory.flash }
-    ensures ran { Ran 3 result (B.seen b.old) (B.seen b.new) }
+    ensures ran { RanInSlot 3 L.place result (B.seen b.old) (B.seen b.new) }
     ensures plans { SamePlans room.old room.new }
 {
     let s = commit_record::<S, L, B>(s, b, &room.other, &mut room.area)?;
@@ -109,9 +107,7 @@ pub fn bind<S: Reaches<L>, L: Named, B: Board>(
     ensures unwritten { StaysUnbound result (B.seen b.old).memory (B.seen b.new).memory
         (B.seen b.old).meter (B.seen b.new).meter }
     ensures besides { AgreeBesides L.place (B.seen b.old).memory.bbram (B.seen b.new).memory.bbram }
-    ensures rest { IsSameBut L.place (B.seen b.old).memory.bbram (B.seen b.new).memory.bbram }
-    ensures flash { (B.seen b.new).memory.flash ≡ (B.seen b.old).memory.flash }
-    ensures ran { Ran 3 (power_in result) (B.seen b.old) (B.seen b.new) }
+    ensures ran { RanInSlot 3 L.place (power_in result) (B.seen b.old) (B.seen b.new) }
     ensures plans { SamePlans room.old room.new }
 {
     let found = match next_use(b, L::number(), key, room) {

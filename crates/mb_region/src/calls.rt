@@ -10,11 +10,11 @@ ghost use Rattle.mb_model.specs.Memory.{IsBlank, current, other};
 ghost use Rattle.mb_model.specs.Meaning.{HoldsRegion};
 ghost use Rattle.mb_model.specs.RegionFormat.{SpellsRegion};
 ghost use Rattle.mb_model.specs.Regions.{with_region};
-ghost use Rattle.mb_board.specs.Calls.{IsUp, Ran};
+ghost use Rattle.mb_board.specs.Calls.{IsUp};
 ghost use Rattle.mb_model_memory.specs.Holding.{Means, KeepsContents};
 ghost use Rattle.mb_model_memory.specs.InForce.{AgreeBesides};
 ghost use Rattle.mb_model_memory.specs.Storable.{HasRegionRecord};
-ghost use Rattle.mb_slot.specs.Slots.{IsSameBut, IsSameButOther};
+ghost use Rattle.mb_slot.specs.Slots.{RanInOther, RanInSlot};
 ghost use Rattle.mb_region.specs.Regions.{HoldsSomeRegion, HasNoFate, ReplacesRegion, KeepsOrReplaces};
 ghost use Rattle.mb_region.specs.Fates.{IsPending, AppliesFate, KeepsOrApplies};
 
@@ -74,9 +74,7 @@ pub fn commit_record<S: Reaches<L>, L: Named, B: Board>(
     ensures left { OnOk result (other (B.seen b.new).memory.bbram L.place
         ≡ current (B.seen b.old).memory.bbram L.place) }
     ensures besides { AgreeBesides L.place (B.seen b.old).memory.bbram (B.seen b.new).memory.bbram }
-    ensures rest { IsSameBut L.place (B.seen b.old).memory.bbram (B.seen b.new).memory.bbram }
-    ensures flash { (B.seen b.new).memory.flash ≡ (B.seen b.old).memory.flash }
-    ensures ran { Ran 2 result (B.seen b.old) (B.seen b.new) }
+    ensures ran { RanInSlot 2 L.place result (B.seen b.old) (B.seen b.new) }
     ensures capacity { vec_capacity area.old ≤ vec_capacity area.new }
 {
     match replace(b, L::number(), bytes, area) {
@@ -109,9 +107,7 @@ pub fn commit_region<S: Reaches<L>, L: Named, B: Board>(
     ensures left { OnOk result (other (B.seen b.new).memory.bbram L.place
         ≡ current (B.seen b.old).memory.bbram L.place) }
     ensures besides { AgreeBesides L.place (B.seen b.old).memory.bbram (B.seen b.new).memory.bbram }
-    ensures rest { IsSameBut L.place (B.seen b.old).memory.bbram (B.seen b.new).memory.bbram }
-    ensures flash { (B.seen b.new).memory.flash ≡ (B.seen b.old).memory.flash }
-    ensures ran { Ran 2 result (B.seen b.old) (B.seen b.new) }
+    ensures ran { RanInSlot 2 L.place result (B.seen b.old) (B.seen b.new) }
     ensures plans { SamePlans room.old room.new }
 {
     match store_region(b, L::number(), region, room) {
@@ -139,9 +135,7 @@ pub fn apply_fate<S: Reaches<L>, L: Named, B: Board>(
         → IsOk result × ((B.seen b.new).memory ≡ (B.seen b.old).memory)
         × ((B.seen b.new).meter ≡ (B.seen b.old).meter) }
     ensures besides { AgreeBesides L.place (B.seen b.old).memory.bbram (B.seen b.new).memory.bbram }
-    ensures rest { IsSameBut L.place (B.seen b.old).memory.bbram (B.seen b.new).memory.bbram }
-    ensures flash { (B.seen b.new).memory.flash ≡ (B.seen b.old).memory.flash }
-    ensures ran { Ran 2 result (B.seen b.old) (B.seen b.new) }
+    ensures ran { RanInSlot 2 L.place result (B.seen b.old) (B.seen b.new) }
     ensures plans { SamePlans room.old room.new }
 {
     match finish_fate(b, L::number(), fate, room) {
@@ -162,9 +156,7 @@ pub fn wipe_region<S: Reaches<L>, L: Named, B: Board>(s: S, b: &mut B) -> Result
         → IsOk result × ((B.seen b.new).memory ≡ (B.seen b.old).memory)
         × ((B.seen b.new).meter ≡ (B.seen b.old).meter) }
     ensures besides { AgreeBesides L.place (B.seen b.old).memory.bbram (B.seen b.new).memory.bbram }
-    ensures rest { IsSameButOther L.place (B.seen b.old).memory.bbram (B.seen b.new).memory.bbram }
-    ensures flash { (B.seen b.new).memory.flash ≡ (B.seen b.old).memory.flash }
-    ensures ran { Ran 1 result (B.seen b.old) (B.seen b.new) }
+    ensures ran { RanInOther 1 L.place result (B.seen b.old) (B.seen b.new) }
 {
     match wipe_other(b, L::number()) {
         Ok(()) => Ok(s),

@@ -9,10 +9,9 @@ ghost use Rattle.mb_model.specs.declared.stored.Fate.TheVariants.{Keep};
 ghost use Rattle.mb_model.specs.Memory.{current, other, HoldsInArea};
 ghost use Rattle.mb_model.specs.Meaning.{HoldsRegion, fated};
 ghost use Rattle.mb_model.specs.RegionFormat.{SpellsRegion};
-ghost use Rattle.mb_board.specs.Calls.{Ran};
 ghost use Rattle.mb_model_memory.specs.InForce.{AgreeBesides};
 ghost use Rattle.mb_model_memory.specs.Storable.{HasRegionRecord};
-ghost use Rattle.mb_slot.specs.Slots.{CanUse, IsSameBut};
+ghost use Rattle.mb_slot.specs.Slots.{CanUse, RanInSlot};
 ghost use Rattle.mb_region.specs.Regions.{IsRegionSlot, HoldsSomeRegion, ReplacesRegion, KeepsOrReplaces};
 ghost use Rattle.mb_region.specs.Fates.{CanBeFated, IsPending, AppliesFate, KeepsOrApplies};
 
@@ -41,9 +40,7 @@ fn commit_bytes<B: Board>(
     ensures left { OnOk result (other (B.seen b.new).memory.bbram slot
         ≡ current (B.seen b.old).memory.bbram slot) }
     ensures besides { AgreeBesides slot (B.seen b.old).memory.bbram (B.seen b.new).memory.bbram }
-    ensures rest { IsSameBut slot (B.seen b.old).memory.bbram (B.seen b.new).memory.bbram }
-    ensures flash { (B.seen b.new).memory.flash ≡ (B.seen b.old).memory.flash }
-    ensures ran { Ran 2 result (B.seen b.old) (B.seen b.new) }
+    ensures ran { RanInSlot 2 slot result (B.seen b.old) (B.seen b.new) }
     ensures capacity { vec_capacity area.old ≤ vec_capacity area.new }
 {
     make_area(area);
@@ -70,9 +67,7 @@ pub(crate) fn replace<B: Board>(
     ensures left { OnOk result (other (B.seen b.new).memory.bbram slot
         ≡ current (B.seen b.old).memory.bbram slot) }
     ensures besides { AgreeBesides slot (B.seen b.old).memory.bbram (B.seen b.new).memory.bbram }
-    ensures rest { IsSameBut slot (B.seen b.old).memory.bbram (B.seen b.new).memory.bbram }
-    ensures flash { (B.seen b.new).memory.flash ≡ (B.seen b.old).memory.flash }
-    ensures ran { Ran 2 result (B.seen b.old) (B.seen b.new) }
+    ensures ran { RanInSlot 2 slot result (B.seen b.old) (B.seen b.new) }
     ensures capacity { vec_capacity area.old ≤ vec_capacity area.new }
 {
     commit_bytes(b, slot, bytes, area)
@@ -109,9 +104,7 @@ pub(crate) fn store_region<B: Board>(
     ensures left { OnOk result (other (B.seen b.new).memory.bbram slot
         ≡ current (B.seen b.old).memory.bbram slot) }
     ensures besides { AgreeBesides slot (B.seen b.old).memory.bbram (B.seen b.new).memory.bbram }
-    ensures rest { IsSameBut slot (B.seen b.old).memory.bbram (B.seen b.new).memory.bbram }
-    ensures flash { (B.seen b.new).memory.flash ≡ (B.seen b.old).memory.flash }
-    ensures ran { Ran 2 result (B.seen b.old) (B.seen b.new) }
+    ensures ran { RanInSlot 2 slot result (B.seen b.old) (B.seen b.new) }
     ensures plans { SamePlans room.old room.new }
 {
     region_bytes(region, &mut room.other);
@@ -164,9 +157,7 @@ pub(crate) fn finish_fate<B: Board>(
         → (result ≡ Ok tt) × ((B.seen b.new).memory ≡ (B.seen b.old).memory)
         × ((B.seen b.new).meter ≡ (B.seen b.old).meter) }
     ensures besides { AgreeBesides slot (B.seen b.old).memory.bbram (B.seen b.new).memory.bbram }
-    ensures rest { IsSameBut slot (B.seen b.old).memory.bbram (B.seen b.new).memory.bbram }
-    ensures flash { (B.seen b.new).memory.flash ≡ (B.seen b.old).memory.flash }
-    ensures ran { Ran 2 result (B.seen b.old) (B.seen b.new) }
+    ensures ran { RanInSlot 2 slot result (B.seen b.old) (B.seen b.new) }
     ensures plans { SamePlans room.old room.new }
 {
     if let Fate::Keep = fate {

@@ -1,12 +1,12 @@
 -- What a call on a slot of the battery-backed memory may need, and what it may change. Can a write to one slot reach
 -- another?
 use Rattle.std.specs.Prelude.{◌≡◌, ◌≢◌, ℕ, ◌+◌, ◌<◌, ◌≤◌, ◌%◌, ◌==◌, ◌⊎◌, List, length, slice_index}
-use Rattle.std.specs.Prelude.{Bool, true, not, if◌then◌else◌}
+use Rattle.std.specs.Prelude.{Bool, true, not, if◌then◌else◌, Result}
 use Rattle.mb_model.specs.declared.limits.TheConstants.{AREA_LENGTH, BBRAM_LENGTH}
 use Rattle.mb_model.specs.Memory.{slots, selector_of, current, other}
 use Rattle.mb_board.specs.Reach.{Reached}
 use Rattle.mb_model.specs.Board.{IsLoaded}
-use Rattle.mb_board.specs.Calls.{Seen}
+use Rattle.mb_board.specs.Calls.{Seen, Ran}
 
 -- A slot can be used if power is on, the level of the ratchet reaches it, and a memory is loaded.
 pub record CanUse (seen : Seen) (slot : ℕ) : Type 0 where
@@ -64,3 +64,15 @@ pub record IsSameBut (slot : ℕ) (before after : List ℕ) : Type 0 where
 -- they are the same but for the inactive area of a slot
 abbrev pub IsSameButOther : ℕ → List ℕ → List ℕ → Type 0
 IsSameButOther slot before after = IsSameOutside (other_offset before slot) AREA_LENGTH before after
+
+-- Calls with this result that wrote only to a slot: to its selector and its two areas.
+pub record RanInSlot (n slot : ℕ) {A E : Type 0} (result : Result A E) (before after : Seen) : Type 0 where
+  pub ran : Ran n result before after
+  pub flash : after.memory.flash ≡ before.memory.flash
+  pub rest : IsSameBut slot before.memory.bbram after.memory.bbram
+
+-- Calls with this result that wrote only to the inactive area of a slot.
+pub record RanInOther (n slot : ℕ) {A E : Type 0} (result : Result A E) (before after : Seen) : Type 0 where
+  pub ran : Ran n result before after
+  pub flash : after.memory.flash ≡ before.memory.flash
+  pub rest : IsSameButOther slot before.memory.bbram after.memory.bbram

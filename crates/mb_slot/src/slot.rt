@@ -2,10 +2,9 @@
 
 ghost use Rattle.std.specs.Prelude.{◌≡◌, ◌≢◌, ℕ, ◌≤◌, ◌%◌, ◌==◌, ◌⊎◌, ◌↔◌, length, IsTrue, OnOk, Ok};
 ghost use Rattle.mb_model.specs.Memory.{IsBlank, current, other};
-ghost use Rattle.mb_board.specs.Calls.{Ran};
 ghost use Rattle.mb_model.specs.declared.limits.TheConstants.{AREA_LENGTH};
 ghost use Rattle.mb_model_memory.specs.InForce.{AgreeBesides};
-ghost use Rattle.mb_slot.specs.Slots.{CanUse, is_first_in_force, area_offset, current_offset, other_offset, IsAreaAt, AreExchanged, IsSameBut, IsSameButOther};
+ghost use Rattle.mb_slot.specs.Slots.{CanUse, is_first_in_force, area_offset, current_offset, other_offset, IsAreaAt, AreExchanged, RanInOther, RanInSlot};
 
 use mb_board::{Board, Stopped};
 use mb_model::AREA_LENGTH;
@@ -58,9 +57,7 @@ fn write_other<B: Board>(b: &mut B, slot: u16, area: &[u8]) -> Result<(), Stoppe
     ensures done { OnOk result (other (B.seen b.new).memory.bbram slot ≡ area.now) }
     ensures current { current (B.seen b.new).memory.bbram slot
         ≡ current (B.seen b.old).memory.bbram slot }
-    ensures rest { IsSameButOther slot (B.seen b.old).memory.bbram (B.seen b.new).memory.bbram }
-    ensures flash { (B.seen b.new).memory.flash ≡ (B.seen b.old).memory.flash }
-    ensures ran { Ran 1 result (B.seen b.old) (B.seen b.new) }
+    ensures ran { RanInOther 1 slot result (B.seen b.old) (B.seen b.new) }
 {
     b.bbram_write(other_at(b, slot), area)
 }
@@ -80,9 +77,7 @@ fn flip<B: Board>(b: &mut B, slot: u16) -> Result<(), Stopped>
     ensures either { (current (B.seen b.new).memory.bbram slot
         ≡ current (B.seen b.old).memory.bbram slot)
         ⊎ (current (B.seen b.new).memory.bbram slot ≡ other (B.seen b.old).memory.bbram slot) }
-    ensures rest { IsSameBut slot (B.seen b.old).memory.bbram (B.seen b.new).memory.bbram }
-    ensures flash { (B.seen b.new).memory.flash ≡ (B.seen b.old).memory.flash }
-    ensures ran { Ran 1 result (B.seen b.old) (B.seen b.new) }
+    ensures ran { RanInSlot 1 slot result (B.seen b.old) (B.seen b.new) }
 {
     let selector = selector_for(!is_first_in_force(b, slot));
     b.bbram_write(slot, &[selector])
@@ -128,9 +123,7 @@ pub fn commit<B: Board>(b: &mut B, slot: u16, area: &[u8]) -> Result<(), Stopped
         ≡ current (B.seen b.old).memory.bbram slot)
         ⊎ (current (B.seen b.new).memory.bbram slot ≡ area.now) }
     ensures besides { AgreeBesides slot (B.seen b.old).memory.bbram (B.seen b.new).memory.bbram }
-    ensures rest { IsSameBut slot (B.seen b.old).memory.bbram (B.seen b.new).memory.bbram }
-    ensures flash { (B.seen b.new).memory.flash ≡ (B.seen b.old).memory.flash }
-    ensures ran { Ran 2 result (B.seen b.old) (B.seen b.new) }
+    ensures ran { RanInSlot 2 slot result (B.seen b.old) (B.seen b.new) }
 {
     write_other(b, slot, area)?;
     flip(b, slot)
@@ -149,9 +142,7 @@ pub fn wipe_other<B: Board>(b: &mut B, slot: u16) -> Result<(), Stopped>
     ensures others { (m : ℕ) → 1 ≤ m → m ≤ 3 → m ≢ slot
         → other (B.seen b.new).memory.bbram m ≡ other (B.seen b.old).memory.bbram m }
     ensures besides { AgreeBesides slot (B.seen b.old).memory.bbram (B.seen b.new).memory.bbram }
-    ensures rest { IsSameButOther slot (B.seen b.old).memory.bbram (B.seen b.new).memory.bbram }
-    ensures flash { (B.seen b.new).memory.flash ≡ (B.seen b.old).memory.flash }
-    ensures ran { Ran 1 result (B.seen b.old) (B.seen b.new) }
+    ensures ran { RanInOther 1 slot result (B.seen b.old) (B.seen b.new) }
 {
     if is_other_blank(b, slot) {
         return Ok(());

@@ -15,7 +15,7 @@ pub returns-in-Ok-clause-contents : goal.returns-in-Ok-clause-contents
 returns-in-Ok-clause-contents g c =
     flash_kept (g.B.Board.seen c.args.b.now).memory (g.B.Board.seen c.write_both.new.b).memory
     (agree_for_roots (g.B.Board.seen c.args.b.now).memory (g.B.Board.seen c.write_both.new.b).memory c.read_root-root.result c.read_root-root.ensures.root c.write_both.ensures.agree)
-    c.write_both.ensures.bbram
+    c.write_both.ensures.ran.bbram
 
 pub returns-in-Ok-clause-spared : goal.returns-in-Ok-clause-spared
 returns-in-Ok-clause-spared g c = λ root header is holds n less spared.
@@ -40,7 +40,7 @@ pub returns-in-Err-clause-contents : goal.returns-in-Err-clause-contents
 returns-in-Err-clause-contents g c =
     flash_kept (g.B.Board.seen c.args.b.now).memory (g.B.Board.seen c.write_both.new.b).memory
     (agree_for_roots (g.B.Board.seen c.args.b.now).memory (g.B.Board.seen c.write_both.new.b).memory c.read_root-root.result c.read_root-root.ensures.root c.write_both.ensures.agree)
-    c.write_both.ensures.bbram
+    c.write_both.ensures.ran.bbram
 
 pub returns-in-Err-clause-spared : goal.returns-in-Err-clause-spared
 returns-in-Err-clause-spared g c = λ root header is holds n less spared.

@@ -1,4 +1,4 @@
-use Rattle.mb_boot.proofs.Settled.{only_root, finish_keeps, log_kept, log_then}
+use Rattle.mb_boot.proofs.Settled.{only_root, finish_keeps, spared_by_writes, spared_then}
 use Rattle.mb_model_memory.proofs.HoldingLemmas.{keeps_then, contents_keep}
 use Rattle.mb_boot.proofs.work.settle.Goals as goal
 
@@ -8,8 +8,8 @@ returns-in_err-w-clause-meaning g c =
     let applied = (g.B.Board.seen c.apply_fates.new.b).memory in
     let written = (g.B.Board.seen c.write_signed.new.b).memory in
     let last = (g.B.Board.seen c.finish_root.new.b).memory in
-    finish_keeps first applied written last c.finish_root.ensures.ran.sized
-    (keeps_then first applied written c.apply_fates.ensures.meaning (contents_keep applied written c.write_signed.ensures.ran.sized c.write_signed.ensures.contents))
+    finish_keeps first applied written last c.finish_root.ensures.ran.ran.sized
+    (keeps_then first applied written c.apply_fates.ensures.meaning (contents_keep applied written c.write_signed.ensures.ran.ran.sized c.write_signed.ensures.contents))
     c.in_ok-u.ensures.done c.write_signed.ensures.contents c.in_ok-u-2.ensures.signed c.finish_root.ensures.either
 
 pub returns-clause-meaning : goal.returns-clause-meaning
@@ -18,30 +18,30 @@ returns-clause-meaning g c =
     let applied = (g.B.Board.seen c.apply_fates.new.b).memory in
     let written = (g.B.Board.seen c.write_signed.new.b).memory in
     let last = (g.B.Board.seen c.finish_root.new.b).memory in
-    finish_keeps first applied written last c.finish_root.ensures.ran.sized
-    (keeps_then first applied written c.apply_fates.ensures.meaning (contents_keep applied written c.write_signed.ensures.ran.sized c.write_signed.ensures.contents))
+    finish_keeps first applied written last c.finish_root.ensures.ran.ran.sized
+    (keeps_then first applied written c.apply_fates.ensures.meaning (contents_keep applied written c.write_signed.ensures.ran.ran.sized c.write_signed.ensures.contents))
     c.in_ok-u.ensures.done c.write_signed.ensures.contents c.in_ok-u-2.ensures.signed c.finish_root.ensures.either
 
-pub returns-in_err-u-2-clause-log : goal.returns-in_err-u-2-clause-log
-returns-in_err-u-2-clause-log g c =
+pub returns-in_err-u-2-clause-spared : goal.returns-in_err-u-2-clause-spared
+returns-in_err-u-2-clause-spared g c =
     let first = (g.B.Board.seen c.args.b.now).memory in
-    log_kept first (g.B.Board.seen c.apply_fates.new.b).memory (g.B.Board.seen c.write_signed.new.b).memory c.read_root-root.result
-    (only_root first.bbram c.read_root-root.result c.read_root-root.ensures.holds c.read_root-root.ensures.root) c.apply_fates.ensures.flash c.write_signed.ensures.agree
+    spared_by_writes first (g.B.Board.seen c.apply_fates.new.b).memory (g.B.Board.seen c.write_signed.new.b).memory c.read_root-root.result
+    (only_root first.bbram c.read_root-root.result c.read_root-root.ensures.holds c.read_root-root.ensures.root) c.apply_fates.ensures.ran.flash c.write_signed.ensures.agree
 
-pub returns-in_err-w-clause-log : goal.returns-in_err-w-clause-log
-returns-in_err-w-clause-log g c =
+pub returns-in_err-w-clause-spared : goal.returns-in_err-w-clause-spared
+returns-in_err-w-clause-spared g c =
     let first = (g.B.Board.seen c.args.b.now).memory in
     let written = (g.B.Board.seen c.write_signed.new.b).memory in
-    log_then first written (g.B.Board.seen c.finish_root.new.b).memory
-    (log_kept first (g.B.Board.seen c.apply_fates.new.b).memory written c.read_root-root.result
-    (only_root first.bbram c.read_root-root.result c.read_root-root.ensures.holds c.read_root-root.ensures.root) c.apply_fates.ensures.flash c.write_signed.ensures.agree)
-    c.finish_root.ensures.flash
+    spared_then first written (g.B.Board.seen c.finish_root.new.b).memory
+    (spared_by_writes first (g.B.Board.seen c.apply_fates.new.b).memory written c.read_root-root.result
+    (only_root first.bbram c.read_root-root.result c.read_root-root.ensures.holds c.read_root-root.ensures.root) c.apply_fates.ensures.ran.flash c.write_signed.ensures.agree)
+    c.finish_root.ensures.ran.flash
 
-pub returns-clause-log : goal.returns-clause-log
-returns-clause-log g c =
+pub returns-clause-spared : goal.returns-clause-spared
+returns-clause-spared g c =
     let first = (g.B.Board.seen c.args.b.now).memory in
     let written = (g.B.Board.seen c.write_signed.new.b).memory in
-    log_then first written (g.B.Board.seen c.finish_root.new.b).memory
-    (log_kept first (g.B.Board.seen c.apply_fates.new.b).memory written c.read_root-root.result
-    (only_root first.bbram c.read_root-root.result c.read_root-root.ensures.holds c.read_root-root.ensures.root) c.apply_fates.ensures.flash c.write_signed.ensures.agree)
-    c.finish_root.ensures.flash
+    spared_then first written (g.B.Board.seen c.finish_root.new.b).memory
+    (spared_by_writes first (g.B.Board.seen c.apply_fates.new.b).memory written c.read_root-root.result
+    (only_root first.bbram c.read_root-root.result c.read_root-root.ensures.holds c.read_root-root.ensures.root) c.apply_fates.ensures.ran.flash c.write_signed.ensures.agree)
+    c.finish_root.ensures.ran.flash

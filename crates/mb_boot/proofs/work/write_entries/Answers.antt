@@ -9,7 +9,7 @@ read_header-requires-clause-area g c = (bounded (g.B.Board.seen c.args.b.now).me
 pub write_entry-requires-2-clause-live : goal.write_entry-requires-2-clause-live
 write_entry-requires-2-clause-live g c =
     let now = (g.B.Board.seen c.write_entry.new.b).memory in
-    live_still (g.B.Board.seen c.args.b.now).memory now c.requires.live (contents_keep (g.B.Board.seen c.args.b.now).memory now c.write_entry.ensures.ran.sized c.write_entry.ensures.contents)
+    live_still (g.B.Board.seen c.args.b.now).memory now c.requires.live (contents_keep (g.B.Board.seen c.args.b.now).memory now c.write_entry.ensures.ran.ran.sized c.write_entry.ensures.contents)
 
 pub returns-in_err-u-2-clause-agree : goal.returns-in_err-u-2-clause-agree
 returns-in_err-u-2-clause-agree g c =

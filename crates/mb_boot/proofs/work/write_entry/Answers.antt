@@ -22,7 +22,7 @@ write_log-requires-clause-position g c =
     let can = can_be_written (g.B.Board.seen c.args.b.now).memory c.args.root.now c.args.place c.in-Some.position c.args.room.now.header.items c.sign_next.new.room.log.items c.requires.place c.requires.live c.requires.root c.requires.header
     (subst (λ (position : Option ℕ). SignsTextAt c.args.root.now c.args.place c.args.room.now.header.items position c.sign_next.new.room.log.items) c.in-Some.is c.sign_next.ensures.signed)
     in
-    can.within
+    record { within = can.within; uncounted = can.uncounted }
 
 pub write_log-requires-clause-log : goal.write_log-requires-clause-log
 write_log-requires-clause-log g c =
@@ -30,13 +30,6 @@ write_log-requires-clause-log g c =
     (subst (λ (position : Option ℕ). SignsTextAt c.args.root.now c.args.place c.args.room.now.header.items position c.sign_next.new.room.log.items) c.in-Some.is c.sign_next.ensures.signed)
     in
     (can.some, can.short)
-
-pub write_log-requires-clause-uncounted : goal.write_log-requires-clause-uncounted
-write_log-requires-clause-uncounted g c =
-    let can = can_be_written (g.B.Board.seen c.args.b.now).memory c.args.root.now c.args.place c.in-Some.position c.args.room.now.header.items c.sign_next.new.room.log.items c.requires.place c.requires.live c.requires.root c.requires.header
-    (subst (λ (position : Option ℕ). SignsTextAt c.args.root.now c.args.place c.args.room.now.header.items position c.sign_next.new.room.log.items) c.in-Some.is c.sign_next.ensures.signed)
-    in
-    can.uncounted
 
 pub returns-clause-added : goal.returns-clause-added
 returns-clause-added g c =

@@ -6,7 +6,7 @@ use Rattle.mb_boot.proofs.work.write_signed.Goals as goal
 pub write_settled-requires-clause-live : goal.write_settled-requires-clause-live
 write_settled-requires-clause-live g c =
     let now = (g.B.Board.seen c.write_entries.new.b).memory in
-    live_still (g.B.Board.seen c.args.b.now).memory now c.requires.live (contents_keep (g.B.Board.seen c.args.b.now).memory now c.write_entries.ensures.ran.sized c.write_entries.ensures.contents)
+    live_still (g.B.Board.seen c.args.b.now).memory now c.requires.live (contents_keep (g.B.Board.seen c.args.b.now).memory now c.write_entries.ensures.ran.ran.sized c.write_entries.ensures.contents)
 
 pub returns-in_err-u-2-clause-agree : goal.returns-in_err-u-2-clause-agree
 returns-in_err-u-2-clause-agree g c =

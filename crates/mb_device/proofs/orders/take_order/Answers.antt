@@ -18,13 +18,17 @@ returns-in-Ok-clause-steps g c = λ world sound.
     (device.One c.in-Ok.up (record { known = c.obey.new.known; room = c.obey.new.room })) (record { known = c.obey.new.known; room = c.obey.new.room }) c.in-Ok.reply (g.B.Board.seen c.obey.new.b).memory (g.B.Board.seen c.obey.new.b).power (g.B.Board.seen c.obey.new.b).level (g.B.Board.seen c.obey.new.b).meter
     (c.in-Ok.ensures.told sound.fits.state ready sound.fits.knows) (c.in-Ok.ensures.ran.power ∙ sym on.0) c.in-Ok.ensures.ran.level c.in-Ok.ensures.ran.meter.armed on.0 on.1 (λ w fits. fits)
 
-pub returns-in-Ok-clause-meter : goal.returns-in-Ok-clause-meter
-returns-in-Ok-clause-meter g c =
+pub returns-in-Ok-clause-events : goal.returns-in-Ok-clause-events
+returns-in-Ok-clause-events g c =
     let world = c.requires.sound.world in
     let sound = c.requires.sound.sound in
     let ready = running_ready (device.One c.args.up c.args.running) 1 _ world sound.fits.state sound sound.fits.phase sound.fits.live in
-    metered_by 35 (c.in-Ok.up, c.in-Ok.reply) c.in-Ok.reply (g.B.Board.seen c.args.b.now).meter (g.B.Board.seen c.obey.new.b).meter
-    (order_goes_on sound.fits.state c.args.text.now c.args.draw.now c.obey.new.known c.in-Ok.reply (g.B.Board.seen c.args.b.now).memory (g.B.Board.seen c.obey.new.b).memory (c.in-Ok.ensures.told sound.fits.state ready sound.fits.knows)) c.in-Ok.ensures.ran.meter
+    record {
+      ledger = c.in-Ok.ensures.ran.ledger;
+      meter =
+          metered_by 35 (c.in-Ok.up, c.in-Ok.reply) c.in-Ok.reply (g.B.Board.seen c.args.b.now).meter (g.B.Board.seen c.obey.new.b).meter
+          (order_goes_on sound.fits.state c.args.text.now c.args.draw.now c.obey.new.known c.in-Ok.reply (g.B.Board.seen c.args.b.now).memory (g.B.Board.seen c.obey.new.b).memory (c.in-Ok.ensures.told sound.fits.state ready sound.fits.knows)) c.in-Ok.ensures.ran.meter;
+    }
 
 pub returns-in-Err-clause-steps : goal.returns-in-Err-clause-steps
 returns-in-Err-clause-steps g c = λ world sound.

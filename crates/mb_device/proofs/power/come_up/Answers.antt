@@ -21,16 +21,16 @@ returns-in-Ok-clause-steps g c = λ world sound.
     let booted = is_booted c.args.off (g.B.Board.seen c.args.b.now).memory (g.B.Board.seen c.args.b.now).power (g.B.Board.seen c.args.b.now).level (g.B.Board.seen c.args.b.now).meter world sound (g.B.Board.seen c.boot.new.b).memory c.in-Ok.ensures.clean c.boot.ensures.meaning c.in-Ok.ensures.zeroised in
     boots c.args.off (g.B.Board.seen c.args.b.now).memory (g.B.Board.seen c.args.b.now).power (g.B.Board.seen c.args.b.now).level (g.B.Board.seen c.args.b.now).meter world sound c.in-Ok.up (record { known = c.remember-known.result; room = c.remember-known.new.room })
     (g.B.Board.seen c.boot.new.b).memory (g.B.Board.seen c.boot.new.b).power (g.B.Board.seen c.boot.new.b).level (g.B.Board.seen c.boot.new.b).meter booted c.remember-known.ensures.knows
-    c.in-Ok.ensures.power c.in-Ok.ensures.level c.in-Ok.ensures.meter.armed
+    c.in-Ok.ensures.power c.in-Ok.ensures.level c.in-Ok.ensures.events.meter.armed
 
 pub returns-in-Err-Stopped-clause-steps : goal.returns-in-Err-Stopped-clause-steps
 returns-in-Err-Stopped-clause-steps g c = λ world sound.
-    let meter_here = rw c.in-Err-Stopped.field-0-is at c.in-Err-Stopped.ensures.meter in
+    let events_here = rw c.in-Err-Stopped.field-0-is at c.in-Err-Stopped.ensures.events in
     let power_here = rw c.in-Err-Stopped.field-0-is at c.in-Err-Stopped.ensures.power in
     let zeroised_here = rw c.in-Err-Stopped.field-0-is at c.in-Err-Stopped.ensures.zeroised in
     boot_stopped c.args.off (g.B.Board.seen c.args.b.now).memory (g.B.Board.seen c.args.b.now).power (g.B.Board.seen c.args.b.now).level (g.B.Board.seen c.args.b.now).meter world sound c.in-Err-Stopped.off
     (g.B.Board.seen c.boot.new.b).memory (g.B.Board.seen c.boot.new.b).power (g.B.Board.seen c.boot.new.b).level (g.B.Board.seen c.boot.new.b).meter c.boot.ensures.meaning zeroised_here
-    power_here meter_here.armed meter_here.cut
+    power_here events_here.meter.armed events_here.meter.cut
 
 pub returns-in-Err-Zeroised-clause-steps : goal.returns-in-Err-Zeroised-clause-steps
 returns-in-Err-Zeroised-clause-steps g c = λ world sound.

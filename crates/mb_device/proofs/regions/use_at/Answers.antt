@@ -45,7 +45,7 @@ returns-in-Ok-clause-steps g c = λ world sound.
     let ready = use_ready g.S.Runs.level g.L.Place.place (g.S.Runs.holder c.args.s c.args.running) c.args.running c.args.event.now (g.B.Board.seen c.args.b.now).memory (g.B.Board.seen c.args.b.now).power (g.B.Board.seen c.args.b.now).level (g.B.Board.seen c.args.b.now).meter world used in
     use_told g.S.Runs.level g.L.Place.place (g.S.Runs.holder c.args.s c.args.running) c.args.running c.args.event.now (g.B.Board.seen c.args.b.now).memory (g.B.Board.seen c.args.b.now).power (g.B.Board.seen c.args.b.now).level (g.B.Board.seen c.args.b.now).meter world used
     c.into_device-in-Ok.result c.ask.new.running c.in-Ok.reply (g.B.Board.seen c.ask.new.b).memory (g.B.Board.seen c.ask.new.b).power (g.B.Board.seen c.ask.new.b).level (g.B.Board.seen c.ask.new.b).meter
-    (c.in-Ok.ensures.told own.state ready own.knows) (c.in-Ok.ensures.ran.power ∙ sym up.on) c.in-Ok.ensures.ran.level c.in-Ok.ensures.ran.meter.armed up.on up.at_level
+    (c.in-Ok.ensures.told own.state ready own.knows) (c.in-Ok.ensures.ran.ran.power ∙ sym up.on) c.in-Ok.ensures.ran.ran.level c.in-Ok.ensures.ran.ran.meter.armed up.on up.at_level
     (λ w is. subst (λ (d : Device). Fits d w) (sym c.into_device-in-Ok.ensures) (g.met.S.Runs.fits c.in-Ok.s c.ask.new.running w is)) c.in-Ok.ensures.known
 
 pub returns-in-Err-clause-steps : goal.returns-in-Err-clause-steps
@@ -63,12 +63,16 @@ returns-in-Err-clause-steps g c = λ world sound.
     } in
     let ready = use_ready g.S.Runs.level g.L.Place.place (g.S.Runs.holder c.args.s c.args.running) c.args.running c.args.event.now (g.B.Board.seen c.args.b.now).memory (g.B.Board.seen c.args.b.now).power (g.B.Board.seen c.args.b.now).level (g.B.Board.seen c.args.b.now).meter world used in
     use_cut g.S.Runs.level g.L.Place.place (g.S.Runs.holder c.args.s c.args.running) c.args.running c.args.event.now (g.B.Board.seen c.args.b.now).memory (g.B.Board.seen c.args.b.now).power (g.B.Board.seen c.args.b.now).level (g.B.Board.seen c.args.b.now).meter world used
-    c.in-Err.off (g.B.Board.seen c.ask.new.b).memory (g.B.Board.seen c.ask.new.b).power (g.B.Board.seen c.ask.new.b).level (g.B.Board.seen c.ask.new.b).meter (c.in-Err.ensures.told own.state ready own.knows) c.in-Err.ensures.ran.power c.in-Err.ensures.ran.meter.armed c.in-Err.ensures.ran.meter.cut
+    c.in-Err.off (g.B.Board.seen c.ask.new.b).memory (g.B.Board.seen c.ask.new.b).power (g.B.Board.seen c.ask.new.b).level (g.B.Board.seen c.ask.new.b).meter (c.in-Err.ensures.told own.state ready own.knows) c.in-Err.ensures.ran.ran.power c.in-Err.ensures.ran.ran.meter.armed c.in-Err.ensures.ran.ran.meter.cut
 
-pub returns-in-Ok-clause-meter : goal.returns-in-Ok-clause-meter
-returns-in-Ok-clause-meter g c =
+pub returns-in-Ok-clause-events : goal.returns-in-Ok-clause-events
+returns-in-Ok-clause-events g c =
     let has = c.requires.sound in
     let knows = remembers (g.S.Runs.holder c.args.s c.args.running) g.S.Runs.level (g.B.Board.seen c.args.b.now) c.args.running has.world has.sound (g.met.S.Runs.runs c.args.s c.args.running has.world has.sound.fits) in
-    metered_by 3 (c.in-Ok.s, c.in-Ok.reply) c.in-Ok.reply (g.B.Board.seen c.args.b.now).meter (g.B.Board.seen c.ask.new.b).meter
-    (answer_goes_on g.L.Place.place c.args.event.now knows.state c.in-Ok.reply (g.B.Board.seen c.args.b.now).memory (g.B.Board.seen c.ask.new.b).memory c.requires.event (c.in-Ok.ensures.told knows.state knows.ready knows.knows))
-    c.in-Ok.ensures.ran.meter
+    record {
+      ledger = c.in-Ok.ensures.ran.ran.ledger;
+      meter =
+          metered_by 3 (c.in-Ok.s, c.in-Ok.reply) c.in-Ok.reply (g.B.Board.seen c.args.b.now).meter (g.B.Board.seen c.ask.new.b).meter
+          (answer_goes_on g.L.Place.place c.args.event.now knows.state c.in-Ok.reply (g.B.Board.seen c.args.b.now).memory (g.B.Board.seen c.ask.new.b).memory c.requires.event (c.in-Ok.ensures.told knows.state knows.ready knows.knows))
+          c.in-Ok.ensures.ran.ran.meter;
+    }

@@ -14,10 +14,10 @@ returns-in-Ok-bind-clause-told g c = λ state ready runs serial_is number_is. (
     (record {
       bytes = c.requires.can_answer.bytes;
       loaded = c.requires.can_answer.up.loaded;
-      sized = c.in-Ok-bind.ensures.ran.sized;
+      sized = c.in-Ok-bind.ensures.ran.ran.sized;
       stores = c.in-Ok-bind.ensures.done;
       blank = c.in-Ok-bind.ensures.blank;
-      rest = c.in-Ok-bind.ensures.rest;
+      rest = c.in-Ok-bind.ensures.ran.rest;
     })
     (record { serial_is = serial_is; number_is = number_is }) c.in-Ok.ensures.copied c.index-index.ensures.value c.make_statement-statement.ensures.statement runs ready)
 
@@ -37,4 +37,4 @@ pub returns-clause-told : goal.returns-clause-told
 returns-clause-told g c = λ state ready runs serial_is number_is. (
     let held = region_held g.L.Place.place _ state g.met.L.Named.named ready in
     let has = rw c.in-Err-Stopped.field-0-is at (c.in-Err-Stopped.ensures.bound (region_of state g.L.Place.place) held) in
-    signed_cut g.L.Place.place c.args.key c.args.message.now state _ _ has.0 g.met.L.Named.named has.1 c.requires.can_answer.bytes c.in-Err-Stopped.ensures.ran.sized c.in-Err-Stopped.ensures.either ready)
+    signed_cut g.L.Place.place c.args.key c.args.message.now state _ _ has.0 g.met.L.Named.named has.1 c.requires.can_answer.bytes c.in-Err-Stopped.ensures.ran.ran.sized c.in-Err-Stopped.ensures.either ready)

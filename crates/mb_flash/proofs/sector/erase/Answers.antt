@@ -11,9 +11,12 @@ returns-clause-same g c = torn_sector c.args.sector 4096 _ _ c.requires.sector (
 
 pub returns-clause-ran : goal.returns-clause-ran
 returns-clause-ran g c = record {
-  power = c.flash_erase.ensures.power;
-  level = c.flash_erase.ensures.level;
-  sized = sized_still (4096 * c.args.sector) 4096 _ _ c.requires.powered.loaded (omega (arith, c.requires.sector)) c.flash_erase.ensures.torn c.flash_erase.ensures.bbram;
-  ledger = c.flash_erase.ensures.ledger;
-  meter = search rules;
+  ran = record {
+    power = c.flash_erase.ensures.power;
+    level = c.flash_erase.ensures.level;
+    sized = sized_still (4096 * c.args.sector) 4096 _ _ c.requires.powered.loaded (omega (arith, c.requires.sector)) c.flash_erase.ensures.torn c.flash_erase.ensures.bbram;
+    ledger = c.flash_erase.ensures.ledger;
+    meter = search rules;
+  };
+  bbram = c.flash_erase.ensures.bbram;
 }

@@ -11,9 +11,12 @@ returns-clause-same g c = torn_sector c.args.sector (length c.args.bytes.now) _ 
 
 pub returns-clause-ran : goal.returns-clause-ran
 returns-clause-ran g c = record {
-  power = c.flash_program.ensures.power;
-  level = c.flash_program.ensures.level;
-  sized = sized_still (4096 * c.args.sector) (length c.args.bytes.now) _ _ c.requires.powered.loaded (omega (arith, c.requires.sector, c.requires.bytes)) c.flash_program.ensures.torn c.flash_program.ensures.bbram;
-  ledger = c.flash_program.ensures.ledger;
-  meter = search rules;
+  ran = record {
+    power = c.flash_program.ensures.power;
+    level = c.flash_program.ensures.level;
+    sized = sized_still (4096 * c.args.sector) (length c.args.bytes.now) _ _ c.requires.powered.loaded (omega (arith, c.requires.sector, c.requires.bytes)) c.flash_program.ensures.torn c.flash_program.ensures.bbram;
+    ledger = c.flash_program.ensures.ledger;
+    meter = search rules;
+  };
+  bbram = c.flash_program.ensures.bbram;
 }

@@ -34,15 +34,15 @@ returns-in-Err-clause-either g c =
 
 pub returns-in-Ok-store-clause-means : goal.returns-in-Ok-store-clause-means
 returns-in-Ok-store-clause-means g c = λ none state means.
-    means_used g.L.Place.place c.args.key _ _ g.met.L.Named.named c.store.ensures.ran.sized none (returns-in-Ok-store-clause-done g c) state means
+    means_used g.L.Place.place c.args.key _ _ g.met.L.Named.named c.store.ensures.ran.ran.sized none (returns-in-Ok-store-clause-done g c) state means
 
 pub returns-in-Ok-store-clause-means_either : goal.returns-in-Ok-store-clause-means_either
 returns-in-Ok-store-clause-means_either g c = λ none state means.
-    means_kept_or_used g.L.Place.place c.args.key _ _ g.met.L.Named.named c.store.ensures.ran.sized none (returns-in-Ok-store-clause-either g c) state means
+    means_kept_or_used g.L.Place.place c.args.key _ _ g.met.L.Named.named c.store.ensures.ran.ran.sized none (returns-in-Ok-store-clause-either g c) state means
 
 pub returns-in-Err-clause-means_either : goal.returns-in-Err-clause-means_either
 returns-in-Err-clause-means_either g c = λ none state means.
-    means_kept_or_used g.L.Place.place c.args.key _ _ g.met.L.Named.named c.store.ensures.ran.sized none (returns-in-Err-clause-either g c) state means
+    means_kept_or_used g.L.Place.place c.args.key _ _ g.met.L.Named.named c.store.ensures.ran.ran.sized none (returns-in-Err-clause-either g c) state means
 
 pub returns-in-Err-NoKey-clause-means_either : goal.returns-in-Err-NoKey-clause-means_either
 returns-in-Err-NoKey-clause-means_either g c = λ none state means. inl means

@@ -18,6 +18,15 @@ returns-in_err-write_files-clause-carried g c =
     rw (p.1, p.2) (files_not_written (generate_files c.args.names.now) c.args.files c.args.events _ _ (outside c.args.host.now) (outside c.write_files.new.host) c.in_err-write_files.field-0.0
     c.requires.generated c.requires.events (ap (λ l. l.answered) c.in-Ok.ensures.ledger) c.in_err-write_files.ensures.err)
 
+pub serve-device-requires-clause-between : goal.serve-device-requires-clause-between
+serve-device-requires-clause-between g c =
+    let board = c.load.new.self in
+    record {
+      none_out = ap (λ l. l.out) c.in-Ok.ensures.ledger;
+      standing = loaded_holds (g.B.Board.seen board).memory c.args.events (g.B.Board.seen board).ledger (g.B.Board.seen board).power (g.B.Board.seen board).level (g.B.Board.seen board).meter c.in-Ok.ensures.ledger c.load.ensures.power
+          (ap (λ m. m.armed) c.in-Ok.ensures.meter);
+    }
+
 pub serve-device-requires-clause-sound : goal.serve-device-requires-clause-sound
 serve-device-requires-clause-sound g c =
     let board = c.load.new.self in
@@ -37,7 +46,7 @@ summarise-requires-clause-shown g c =
     let shown = loaded_shows (g.B.Board.seen board).memory (g.B.Board.seen board).power (g.B.Board.seen board).level (g.B.Board.seen board).meter c.args.files.image state c.in-Ok.ensures.sized
     (c.in-Ok.ensures.image ∙ c.as_slice.ensures) c.load.ensures.power (ap (λ m. m.armed) c.in-Ok.ensures.meter) held in
     let served = c.serve-device.ensures.served (opening state) (c.start.ensures.started (opening state) shown held.valid) in
-    (served.last, subst (λ h. Shows h served.last) (sym c.serve-device.ensures.standing) served.shown)
+    (served.last, subst (λ h. Shows h served.last) (sym c.serve-device.ensures.between.standing) served.shown)
 
 pub returns-clause-carried : goal.returns-clause-carried
 returns-clause-carried g c =
@@ -50,7 +59,7 @@ returns-clause-carried g c =
     (c.in-Ok.ensures.image ∙ c.as_slice.ensures) c.load.ensures.power (ap (λ m. m.armed) c.in-Ok.ensures.meter) held in
     let sound = c.start.ensures.started (opening state) shown held.valid in
     let served = served_whole c.args.files.image state c.args.events (g.B.Board.seen board).memory (g.B.Board.seen board).ledger (g.B.Board.seen c.serve-device.new.b).ledger _ held c.requires.each c.in-Ok.ensures.ledger
-    c.serve-device.ensures.standing (c.serve-device.ensures.served (opening state) sound) in
+    c.serve-device.ensures.between.standing (c.serve-device.ensures.served (opening state) sound) in
     workload_served (generate_files names) c.args.files c.args.events _ _ (outside c.args.host.now) (outside c.write_files.new.host) (outside c.summarise.new.host) c.summarise.result
     c.requires.generated c.requires.events c.in_ok-write_files.ensures.ok served c.summarise.ensures
 

@@ -3,12 +3,21 @@ use Rattle.mb_model.specs.Machine.{opening}
 use Rattle.mb_model.specs.Commands.{at_first}
 use Rattle.mb_top.specs.Words.{run_files}
 use Rattle.mb_top.proofs.CommandLemmas.{memory_unserved}
-use Rattle.mb_top.proofs.RunLemmas.{loaded_shows, unloaded_holds, served_whole, events_served}
+use Rattle.mb_top.proofs.RunLemmas.{loaded_shows, loaded_holds, unloaded_holds, served_whole, events_served}
 use Rattle.mb_top.proofs.run.run_drawn.Goals as goal
 
 pub returns-in-Err-clause-carried : goal.returns-in-Err-clause-carried
 returns-in-Err-clause-carried g c = λ state held.
     memory_unserved _ _ at_first _ _ (g.H.Host.outside c.args.host.now) refl (ap (λ l. l.answered) c.in-Err.ensures.err_ledger ∙ c.requires.none_answered)
+
+pub serve-device-requires-clause-between : goal.serve-device-requires-clause-between
+serve-device-requires-clause-between g c =
+    let board = c.load.new.self in
+    record {
+      none_out = ap (λ l. l.out) c.in-Ok.ensures.ledger;
+      standing = loaded_holds (g.B.Board.seen board).memory c.args.events (g.B.Board.seen board).ledger (g.B.Board.seen board).power (g.B.Board.seen board).level (g.B.Board.seen board).meter c.in-Ok.ensures.ledger c.load.ensures.power
+          (ap (λ m. m.armed) c.in-Ok.ensures.meter);
+    }
 
 pub serve-device-requires-clause-sound : goal.serve-device-requires-clause-sound
 serve-device-requires-clause-sound g c =
@@ -27,7 +36,7 @@ returns-clause-carried g c = λ state held.
     (c.in-Ok.ensures.image ∙ c.deref.ensures.value) c.load.ensures.power (ap (λ m. m.armed) c.in-Ok.ensures.meter) held in
     let sound = c.start.ensures.started (opening state) shown held.valid in
     let served = served_whole c.args.image.items state c.args.events (g.B.Board.seen board).memory (g.B.Board.seen board).ledger (g.B.Board.seen c.serve-device.new.b).ledger _ held c.requires.events c.in-Ok.ensures.ledger
-    c.serve-device.ensures.standing (c.serve-device.ensures.served (opening state) sound) in
+    c.serve-device.ensures.between.standing (c.serve-device.ensures.served (opening state) sound) in
     events_served (run_files c.args.names.now) state c.args.events _ _ (outside c.args.host.now) (outside c.write_image.new.host) c.write_image.result served c.write_image.ensures
 
 pub returns-in-Err-clause-stays : goal.returns-in-Err-clause-stays

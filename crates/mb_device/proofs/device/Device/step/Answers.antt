@@ -16,7 +16,7 @@ returns-in-Off-clause-steps g c = λ before world sound same.
     subst (λ (e : Event). Steps world e reply.Off c.power_off.result (held_by (g.B.Board.seen c.power_off.new.b).memory (g.B.Board.seen c.power_off.new.b).power (g.B.Board.seen c.power_off.new.b).level (g.B.Board.seen c.power_off.new.b).meter)) (sym c.in-Off.is)
     (goes_off c.args.self c.power_off.result before (held_by (g.B.Board.seen c.power_off.new.b).memory (g.B.Board.seen c.power_off.new.b).power (g.B.Board.seen c.power_off.new.b).level (g.B.Board.seen c.power_off.new.b).meter) world sound c.power_off.ensures.device
     (off_same (g.B.Board.seen c.args.b.now).memory (g.B.Board.seen c.power_off.new.b).memory (g.B.Board.seen c.args.b.now).power (g.B.Board.seen c.power_off.new.b).power (g.B.Board.seen c.args.b.now).level (g.B.Board.seen c.power_off.new.b).level (g.B.Board.seen c.args.b.now).meter (g.B.Board.seen c.power_off.new.b).meter
-    (taken event.Off before) at refl c.power_off.ensures.memory c.power_off.ensures.power c.power_off.ensures.meter))
+    (taken event.Off before) at refl c.power_off.ensures.switched.memory c.power_off.ensures.power c.power_off.ensures.switched.meter))
 
 pub returns-in-Tamper-clause-steps : goal.returns-in-Tamper-clause-steps
 returns-in-Tamper-clause-steps g c = λ before world sound same.
@@ -24,7 +24,7 @@ returns-in-Tamper-clause-steps g c = λ before world sound same.
     subst (λ (e : Event). Steps world e reply.Tampered c.power_off-in-Tamper.result (held_by (g.B.Board.seen c.power_off-in-Tamper.new.b).memory (g.B.Board.seen c.power_off-in-Tamper.new.b).power (g.B.Board.seen c.power_off-in-Tamper.new.b).level (g.B.Board.seen c.power_off-in-Tamper.new.b).meter)) (sym c.in-Tamper.is)
     (is_tampered c.args.self c.power_off-in-Tamper.result before (held_by (g.B.Board.seen c.power_off-in-Tamper.new.b).memory (g.B.Board.seen c.power_off-in-Tamper.new.b).power (g.B.Board.seen c.power_off-in-Tamper.new.b).level (g.B.Board.seen c.power_off-in-Tamper.new.b).meter) world sound c.power_off-in-Tamper.ensures.device
     (off_same (g.B.Board.seen c.args.b.now).memory (g.B.Board.seen c.power_off-in-Tamper.new.b).memory (g.B.Board.seen c.args.b.now).power (g.B.Board.seen c.power_off-in-Tamper.new.b).power (g.B.Board.seen c.args.b.now).level (g.B.Board.seen c.power_off-in-Tamper.new.b).level (g.B.Board.seen c.args.b.now).meter (g.B.Board.seen c.power_off-in-Tamper.new.b).meter
-    (taken event.Tamper before) at refl c.power_off-in-Tamper.ensures.memory c.power_off-in-Tamper.ensures.power c.power_off-in-Tamper.ensures.meter))
+    (taken event.Tamper before) at refl c.power_off-in-Tamper.ensures.switched.memory c.power_off-in-Tamper.ensures.power c.power_off-in-Tamper.ensures.switched.meter))
 
 pub returns-in-Cut-clause-steps : goal.returns-in-Cut-clause-steps
 returns-in-Cut-clause-steps g c = λ before world sound same.
@@ -38,8 +38,8 @@ returns-in-Status-clause-steps g c = λ before world sound same.
     subst (λ (e : Event). Steps world e c.status-reply.result c.args.self (held_by (g.B.Board.seen c.args.b.now).memory (g.B.Board.seen c.args.b.now).power (g.B.Board.seen c.args.b.now).level (g.B.Board.seen c.args.b.now).meter)) (sym c.in-Status.is)
     (stays c.args.self c.args.self (held_by (g.B.Board.seen c.args.b.now).memory (g.B.Board.seen c.args.b.now).power (g.B.Board.seen c.args.b.now).level (g.B.Board.seen c.args.b.now).meter) world event.Status c.status-reply.result (c.status-reply.ensures.told world sound.fits sound.valid) own own.fits)
 
-pub returns-in-Status-clause-meter : goal.returns-in-Status-clause-meter
-returns-in-Status-clause-meter g c = unmetered 35 c.status-reply.result _ _ c.status-reply.ensures.goes_on refl
+pub returns-in-Status-clause-events : goal.returns-in-Status-clause-events
+returns-in-Status-clause-events g c = record { ledger = refl; meter = unmetered 35 c.status-reply.result _ _ c.status-reply.ensures.goes_on refl }
 
-pub returns-in-Go-clause-meter : goal.returns-in-Go-clause-meter
-returns-in-Go-clause-meter g c = unmetered 35 c.go.result.1 _ _ c.go.ensures.goes_on c.go.ensures.meter
+pub returns-in-Go-clause-events : goal.returns-in-Go-clause-events
+returns-in-Go-clause-events g c = record { ledger = c.go.ensures.switched.ledger; meter = unmetered 35 c.go.result.1 _ _ c.go.ensures.goes_on c.go.ensures.switched.meter }
