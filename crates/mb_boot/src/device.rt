@@ -1,6 +1,6 @@
 //! Booting a device, and finishing an order.
 
-ghost use Rattle.std.specs.Prelude.{◌≡◌, ◌+◌, ◌≤◌, ◌==◌, OnOk, Option, true, false};
+ghost use Rattle.std.specs.Prelude.{◌≡◌, ◌+◌, ◌≤◌, ◌==◌, OnOk, Option, true, false, ◌*◌};
 ghost use Rattle.std.specs.Option.{is_none};
 ghost use Rattle.mb_model.specs.declared.state.State.{State};
 ghost use Rattle.mb_model.specs.Memory.{life_byte, other};
@@ -10,6 +10,7 @@ ghost use Rattle.mb_model_memory.specs.FlashInForce.{SparesSectors};
 ghost use Rattle.mb_model_memory.specs.Holding.{KeepsContents, KeepsMeaning};
 ghost use Rattle.mb_boot.specs.Settling.{IsLive};
 ghost use Rattle.mb_boot.specs.Booting.{IsFoundAs, Rests, IsWiped, Cleans, IsQuiet, StandsForValid, KeepsState, IfUnwritten, stop_of, power_at, HasLevel, is_zeroised};
+ghost use Rattle.mb_lms.specs.declared.hash_count.TheConstants.{SIGNING_HASHES};
 
 use crate::work::settle;
 use mb_area::{LookEnd, Looked, Unsettled, look, wipe_root};
@@ -57,7 +58,7 @@ fn settle_and_wipe<B: Board, L: Ledger>(
     ensures meaning { KeepsMeaning (B.seen b.old).memory (B.seen b.new).memory }
     ensures spared { SparesSectors (B.seen b.old).memory (B.seen b.new).memory }
     ensures ran { Ran 13 result (B.seen b.old) (B.seen b.new) }
-    ensures cost { hashes.new ≤ hashes.old + 70946 }
+    ensures cost { hashes.new ≤ hashes.old + 2 * SIGNING_HASHES }
 {
     let w = settle(u, b, room, hashes)?;
     let up = wipe_root(w, b)?;
@@ -81,7 +82,7 @@ fn bring_to_rest<B: Board, L: Ledger>(
     ensures quiet { IsQuiet (B.seen b.old).memory (B.seen b.new).memory (B.seen b.old).meter
         (B.seen b.new).meter }
     ensures ran { Ran 13 result (B.seen b.old) (B.seen b.new) }
-    ensures cost { hashes.new ≤ hashes.old + 70946 }
+    ensures cost { hashes.new ≤ hashes.old + 2 * SIGNING_HASHES }
 {
     match looked {
         Looked::Settled(up) => Ok(up),
@@ -123,7 +124,7 @@ fn come_up<B: Board, L: Ledger>(
     ensures quiet { IsQuiet (B.seen b.old).memory (B.seen b.new).memory (B.seen b.old).meter
         (B.seen b.new).meter }
     ensures ran { Ran 15 result (B.seen b.old) (B.seen b.new) }
-    ensures cost { hashes.new ≤ hashes.old + 70946 }
+    ensures cost { hashes.new ≤ hashes.old + 2 * SIGNING_HASHES }
 {
     let looked = match look(up, b, room) {
         Ok(looked) => looked,
@@ -150,7 +151,7 @@ pub fn finish_order<B: Board, L: Ledger>(
     ensures meaning { KeepsMeaning (B.seen b.old).memory (B.seen b.new).memory }
     ensures spared { SparesSectors (B.seen b.old).memory (B.seen b.new).memory }
     ensures ran { Ran 15 result (B.seen b.old) (B.seen b.new) }
-    ensures cost { hashes.new ≤ hashes.old + 70946 }
+    ensures cost { hashes.new ≤ hashes.old + 2 * SIGNING_HASHES }
 {
     let up = settle_and_wipe(u, b, room, hashes)?;
     let up = wipe_regions(up, b)?;
@@ -214,7 +215,7 @@ pub fn boot<B: Board, L: Ledger>(
     ensures power { (B.seen b.new).power ≡ power_at result }
     ensures level { HasLevel result (B.seen b.new).level }
     ensures events { KeepsEvents 15 (stop_of result) (B.seen b.old) (B.seen b.new) }
-    ensures cost { hashes.new ≤ hashes.old + 70946 }
+    ensures cost { hashes.new ≤ hashes.old + 2 * SIGNING_HASHES }
 {
     let zero = wake(off, b);
     if is_dead(b) {

@@ -14,6 +14,7 @@ ghost use Rattle.mb_model_memory.specs.NextHeaders.{header_settled};
 ghost use Rattle.mb_segments.specs.Uncopied.{header_of};
 ghost use Rattle.mb_area.specs.Flashes.{IsPlan};
 ghost use Rattle.mb_boot.specs.Completions.{BeginsWithHeader, signer_of, text_at_place, count_of, unsigned_count, IsSignedSector, SignsTextAt};
+ghost use Rattle.mb_lms.specs.declared.hash_count.TheConstants.{SIGNING_HASHES};
 
 use mb_layout::Room;
 use mb_lms::HashCount;
@@ -154,7 +155,7 @@ fn sign_entry<L: Ledger>(
 )
     requires { index ≤ LAST_INDEX }
     ensures signature { signature.new ≡ signature_of key.now index (ENTRY_TEXT ∷ entry.now) }
-    ensures cost { hashes.new ≤ hashes.old + 35473 }
+    ensures cost { hashes.new ≤ hashes.old + SIGNING_HASHES }
 {
     let mut uses = Uses::stored(index);
     let Some(right) = take_index(&mut uses) else {
@@ -170,7 +171,7 @@ fn sign_text<L: Ledger>(signer: &Signer, text: &[u8], log: &mut Vec<u8>, hashes:
     requires room { SECTOR_LENGTH ≤ vec_capacity log.old }
     ensures signed { IsSignedSector signer.now text.now log.new.items }
     ensures room { SECTOR_LENGTH ≤ vec_capacity log.new }
-    ensures cost { hashes.new ≤ hashes.old + 35473 }
+    ensures cost { hashes.new ≤ hashes.old + SIGNING_HASHES }
 {
     let mut signature = [0; SIGNATURE_LENGTH];
     sign_entry(&signer.key, signer.index, text, &mut signature, hashes);
@@ -193,7 +194,7 @@ pub(crate) fn sign_next<L: Ledger>(
     requires header { BeginsWithHeader room.old.header.items }
     ensures signed { SignsTextAt root.now place room.old.header.items result room.new.log.items }
     ensures header { room.new.header ≡ room.old.header }
-    ensures cost { hashes.new ≤ hashes.old + 35473 }
+    ensures cost { hashes.new ≤ hashes.old + SIGNING_HASHES }
 {
     let header = held_header(room.header.as_slice());
     let Some(text) = text_in(header, place) else {

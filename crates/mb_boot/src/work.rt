@@ -1,12 +1,13 @@
 //! The pending work of an order.
 
-ghost use Rattle.std.specs.Prelude.{◌≡◌, ◌≤◌, ◌+◌, OnOk};
+ghost use Rattle.std.specs.Prelude.{◌≡◌, ◌≤◌, ◌+◌, OnOk, ◌*◌};
 ghost use Rattle.mb_model.specs.Flash.{sector};
 ghost use Rattle.mb_model.specs.Sectors.{header_sector};
 ghost use Rattle.mb_board.specs.Calls.{IsUp, Ran, RanOnBbram, RanOnFlash};
 ghost use Rattle.mb_model_memory.specs.FlashInForce.{AgreeForArea, SparesSectors};
 ghost use Rattle.mb_model_memory.specs.Holding.{KeepsContents, KeepsMeaning};
 ghost use Rattle.mb_boot.specs.Settling.{IsLive, IsOnlyRoot, AppliesBoth, AddsToLog, CompletesLog, CountsLog, SignsRecord, Settles};
+ghost use Rattle.mb_lms.specs.declared.hash_count.TheConstants.{SIGNING_HASHES};
 
 use crate::pending::{settle_header, sign_next};
 use mb_area::{Unsettled, Unwiped, finish_root, read_header, read_root, write_log, write_public};
@@ -61,7 +62,7 @@ fn write_entry<B: Board, L: Ledger>(
     ensures added { OnOk result (AddsToLog place (B.seen b.old).memory (B.seen b.new).memory) }
     ensures header { room.new.header ≡ room.old.header }
     ensures ran { RanOnFlash 2 result (B.seen b.old) (B.seen b.new) }
-    ensures cost { hashes.new ≤ hashes.old + 35473 }
+    ensures cost { hashes.new ≤ hashes.old + SIGNING_HASHES }
 {
     let Some(position) = sign_next(root, place, room, hashes) else {
         return Ok(u);
@@ -89,7 +90,7 @@ fn write_entries<B: Board, L: Ledger>(
     ensures header { room.new.header.items
         ≡ sector (B.seen b.new).memory.flash (header_sector root.now.area) }
     ensures ran { RanOnFlash 4 result (B.seen b.old) (B.seen b.new) }
-    ensures cost { hashes.new ≤ hashes.old + 70946 }
+    ensures cost { hashes.new ≤ hashes.old + 2 * SIGNING_HASHES }
 {
     read_header(b, root.area, room);
     let u = write_entry(u, b, root, 0, room, hashes)?;
@@ -138,7 +139,7 @@ fn write_signed<B: Board, L: Ledger>(
         root.now.area }
     ensures signed { OnOk result (SignsRecord (B.seen b.old).memory (B.seen b.new).memory) }
     ensures ran { RanOnFlash 6 result (B.seen b.old) (B.seen b.new) }
-    ensures cost { hashes.new ≤ hashes.old + 70946 }
+    ensures cost { hashes.new ≤ hashes.old + 2 * SIGNING_HASHES }
 {
     let u = write_entries(u, b, root, room, hashes)?;
     let u = write_settled(u, b, root, room)?;
@@ -161,7 +162,7 @@ pub fn settle<B: Board, L: Ledger>(
     ensures meaning { KeepsMeaning (B.seen b.old).memory (B.seen b.new).memory }
     ensures spared { SparesSectors (B.seen b.old).memory (B.seen b.new).memory }
     ensures ran { Ran 12 result (B.seen b.old) (B.seen b.new) }
-    ensures cost { hashes.new ≤ hashes.old + 70946 }
+    ensures cost { hashes.new ≤ hashes.old + 2 * SIGNING_HASHES }
 {
     let root = read_root(b, room);
     let u = apply_fates(u, b, &root, room)?;

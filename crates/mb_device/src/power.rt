@@ -1,12 +1,13 @@
 //! How a device boots, and how its power goes.
 
-ghost use Rattle.std.specs.Prelude.{◌≡◌, ◌+◌, ◌≤◌, false};
+ghost use Rattle.std.specs.Prelude.{◌≡◌, ◌+◌, ◌≤◌, false, ◌*◌};
 ghost use Rattle.mb_model.specs.declared.event.Event.TheVariants as event;
 ghost use Rattle.mb_board.specs.Calls.{held_in, KeepsEvents, IsSwitched};
 ghost use Rattle.mb_model_memory.specs.FlashInForce.{SparesSectors};
 ghost use Rattle.mb_boot.specs.Booting.{IsQuiet};
 ghost use Rattle.mb_device.specs.Sound.{HasSound, StepsFrom};
 ghost use Rattle.mb_device.specs.Stepping.{stop_told, IfNothingTold, IsOff};
+ghost use Rattle.mb_lms.specs.declared.hash_count.TheConstants.{SIGNING_HASHES};
 
 use crate::device::{Device, Running};
 use mb_board::Board;
@@ -34,7 +35,7 @@ fn come_up<B: Board, L: Ledger>(
         (B.seen b.old).meter (B.seen b.new).meter }
     ensures spared { SparesSectors (B.seen b.old).memory (B.seen b.new).memory }
     ensures events { KeepsEvents 15 (stop_told result.1) (B.seen b.old) (B.seen b.new) }
-    ensures cost { hashes.new ≤ hashes.old + 70946 }
+    ensures cost { hashes.new ≤ hashes.old + 2 * SIGNING_HASHES }
 {
     match boot(alloc, off, b, hashes) {
         Ok((up, room)) => {
@@ -65,7 +66,7 @@ impl Device {
             (B.seen b.old).meter (B.seen b.new).meter }
         ensures spared { SparesSectors (B.seen b.old).memory (B.seen b.new).memory }
         ensures events { KeepsEvents 15 (stop_told result.1) (B.seen b.old) (B.seen b.new) }
-        ensures cost { hashes.new ≤ hashes.old + 70946 }
+        ensures cost { hashes.new ≤ hashes.old + 2 * SIGNING_HASHES }
     {
         match self {
             Device::Off(off) => come_up(alloc, off, b, hashes),

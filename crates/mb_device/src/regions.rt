@@ -13,6 +13,7 @@ ghost use Rattle.mb_device_orders.specs.Remembering.{Knows, IsRemembered};
 ghost use Rattle.mb_device.specs.Sound.{HasSound, StepsFrom};
 ghost use Rattle.mb_device.specs.Stepping.{stop_told, IfNothingTold};
 ghost use Rattle.mb_device.specs.Regions.{IsLayerEvent, region_named, layer_outcome};
+ghost use Rattle.mb_lms.specs.declared.hash_count.TheConstants.{SIGNING_HASHES};
 
 use crate::device::{Device, Running};
 use crate::runs::Runs;
@@ -47,7 +48,7 @@ fn ask<S: Reaches<L>, L: Named, B: Board, C: Ledger>(
         (B.seen b.old).meter (B.seen b.new).meter }
     ensures known { running.new.known ≡ running.old.known }
     ensures ran { RanOnBbram 3 result (B.seen b.old) (B.seen b.new) }
-    ensures cost { hashes.new ≤ hashes.old + 35473 }
+    ensures cost { hashes.new ≤ hashes.old + SIGNING_HASHES }
 {
     let number = running.known.figures.number;
     let serial = running.known.serial;
@@ -89,7 +90,7 @@ fn use_at<S: Reaches<L> + Runs, L: Named, B: Board, C: Ledger>(
         (B.seen b.old).meter (B.seen b.new).meter }
     ensures flash { (B.seen b.new).memory.flash ≡ (B.seen b.old).memory.flash }
     ensures events { KeepsEvents 3 (stop_told result.1) (B.seen b.old) (B.seen b.new) }
-    ensures cost { hashes.new ≤ hashes.old + 35473 }
+    ensures cost { hashes.new ≤ hashes.old + SIGNING_HASHES }
 {
     let mut running = running;
     if !running.may_run(L::number() as u8) {
@@ -122,7 +123,7 @@ impl Device {
             (B.seen b.old).meter (B.seen b.new).meter }
         ensures flash { (B.seen b.new).memory.flash ≡ (B.seen b.old).memory.flash }
         ensures events { KeepsEvents 3 (stop_told result.1) (B.seen b.old) (B.seen b.new) }
-        ensures cost { hashes.new ≤ hashes.old + 35473 }
+        ensures cost { hashes.new ≤ hashes.old + SIGNING_HASHES }
     {
         match self {
             Device::Off(off) => (Device::Off(off), Refusal::PoweredOff.reply()),

@@ -1,6 +1,6 @@
 //! The commit of an order.
 
-ghost use Rattle.std.specs.Prelude.{◌≡◌, ℕ, ◌≤◌, ◌+◌, ◌⊎◌, List, OnOk};
+ghost use Rattle.std.specs.Prelude.{◌≡◌, ℕ, ◌≤◌, ◌+◌, ◌⊎◌, List, OnOk, ◌*◌};
 ghost use Rattle.mb_model.specs.declared.order.Order.{Order};
 ghost use Rattle.mb_model.specs.declared.state.State.{State};
 ghost use Rattle.mb_model.specs.OrderEffects.{obeyed};
@@ -8,6 +8,7 @@ ghost use Rattle.mb_board.specs.Calls.{IsUp, Ran};
 ghost use Rattle.mb_model_memory.specs.FlashInForce.{SparesSectors};
 ghost use Rattle.mb_model_memory.specs.Holding.{Means, IsReady};
 ghost use Rattle.mb_device_orders.specs.Planning.{IsCommit, HasCommit};
+ghost use Rattle.mb_lms.specs.declared.hash_count.TheConstants.{SIGNING_HASHES};
 
 use mb_area::{commit_root, write_public};
 use mb_board::Board;
@@ -41,7 +42,7 @@ pub fn commit<B: Board, L: Ledger>(
         ⊎ Means (B.seen b.new).memory (obeyed state order draw) }
     ensures spared { SparesSectors (B.seen b.old).memory (B.seen b.new).memory }
     ensures ran { Ran 35 result (B.seen b.old) (B.seen b.new) }
-    ensures cost { hashes.new ≤ hashes.old + 70946 }
+    ensures cost { hashes.new ≤ hashes.old + 2 * SIGNING_HASHES }
 {
     let up = write_public(up, b, room)?;
     let unsettled = commit_root(up, b, root, room)?;

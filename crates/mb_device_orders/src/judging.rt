@@ -1,6 +1,6 @@
 //! How the bytes of an order are read and judged.
 
-ghost use Rattle.std.specs.Prelude.{◌≡◌, ◌≤◌, ◌+◌, IfOk};
+ghost use Rattle.std.specs.Prelude.{◌≡◌, ◌≤◌, ◌+◌, IfOk, ◌*◌};
 ghost use Rattle.mb_format.specs.Format.{IsBytes};
 ghost use Rattle.mb_model.specs.declared.state.State.{State};
 ghost use Rattle.mb_model.specs.OrderChecks.{view_of};
@@ -11,6 +11,7 @@ ghost use Rattle.mb_model_memory.specs.Holding.{IsReady};
 ghost use Rattle.mb_boot.specs.Settling.{IsOnlyRoot};
 ghost use Rattle.mb_device_orders.specs.Remembering.{Knows, IsRemembered};
 ghost use Rattle.mb_device_orders.specs.Planning.{reply_for, ReadsText, JudgesText};
+ghost use Rattle.mb_lms.specs.declared.hash_count.TheConstants.{TREE_HASHES};
 
 use crate::remembering::Known;
 use mb_area::read_root;
@@ -100,7 +101,7 @@ pub fn judge_text<B: Board, L: Ledger>(
     ensures judged { (state : State) → IsReady (B.seen b.now).memory state → Knows known.now state
         → JudgesText state text.now draw.now result }
     ensures root { IfOk result (λ judged. IsOnlyRoot (B.seen b.now).memory.bbram judged.root) }
-    ensures cost { hashes.new ≤ hashes.old + 68798 }
+    ensures cost { hashes.new ≤ hashes.old + 2 * TREE_HASHES }
 {
     let order = read_text(alloc, text)?;
     let root = read_root(b, room);

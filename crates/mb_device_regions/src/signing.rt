@@ -12,6 +12,7 @@ ghost use Rattle.mb_model_memory.specs.Holding.{IsReady};
 ghost use Rattle.mb_model_memory.specs.Answering.{ComesTo, TellsOfWrites};
 ghost use Rattle.mb_device_regions.specs.Uses.{CanAnswer};
 ghost use Rattle.mb_device_regions.specs.Statements.{IsPreparedMessage, signed_statement_bytes};
+ghost use Rattle.mb_lms.specs.declared.hash_count.TheConstants.{SIGNING_HASHES};
 
 use mb_board::Board;
 use mb_cert::{Statement, write_statement};
@@ -61,7 +62,7 @@ fn make_statement<Lg: Ledger>(
     requires prepared { IsPreparedMessage prepared.message prepared }
     ensures statement { result ≡ signed_statement_bytes seed.now right key serial.now number
         prepared.message }
-    ensures cost { hashes.new ≤ hashes.old + 35473 }
+    ensures cost { hashes.new ≤ hashes.old + SIGNING_HASHES }
 {
     let mut signature = [0; SIGNATURE_LENGTH];
     let Prepared { message, mut bytes } = prepared;
@@ -112,7 +113,7 @@ pub fn sign_message<S: Reaches<L>, L: Named, B: Board, Lg: Ledger>(
         (B.seen b.old).meter (B.seen b.new).meter }
     ensures ran { RanOnBbram 3 result (B.seen b.old) (B.seen b.new) }
     ensures plans { SamePlans room.old room.new }
-    ensures cost { hashes.new ≤ hashes.old + 35473 }
+    ensures cost { hashes.new ≤ hashes.old + SIGNING_HASHES }
 {
     let prepared = match prepare(alloc, message) {
         Ok(prepared) => prepared,

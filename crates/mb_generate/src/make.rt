@@ -9,6 +9,7 @@ ghost use Rattle.mb_model.specs.Workload.{IsWorkload};
 ghost use Rattle.mb_generate.specs.Drawing.{draws_of};
 ghost use Rattle.mb_generate.specs.Orders.{AreOfficers};
 ghost use Rattle.mb_generate.specs.Serving.{CanBeServed};
+ghost use Rattle.mb_lms.specs.declared.hash_count.TheConstants.{SIGNING_HASHES, TREE_HASHES};
 
 use crate::draws::{Drawn, draw_all};
 use crate::officers::Officers;
@@ -34,7 +35,7 @@ pub fn workload<L: Ledger>(
     requires most { rounds ≤ 24 }
     ensures made { IfOk result (IsWorkload number rounds) }
     ensures served { IfOk result CanBeServed }
-    ensures cost { hashes.new ≤ hashes.old + 350434 + 106419 * rounds }
+    ensures cost { hashes.new ≤ hashes.old + 4 * TREE_HASHES + 6 * SIGNING_HASHES + 3 * SIGNING_HASHES * rounds }
 {
     let drawn = draw_all(alloc, number, rounds)?;
     let mut officers = officers_of(&drawn);
@@ -67,7 +68,7 @@ fn image_of<L: Ledger>(
 ) -> Result<Vec<u8>, NoMemory>
     requires { length drawn.now.code_one ≤ CODE_LIMIT }
     ensures image { IfOk result (λ image. IsFactoryImage (officer_key drawn.now.root) 0 (public_of officer.now.seed) drawn.now.code_one drawn.now.factory image.items) }
-    ensures cost { hashes.new ≤ hashes.old + 104271 }
+    ensures cost { hashes.new ≤ hashes.old + 2 * TREE_HASHES + SIGNING_HASHES }
 {
     let mut maker = make_key(&drawn.root);
     let owner = public(&officer.seed, hashes);

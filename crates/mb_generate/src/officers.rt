@@ -1,6 +1,6 @@
 //! The officers of a workload, and the orders that they sign.
 
-ghost use Rattle.std.specs.Prelude.{◌≡◌, ◌+◌, ◌-◌, ◌<◌, ◌≤◌, ◌∷◌, [], length, IsTrue, IfOk, OnOk};
+ghost use Rattle.std.specs.Prelude.{◌≡◌, ◌+◌, ◌-◌, ◌<◌, ◌≤◌, ◌∷◌, [], length, IsTrue, IfOk, OnOk, ◌*◌};
 ghost use Rattle.mb_model.specs.declared.limits.TheConstants.{CODE_LIMIT, KEY_USES};
 ghost use Rattle.mb_model.specs.declared.key.Trust.TheVariants.{Countersigned};
 ghost use Rattle.mb_model.specs.Layers.{equal_trusts};
@@ -10,6 +10,7 @@ ghost use Rattle.mb_model.specs.OrderFormat.{order_format};
 ghost use Rattle.mb_model.specs.SignedOrders.{used_once, signed_order, countersigned_order, IsCountersignable};
 ghost use Rattle.mb_model.specs.Workload.{plan, plan_payload, round_plan};
 ghost use Rattle.mb_generate.specs.Orders.{HaveUsed, layers_above, targeted, CanBeOrdered, SignsPlan};
+ghost use Rattle.mb_lms.specs.declared.hash_count.TheConstants.{SIGNING_HASHES};
 
 use mb_lms::HashCount;
 use mb_model::{
@@ -42,7 +43,7 @@ pub(crate) fn round_order<L: Ledger>(
     ensures signs { SignsPlan (5 + round) (round_plan round code.now) officers.old result officers.new }
     ensures spelled { IfOk result order_format.Allowed }
     ensures used { OnOk result (HaveUsed (6 + round) officers.new) }
-    ensures cost { hashes.new ≤ hashes.old + 106419 }
+    ensures cost { hashes.new ≤ hashes.old + 3 * SIGNING_HASHES }
 {
     let load = load_of(alloc, 1 + round, code)?;
     match round % 3 {
@@ -79,7 +80,7 @@ fn load_layer<L: Ledger>(
     ensures signs { SignsPlan count (plan layer (act.Load load) (layers_above layer)) officers.old result officers.new }
     ensures spelled { IfOk result order_format.Allowed }
     ensures used { OnOk result (HaveUsed (count + 1) officers.new) }
-    ensures cost { hashes.new ≤ hashes.old + 106419 }
+    ensures cost { hashes.new ≤ hashes.old + 3 * SIGNING_HASHES }
 {
     let mut order = targeted(alloc, layer, count, Act::Load(load))?;
     match layer {
@@ -130,7 +131,7 @@ pub(crate) fn sign<L: Ledger>(
     ensures signed { OnOk result (order.new ≡ signed_order officer.old order.old) }
     ensures used { OnOk result (officer.new ≡ used_once officer.old) }
     ensures spelled { OnOk result (order_format.Allowed order.new) }
-    ensures cost { hashes.new ≤ hashes.old + 35473 }
+    ensures cost { hashes.new ≤ hashes.old + SIGNING_HASHES }
 {
     match sign_order(alloc, officer, order, hashes) {
         Ok(_) => Ok(()),
@@ -155,7 +156,7 @@ fn agree<L: Ledger>(
     ensures signed { OnOk result (order.new ≡ countersigned_order officer.old layer order.old) }
     ensures used { OnOk result (officer.new ≡ used_once officer.old) }
     ensures spelled { OnOk result (order_format.Allowed order.new) }
-    ensures cost { hashes.new ≤ hashes.old + 35473 }
+    ensures cost { hashes.new ≤ hashes.old + SIGNING_HASHES }
 {
     match countersign(alloc, officer, layer, order, hashes) {
         Ok(_) => Ok(()),

@@ -15,6 +15,7 @@ ghost use Rattle.mb_model.specs.Workload.{first_plans, put_line, workload_lines}
 ghost use Rattle.mb_generate.specs.Drawing.{round_of, draws_of};
 ghost use Rattle.mb_generate.specs.Orders.{AreOfficers, HaveUsed, DrawsFit};
 ghost use Rattle.mb_generate.specs.Scripts.{puts_text, first_orders_text, sign_line, AppendsRound, SignsRound};
+ghost use Rattle.mb_lms.specs.declared.hash_count.TheConstants.{SIGNING_HASHES, TREE_HASHES};
 
 use crate::draws::{Drawn, RoundDrawn};
 use crate::officers::{Officers, load_of, round_order, sign, targeted};
@@ -37,7 +38,7 @@ pub(crate) fn script_of<L: Ledger>(
     requires fit { DrawsFit (draws_of drawn.now) }
     requires officers { AreOfficers (draws_of drawn.now) [] officers.old }
     ensures text { IfOk result (λ script. script.items ≡ text_of (workload_lines (draws_of drawn.now))) }
-    ensures cost { hashes.new ≤ hashes.old + 246163 + 106419 * length drawn.now.rounds }
+    ensures cost { hashes.new ≤ hashes.old + 2 * TREE_HASHES + 5 * SIGNING_HASHES + 3 * SIGNING_HASHES * length drawn.now.rounds }
 {
     let mut script = Vec::new(alloc);
     script.extend_from_slice(b"boot\n")?;
@@ -64,7 +65,7 @@ fn put_first_orders<L: Ledger>(
     ensures text { OnOk result (script.new.items ≡ script.old.items ++ first_orders_text (draws_of drawn.now)) }
     ensures officers { OnOk result (AreOfficers (draws_of drawn.now) (first_plans (draws_of drawn.now)) officers.new) }
     ensures used { OnOk result (HaveUsed 6 officers.new) }
-    ensures cost { hashes.new ≤ hashes.old + 246163 }
+    ensures cost { hashes.new ≤ hashes.old + 2 * TREE_HASHES + 5 * SIGNING_HASHES }
 {
     let two = establish_of(&officers.two, hashes);
     let three = establish_of(&officers.three, hashes);
@@ -103,7 +104,7 @@ fn put_first_orders<L: Ledger>(
 /// The act by which this officer becomes the owner of a layer, which trusts countersigned changes.
 fn establish_of<L: Ledger>(officer: &Keyfile, hashes: &mut HashCount<L>) -> Act
     ensures act { result ≡ act.Establish (public_of officer.now.seed) (equal_trusts Countersigned) }
-    ensures cost { hashes.new ≡ hashes.old + 34399 }
+    ensures cost { hashes.new ≡ hashes.old + TREE_HASHES }
 {
     Act::Establish {
         owner: public(&officer.seed, hashes),
@@ -123,7 +124,7 @@ fn put_order<L: Ledger>(
     requires spelled { order_format.Allowed order }
     ensures text { OnOk result (script.new.items ≡ script.old.items ++ ended (order_line (signed_order officer.old order))) }
     ensures used { OnOk result (officer.new ≡ used_once officer.old) }
-    ensures cost { hashes.new ≤ hashes.old + 35473 }
+    ensures cost { hashes.new ≤ hashes.old + SIGNING_HASHES }
 {
     let mut order = order;
     sign(alloc, officer, &mut order, hashes)?;
@@ -149,7 +150,7 @@ fn put_round<L: Ledger>(
     ensures text { OnOk result (AppendsRound number (round_of round.now) officers.old script.old.items script.new.items) }
     ensures officers { OnOk result (SignsRound number (round_of round.now) officers.old officers.new) }
     ensures used { OnOk result (HaveUsed (6 + number) officers.new) }
-    ensures cost { hashes.new ≤ hashes.old + 106419 }
+    ensures cost { hashes.new ≤ hashes.old + 3 * SIGNING_HASHES }
 {
     let order = round_order(alloc, number, round.code.as_slice(), officers, hashes)?;
     let line = write_order_line(alloc, &order)?;

@@ -7,6 +7,7 @@ ghost use Rattle.mb_model.specs.Key.{key_bytes};
 ghost use Rattle.mb_model.specs.Signing.{public_of, signature_of};
 ghost use Rattle.mb_signer.specs.Tree.{IsTreeOf};
 ghost use Rattle.mb_hss.specs.MakerKeys.{level_key, prefix_at, index_at, key_at};
+ghost use Rattle.mb_lms.specs.declared.hash_count.TheConstants.{LEAF_HASHES, TREE_HASHES};
 
 use crate::maker::Maker;
 use mb_bytes::put_at;
@@ -76,7 +77,7 @@ impl Level {
         requires most { maker.now.levels ≤ 8 }
         ensures seed { result.seed ≡ key_at maker.now number level }
         ensures index { result.index ≡ index_at maker.now.levels number level }
-        ensures counted { hashes.new ≡ hashes.old + 34401 }
+        ensures counted { hashes.new ≡ hashes.old + TREE_HASHES + 2 }
     {
         let prefix = without_digits(number, maker.levels - level);
         let index = (without_digits(number, maker.levels - level - 1) % 32) as u32;
@@ -100,7 +101,7 @@ impl Level {
         hashes: &mut HashCount<L>,
     ) -> [u8; SIGNATURE_LENGTH]
         ensures signature { result ≡ signature_of self.now.seed self.now.index (head.now ++ body.now) }
-        ensures cost { hashes.new ≤ hashes.old + 1074 }
+        ensures cost { hashes.new ≤ hashes.old + LEAF_HASHES }
     {
         let mut uses = Uses::stored(self.index);
         let Some(right) = take_index(&mut uses) else {

@@ -5,6 +5,7 @@ ghost use Rattle.std.specs.Prelude.{length, vec_len, vec_capacity, IfOk, OnOk, O
 ghost use Rattle.mb_bytes.specs.Puts.{Appends, HasNoRoom};
 ghost use Rattle.mb_hss.specs.MakerKeys.{IsMaker, maker_key};
 ghost use Rattle.mb_hss.specs.MakerSignatures.{maker_signature, SignsOnto, IsUnsigned};
+ghost use Rattle.mb_lms.specs.declared.hash_count.TheConstants.{SIGNING_HASHES, TREE_HASHES};
 
 use crate::key::HssKey;
 use crate::level::{Level, level_key};
@@ -44,7 +45,7 @@ impl From<AllocError> for HssEnd {
 pub fn public<L: Ledger>(maker: &Maker, hashes: &mut HashCount<L>) -> HssKey
     requires { IsMaker maker.now }
     ensures key { result ≡ maker_key maker.now }
-    ensures counted { hashes.new ≡ hashes.old + 34401 }
+    ensures counted { hashes.new ≡ hashes.old + TREE_HASHES + 2 }
 {
     let seed = level_key(&maker.seed, 0, 0, hashes);
     HssKey {
@@ -87,7 +88,7 @@ fn put_signature<L: Ledger>(
     requires maker { IsMaker maker.now }
     requires room { vec_len out.old + (2404 * maker.now.levels - 52) ≤ vec_capacity out.old }
     ensures signature { Appends (maker_signature maker.now number (head.now ++ body.now)) out.old out.new }
-    ensures cost { hashes.new ≤ hashes.old + 35475 * maker.now.levels }
+    ensures cost { hashes.new ≤ hashes.old + (SIGNING_HASHES + 2) * maker.now.levels }
 {
     append(out, &u32::from(maker.levels - 1).to_be_bytes());
     let mut level = Level::at(maker, number, 0, hashes);
@@ -121,7 +122,7 @@ pub fn sign<L: Ledger>(
         → HasNoRoom (maker_signature maker.old maker.old.next (head.now ++ body.now)) out.old }
     ensures unchanged { OnErr result (IsUnsigned maker.old maker.new out.old out.new hashes.old hashes.new) }
     ensures valid { IsMaker maker.new }
-    ensures cost { hashes.new ≤ hashes.old + 35475 * maker.old.levels }
+    ensures cost { hashes.new ≤ hashes.old + (SIGNING_HASHES + 2) * maker.old.levels }
 {
     let number = maker.next;
     if number == number_count(maker.levels) {

@@ -6,6 +6,7 @@ ghost use Rattle.mb_model.specs.EntryFormat.{entry_format};
 ghost use Rattle.mb_model.specs.OrderEffects.{signed_by};
 ghost use Rattle.mb_model.specs.StoredLog.{signed_for, outgoing_of, completed};
 ghost use Rattle.mb_signer.specs.Tree.{IsTreeOf};
+ghost use Rattle.mb_lms.specs.declared.hash_count.TheConstants.{LEAF_HASHES, TREE_HASHES};
 
 use mb_layout::write_entry;
 use mb_lms::HashCount;
@@ -31,7 +32,7 @@ pub(crate) fn completed<L: Ledger>(
     requires outgoing { IfSome (outgoing_of root.now.pending) (λ outgoing. outgoing.uses ≤ KEY_USES) }
     requires spelled { All entry_format.Allowed unsigned.now }
     ensures log { IfOk result (λ log. log ≡ completed root.now signed unsigned.now) }
-    ensures cost { hashes.new ≤ hashes.old + 34399 + 1074 * length unsigned.now }
+    ensures cost { hashes.new ≤ hashes.old + TREE_HASHES + LEAF_HASHES * length unsigned.now }
 {
     let mut log = signed;
     match outgoing_of(root) {
@@ -79,7 +80,7 @@ fn push_handed_over<L: Ledger>(
     requires uses { outgoing.now.uses ≤ KEY_USES }
     requires spelled { All entry_format.Allowed entries.now }
     ensures log { (uses : ℕ) → OnOk result (log.new ≡ log.old ++ signed_for device.now uses (Some outgoing.now) entries.now) }
-    ensures cost { hashes.new ≤ hashes.old + 34399 + 1074 * length entries.now }
+    ensures cost { hashes.new ≤ hashes.old + TREE_HASHES + LEAF_HASHES * length entries.now }
 {
     if entries.is_empty() {
         return Ok(());
@@ -105,7 +106,7 @@ fn push_signed<L: Ledger>(
     requires index { index ≤ LAST_INDEX }
     requires spelled { All entry_format.Allowed entries.now }
     ensures log { OnOk result (log.new ≡ log.old ++ map (signed_by key.now index) entries.now) }
-    ensures cost { hashes.new ≤ hashes.old + 1074 * length entries.now }
+    ensures cost { hashes.new ≤ hashes.old + LEAF_HASHES * length entries.now }
 {
     for entry in entries {
         log.push(signed_by(alloc, key, tree, index, entry, hashes)?)?;
@@ -127,7 +128,7 @@ fn signed_by<L: Ledger>(
     requires index { index ≤ LAST_INDEX }
     requires spelled { entry_format.Allowed entry.now }
     ensures signed { IfOk result (λ signed. signed ≡ signed_by key.now index entry.now) }
-    ensures cost { hashes.new ≤ hashes.old + 1074 }
+    ensures cost { hashes.new ≤ hashes.old + LEAF_HASHES }
 {
     let mut spelling = Vec::new(alloc);
     write_entry(entry, &mut spelling)?;

@@ -7,6 +7,7 @@ ghost use Rattle.mb_model.specs.Regions.{empty_region, AdmittedSince};
 ghost use Rattle.mb_model.specs.Valid.{as_made, IsValidRegion};
 ghost use Rattle.mb_image.specs.Keys.{as_listed, listed_keys};
 ghost use Rattle.mb_image.specs.Losses.{loss};
+ghost use Rattle.mb_lms.specs.declared.hash_count.TheConstants.{TREE_HASHES};
 
 use crate::alive::{MadeKey, alive_keys};
 use mb_lms::HashCount;
@@ -122,7 +123,7 @@ fn loss(layer: u8, entry: &Entry) -> u32
 /// Whether the keys are the living ones, in order.
 fn are_alive<L: Ledger>(keys: &[RegionKey], alive: &[MadeKey], hashes: &mut HashCount<L>) -> bool
     ensures alive { IsTrue result ↔ (map as_made keys.now ≡ listed_keys alive.now) }
-    ensures cost { hashes.new ≤ hashes.old + 34399 * length keys.now }
+    ensures cost { hashes.new ≤ hashes.old + TREE_HASHES * length keys.now }
 {
     if keys.len() != alive.len() {
         return false;
@@ -138,7 +139,7 @@ fn are_alive<L: Ledger>(keys: &[RegionKey], alive: &[MadeKey], hashes: &mut Hash
 /// Whether the key has the number, the kind and the public key of an entry.
 fn is_same<L: Ledger>(key: &RegionKey, made: &MadeKey, hashes: &mut HashCount<L>) -> bool
     ensures same { IsTrue result ↔ (as_made key.now ≡ as_listed made.now) }
-    ensures cost { hashes.new ≤ hashes.old + 34399 }
+    ensures cost { hashes.new ≤ hashes.old + TREE_HASHES }
 {
     key.number == made.number && key.kind == made.kind && public(&key.seed, hashes) == made.key
 }

@@ -8,6 +8,16 @@ use std::alloc::Global;
 use std::marker::Model;
 use std::sync::ledger::{Blank, Book, Ledger, Share};
 
+/// The hashes that a leaf of a key's tree takes: 67 draws of a chain's start, 15 steps of each chain, and one hash each
+/// of the one-time key and of the leaf (RFC 8554, sections 4.3 and 5.3).
+pub const LEAF_HASHES: u64 = 1_074;
+
+/// The hashes that a key's tree takes: its 32 leaves and the 31 nodes above them.
+pub const TREE_HASHES: u64 = 34_399;
+
+/// The most hashes that a signature takes, with the tree of its key.
+pub const SIGNING_HASHES: u64 = 35_473;
+
 /// The number of hashes that were taken. The count occupies no bytes, and only `hash` raises it. It can be neither
 /// copied nor reset.
 #[derive(Drop)]

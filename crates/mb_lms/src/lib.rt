@@ -20,7 +20,7 @@ mod signature;
 mod tree;
 
 pub use checker::{Checker, verify};
-pub use hash_count::{HashCount, hash};
+pub use hash_count::{HashCount, LEAF_HASHES, SIGNING_HASHES, TREE_HASHES, hash};
 pub use key::{key_bytes, key_hash, parse_key};
 pub use one_time::{chain_prefix, digit, digits_of};
 

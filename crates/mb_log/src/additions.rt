@@ -1,11 +1,12 @@
 //! The entries that an order appends to the log, and the keys that it makes.
 
-ghost use Rattle.std.specs.Prelude.{◌≡◌, ◌+◌, ◌<◌, ◌≤◌, [], ◌∷◌, ◌++◌, IfOk, OnErr, vec_len, vec_capacity, if◌then◌else◌};
+ghost use Rattle.std.specs.Prelude.{◌≡◌, ◌+◌, ◌<◌, ◌≤◌, [], ◌∷◌, ◌++◌, IfOk, OnErr, vec_len, vec_capacity, if◌then◌else◌, ◌*◌};
 ghost use Rattle.mb_model.specs.declared.limits.TheConstants.{LAST_INDEX, ENTRY_LIMIT};
 ghost use Rattle.mb_model.specs.Signing.{public_of};
 ghost use Rattle.mb_model.specs.OrderEffects.{names_next, next_key, named_next, entry_of, device_after, uses_after};
 ghost use Rattle.mb_model.specs.Work.{ready_by, first_by, key_by, outgoing_by, bodies_by};
 ghost use Rattle.mb_log.specs.Additions.{needed_with, HasRoom, IsInRange};
+ghost use Rattle.mb_lms.specs.declared.hash_count.TheConstants.{TREE_HASHES};
 
 use crate::keys::born;
 use mb_authority::renews;
@@ -48,7 +49,7 @@ pub fn bodies<L: Ledger>(
     requires range { IsInRange view.now }
     requires room { HasRoom view.now fact.now }
     ensures bodies { IfOk result (λ bodies. bodies ≡ bodies_by view.now fact.now draw.now) }
-    ensures cost { hashes.new ≤ hashes.old + 68798 }
+    ensures cost { hashes.new ≤ hashes.old + 2 * TREE_HASHES }
     ensures unhashed { OnErr result (hashes.new ≡ hashes.old) }
 {
     let mut entries = Vec::with_capacity(alloc, MOST)?;
@@ -103,7 +104,7 @@ fn make_ready<L: Ledger>(
     ensures ready { result ≡ ready_by view.now names_next draw.now }
     ensures entries { entries.new.items ≡ entries.old.items ++ first_by view.now names_next draw.now }
     ensures room { vec_len entries.new < vec_capacity entries.new }
-    ensures cost { hashes.new ≤ hashes.old + 34399 }
+    ensures cost { hashes.new ≤ hashes.old + TREE_HASHES }
 {
     if needed(view.uses, names_next) == 1 {
         return *view;
@@ -134,7 +135,7 @@ struct MadeKey {
 fn make_key<L: Ledger>(view: &View, draw: &[u8; 32], hashes: &mut HashCount<L>) -> MadeKey
     ensures seed { result.seed ≡ next_key view.now draw.now }
     ensures public { result.public ≡ public_of (next_key view.now draw.now) }
-    ensures counted { hashes.new ≡ hashes.old + 34399 }
+    ensures counted { hashes.new ≡ hashes.old + TREE_HASHES }
 {
     let seed = born(draw, &view.serial, view.keys_made);
     MadeKey {
@@ -164,7 +165,7 @@ fn device_after<L: Ledger>(
     ensures named { result.named ≡ named_next names_next view.now draw.now }
     ensures seed { result.seed ≡ (if names_next then next_key view.now draw.now else view.now.device) }
     ensures uses { result.uses ≡ (if names_next then 0 else view.now.uses + 1) }
-    ensures cost { hashes.new ≤ hashes.old + 34399 }
+    ensures cost { hashes.new ≤ hashes.old + TREE_HASHES }
 {
     if !names_next {
         return DeviceKey {
@@ -206,7 +207,7 @@ fn own_addition<L: Ledger>(
     ensures device { result.device ≡ device_after (names_next fact.now) view.now draw.now }
     ensures uses { result.uses ≡ uses_after (names_next fact.now) view.now }
     ensures key { result.key ≡ key_by view.now fact.now draw.now }
-    ensures cost { hashes.new ≤ hashes.old + 34399 }
+    ensures cost { hashes.new ≤ hashes.old + TREE_HASHES }
 {
     match *fact {
         Fact::Change {
@@ -252,7 +253,7 @@ fn key_addition<L: Ledger>(
     ensures device { result.device ≡ view.now.device }
     ensures uses { result.uses ≡ view.now.uses + 1 }
     ensures key { result.key ≡ key_by view.now (Fact.NewKey layer kind) draw.now }
-    ensures cost { hashes.new ≤ hashes.old + 34399 }
+    ensures cost { hashes.new ≤ hashes.old + TREE_HASHES }
 {
     let made = make_key(view, draw, hashes);
     Addition {

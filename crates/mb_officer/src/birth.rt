@@ -15,6 +15,7 @@ ghost use Rattle.mb_model.specs.SignedOrders.{used_once};
 ghost use Rattle.mb_model.specs.Meaning.{IsWellFormed};
 ghost use Rattle.mb_model.specs.Factory.{serial_from, first_key, layers_at_birth, state_at_birth, IsFactoryImage};
 ghost use Rattle.mb_officer.specs.NewImage.{header_at_birth, root_at_birth};
+ghost use Rattle.mb_lms.specs.declared.hash_count.TheConstants.{SIGNING_HASHES, TREE_HASHES};
 
 use crate::image::put_image;
 use crate::signing::{SignEnd, sign_at};
@@ -149,7 +150,7 @@ fn birth_of<L: Ledger>(
     hashes: &mut HashCount<L>,
 ) -> Entry
     ensures birth { result ≡ entry.Birth 2 device.now.serial (public_of device.now.key) (layers_at_birth owner.now code.now) }
-    ensures cost { hashes.new ≡ hashes.old + 34399 }
+    ensures cost { hashes.new ≡ hashes.old + TREE_HASHES }
 {
     let name = CodeName {
         hash: Sha256::digest(code),
@@ -187,7 +188,7 @@ fn sign_birth<L: Ledger>(
     requires room { vec_len text.old + LONGEST_ENTRY ≤ vec_capacity text.old }
     ensures text { text.new.items ≡ entry_format.spelling birth }
     ensures signed { result ≡ signed_by seed.now index birth }
-    ensures cost { hashes.new ≤ hashes.old + 35473 }
+    ensures cost { hashes.new ≤ hashes.old + SIGNING_HASHES }
 {
     let Ok(()) = write_entry(&birth, text) else {
         unreachable!();

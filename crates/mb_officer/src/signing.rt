@@ -7,6 +7,7 @@ ghost use Rattle.mb_model.specs.OrderFormat.{order_format};
 ghost use Rattle.mb_model.specs.Signing.{signature_of};
 ghost use Rattle.mb_model.specs.SignedOrders.{used_once, signed_order, countersigned_order, with_countersignature, IsCountersignable};
 ghost use Rattle.mb_model.specs.Rules.{kind_of, change_of, is_load};
+ghost use Rattle.mb_lms.specs.declared.hash_count.TheConstants.{SIGNING_HASHES};
 
 use mb_command::signed_part;
 use mb_lms::HashCount;
@@ -56,7 +57,7 @@ pub fn sign_order<L: Ledger>(
     ensures spent { IsErrOf result SignEnd.Spent ↔ (k.old.next ≡ KEY_USES) }
     ensures countersignable { IsErrOf result SignEnd.NotCountersignable → ⊥ }
     ensures unchanged { OnErr result ((k.new ≡ k.old) × (order.new ≡ order.old) × (hashes.new ≡ hashes.old)) }
-    ensures cost { hashes.new ≤ hashes.old + 35473 }
+    ensures cost { hashes.new ≤ hashes.old + SIGNING_HASHES }
 {
     let mut next = k.next;
     let Some(index) = next.take() else {
@@ -89,7 +90,7 @@ pub fn countersign<L: Ledger>(
     ensures countersignable { IsErrOf result SignEnd.NotCountersignable ↔ (IsCountersignable order.old layer → ⊥) }
     ensures spent { IsErrOf result SignEnd.Spent ↔ (IsCountersignable order.old layer × (k.old.next ≡ KEY_USES)) }
     ensures unchanged { OnErr result ((k.new ≡ k.old) × (order.new ≡ order.old) × (hashes.new ≡ hashes.old)) }
-    ensures cost { hashes.new ≤ hashes.old + 35473 }
+    ensures cost { hashes.new ≤ hashes.old + SIGNING_HASHES }
 {
     if !is_countersignable(order, layer) {
         return Err(SignEnd::NotCountersignable);
@@ -172,7 +173,7 @@ fn signature_at<L: Ledger>(
     requires room { length room.items ≡ SIGNATURE_LENGTH }
     ensures signature { result ≡ signature_of seed.now index (head.now ++ body.now) }
     ensures length { length result ≡ SIGNATURE_LENGTH }
-    ensures cost { hashes.new ≤ hashes.old + 35473 }
+    ensures cost { hashes.new ≤ hashes.old + SIGNING_HASHES }
 {
     let mut room = room;
     let signature = sign_at(seed, index, head, body, hashes);
@@ -190,7 +191,7 @@ pub(crate) fn sign_at<L: Ledger>(
 ) -> [u8; SIGNATURE_LENGTH]
     requires { index ≤ LAST_INDEX }
     ensures signature { result ≡ signature_of seed.now index (head.now ++ body.now) }
-    ensures cost { hashes.new ≤ hashes.old + 35473 }
+    ensures cost { hashes.new ≤ hashes.old + SIGNING_HASHES }
 {
     let mut uses = Uses::stored(index);
     let Some(right) = take_index(&mut uses) else {

@@ -1,9 +1,10 @@
 //! Orders judged.
 
-ghost use Rattle.std.specs.Prelude.{◌≡◌, ◌+◌, ◌≤◌, OnErr};
+ghost use Rattle.std.specs.Prelude.{◌≡◌, ◌+◌, ◌≤◌, OnErr, ◌*◌};
 ghost use Rattle.mb_model.specs.OrderFormat.{order_format};
 ghost use Rattle.mb_log.specs.Additions.{IsInRange};
 ghost use Rattle.mb_orders.specs.Judging.{Judges};
+ghost use Rattle.mb_lms.specs.declared.hash_count.TheConstants.{TREE_HASHES};
 
 use crate::checks::check;
 use crate::end::JudgeEnd;
@@ -27,7 +28,7 @@ pub fn judge<L: Ledger>(
     requires spelled { order_format.Allowed order.now }
     requires range { IsInRange view.now }
     ensures judged { Judges view.now order.now draw.now result }
-    ensures cost { hashes.new ≤ hashes.old + 68798 }
+    ensures cost { hashes.new ≤ hashes.old + 2 * TREE_HASHES }
     ensures unhashed { OnErr result (hashes.new ≡ hashes.old) }
 {
     check(alloc, view, order)?;

@@ -1,6 +1,6 @@
 //! The effect of an order that passes every check.
 
-ghost use Rattle.std.specs.Prelude.{◌≡◌, ◌+◌, ◌≤◌, ◌==◌, IfOk, OnErr};
+ghost use Rattle.std.specs.Prelude.{◌≡◌, ◌+◌, ◌≤◌, ◌==◌, IfOk, OnErr, ◌*◌};
 ghost use Rattle.std.specs.List.{list_any};
 ghost use Rattle.mb_model.specs.OrderChecks.{LogHasRoom};
 ghost use Rattle.mb_model.specs.OrderEffects.{cosigned_by, change_fact, fact_of, layers_after};
@@ -8,6 +8,7 @@ ghost use Rattle.mb_model.specs.Fates.{change_fate};
 ghost use Rattle.mb_model.specs.Work.{region_fate};
 ghost use Rattle.mb_log.specs.Additions.{IsInRange};
 ghost use Rattle.mb_orders.specs.Judging.{plan_by};
+ghost use Rattle.mb_lms.specs.declared.hash_count.TheConstants.{TREE_HASHES};
 
 use mb_authority::{admits, after, kept_regions, layer_of, placed};
 use mb_lms::HashCount;
@@ -133,7 +134,7 @@ pub fn make_plan<L: Ledger>(
     requires range { IsInRange view.now }
     requires room { LogHasRoom view.now order.now }
     ensures planned { IfOk result (λ plan. plan ≡ plan_by view.now order.now draw.now) }
-    ensures cost { hashes.new ≤ hashes.old + 68798 }
+    ensures cost { hashes.new ≤ hashes.old + 2 * TREE_HASHES }
     ensures unhashed { OnErr result (hashes.new ≡ hashes.old) }
 {
     let fact = fact_of(&view.layers, order);

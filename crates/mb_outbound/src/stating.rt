@@ -5,6 +5,7 @@ ghost use Rattle.std.specs.Int.{w32, to_be_bytes};
 ghost use Rattle.mb_model.specs.declared.separators.TheConstants.{STATEMENT_TEXT};
 ghost use Rattle.mb_model.specs.Signing.{signature_of};
 ghost use Rattle.mb_model.specs.SignedTexts.{statement_text};
+ghost use Rattle.mb_lms.specs.declared.hash_count.TheConstants.{SIGNING_HASHES};
 
 use mb_bytes::put_at;
 use mb_lms::HashCount;
@@ -41,7 +42,7 @@ pub fn state_text<L: Ledger>(
 )
     ensures signature { out.new
         ≡ signature_of seed.now right (statement_text serial.now key number message.now) }
-    ensures cost { hashes.new ≤ hashes.old + 35473 }
+    ensures cost { hashes.new ≤ hashes.old + SIGNING_HASHES }
 {
     let head = statement_head(serial, key, number);
     sign(right, seed, &head, message, out, hashes);

@@ -4,6 +4,7 @@ ghost use Rattle.std.specs.Prelude.{◌≡◌, ◌+◌, ◌<◌, ◌≤◌, ◌+
 ghost use Rattle.mb_model.specs.declared.key.KeySeed.{KeySeed};
 ghost use Rattle.mb_model.specs.Signing.{signed_values, sibling, path_from, public_of, signature_of};
 ghost use Rattle.mb_signer.specs.Tree.{IsTreeOf};
+ghost use Rattle.mb_lms.specs.declared.hash_count.TheConstants.{LEAF_HASHES, SIGNING_HASHES, TREE_HASHES};
 
 use crate::one_time::{CHAINS, chain_value, message_hash, randomizer_at};
 use crate::tree::{KeptTree, LEAVES};
@@ -31,7 +32,7 @@ const PATH_AT: usize = 2188;
 /// The public key of the seed, in 34,399 hashes: those of its tree (RFC 8554, section 5.3).
 pub fn public<L: Ledger>(seed: &KeySeed, hashes: &mut HashCount<L>) -> PublicKey
     ensures key { result ≡ public_of seed.now }
-    ensures counted { hashes.new ≡ hashes.old + 34399 }
+    ensures counted { hashes.new ≡ hashes.old + TREE_HASHES }
 {
     public_kept(&KeptTree::build(seed, hashes), seed)
 }
@@ -61,7 +62,7 @@ pub fn sign<L: Ledger>(
     hashes: &mut HashCount<L>,
 )
     ensures signature { out.new ≡ signature_of seed.now right (head.now ++ body.now) }
-    ensures cost { hashes.new ≤ hashes.old + 35473 }
+    ensures cost { hashes.new ≤ hashes.old + SIGNING_HASHES }
 {
     let tree = KeptTree::build(seed, hashes);
     sign_kept(right, &tree, seed, head, body, out, hashes);
@@ -86,7 +87,7 @@ pub fn sign_kept<L: Ledger>(
 )
     requires { IsTreeOf seed.now tree.now }
     ensures signature { out.new ≡ signature_of seed.now right (head.now ++ body.now) }
-    ensures cost { hashes.new ≤ hashes.old + 1074 }
+    ensures cost { hashes.new ≤ hashes.old + LEAF_HASHES }
 {
     let q = right.spent();
     let randomizer = randomizer_at(seed, q, hashes);

@@ -5,6 +5,7 @@ ghost use Rattle.std.specs.Prelude.{◌≡◌, ℕ, ◌+◌, ◌*◌, ◌/◌, �
 ghost use Rattle.mb_model.specs.Merkle.{inner_node};
 ghost use Rattle.mb_model.specs.Signing.{node_of};
 ghost use Rattle.mb_signer.specs.Tree.{node_at, joined_above, IsFilled, IsTreeOf};
+ghost use Rattle.mb_lms.specs.declared.hash_count.TheConstants.{LEAF_HASHES, TREE_HASHES};
 
 use crate::bytes::marked;
 use crate::one_time::one_time_public;
@@ -38,7 +39,7 @@ impl KeptTree {
     /// The tree of a key, in 34,399 hashes: 1,074 for each leaf, and one for each of the 31 nodes above.
     pub fn build<L: Ledger>(seed: &KeySeed, hashes: &mut HashCount<L>) -> KeptTree
         ensures tree { IsTreeOf seed.now result }
-        ensures counted { hashes.new ≡ hashes.old + 34399 }
+        ensures counted { hashes.new ≡ hashes.old + TREE_HASHES }
     {
         let mut nodes = no_nodes();
         for q in 0..LEAVES {
@@ -67,7 +68,7 @@ fn no_nodes() -> [[u8; 32]; 63] {
 fn leaf_node<L: Ledger>(seed: &KeySeed, q: u32, hashes: &mut HashCount<L>) -> [u8; 32]
     requires { q < LEAVES }
     ensures value { result ≡ node_of seed.now (32 + q) }
-    ensures counted { hashes.new ≡ hashes.old + 1074 }
+    ensures counted { hashes.new ≡ hashes.old + LEAF_HASHES }
 {
     let key = one_time_public(seed, q, hashes);
     hash(
