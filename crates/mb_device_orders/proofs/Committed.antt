@@ -194,11 +194,11 @@ spared_after before between after last root room has done agree same keeps =
     record {
       log = record {
         kept = λ any header in_force holds position less. (
-          let same_root : any ≡ root_of has.state is.area = is.only_root.only any in_force in
-          let here : HoldsHeader before.flash is.area header = subst (λ (r : Root). HoldsHeader before.flash r.area header) same_root holds in
-          let counts : position < is.holds.public.header.signed = omega (arith, less, ap (λ (h : Header). h.signed) (is.only_header header here)) in
-          keeps.log.kept root (header_after is.holds.public.header has.order.layer has.order.act is.first is.second) own stands position counts
-          ∙ first.log.kept any header in_force holds position less);
+            let same_root : any ≡ root_of has.state is.area = is.only_root.only any in_force in
+            let here : HoldsHeader before.flash is.area header = subst (λ (r : Root). HoldsHeader before.flash r.area header) same_root holds in
+            let counts : position < is.holds.public.header.signed = omega (arith, less, ap (λ (h : Header). h.signed) (is.only_header header here)) in
+            keeps.log.kept root (header_after is.holds.public.header has.order.layer has.order.act is.first is.second) own stands position counts
+            ∙ first.log.kept any header in_force holds position less);
       };
       unused = λ n is. keeps.unused n is ∙ first.unused n is;
     }

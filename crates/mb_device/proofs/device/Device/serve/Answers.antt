@@ -70,9 +70,9 @@ pub returns-clause-between : goal.returns-clause-between
 returns-clause-between g c = record {
   none_out = ap (λ (l : Ledger). l.out) c.in_default.ensures.none.1 ∙ c.events.invariant.none_out;
   standing =
-    ap (λ (l : Ledger). l.standing) c.in_default.ensures.none.1 ∙ c.events.invariant.standing
-    ∙ sym (same_parts (g.B.Board.seen c.events.b).memory (g.B.Board.seen c.take.new.self).memory (g.B.Board.seen c.events.b).power (g.B.Board.seen c.take.new.self).power (g.B.Board.seen c.events.b).level (g.B.Board.seen c.take.new.self).level (g.B.Board.seen c.events.b).meter (g.B.Board.seen c.take.new.self).meter
-    c.in_default.ensures.memory c.in_default.ensures.power c.in_default.ensures.level (ap (λ (m : Meter). m.armed) c.in_default.ensures.meter));
+      ap (λ (l : Ledger). l.standing) c.in_default.ensures.none.1 ∙ c.events.invariant.standing
+      ∙ sym (same_parts (g.B.Board.seen c.events.b).memory (g.B.Board.seen c.take.new.self).memory (g.B.Board.seen c.events.b).power (g.B.Board.seen c.take.new.self).power (g.B.Board.seen c.events.b).level (g.B.Board.seen c.take.new.self).level (g.B.Board.seen c.events.b).meter (g.B.Board.seen c.take.new.self).meter
+      c.in_default.ensures.memory c.in_default.ensures.power c.in_default.ensures.level (ap (λ (m : Meter). m.armed) c.in_default.ensures.meter));
 }
 
 pub returns-clause-loaded : goal.returns-clause-loaded
