@@ -1,7 +1,7 @@
 //! The code, headers and log in the flash.
 
 ghost use Rattle.std.specs.Prelude.{◌≡◌, ◌≤◌, ◌<◌, ◌+◌, ◌-◌, ◌*◌, ℕ, length, vec_capacity, OnOk, IsOk, Ok};
-ghost use Rattle.mb_model.specs.declared.limits.TheConstants.{CODE_LIMIT, ENTRY_LIMIT, SECTOR_LENGTH};
+ghost use Rattle.mb_model.specs.declared.limits.TheConstants.{CODE_LIMIT, ENTRY_LIMIT, SECTOR_COUNT, SECTOR_LENGTH};
 ghost use Rattle.mb_model.specs.declared.stored.Header.{Header};
 ghost use Rattle.mb_model.specs.declared.stored.Root.{Root};
 ghost use Rattle.mb_model.specs.Flash.{sector, code_slot, HoldsHeader};
@@ -31,7 +31,7 @@ use mb_segments::{code_sector, header_at, header_sector, log_sector};
 /// Replaces the bytes of a buffer by a whole sector of the flash. The buffer has room for it.
 fn read_sector<B: Board>(b: &B, number: u16, buffer: &mut Vec<u8>)
     requires powered { IsPowered (B.seen b.now) }
-    requires number { number < 256 }
+    requires number { number < SECTOR_COUNT }
     requires room { SECTOR_LENGTH ≤ vec_capacity buffer.old }
     ensures read { buffer.new.items ≡ sector (B.seen b.now).memory.flash number }
     ensures capacity { vec_capacity buffer.old ≤ vec_capacity buffer.new }
@@ -66,7 +66,7 @@ pub fn read_log<B: Board>(b: &B, position: u32, room: &mut Room)
 /// stand there already.
 fn store_sector<B: Board>(b: &mut B, number: u16, bytes: &[u8]) -> Result<(), Stopped>
     requires powered { IsPowered (B.seen b.old) }
-    requires number { number < 256 }
+    requires number { number < SECTOR_COUNT }
     requires bytes { (1 ≤ length bytes.now) × (length bytes.now ≤ SECTOR_LENGTH) }
     ensures same { DiffersOnlyIn number 1 (B.seen b.old).memory.flash (B.seen b.new).memory.flash }
     ensures written { OnOk result (IsSectorWritten number bytes.now (B.seen b.old).memory.flash
@@ -177,7 +177,7 @@ fn write_both<B: Board>(b: &mut B, area: u8, room: &mut Room) -> Result<(), Stop
         → OnOk result (IsPublicWritten room.old header area (B.seen b.old).memory.flash
         (B.seen b.new).memory.flash) }
     ensures spared { (header : Header) → HoldsHeader (B.seen b.old).memory.flash area header
-        → (n : ℕ) → n < 256 → IsSpared room.old header area n
+        → (n : ℕ) → n < SECTOR_COUNT → IsSpared room.old header area n
         → sector (B.seen b.new).memory.flash n ≡ sector (B.seen b.old).memory.flash n }
     ensures idle { (header : Header) → HoldsHeader (B.seen b.old).memory.flash area header
         → IsPublicThere room.old header area (B.seen b.old).memory.flash
@@ -206,7 +206,7 @@ pub fn write_public<S: Reaches<One>, B: Board>(s: S, b: &mut B, room: &mut Room)
         (B.seen b.new).memory.flash) }
     ensures spared { (root : Root) (header : Header) → RootIn (B.seen b.old).memory.bbram root
         → HoldsHeader (B.seen b.old).memory.flash root.area header
-        → (n : ℕ) → n < 256 → IsSpared room.old header root.area n
+        → (n : ℕ) → n < SECTOR_COUNT → IsSpared room.old header root.area n
         → sector (B.seen b.new).memory.flash n ≡ sector (B.seen b.old).memory.flash n }
     ensures idle { (root : Root) (header : Header) → RootIn (B.seen b.old).memory.bbram root
         → HoldsHeader (B.seen b.old).memory.flash root.area header

@@ -3,7 +3,7 @@
 ghost use Rattle.std.specs.Prelude.{◌≡◌, ◌+◌, ◌-◌, ◌*◌, ◌≤◌, ◌∷◌, IfSome, length, vec_len, vec_capacity};
 ghost use Rattle.std.specs.Option.{option_copied};
 ghost use Rattle.mb_format.specs.Format.{Spells};
-ghost use Rattle.mb_model.specs.declared.limits.TheConstants.{ENTRY_LIMIT, KEY_USES, LAST_INDEX, SECTOR_LENGTH, SIGNATURE_LENGTH};
+ghost use Rattle.mb_model.specs.declared.limits.TheConstants.{ENTRY_LIMIT, ENTRY_TEXT_LIMIT, KEY_USES, LAST_INDEX, SECTOR_LENGTH, SIGNATURE_LENGTH};
 ghost use Rattle.mb_model.specs.declared.separators.TheConstants.{ENTRY_TEXT};
 ghost use Rattle.mb_model.specs.declared.stored.Header.{Header};
 ghost use Rattle.mb_model.specs.HeaderFormat.{header_format};
@@ -167,7 +167,7 @@ fn sign_entry<L: Ledger>(
 /// Replaces `log` by the content of the sector of the log for an unsigned entry: its bytes and its signature.
 fn sign_text<L: Ledger>(signer: &Signer, text: &[u8], log: &mut Vec<u8>, hashes: &mut HashCount<L>)
     requires index { signer.now.index ≤ LAST_INDEX }
-    requires text { (1 ≤ length text.now) × (length text.now ≤ 400) }
+    requires text { (1 ≤ length text.now) × (length text.now ≤ ENTRY_TEXT_LIMIT) }
     requires room { SECTOR_LENGTH ≤ vec_capacity log.old }
     ensures signed { IsSignedSector signer.now text.now log.new.items }
     ensures room { SECTOR_LENGTH ≤ vec_capacity log.new }

@@ -9,12 +9,9 @@ ghost use Rattle.mb_cert.specs.StatementReading.{ReadsStatementLine};
 
 use crate::end::ChainEnd;
 use crate::statement::read_statement;
-use mb_model::Statement;
+use mb_model::{STATEMENT_LIMIT, Statement};
 use mb_words::{NotSaid, read_hex, split_line};
 use std::alloc::Global;
-
-/// The most bytes of a statement.
-const STATEMENT_LIMIT: usize = 2481;
 
 /// Why the line of a statement was not read.
 #[derive(Clone, Copy, Debug, PartialEq, Eq)]

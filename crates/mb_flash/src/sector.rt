@@ -1,7 +1,7 @@
 //! Writing bytes to one sector, and to several.
 
 ghost use Rattle.std.specs.Prelude.{◌≡◌, ℕ, ◌+◌, ◌*◌, ◌<◌, ◌≤◌, ◌++◌, ◌⊎◌, ◌↔◌, length, IsTrue, OnOk, Ok};
-ghost use Rattle.mb_model.specs.declared.limits.TheConstants.{SECTOR_LENGTH};
+ghost use Rattle.mb_model.specs.declared.limits.TheConstants.{SECTOR_COUNT, SECTOR_LENGTH};
 ghost use Rattle.mb_model.specs.Pieces.{part};
 ghost use Rattle.mb_model.specs.Board.{erased};
 ghost use Rattle.mb_board.specs.Calls.{IsPowered, RanOnFlash};
@@ -14,7 +14,7 @@ use mb_model::SECTOR_LENGTH;
 /// Whether the sector begins with these bytes, at most 4,096 of them.
 fn begins_with<B: Board>(b: &B, sector: u16, bytes: &[u8]) -> bool
     requires powered { IsPowered (B.seen b.now) }
-    requires sector { sector < 256 }
+    requires sector { sector < SECTOR_COUNT }
     requires bytes { length bytes.now ≤ SECTOR_LENGTH }
     ensures { IsTrue result ↔ (part (SECTOR_LENGTH * sector) (length bytes.now)
         (B.seen b.now).memory.flash ≡ bytes.now) }
@@ -28,7 +28,7 @@ fn begins_with<B: Board>(b: &B, sector: u16, bytes: &[u8]) -> bool
 /// Erases the sector.
 fn erase<B: Board>(b: &mut B, sector: u16) -> Result<(), Stopped>
     requires powered { IsPowered (B.seen b.old) }
-    requires sector { sector < 256 }
+    requires sector { sector < SECTOR_COUNT }
     ensures blank { OnOk result ((n : ℕ) → n ≤ SECTOR_LENGTH
         → part (SECTOR_LENGTH * sector) n (B.seen b.new).memory.flash ≡ erased n) }
     ensures same { IsSameOutside (SECTOR_LENGTH * sector) SECTOR_LENGTH (B.seen b.old).memory.flash
@@ -41,7 +41,7 @@ fn erase<B: Board>(b: &mut B, sector: u16) -> Result<(), Stopped>
 /// Stores 1 to 4,096 bytes at the start of the sector, which is erased there.
 fn program<B: Board>(b: &mut B, sector: u16, bytes: &[u8]) -> Result<(), Stopped>
     requires powered { IsPowered (B.seen b.old) }
-    requires sector { sector < 256 }
+    requires sector { sector < SECTOR_COUNT }
     requires some { 0 < length bytes.now }
     requires bytes { length bytes.now ≤ SECTOR_LENGTH }
     requires blank { part (SECTOR_LENGTH * sector) (length bytes.now) (B.seen b.old).memory.flash
@@ -59,7 +59,7 @@ fn program<B: Board>(b: &mut B, sector: u16, bytes: &[u8]) -> Result<(), Stopped
 /// nothing if they stand there already.
 pub fn write_sector<B: Board>(b: &mut B, sector: u16, bytes: &[u8]) -> Result<(), Stopped>
     requires powered { IsPowered (B.seen b.old) }
-    requires sector { sector < 256 }
+    requires sector { sector < SECTOR_COUNT }
     requires bytes { (0 < length bytes.now) × (length bytes.now ≤ SECTOR_LENGTH) }
     ensures written { OnOk result (part (SECTOR_LENGTH * sector) (length bytes.now)
         (B.seen b.new).memory.flash ≡ bytes.now) }
@@ -95,7 +95,7 @@ fn split_piece(bytes: &[u8]) -> (&[u8], &[u8])
 /// arbitrary. There are at most two write calls a sector.
 pub fn write_sectors<B: Board>(b: &mut B, first: u16, bytes: &[u8]) -> Result<(), Stopped>
     requires powered { IsPowered (B.seen b.old) }
-    requires within { first + sectors_for (length bytes.now) ≤ 256 }
+    requires within { first + sectors_for (length bytes.now) ≤ SECTOR_COUNT }
     ensures written { OnOk result (part (SECTOR_LENGTH * first) (length bytes.now)
         (B.seen b.new).memory.flash ≡ bytes.now) }
     ensures idle { part (SECTOR_LENGTH * first) (length bytes.now) (B.seen b.old).memory.flash

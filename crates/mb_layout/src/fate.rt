@@ -1,7 +1,7 @@
 //! The fate of a stored region, carried out without memory.
 
 ghost use Rattle.std.specs.Prelude.{◌≡◌, ◌≤◌, length, vec_capacity};
-ghost use Rattle.mb_model.specs.declared.limits.TheConstants.{FILE_LIMIT, KEY_LIMIT};
+ghost use Rattle.mb_model.specs.declared.limits.TheConstants.{FILE_LIMIT, KEY_LIMIT, REGION_LIMIT};
 ghost use Rattle.mb_model.specs.declared.region.Region.{Region};
 ghost use Rattle.mb_model.specs.Meaning.{fated, fated_keys};
 ghost use Rattle.mb_model.specs.RegionFormat.{SpellsRegion};
@@ -54,7 +54,7 @@ fn fated_region<'a>(fate: &Fate, stored: StoredRegion<'a>) -> StoredRegion<'a>
 /// said if the bytes stand for no region, or if the region afterwards cannot be stored, as one with nine keys. `out`
 /// has room for any record of a region.
 pub fn fate_record(bytes: &[u8], fate: &Fate, out: &mut Vec<u8>)
-    requires room { 3091 ≤ vec_capacity out.old }
+    requires room { REGION_LIMIT ≤ vec_capacity out.old }
     requires short { length bytes.now ≤ FILE_LIMIT }
     ensures fated { IsFated fate.now bytes.now out.new.items }
     ensures capacity { (region : Region) → SpellsRegion bytes.now region

@@ -1,7 +1,7 @@
 //! Stored regions in place: only their keys are decoded.
 
 ghost use Rattle.std.specs.Prelude.{◌≡◌, ◌≤◌, [], ◌∷◌, List, ◌++◌, length, vec_capacity};
-ghost use Rattle.mb_model.specs.declared.limits.TheConstants.{FILE_LIMIT, KEY_LIMIT};
+ghost use Rattle.mb_model.specs.declared.limits.TheConstants.{FILE_LIMIT, KEY_LIMIT, REGION_LIMIT};
 ghost use Rattle.mb_model.specs.declared.region.Region.{Region};
 ghost use Rattle.mb_model.specs.declared.region.Secret.{Secret};
 ghost use Rattle.mb_model.specs.RegionFormat.{least_keys, secrets_format, keys_format, SpellsRegion};
@@ -111,7 +111,7 @@ fn put_stored(out: &mut Vec<u8>, secrets: &[u8], keys: &[RegionKey]) -> Result<(
 
 /// Replaces `out` by the record of the region, or by no bytes if it is empty.
 pub fn store(stored: &StoredRegion<'_>, out: &mut Vec<u8>)
-    requires { 3091 ≤ vec_capacity out.old }
+    requires { REGION_LIMIT ≤ vec_capacity out.old }
     ensures stored { (region : Region) → IsStoredAs stored.now region → CanBeStored region
         → SpellsRegion out.new.items region }
     ensures capacity { (region : Region) → IsStoredAs stored.now region → CanBeStored region

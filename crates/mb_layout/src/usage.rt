@@ -2,7 +2,7 @@
 
 ghost use Rattle.std.specs.Prelude.{◌≡◌, ◌≤◌, [], length, vec_capacity, OnErr};
 ghost use Rattle.mb_model.specs.RegionFormat.{SpellsRegion};
-ghost use Rattle.mb_model.specs.declared.limits.TheConstants.{FILE_LIMIT};
+ghost use Rattle.mb_model.specs.declared.limits.TheConstants.{FILE_LIMIT, REGION_LIMIT};
 ghost use Rattle.mb_model.specs.declared.region.Region.{Region};
 ghost use Rattle.mb_layout.specs.Edits.{UseOf, CanBeStored, region_with_use};
 
@@ -24,7 +24,7 @@ pub enum NotUsed {
 /// `Spent` if that key has no index left; `out` is then empty. Nothing is said if the bytes stand for no region. `out`
 /// has room for any record of a region.
 pub fn use_in_record(bytes: &[u8], number: u32, out: &mut Vec<u8>) -> Result<RegionKey, NotUsed>
-    requires room { 3091 ≤ vec_capacity out.old }
+    requires room { REGION_LIMIT ≤ vec_capacity out.old }
     requires short { length bytes.now ≤ FILE_LIMIT }
     ensures used { (region : Region) → SpellsRegion bytes.now region
         → UseOf region number result out.new.items }

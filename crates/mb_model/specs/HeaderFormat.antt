@@ -5,7 +5,7 @@ use Rattle.std.specs.Int.{w8, w16, w32}
 use Rattle.mb_format.specs.Format.{Format}
 use Rattle.mb_format.specs.Combinators.{between, mark, either, both, pair, as_value, as_record, then_value}
 use Rattle.mb_format.specs.Combinators.{sized, counted}
-use Rattle.mb_model.specs.declared.limits.TheConstants.{CODE_LIMIT, ENTRY_LIMIT}
+use Rattle.mb_model.specs.declared.limits.TheConstants.{CODE_LIMIT, ENTRY_LIMIT, ENTRY_TEXT_LIMIT}
 use Rattle.mb_model.specs.declared.stored.Slot.{Slot}
 use Rattle.mb_model.specs.declared.stored.Header.{Header}
 use Rattle.mb_model.specs.EntryFormat.{signature_format}
@@ -26,7 +26,7 @@ slot_format = as_record (both (between w8 0 2) code_length_format)
 
 -- the bytes of an entry, 1 to 400, after their number
 unfoldable pub entry_bytes_format : Format (List ℕ)
-entry_bytes_format = sized (between w16 1 400)
+entry_bytes_format = sized (between w16 1 ENTRY_TEXT_LIMIT)
 
 -- how many entries may be unsigned beside so many signed ones: at most two, and at most 128 of both together
 abbrev pub most_unsigned : ℕ → ℕ

@@ -14,6 +14,7 @@ ghost use Rattle.mb_model.specs.RootFormat.{region_key_format, root_format};
 ghost use Rattle.mb_model.specs.RegionFormat.{secret_format, region_format};
 ghost use Rattle.mb_model.specs.PublicRecord.{public_entry_format, public_format};
 ghost use Rattle.mb_model.specs.HeaderFormat.{slot_format, header_format, log_format};
+ghost use Rattle.mb_model.specs.declared.limits.TheConstants.{STATEMENT_LIMIT, REGION_LIMIT};
 
 /// At each place of any bytes one value of the format is spelled, or one place fails.
 pub fn formats_are_clear()
@@ -60,10 +61,10 @@ pub fn formats_are_short()
     ensures keyfile { IsShort keyfile_format 56 }
     ensures entry { IsShort entry_format 358 }
     ensures order { IsShort order_format 61034 }
-    ensures statement { IsShort statement_format 2481 }
+    ensures statement { IsShort statement_format STATEMENT_LIMIT }
     ensures chain { IsShort chain_format 348856 }
     ensures root { IsShort root_format 229 }
-    ensures region { IsShort region_format 3091 }
+    ensures region { IsShort region_format REGION_LIMIT }
     ensures public_record { IsShort public_format 444818 }
     ensures header { IsShort header_format 826 }
     ensures log_sector { IsShort log_format 2750 }

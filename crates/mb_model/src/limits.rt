@@ -14,6 +14,9 @@ const _: () = prove!(FLASH_LENGTH + BBRAM_LENGTH == IMAGE_LENGTH);
 /// The length of a sector of the flash, which is erased as one, in bytes.
 pub const SECTOR_LENGTH: usize = 4_096;
 
+/// How many sectors the flash has.
+pub const SECTOR_COUNT: u16 = 256;
+
 /// The length of an area of the battery-backed memory, in bytes.
 pub const AREA_LENGTH: usize = 4_096;
 
@@ -43,6 +46,15 @@ pub const LAST_INDEX: u8 = 31;
 
 /// The most entries of a log.
 pub const ENTRY_LIMIT: u16 = 128;
+
+/// The most bytes of an entry without its signature, in a header or a sector of the log.
+pub const ENTRY_TEXT_LIMIT: u16 = 400;
+
+/// The most bytes of a statement.
+pub const STATEMENT_LIMIT: usize = 2_481;
+
+/// The most bytes of the record of a region.
+pub const REGION_LIMIT: usize = 3_091;
 
 /// The most secrets of a region.
 pub const SECRET_LIMIT: u8 = 16;

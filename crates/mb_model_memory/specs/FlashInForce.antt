@@ -2,7 +2,7 @@
 -- elsewhere, while codes and entries stay?
 use Rattle.std.specs.Prelude.{◌≡◌, ◌≢◌, ℕ, ◌+◌, ◌*◌, ◌<◌, ◌≤◌, ◌⊎◌, ◌==◌, if◌then◌else◌}
 use Rattle.std.specs.Prelude.{List, length, take, slice_index}
-use Rattle.mb_model.specs.declared.limits.TheConstants.{SECTOR_LENGTH}
+use Rattle.mb_model.specs.declared.limits.TheConstants.{SECTOR_LENGTH, SECTOR_COUNT}
 use Rattle.mb_model.specs.declared.stored.Root.{Root}
 use Rattle.mb_model.specs.declared.stored.Slot.{Slot}
 use Rattle.mb_model.specs.declared.stored.Header.{Header}
@@ -24,7 +24,7 @@ pub record AgreeInSlots (flash other : List ℕ) (header : Header) : Type 0 wher
 
 -- a sector that holds nothing: it stands between the code slots and the log, or behind the log
 abbrev pub IsUnused : ℕ → Type 0
-IsUnused n = ((50 ≤ n) × (n < 64)) ⊎ ((192 ≤ n) × (n < 256))
+IsUnused n = ((50 ≤ n) × (n < 64)) ⊎ ((192 ≤ n) × (n < SECTOR_COUNT))
 
 -- two flashes have the same bytes in the sectors that hold nothing
 abbrev pub AgreeInUnused : List ℕ → List ℕ → Type 0

@@ -1,11 +1,12 @@
 -- What every header with a spelling keeps. Do its numbers and its entries fit into their fields?
 use Rattle.std.specs.Prelude.{◌≡◌, ◌<◌, ◌≤◌, ℕ, List, length, Option, Some, None}
 use Rattle.mb_model.specs.declared.stored.Header.{Header}
+use Rattle.mb_model.specs.declared.limits.TheConstants.{ENTRY_TEXT_LIMIT}
 
--- an entry has at most 400 bytes
+-- an entry is not too long
 abbrev pub TextFits : Option (List ℕ) → Type 0
 TextFits None = Unit {0}
-TextFits (Some text) = length text ≤ 400
+TextFits (Some text) = length text ≤ ENTRY_TEXT_LIMIT
 
 -- both unsigned entries fit, and there is no second one without a first
 pub record TextsFit (first second : Option (List ℕ)) : Type 0 where

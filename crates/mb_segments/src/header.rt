@@ -1,7 +1,7 @@
 //! Headers of a flash in segments, read from bytes and written to bytes.
 
 ghost use Rattle.std.specs.Prelude.{◌≡◌, ◌≤◌, length, IfOk};
-ghost use Rattle.mb_model.specs.declared.limits.TheConstants.{ENTRY_LIMIT, FILE_LIMIT};
+ghost use Rattle.mb_model.specs.declared.limits.TheConstants.{ENTRY_LIMIT, ENTRY_TEXT_LIMIT, FILE_LIMIT};
 ghost use Rattle.mb_model.specs.HeaderFormat.{code_length_format, slot_format, entry_bytes_format, most_unsigned, unsigned_format, header_format};
 ghost use Rattle.mb_bytes.specs.Reads.{bad_at, Reads, ReadsAs};
 ghost use Rattle.mb_bytes.specs.Puts.{Puts, Writes};
@@ -16,14 +16,13 @@ use mb_bytes::{
     Cursor, bytes_after_u16, put_after_u16, put_slice, put_u8, put_u16, put_u32, u8_between,
     u16_between, u32_between, word_at,
 };
-use mb_model::{BadRecord, Bytes, CODE_LIMIT, ENTRY_LIMIT, Header, NoMemory, Slot};
+use mb_model::{
+    BadRecord, Bytes, CODE_LIMIT, ENTRY_LIMIT, ENTRY_TEXT_LIMIT, Header, NoMemory, Slot,
+};
 use std::alloc::Global;
 
 /// The word by which a header is known.
 const WORD: [u8; 4] = *b"MBH1";
-
-/// The longest entry, in bytes.
-const TEXT_LIMIT: u16 = 400;
 
 /// The unsigned entries of a header as bytes, in place.
 #[derive(Clone, Copy)]
@@ -77,7 +76,7 @@ fn slot_at(cursor: &mut Cursor<'_>) -> Result<Slot, BadRecord>
 pub(crate) fn text_at<'a>(cursor: &mut Cursor<'a>) -> Result<&'a [u8], BadRecord>
     ensures { ReadsAs (λ text. text.now) bad_at entry_bytes_format cursor.old result cursor.new }
 {
-    bytes_after_u16(cursor, 1, TEXT_LIMIT)
+    bytes_after_u16(cursor, 1, ENTRY_TEXT_LIMIT)
 }
 
 /// The most unsigned entries beside this many signed ones.
@@ -197,7 +196,7 @@ fn put_slot(out: &mut Vec<u8>, slot: Slot) -> Result<(), NoMemory>
 /// Appends the bytes of an entry, 1 to 400, after their number.
 #[tactic(auto, unfolding(mb_model::specs::HeaderFormat::entry_bytes_format))]
 pub(crate) fn put_text(out: &mut Vec<u8>, text: &[u8]) -> Result<(), NoMemory>
-    requires { length text.now ≤ 400 }
+    requires { length text.now ≤ ENTRY_TEXT_LIMIT }
     ensures { Puts (entry_bytes_format.spelling text.now) out.old result out.new }
 {
     put_after_u16(out, text)

@@ -1,7 +1,7 @@
 //! Sectors of the log, read from bytes and written to bytes.
 
 ghost use Rattle.std.specs.Prelude.{◌≤◌, length};
-ghost use Rattle.mb_model.specs.declared.limits.TheConstants.{FILE_LIMIT};
+ghost use Rattle.mb_model.specs.declared.limits.TheConstants.{ENTRY_TEXT_LIMIT, FILE_LIMIT};
 ghost use Rattle.mb_model.specs.HeaderFormat.{log_format};
 ghost use Rattle.mb_bytes.specs.Reads.{bad_at, ReadsAs};
 ghost use Rattle.mb_bytes.specs.Puts.{Puts, Writes};
@@ -49,7 +49,7 @@ fn put_parts(
     text: &[u8],
     signature: &[u8; SIGNATURE_LENGTH],
 ) -> Result<(), NoMemory>
-    requires { length text.now ≤ 400 }
+    requires { length text.now ≤ ENTRY_TEXT_LIMIT }
     ensures { Puts (log_format.spelling (text.now, signature.now)) out.old result out.new }
 {
     put_text(out, text)?;
@@ -63,7 +63,7 @@ pub fn put_log(
     signature: &[u8; SIGNATURE_LENGTH],
     out: &mut Vec<u8>,
 ) -> Result<(), NoMemory>
-    requires { (1 ≤ length text.now) × (length text.now ≤ 400) }
+    requires { (1 ≤ length text.now) × (length text.now ≤ ENTRY_TEXT_LIMIT) }
     ensures { Writes (log_format.spelling (text.now, signature.now)) out.old result out.new }
 {
     let length = out.len();
