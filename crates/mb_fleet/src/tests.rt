@@ -1,0 +1,1 @@
+//! Tests by values of another program.
