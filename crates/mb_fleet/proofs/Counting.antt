@@ -12,7 +12,7 @@ use Rattle.mb_fleet.specs.declared.row.Row.{Row}
 use Rattle.mb_fleet.specs.declared.question.CodeCount.{CodeCount}
 use Rattle.mb_fleet.specs.Order.{IsAscending}
 use Rattle.mb_fleet.specs.Rows.{code_at, serial_of_row}
-use Rattle.mb_fleet.specs.Questions.{is_hash, has_code, serials_with, hash_of_count, count_of, AreCounts}
+use Rattle.mb_fleet.specs.Questions.{is_hash, row_has_code, serials_with, hash_of_count, count_beside, AreCounts}
 use Rattle.mb_fleet.specs.Places.{IsHeld, IsFree, CountsOneMore}
 use Rattle.mb_fleet.proofs.Each.{each_between, each_instead}
 use Rattle.mb_fleet.proofs.Standing.{held_here_is}
@@ -40,20 +40,20 @@ equal_bytes xs ys is = same_bytes-true xs ys (sym (same_is xs ys) ∙ is)
 -- ---- devices with a code
 
 module _ (layer : ℕ) (hash : List ℕ) (rows : List Row) (i : ℕ) (d : Row) (within : i < length rows) where
-  found_in : (kept : List Row) → filter (has_code layer hash) (get_or rows i d ∷ []) ≡ kept
+  found_in : (kept : List Row) → filter (row_has_code layer hash) (get_or rows i d ∷ []) ≡ kept
       → serials_with layer hash (take (i + 1) rows) ≡ serials_with layer hash (take i rows) ++ map serial_of_row kept
   found_in kept is =
       ap (serials_with layer hash) (take_more rows i d within)
-      ∙ ap (map serial_of_row) (filter-append (has_code layer hash) (take i rows) (get_or rows i d ∷ []))
-      ∙ map-append serial_of_row (filter (has_code layer hash) (take i rows)) (filter (has_code layer hash) (get_or rows i d ∷ []))
+      ∙ ap (map serial_of_row) (filter-append (row_has_code layer hash) (take i rows) (get_or rows i d ∷ []))
+      ∙ map-append serial_of_row (filter (row_has_code layer hash) (take i rows)) (filter (row_has_code layer hash) (get_or rows i d ∷ []))
       ∙ ap (λ (k : List Row). serials_with layer hash (take i rows) ++ map serial_of_row k) is
 
-  pub found_more : (now after : List (List ℕ)) → has_code layer hash (get_or rows i d) ≡ true → now ≡ serials_with layer hash (take i rows)
+  pub found_more : (now after : List (List ℕ)) → row_has_code layer hash (get_or rows i d) ≡ true → now ≡ serials_with layer hash (take i rows)
       → after ≡ now ++ (get_or rows i d).serial ∷ [] → after ≡ serials_with layer hash (take (i + 1) rows)
   found_more now after has is pushed =
       pushed ∙ ap (λ (s : List (List ℕ)). s ++ (get_or rows i d).serial ∷ []) is ∙ sym (found_in (get_or rows i d ∷ []) (rw has refl))
 
-  pub found_less : (now : List (List ℕ)) → has_code layer hash (get_or rows i d) ≡ false → now ≡ serials_with layer hash (take i rows)
+  pub found_less : (now : List (List ℕ)) → row_has_code layer hash (get_or rows i d) ≡ false → now ≡ serials_with layer hash (take i rows)
       → now ≡ serials_with layer hash (take (i + 1) rows)
   found_less now lacks is = is ∙ sym (append-nil (serials_with layer hash (take i rows))) ∙ sym (found_in [] (rw lacks refl))
 
@@ -124,8 +124,8 @@ module _ (layer : ℕ) (rows : List Row) (i : ℕ) (d : Row) (within : i < lengt
     ordered = are.ordered;
     some = are.some;
     counted = λ hash.
-        let off : has_code layer hash (get_or rows i d) ≡ false = ap (is_hash hash) none in
-        are.counted hash ∙ sym (count_by_more_no (has_code layer hash) rows i d within off);
+        let off : row_has_code layer hash (get_or rows i d) ≡ false = ap (is_hash hash) none in
+        are.counted hash ∙ sym (count_by_more_no (row_has_code layer hash) rows i d within off);
   }
 
   pub counts_more : (counts after : List CodeCount) (hash : List ℕ) → code_at layer (get_or rows i d) ≡ Some hash → CountsOneMore counts hash after
@@ -134,18 +134,18 @@ module _ (layer : ℕ) (rows : List Row) (i : ℕ) (d : Row) (within : i < lengt
     ordered = more.ordered;
     some = more.some are.some;
     counted = λ other.
-        let has : has_code layer other (get_or rows i d) ≡ same_bytes other hash = ap (is_hash other) some in
+        let has : row_has_code layer other (get_or rows i d) ≡ same_bytes other hash = ap (is_hash other) some in
         more.counted other ∙ ap (λ n. n + (if same_bytes other hash then 1 else 0)) (are.counted other)
-        ∙ ap (λ (b : Bool). count_by (has_code layer other) (take i rows) + (if b then 1 else 0)) (sym has)
-        ∙ sym (count_more (has_code layer other) rows i d within);
+        ∙ ap (λ (b : Bool). count_by (row_has_code layer other) (take i rows) + (if b then 1 else 0)) (sym has)
+        ∙ sym (count_more (row_has_code layer other) rows i d within);
   }
 
 -- no number is greater than that of the rows
-each_low : (most : ℕ) (counts : List CodeCount) → ((hash : List ℕ) → count_of hash counts ≤ most) → AllByRecursion (λ c. c.count ≤ most) counts
+each_low : (most : ℕ) (counts : List CodeCount) → ((hash : List ℕ) → count_beside hash counts ≤ most) → AllByRecursion (λ c. c.count ≤ most) counts
 each_low most [] low = tt
 each_low most (c ∷ counts) low =
     let own : share c.hash c ≡ c.count = ap (λ (b : Bool). if b then c.count else 0) (same_bytes-refl c.hash) in
     (omega (arith, own, low c.hash, sum_by-cons (share c.hash) c counts), each_low most counts (λ hash. omega (arith, low hash, sum_by-cons (share hash) c counts)))
 
 pub counts_low : (layer : ℕ) (rows : List Row) (most : ℕ) (counts : List CodeCount) → length rows ≤ most → AreCounts layer rows counts → AllByRecursion (λ c. c.count ≤ most) counts
-counts_low layer rows most counts few are = each_low most counts (λ hash. omega (arith, are.counted hash, count_by-le-length (has_code layer hash) rows, few))
+counts_low layer rows most counts few are = each_low most counts (λ hash. omega (arith, are.counted hash, count_by-le-length (row_has_code layer hash) rows, few))

@@ -8,7 +8,7 @@ use Rattle.std.proofs.lemmas.Option.{slice_get-get_or, get_or_from_slice_get}
 use Rattle.std.proofs.lemmas.List.{take_all, take_more_same, take-append-drop, length-drop, length-append}
 use Rattle.mb_fleet.specs.declared.row.Row.{Row}
 use Rattle.mb_fleet.specs.Rows.{AreOrdered, serial_of_row}
-use Rattle.mb_fleet.specs.Showing.{Answer, added, same, extended, older, forked, full, IsShorter, DifferAt, HasOld, Meets, is_added, is_full, is_same, is_extended, is_older, is_forked}
+use Rattle.mb_fleet.specs.Showing.{Answer, newly_added, same, extended, older, forked, full, IsShorter, DifferAt, HasOld, Meets, is_added, is_full, is_same, is_extended, is_older, is_forked}
 use Rattle.mb_fleet.specs.Places.{IsHeld, IsFree, HasFewEntries, FitsRegister}
 use Rattle.mb_fleet.proofs.Each.{each_between, each_instead}
 use Rattle.mb_fleet.proofs.Ascending.{ascending_between, ascending_instead, none_has}
@@ -58,10 +58,10 @@ module _ (rows : List Row) (row : Row) (at : ℕ) (free : IsFree serial_of_row r
   pub meets_full : 512 ≤ length rows → Meets rows row full rows
   meets_full many = is_full is_new many refl refl
 
-  pub meets_new : (after : List Row) (n : ℕ) → length rows < 512 → after ≡ insert rows at row → n ≡ length row.hashes → Meets rows row (added row.serial n) after
+  pub meets_new : (after : List Row) (n : ℕ) → length rows < 512 → after ≡ insert rows at row → n ≡ length row.hashes → Meets rows row (newly_added row.serial n) after
   meets_new after n few inserted size =
       is_added is_new few free.before free.later free.split (record { below = free.below; above = free.above })
-      (inserted ∙ insert_between rows free.before free.later at row free.split free.index_is) (ap (added row.serial) size)
+      (inserted ∙ insert_between rows free.before free.later at row free.split free.index_is) (ap (newly_added row.serial) size)
 
   pub new_fits : (after : List Row) → FitsRegister rows → HasFewEntries row → length rows < 512 → after ≡ insert rows at row → FitsRegister after
   new_fits after fits own few inserted =

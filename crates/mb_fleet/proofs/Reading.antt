@@ -17,7 +17,7 @@ use Rattle.mb_bytes.specs.Reads.{ReadsOk, ReadsErr, ReadsErrAt}
 use Rattle.mb_bytes.proofs.Exactly.{is_read, stands}
 use Rattle.mb_fleet.specs.declared.item.Item.{Item}
 use Rattle.mb_fleet.specs.declared.item.Item.TheVariants.{Show, Find, Codes}
-use Rattle.mb_fleet.specs.ItemFormat.{ItemTag, show_tag, find_tag, codes_tag, item_byte, item_rows, item_tag, show_in, find_in, codes_in, show_format, find_format, codes_format, item_by, item_format, AreItems, ItemsFailAt}
+use Rattle.mb_fleet.specs.ItemFormat.{ItemTag, show_tag, find_tag, codes_tag, item_byte, item_rows, item_tag, show_in, find_in, codes_item_in, show_format, find_format, codes_item_format, item_by, item_format, AreItems, ItemsFailAt}
 use Rattle.mb_fleet.specs.declared.end.FleetReadEnd.{FleetReadEnd}
 use Rattle.mb_fleet.specs.declared.end.FleetReadEnd.TheVariants as end
 use Rattle.mb_fleet.specs.Ends.{fleet_at, HasShortChain, ReadsItems}
@@ -34,7 +34,7 @@ show_only item chain e = grind arith
 find_only : (item : Item) (p : ℕ × List ℕ) → find_in item ≡ Some p → Find p.0 p.1 ≡ item
 find_only item p e = grind arith
 
-codes_only : (item : Item) (layer : ℕ) → codes_in item ≡ Some layer → Codes layer ≡ item
+codes_only : (item : Item) (layer : ℕ) → codes_item_in item ≡ Some layer → Codes layer ≡ item
 codes_only item layer e = grind arith
 
 show_exact : IsExact show_format
@@ -45,8 +45,8 @@ find_exact : IsExact find_format
 unfolding find_format
 find_exact = search (exactly, find_only) depth 20
 
-codes_exact : IsExact codes_format
-unfolding codes_format
+codes_exact : IsExact codes_item_format
+unfolding codes_item_format
 codes_exact = search (exactly, codes_only) depth 20
 
 item_by-exact : (tag : ItemTag) → IsExact (item_by tag)
@@ -55,7 +55,7 @@ item_by-exact find_tag = find_exact
 item_by-exact codes_tag = codes_exact
 
 item_keyed : (tag : ItemTag) (item : Item) → (item_by tag).Allowed item → item_tag item ≡ tag
-unfolding show_format find_format codes_format
+unfolding show_format find_format codes_item_format
 item_keyed show_tag item h = grind arith
 item_keyed find_tag item h = grind arith
 item_keyed codes_tag item h = grind arith

@@ -19,8 +19,8 @@ use Rattle.mb_fleet.specs.declared.row.Row.{Row}
 use Rattle.mb_fleet.specs.declared.end.Added.{Added}
 use Rattle.mb_fleet.specs.declared.end.FleetEnd.{FleetEnd}
 use Rattle.mb_fleet.specs.declared.end.FleetEnd.TheVariants as end
-use Rattle.mb_fleet.specs.Showing.{IsShown, is_refused, is_shown}
-use Rattle.mb_fleet.specs.Ends.{end_of, AnswersChain, AnswersRow}
+use Rattle.mb_fleet.specs.Showing.{IsShown, is_chain_refused, is_shown}
+use Rattle.mb_fleet.specs.Ends.{fleet_end_of, AnswersChain, AnswersRow}
 
 -- ---- the serial of a good log
 
@@ -49,7 +49,7 @@ has_serial maker chain log spelled good is none = some_serial maker chain.entrie
 
 -- ---- answers
 
-pub other_end : (e : verifier.ChainRefusal) → (e ≡ why.NoMemory → ⊥) → end.Chain e ≡ end_of e
+pub other_end : (e : verifier.ChainRefusal) → (e ≡ why.NoMemory → ⊥) → end.Chain e ≡ fleet_end_of e
 other_end (why.Form at) other = refl
 other_end (why.Signature entry) other = refl
 other_end (why.Order entry) other = refl
@@ -61,15 +61,15 @@ other_end why.NotAlive other = refl
 other_end why.NoMemory other = absurd (other refl)
 
 module _ (maker : PublicKey) (rows : List Row) (bytes : List ℕ) where
-  pub refusal_answers : (e : verifier.ChainRefusal) → IfSome (chain_refusal_of e) (IsEntriesRefused maker bytes) → AnswersChain maker rows bytes (Err (end_of e)) rows
-  refusal_answers (why.Form at) refuses = (_, refl, is_refused _ refuses refl refl)
-  refusal_answers (why.Signature entry) refuses = (_, refl, is_refused _ refuses refl refl)
-  refusal_answers (why.Order entry) refuses = (_, refl, is_refused _ refuses refl refl)
-  refusal_answers (why.Rules entry) refuses = (_, refl, is_refused _ refuses refl refl)
-  refusal_answers why.KeyUnknown refuses = (_, refl, is_refused _ refuses refl refl)
-  refusal_answers why.StatementSignature refuses = (_, refl, is_refused _ refuses refl refl)
-  refusal_answers (why.StatementNumber named last) refuses = (_, refl, is_refused _ refuses refl refl)
-  refusal_answers why.NotAlive refuses = (_, refl, is_refused _ refuses refl refl)
+  pub refusal_answers : (e : verifier.ChainRefusal) → IfSome (chain_refusal_of e) (IsEntriesRefused maker bytes) → AnswersChain maker rows bytes (Err (fleet_end_of e)) rows
+  refusal_answers (why.Form at) refuses = (_, refl, is_chain_refused _ refuses refl refl)
+  refusal_answers (why.Signature entry) refuses = (_, refl, is_chain_refused _ refuses refl refl)
+  refusal_answers (why.Order entry) refuses = (_, refl, is_chain_refused _ refuses refl refl)
+  refusal_answers (why.Rules entry) refuses = (_, refl, is_chain_refused _ refuses refl refl)
+  refusal_answers why.KeyUnknown refuses = (_, refl, is_chain_refused _ refuses refl refl)
+  refusal_answers why.StatementSignature refuses = (_, refl, is_chain_refused _ refuses refl refl)
+  refusal_answers (why.StatementNumber named last) refuses = (_, refl, is_chain_refused _ refuses refl refl)
+  refusal_answers why.NotAlive refuses = (_, refl, is_chain_refused _ refuses refl refl)
   refusal_answers why.NoMemory refuses = refl
 
   pub row_answers : (row : Row) (after : List Row) (result : Result Added FleetEnd) → IsShown maker bytes row → AnswersRow rows row result after → AnswersChain maker rows bytes result after

@@ -17,10 +17,10 @@ use Rattle.mb_fleet.specs.declared.item.Item.{Item}
 use Rattle.mb_fleet.specs.declared.item.Item.TheVariants.{Show, Find, Codes}
 use Rattle.mb_fleet.specs.declared.end.FleetEnd.{FleetEnd}
 use Rattle.mb_fleet.specs.declared.end.FleetEnd.TheVariants as end
-use Rattle.mb_fleet.specs.Showing.{Answer, refused, older, forked, full, IsAnswered}
+use Rattle.mb_fleet.specs.Showing.{Answer, chain_refused, older, forked, full, IsChainAnswered}
 use Rattle.mb_fleet.specs.declared.question.CodeCount.{CodeCount}
 use Rattle.mb_fleet.specs.Questions.{serials_with, AreCounts}
-use Rattle.mb_fleet.specs.Serving.{answer_line, found_lines, count_lines, FleetStep, FleetRun, IsServed, IsTooLong}
+use Rattle.mb_fleet.specs.Serving.{answer_line, found_lines, count_lines, FleetStep, FleetRun, AreServed, IsTooLong}
 use Rattle.mb_fleet.specs.Ends.{AnswersChain, TellsEnd, AppendsStep}
 use Rattle.mb_fleet.proofs.Texts.{text_of_one, text_join}
 
@@ -46,7 +46,7 @@ run_more maker rows (one ∷ front) item lines first middle after run step = (
 )
 
 module _ (maker : PublicKey) (rows : List Row) (listed : List Item) (i : ℕ) (d : Item) (within : i < length listed)
-    (text text' : List ℕ) (middle after : List Row) (served : IsServed maker rows (take i listed) text middle)
+    (text text' : List ℕ) (middle after : List Row) (served : AreServed maker rows (take i listed) text middle)
     (step : AppendsStep maker middle (get_or listed i d) text text' after) where
   abbrev lines_now : List (List ℕ)
   lines_now = served.lines ++ step.lines
@@ -58,7 +58,7 @@ module _ (maker : PublicKey) (rows : List Row) (listed : List Item) (i : ℕ) (d
   text_now : text' ≡ text_of lines_now
   text_now = step.appended ∙ ap (λ (t : List ℕ). t ++ text_of step.lines) served.text_is ∙ sym (text_join served.lines step.lines)
 
-  pub serving_goes_on : length text' ≤ TEXT_LIMIT → IsServed maker rows (take (i + 1) listed) text' after
+  pub serving_goes_on : length text' ≤ TEXT_LIMIT → AreServed maker rows (take (i + 1) listed) text' after
   serving_goes_on short = record { lines = lines_now; run = run_now; text_is = text_now; short = short }
 
   pub serving_stops : TEXT_LIMIT < length text' → IsTooLong maker rows listed
@@ -72,17 +72,17 @@ module _ (maker : PublicKey) (rows : List Row) (listed : List Item) (i : ℕ) (d
     long = subst (λ (t : List ℕ). TEXT_LIMIT < length t) text_now long;
   }
 
-pub serving_begins : (maker : PublicKey) (rows : List Row) (text : List ℕ) → text ≡ [] → IsServed maker rows [] text rows
+pub serving_begins : (maker : PublicKey) (rows : List Row) (text : List ℕ) → text ≡ [] → AreServed maker rows [] text rows
 serving_begins maker rows text none = record { lines = []; run = (refl, refl); text_is = none; short = rw none (omega arith) }
 
 pub serving_ends : (maker : PublicKey) (rows : List Row) (listed : List Item) (i : ℕ) (text : List ℕ) (after : List Row) → length listed ≤ i
-    → IsServed maker rows (take i listed) text after → IsServed maker rows listed text after
-serving_ends maker rows listed i text after over served = subst (λ (ls : List Item). IsServed maker rows ls text after) (take_all i listed over) served
+    → AreServed maker rows (take i listed) text after → AreServed maker rows listed text after
+serving_ends maker rows listed i text after over served = subst (λ (ls : List Item). AreServed maker rows ls text after) (take_all i listed over) served
 
 -- ---- a chain that is shown
 
 module _ (maker : PublicKey) (rows : List Row) (bytes old new : List ℕ) (after : List Row) where
-  pub answer_step : (answer : Answer) → IsAnswered maker rows bytes answer after → new ≡ old ++ ended (answer_line answer) → AppendsStep maker rows (Show bytes) old new after
+  pub answer_step : (answer : Answer) → IsChainAnswered maker rows bytes answer after → new ≡ old ++ ended (answer_line answer) → AppendsStep maker rows (Show bytes) old new after
   answer_step answer answered put = record {
     lines = answer_line answer ∷ [];
     step = (answer, answered, refl);
@@ -93,7 +93,7 @@ module _ (maker : PublicKey) (rows : List Row) (bytes old new : List ℕ) (after
   told P o why is holds = subst (λ (p : Option ChainRefusal). IfSome p P) is holds
 
   pub end_step : (e : FleetEnd) (text : List ℕ) → AnswersChain maker rows bytes (Err e) after → TellsEnd e text → new ≡ old ++ text → AppendsStep maker rows (Show bytes) old new after
-  end_step (end.Chain refusal) text answers tells put = answer_step (refused answers.0) answers.2
+  end_step (end.Chain refusal) text answers tells put = answer_step (chain_refused answers.0) answers.2
       (put ∙ ap (λ (t : List ℕ). old ++ t) (told (λ why. text ≡ ended (refused_line why)) (chain_refusal_of refusal) answers.0 answers.1 tells))
   end_step (end.Older serial have) text answers tells put = answer_step (older serial have) answers (put ∙ ap (λ (t : List ℕ). old ++ t) tells)
   end_step (end.Fork serial place) text answers tells put = answer_step (forked serial place) answers (put ∙ ap (λ (t : List ℕ). old ++ t) tells)

@@ -22,9 +22,9 @@ use Rattle.mb_fleet.specs.declared.end.FleetReadEnd.{FleetReadEnd}
 use Rattle.mb_fleet.specs.declared.end.FleetReadEnd.TheVariants as reading
 use Rattle.mb_fleet.specs.declared.end.ServeEnd.{ServeEnd}
 use Rattle.mb_fleet.specs.declared.end.ServeEnd.TheVariants as serving
-use Rattle.mb_fleet.specs.Showing.{Answer, added, same, extended, refused, older, forked, full, Meets, IsAnswered}
+use Rattle.mb_fleet.specs.Showing.{Answer, newly_added, same, extended, chain_refused, older, forked, full, Meets, IsChainAnswered}
 use Rattle.mb_fleet.specs.ItemFormat.{AreItems, ItemsFailAt}
-use Rattle.mb_fleet.specs.Serving.{answer_line, FleetStep, IsServed, IsTooLong}
+use Rattle.mb_fleet.specs.Serving.{answer_line, FleetStep, AreServed, IsTooLong}
 
 -- the offset at which an error points, and None where an allocation failed
 abbrev pub fleet_at : FleetReadEnd → Option ℕ
@@ -33,33 +33,33 @@ fleet_at reading.NoMemory = None
 
 abbrev pub answer_of : Added → Answer
 answer_of (shown.Same serial n) = same serial n
-answer_of (shown.Added serial n) = added serial n
+answer_of (shown.Added serial n) = newly_added serial n
 answer_of (shown.Extended serial n) = extended serial n
 
 -- why a chain is not taken that the verifier does not answer: for its refusal, or for want of memory
-abbrev pub end_of : verifier.ChainRefusal → FleetEnd
-end_of (why.Form at) = end.Chain (why.Form at)
-end_of (why.Signature entry) = end.Chain (why.Signature entry)
-end_of (why.Order entry) = end.Chain (why.Order entry)
-end_of (why.Rules entry) = end.Chain (why.Rules entry)
-end_of why.KeyUnknown = end.Chain why.KeyUnknown
-end_of why.StatementSignature = end.Chain why.StatementSignature
-end_of (why.StatementNumber named last) = end.Chain (why.StatementNumber named last)
-end_of why.NotAlive = end.Chain why.NotAlive
-end_of why.NoMemory = end.NoMemory
+abbrev pub fleet_end_of : verifier.ChainRefusal → FleetEnd
+fleet_end_of (why.Form at) = end.Chain (why.Form at)
+fleet_end_of (why.Signature entry) = end.Chain (why.Signature entry)
+fleet_end_of (why.Order entry) = end.Chain (why.Order entry)
+fleet_end_of (why.Rules entry) = end.Chain (why.Rules entry)
+fleet_end_of why.KeyUnknown = end.Chain why.KeyUnknown
+fleet_end_of why.StatementSignature = end.Chain why.StatementSignature
+fleet_end_of (why.StatementNumber named last) = end.Chain (why.StatementNumber named last)
+fleet_end_of why.NotAlive = end.Chain why.NotAlive
+fleet_end_of why.NoMemory = end.NoMemory
 
 -- The result of `add` is the answer to a chain, and these are the rows afterwards. A refusal of the chain is never want
 -- of memory, and where memory lacks the rows are as they were.
 abbrev pub AnswersChain : PublicKey → List Row → List ℕ → Result Added FleetEnd → List Row → Type 0
-AnswersChain maker rows bytes (Ok answer) after = IsAnswered maker rows bytes (answer_of answer) after
+AnswersChain maker rows bytes (Ok answer) after = IsChainAnswered maker rows bytes (answer_of answer) after
 AnswersChain maker rows bytes (Err (end.Chain refusal)) after =
     (reason : ChainRefusal) × (chain_refusal_of refusal ≡ Some reason)
-    × IsAnswered maker rows bytes (refused reason) after
+    × IsChainAnswered maker rows bytes (chain_refused reason) after
 AnswersChain maker rows bytes (Err (end.Older serial have)) after =
-    IsAnswered maker rows bytes (older serial have) after
+    IsChainAnswered maker rows bytes (older serial have) after
 AnswersChain maker rows bytes (Err (end.Fork serial place)) after =
-    IsAnswered maker rows bytes (forked serial place) after
-AnswersChain maker rows bytes (Err end.Full) after = IsAnswered maker rows bytes full after
+    IsChainAnswered maker rows bytes (forked serial place) after
+AnswersChain maker rows bytes (Err end.Full) after = IsChainAnswered maker rows bytes full after
 AnswersChain maker rows bytes (Err end.NoMemory) after = after ≡ rows
 
 -- the same of a row that meets the rows, where no chain is refused
@@ -72,9 +72,9 @@ AnswersRow rows row (Err end.Full) after = Meets rows row full after
 AnswersRow rows row (Err end.NoMemory) after = after ≡ rows
 
 -- where a chain is wrong, as the end of a line, if it is in one place
-abbrev pub place_words : Option ℕ → List ℕ
-place_words None = []
-place_words (Some place) = codes " " ++ decimal place
+abbrev pub refused_place_words : Option ℕ → List ℕ
+refused_place_words None = []
+refused_place_words (Some place) = codes " " ++ decimal place
 
 -- a text is the line that tells of this end, which is not want of memory
 abbrev pub TellsEnd : FleetEnd → List ℕ → Type 0
@@ -105,6 +105,6 @@ ReadsItems bytes (Err reading.NoMemory) = Unit {0}
 
 -- the result of serving items is the text of the answers, or tells that it is too long
 abbrev pub ServesItems : PublicKey → List Row → List Item → Result (List ℕ) ServeEnd → List Row → Type 0
-ServesItems maker rows listed (Ok text) after = IsServed maker rows listed text after
+ServesItems maker rows listed (Ok text) after = AreServed maker rows listed text after
 ServesItems maker rows listed (Err serving.TooLong) after = IsTooLong maker rows listed
 ServesItems maker rows listed (Err serving.NoMemory) after = Unit {0}

@@ -33,10 +33,10 @@ find_in (Show chain) = None
 find_in (Find layer hash) = Some (layer, hash)
 find_in (Codes layer) = None
 
-abbrev pub codes_in : Item → Option ℕ
-codes_in (Show chain) = None
-codes_in (Find layer hash) = None
-codes_in (Codes layer) = Some layer
+abbrev pub codes_item_in : Item → Option ℕ
+codes_item_in (Show chain) = None
+codes_item_in (Find layer hash) = None
+codes_item_in (Codes layer) = Some layer
 
 -- the bytes of a chain after their number; they need not spell a chain
 unfoldable pub show_format : Format Item
@@ -47,13 +47,13 @@ unfoldable pub find_format : Format Item
 find_format = as_value (pair (between w8 1 3) (raw 32)) (λ (layer, hash). Find layer hash) find_in
 
 -- a layer
-unfoldable pub codes_format : Format Item
-codes_format = as_value (between w8 1 3) (λ layer. Codes layer) codes_in
+unfoldable pub codes_item_format : Format Item
+codes_item_format = as_value (between w8 1 3) (λ layer. Codes layer) codes_item_in
 
 abbrev pub item_by : ItemTag → Format Item
 item_by show_tag = show_format
 item_by find_tag = find_format
-item_by codes_tag = codes_format
+item_by codes_tag = codes_item_format
 
 unfoldable pub item_format : Format Item
 item_format = led (table w8 item_rows item_byte) item_tag item_by

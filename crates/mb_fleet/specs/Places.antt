@@ -13,7 +13,7 @@ use Rattle.mb_fleet.specs.declared.comparison.Comparison.TheVariants as found
 use Rattle.mb_fleet.specs.Order.{IsBefore, IsAscending}
 use Rattle.mb_fleet.specs.Rows.{AreOrdered}
 use Rattle.mb_fleet.specs.Showing.{IsShorter, DifferAt}
-use Rattle.mb_fleet.specs.Questions.{hash_of_count, count_of}
+use Rattle.mb_fleet.specs.Questions.{hash_of_count, count_beside}
 
 module _ {A : Type 0} (key : A → List ℕ) where
   -- an item with this key stands at this index
@@ -60,4 +60,4 @@ pub record CountsOneMore (old : List CodeCount) (hash : List ℕ) (new : List Co
   pub ordered : IsAscending hash_of_count new
   pub some : AllByRecursion (λ c. 0 < c.count) old → AllByRecursion (λ c. 0 < c.count) new
   pub counted : (other : List ℕ)
-      → count_of other new ≡ count_of other old + (if same_bytes other hash then 1 else 0)
+      → count_beside other new ≡ count_beside other old + (if same_bytes other hash then 1 else 0)

@@ -12,12 +12,12 @@ use Rattle.mb_fleet.specs.declared.row.Row.{Row}
 use Rattle.mb_fleet.specs.Order.{IsAscending}
 
 -- the hash of a layer's code, if it has code
-abbrev pub code_hash : Layer → Option (List ℕ)
-code_hash layer = option_map (λ code. code.hash) layer.code
+abbrev pub hash_of_code : Layer → Option (List ℕ)
+hash_of_code layer = option_map (λ code. code.hash) layer.code
 
 abbrev pub code_hashes : Layers → CodeHashes
 code_hashes layers =
-    record { one = code_hash layers.one; two = code_hash layers.two; three = code_hash layers.three }
+    record { one = hash_of_code layers.one; two = hash_of_code layers.two; three = hash_of_code layers.three }
 
 -- the hash of an entry, without its signature
 abbrev pub entry_hash : Entry → List ℕ
@@ -34,7 +34,8 @@ pub record IsRowOf (log : List Entry) (row : Row) : Type 0 where
 -- the hash of the code of layer 1, 2 or 3; no other layer has code
 abbrev pub code_at : ℕ → Row → Option (List ℕ)
 code_at layer row =
-    if layer == 1 then row.code.one else if layer == 2 then row.code.two else if layer == 3 then row.code.three else None
+    if layer == 1 then row.code.one
+    else if layer == 2 then row.code.two else if layer == 3 then row.code.three else None
 
 abbrev pub serial_of_row : Row → List ℕ
 serial_of_row row = row.serial

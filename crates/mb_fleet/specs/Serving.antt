@@ -9,7 +9,7 @@ use Rattle.mb_fleet.specs.declared.row.Row.{Row}
 use Rattle.mb_fleet.specs.declared.item.Item.{Item}
 use Rattle.mb_fleet.specs.declared.item.Item.TheVariants.{Show, Find, Codes}
 use Rattle.mb_fleet.specs.declared.question.CodeCount.{CodeCount}
-use Rattle.mb_fleet.specs.Showing.{Answer, added, same, extended, refused, older, forked, full, IsAnswered}
+use Rattle.mb_fleet.specs.Showing.{Answer, newly_added, same, extended, chain_refused, older, forked, full, IsChainAnswered}
 use Rattle.mb_fleet.specs.Questions.{serials_with, AreCounts}
 
 -- ---- lines
@@ -19,10 +19,10 @@ abbrev pub device_line : List ℕ → List ℕ → ℕ → List ℕ
 device_line words serial n = spaced (words ∷ hex_word serial ∷ decimal n ∷ [])
 
 abbrev pub answer_line : Answer → List ℕ
-answer_line (added serial n) = device_line (codes "added") serial n
+answer_line (newly_added serial n) = device_line (codes "added") serial n
 answer_line (same serial n) = device_line (codes "same") serial n
 answer_line (extended serial n) = device_line (codes "extended") serial n
-answer_line (refused why) = refused_line why
+answer_line (chain_refused why) = refused_line why
 answer_line (older serial have) = device_line (codes "refused 31 older") serial have
 answer_line (forked serial place) = device_line (codes "refused 30 fork") serial place
 answer_line full = codes "refused 32 full"
@@ -46,7 +46,7 @@ count_lines counts = spaced (codes "codes" ∷ decimal (length counts) ∷ []) �
 -- what one item comes to: its lines, and the rows afterwards
 abbrev pub FleetStep : PublicKey → List Row → Item → List (List ℕ) → List Row → Type 0
 FleetStep maker rows (Show chain) lines after =
-    (answer : Answer) × IsAnswered maker rows chain answer after × (lines ≡ answer_line answer ∷ [])
+    (answer : Answer) × IsChainAnswered maker rows chain answer after × (lines ≡ answer_line answer ∷ [])
 FleetStep maker rows (Find layer hash) lines after =
     (lines ≡ found_lines (serials_with layer hash rows)) × (after ≡ rows)
 FleetStep maker rows (Codes layer) lines after =
@@ -60,7 +60,7 @@ FleetRun maker rows (item ∷ listed) lines after =
     × FleetRun maker between listed rest after × (lines ≡ first ++ rest)
 
 -- the text of all answers to items, which is short enough, and the rows at the end
-pub record IsServed (maker : PublicKey) (rows : List Row) (listed : List Item) (text : List ℕ)
+pub record AreServed (maker : PublicKey) (rows : List Row) (listed : List Item) (text : List ℕ)
     (after : List Row) : Type 0 where
   pub lines : List (List ℕ)
   pub run : FleetRun maker rows listed lines after

@@ -16,13 +16,13 @@ use Rattle.mb_fleet.specs.Rows.{IsRowOf}
 -- what a register answers to a chain
 pub data Answer : Type 0 where
   -- the device with this serial is new, and has shown so many entries
-  added : List ℕ → ℕ → Answer
+  newly_added : List ℕ → ℕ → Answer
   -- it has shown just these entries before, so many
   same : List ℕ → ℕ → Answer
   -- it has shown a proper prefix of these entries, which are so many
   extended : List ℕ → ℕ → Answer
   -- the verifier refuses the chain
-  refused : ChainRefusal → Answer
+  chain_refused : ChainRefusal → Answer
   -- it has shown these entries and more, so many
   older : List ℕ → ℕ → Answer
   -- it has shown another past: entries with this index, from 0, are the first that differ
@@ -33,11 +33,11 @@ pub data Answer : Type 0 where
 -- ---- a row meets the rows that are there
 
 -- no row has this serial
-abbrev pub IsNew : List Row → Row → Type 0
-IsNew rows row = AllByRecursion (λ other. other.serial ≢ row.serial) rows
+abbrev pub IsNewDevice : List Row → Row → Type 0
+IsNewDevice rows row = AllByRecursion (λ other. other.serial ≢ row.serial) rows
 
 -- the row stands in its place between rows in ascending serials
-pub record IsPlaced (before later : List Row) (row : Row) : Type 0 where
+pub record StandsBetween (before later : List Row) (row : Row) : Type 0 where
   pub below : AllByRecursion (λ other. IsBefore other.serial row.serial) before
   pub above : AllByRecursion (λ other. IsBefore row.serial other.serial) later
 
@@ -61,10 +61,10 @@ pub record DifferAt (a b : List (List ℕ)) (place : ℕ) : Type 0 where
 
 -- A row meets the rows of a register: the answer, and the rows afterwards.
 pub data Meets (rows : List Row) (row : Row) (answer : Answer) (after : List Row) : Type 0 where
-  is_added : IsNew rows row → length rows < DEVICE_LIMIT
-      → (before later : List Row) → rows ≡ before ++ later → IsPlaced before later row
-      → after ≡ before ++ row ∷ later → answer ≡ added row.serial (length row.hashes) → Meets rows row answer after
-  is_full : IsNew rows row → DEVICE_LIMIT ≤ length rows → after ≡ rows → answer ≡ full → Meets rows row answer after
+  is_added : IsNewDevice rows row → length rows < DEVICE_LIMIT
+      → (before later : List Row) → rows ≡ before ++ later → StandsBetween before later row
+      → after ≡ before ++ row ∷ later → answer ≡ newly_added row.serial (length row.hashes) → Meets rows row answer after
+  is_full : IsNewDevice rows row → DEVICE_LIMIT ≤ length rows → after ≡ rows → answer ≡ full → Meets rows row answer after
   is_same : (before : List Row) (old : Row) (later : List Row) → HasOld rows row before old later
       → row.hashes ≡ old.hashes → after ≡ rows
       → answer ≡ same row.serial (length row.hashes) → Meets rows row answer after
@@ -88,9 +88,9 @@ pub record IsShown (maker : PublicKey) (bytes : List ℕ) (row : Row) : Type 0 w
   pub row_is : IsRowOf (entries_of chain.entries) row
 
 -- a chain is shown to a register with these rows: the answer, and the rows afterwards
-pub data IsAnswered (maker : PublicKey) (rows : List Row) (bytes : List ℕ) (answer : Answer)
+pub data IsChainAnswered (maker : PublicKey) (rows : List Row) (bytes : List ℕ) (answer : Answer)
     (after : List Row) : Type 0 where
-  is_refused : (why : ChainRefusal) → IsEntriesRefused maker bytes why → after ≡ rows → answer ≡ refused why
-      → IsAnswered maker rows bytes answer after
+  is_chain_refused : (why : ChainRefusal) → IsEntriesRefused maker bytes why → after ≡ rows → answer ≡ chain_refused why
+      → IsChainAnswered maker rows bytes answer after
   is_shown : (row : Row) → IsShown maker bytes row → Meets rows row answer after
-      → IsAnswered maker rows bytes answer after
+      → IsChainAnswered maker rows bytes answer after

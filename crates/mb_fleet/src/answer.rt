@@ -7,7 +7,7 @@ ghost use Rattle.mb_model.specs.Texts.{ended};
 ghost use Rattle.mb_model.specs.Lines.{text_of};
 ghost use Rattle.mb_model.specs.VerifyCommand.{refused_line};
 ghost use Rattle.mb_verifier.specs.Ends.{chain_refusal_of};
-ghost use Rattle.mb_fleet.specs.Ends.{answer_of, place_words, TellsEnd};
+ghost use Rattle.mb_fleet.specs.Ends.{answer_of, refused_place_words, TellsEnd};
 ghost use Rattle.mb_fleet.specs.Serving.{device_line, answer_line, serial_line, count_line, found_lines, count_lines};
 
 use crate::end::{Added, FleetEnd};
@@ -73,7 +73,7 @@ fn refused_line(alloc: Global, refusal: &ChainRefusal) -> Result<String, NoMemor
 
 /// The line of a refusal with this number, and where the chain is wrong, if it is in one place.
 fn code_line(alloc: Global, code: u8, place: Option<u32>) -> Result<String, NoMemory>
-    ensures { IfOk result (λ line. string_bytes line ≡ ended (codes "refused " ++ decimal code ++ place_words place)) }
+    ensures { IfOk result (λ line. string_bytes line ≡ ended (codes "refused " ++ decimal code ++ refused_place_words place)) }
 {
     match place {
         Some(place) => Ok(format!(in alloc; "refused {code} {place}\n")?),

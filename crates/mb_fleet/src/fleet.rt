@@ -5,7 +5,7 @@ ghost use Rattle.std.specs.List.{insert};
 ghost use Rattle.mb_model.specs.declared.limits.TheConstants.{FILE_LIMIT, ENTRY_LIMIT};
 ghost use Rattle.mb_bytes.specs.Reads.{ReadsWhole};
 ghost use Rattle.mb_bytes.specs.Puts.{Writes};
-ghost use Rattle.mb_fleet.specs.Ends.{fleet_at, end_of, AnswersChain, AnswersRow};
+ghost use Rattle.mb_fleet.specs.Ends.{fleet_at, fleet_end_of, AnswersChain, AnswersRow};
 ghost use Rattle.mb_fleet.specs.Places.{HasFewEntries, IsHeld, IsFree};
 ghost use Rattle.mb_fleet.specs.Questions.{serials_with, AreCounts};
 ghost use Rattle.mb_fleet.specs.RegisterFormat.{register_format};
@@ -167,7 +167,7 @@ impl Fleet {
 
 /// Why a chain is not taken that the verifier does not answer.
 fn end_of(refusal: ChainRefusal) -> FleetEnd
-    ensures { result ≡ end_of refusal }
+    ensures { result ≡ fleet_end_of refusal }
 {
     match refusal {
         ChainRefusal::NoMemory => FleetEnd::NoMemory,

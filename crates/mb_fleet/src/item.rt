@@ -5,7 +5,7 @@ ghost use Rattle.std.specs.List.{AllByRecursion};
 ghost use Rattle.mb_model.specs.declared.limits.TheConstants.{FILE_LIMIT};
 ghost use Rattle.mb_bytes.specs.Reads.{bad_at, Reads};
 ghost use Rattle.mb_fleet.specs.Ends.{fleet_at, HasShortChain, ReadsItems};
-ghost use Rattle.mb_fleet.specs.ItemFormat.{show_format, find_format, codes_format, item_format};
+ghost use Rattle.mb_fleet.specs.ItemFormat.{show_format, find_format, codes_item_format, item_format};
 
 use crate::end::FleetReadEnd;
 use mb_bytes::{Cursor, u8_between};
@@ -85,9 +85,9 @@ fn find_at(cursor: &mut Cursor<'_>) -> Result<Item, BadRecord>
 }
 
 /// A layer.
-#[tactic(auto, unfolding(crate::specs::ItemFormat::codes_format))]
+#[tactic(auto, unfolding(crate::specs::ItemFormat::codes_item_format))]
 fn codes_at(cursor: &mut Cursor<'_>) -> Result<Item, BadRecord>
-    ensures reads { Reads bad_at codes_format cursor.old result cursor.new }
+    ensures reads { Reads bad_at codes_item_format cursor.old result cursor.new }
     ensures short { IfOk result HasShortChain }
 {
     let layer = u8_between(cursor, 1, 3)?;

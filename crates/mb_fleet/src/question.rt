@@ -6,7 +6,7 @@ ghost use Rattle.mb_format.specs.Combinators.{same_bytes};
 ghost use Rattle.mb_fleet.specs.declared.limits.TheConstants.{DEVICE_LIMIT};
 ghost use Rattle.mb_fleet.specs.Order.{IsAscending};
 ghost use Rattle.mb_fleet.specs.Places.{CountsOneMore};
-ghost use Rattle.mb_fleet.specs.Questions.{is_hash, has_code, serials_with, hash_of_count, AreCounts};
+ghost use Rattle.mb_fleet.specs.Questions.{is_hash, row_has_code, serials_with, hash_of_count, AreCounts};
 
 use crate::place::{Place, place_of_hash};
 use crate::row::Row;
@@ -48,7 +48,7 @@ pub(crate) fn find_serials(
 
 /// Whether the layer of the row's device has this code.
 fn has_code(row: &Row, layer: u8, hash: &[u8; 32]) -> bool
-    ensures { result ≡ has_code layer hash.now row.now }
+    ensures { result ≡ row_has_code layer hash.now row.now }
 {
     match row.code_at(layer) {
         Some(other) => is_same(hash, &other),

@@ -7,7 +7,7 @@ ghost use Rattle.mb_model.specs.Log.{entries_of};
 ghost use Rattle.mb_model.specs.EntryFormat.{entry_format};
 ghost use Rattle.mb_model.specs.ChainFormat.{chain_format};
 ghost use Rattle.mb_model.specs.Acceptance.{AreGood};
-ghost use Rattle.mb_fleet.specs.Rows.{code_hash, code_hashes, code_at, entry_hash, IsRowOf};
+ghost use Rattle.mb_fleet.specs.Rows.{hash_of_code, code_hashes, code_at, entry_hash, IsRowOf};
 
 use mb_layout::write_entry;
 use mb_log::{figures_of, serial_of};
@@ -83,7 +83,7 @@ fn code_hashes(layers: &Layers) -> CodeHashes
 
 /// The hash of a layer's code, if it has code.
 fn code_hash(layer: &Layer) -> Option<[u8; 32]>
-    ensures { result ≡ code_hash layer.now }
+    ensures { result ≡ hash_of_code layer.now }
 {
     match &layer.code {
         Some(code) => Some(code.hash),

@@ -1,1 +1,5 @@
-//! Tests by values of another program.
+//! Registers, items and answers, by values of another program.
+
+mod entries;
+mod records;
+mod runs;
