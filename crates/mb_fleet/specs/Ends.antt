@@ -22,7 +22,8 @@ use Rattle.mb_fleet.specs.declared.end.FleetReadEnd.{FleetReadEnd}
 use Rattle.mb_fleet.specs.declared.end.FleetReadEnd.TheVariants as reading
 use Rattle.mb_fleet.specs.declared.end.ServeEnd.{ServeEnd}
 use Rattle.mb_fleet.specs.declared.end.ServeEnd.TheVariants as serving
-use Rattle.mb_fleet.specs.Showing.{Answer, newly_added, same, extended, chain_refused, older, forked, full, Meets, IsChainAnswered}
+use Rattle.mb_fleet.specs.Showing.{Answer, newly_added, same, extended, chain_refused, older, forked, full}
+use Rattle.mb_fleet.specs.Showing.{Meets, IsChainAnswered}
 use Rattle.mb_fleet.specs.ItemFormat.{AreItems, ItemsFailAt}
 use Rattle.mb_fleet.specs.Serving.{answer_line, FleetStep, AreServed, IsTooLong}
 

@@ -9,7 +9,8 @@ use Rattle.mb_fleet.specs.declared.row.Row.{Row}
 use Rattle.mb_fleet.specs.declared.item.Item.{Item}
 use Rattle.mb_fleet.specs.declared.item.Item.TheVariants.{Show, Find, Codes}
 use Rattle.mb_fleet.specs.declared.question.CodeCount.{CodeCount}
-use Rattle.mb_fleet.specs.Showing.{Answer, newly_added, same, extended, chain_refused, older, forked, full, IsChainAnswered}
+use Rattle.mb_fleet.specs.Showing.{Answer, newly_added, same, extended, chain_refused, older, forked, full}
+use Rattle.mb_fleet.specs.Showing.{IsChainAnswered}
 use Rattle.mb_fleet.specs.Questions.{serials_with, AreCounts}
 
 -- ---- lines

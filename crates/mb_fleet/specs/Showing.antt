@@ -63,8 +63,10 @@ pub record DifferAt (a b : List (List ℕ)) (place : ℕ) : Type 0 where
 pub data Meets (rows : List Row) (row : Row) (answer : Answer) (after : List Row) : Type 0 where
   is_added : IsNewDevice rows row → length rows < DEVICE_LIMIT
       → (before later : List Row) → rows ≡ before ++ later → StandsBetween before later row
-      → after ≡ before ++ row ∷ later → answer ≡ newly_added row.serial (length row.hashes) → Meets rows row answer after
-  is_full : IsNewDevice rows row → DEVICE_LIMIT ≤ length rows → after ≡ rows → answer ≡ full → Meets rows row answer after
+      → after ≡ before ++ row ∷ later
+      → answer ≡ newly_added row.serial (length row.hashes) → Meets rows row answer after
+  is_full : IsNewDevice rows row → DEVICE_LIMIT ≤ length rows → after ≡ rows → answer ≡ full
+      → Meets rows row answer after
   is_same : (before : List Row) (old : Row) (later : List Row) → HasOld rows row before old later
       → row.hashes ≡ old.hashes → after ≡ rows
       → answer ≡ same row.serial (length row.hashes) → Meets rows row answer after

@@ -110,8 +110,8 @@ impl Fleet {
         find_serials(alloc, self.rows.as_slice(), layer, hash)
     }
 
-    /// The codes that the layer, 1 to 3, of some device has now, in ascending order, each with the number of the devices
-    /// that have it.
+    /// The codes that the layer, 1 to 3, of some device has now, in ascending order, each with the number of the
+    /// devices that have it.
     pub fn codes(&self, alloc: Global, layer: u8) -> Result<Counts, NoMemory>
         ensures { IfOk result (AreCounts layer self.now) }
     {
