@@ -1,6 +1,5 @@
 //! Registers and items that are read and written, by values of another program.
 
-use super::runs::within;
 use crate::{Fleet, FleetReadEnd, read_items};
 use mb_model::BadRecord;
 use std::alloc::Global;
@@ -107,8 +106,9 @@ const BAD_ITEMS: [(u32, &str); 13] = [
 
 /// Whether the bytes are read as a register and written again.
 fn is_written_again(alloc: Global, word: &str) -> Result<bool, Fail> {
-    let bytes = hex::decode(alloc, word)?;
-    let fleet = Fleet::read(alloc, within(bytes.as_slice()))?;
+    let mut bytes = hex::decode(alloc, word)?;
+    bytes.truncate(100_000);
+    let fleet = Fleet::read(alloc, bytes.as_slice())?;
     let mut written = Vec::new(alloc);
     fleet.write(&mut written)?;
     Ok(written.as_slice() == bytes.as_slice())
@@ -116,8 +116,9 @@ fn is_written_again(alloc: Global, word: &str) -> Result<bool, Fail> {
 
 /// Whether the bytes fail at this offset as a register.
 fn is_no_register(alloc: Global, at: u32, word: &str) -> Result<bool, Fail> {
-    let bytes = hex::decode(alloc, word)?;
-    match Fleet::read(alloc, within(bytes.as_slice())) {
+    let mut bytes = hex::decode(alloc, word)?;
+    bytes.truncate(100_000);
+    match Fleet::read(alloc, bytes.as_slice()) {
         Ok(_) => Ok(false),
         Err(end) => Ok(end == FleetReadEnd::Bad(BadRecord { at })),
     }
@@ -125,8 +126,9 @@ fn is_no_register(alloc: Global, at: u32, word: &str) -> Result<bool, Fail> {
 
 /// Whether the bytes fail at this offset as items.
 fn are_no_items(alloc: Global, at: u32, word: &str) -> Result<bool, Fail> {
-    let bytes = hex::decode(alloc, word)?;
-    match read_items(alloc, within(bytes.as_slice())) {
+    let mut bytes = hex::decode(alloc, word)?;
+    bytes.truncate(100_000);
+    match read_items(alloc, bytes.as_slice()) {
         Ok(_) => Ok(false),
         Err(end) => Ok(end == FleetReadEnd::Bad(BadRecord { at })),
     }

@@ -7,7 +7,6 @@ use super::entries::{FIRST, FIRST_OF_OTHER, FOURTH, NEXT_OF_OTHER, NEXT_TWO, OTH
 use crate::{Fleet, read_items, serve_items};
 use hex::FromHex;
 use mb_bytes::{put_slice, put_u16, put_u32, read_public_key};
-use mb_model::FILE_LIMIT;
 use std::alloc::Global;
 use std::test::Fail;
 
@@ -111,7 +110,7 @@ fn chain_of(alloc: Global, count: u16, pieces: &[&str]) -> Result<Vec<u8>, Fail>
 /// Appends an item that shows these bytes as a chain.
 fn show(out: &mut Vec<u8>, chain: &[u8]) -> Result<(), Fail> {
     put_slice(out, &[1])?;
-    put_u32(out, chain.len() as u32)?;
+    put_u32(out, u32::try_from(chain.len()).unwrap_or(u32::MAX))?;
     put_slice(out, chain)?;
     Ok(())
 }
@@ -129,27 +128,19 @@ fn serves(
     items: &[u8],
     answers: &str,
     after: &str,
-) -> Result<bool, Fail> {
+) -> Result<bool, Fail>
+    requires { length items.now ≤ FILE_LIMIT }
+{
     let root = read_public_key(&<[u8; 56] as FromHex>::from_hex(ROOT)?)?;
-    let register = hex::decode(alloc, register)?;
-    let mut fleet = Fleet::read(alloc, within(register.as_slice()))?;
-    let items = read_items(alloc, within(items))?;
+    let mut register = hex::decode(alloc, register)?;
+    register.truncate(100_000);
+    let mut fleet = Fleet::read(alloc, register.as_slice())?;
+    let items = read_items(alloc, items)?;
     let text = serve_items(alloc, &mut fleet, &root, items.as_slice())?;
     let mut written = Vec::new(alloc);
     fleet.write(&mut written)?;
     let after = hex::decode(alloc, after)?;
     Ok(text.as_slice() == answers.as_bytes() && written.as_slice() == after.as_slice())
-}
-
-/// The bytes, or their prefix of the length of the longest file.
-pub fn within(bytes: &[u8]) -> &[u8]
-    ensures { length result.now ≤ FILE_LIMIT }
-{
-    if bytes.len() > FILE_LIMIT {
-        &bytes[..FILE_LIMIT]
-    } else {
-        bytes
-    }
 }
 
 #[test]
@@ -164,6 +155,7 @@ fn a_device_is_added_and_extended(rt: HostRuntime) -> Result<(), Fail> {
     )?;
     put_slice(&mut items, &[3, 2])?;
     find(alloc, &mut items, 2, CODE)?;
+    items.truncate(100_000);
     assert!(rt; serves(alloc, EMPTY, items.as_slice(), ANSWERS_1, ONE)?);
     Ok(())
 }
@@ -184,6 +176,7 @@ fn another_device_has_the_same_code(rt: HostRuntime) -> Result<(), Fail> {
         &mut items,
         chain_of(alloc, 3, &[FIRST, NEXT_TWO])?.as_slice(),
     )?;
+    items.truncate(100_000);
     assert!(rt; serves(alloc, ONE, items.as_slice(), ANSWERS_2, TWO)?);
     Ok(())
 }
@@ -202,6 +195,7 @@ fn a_fork_is_caught(rt: HostRuntime) -> Result<(), Fail> {
         &mut items,
         chain_of(alloc, 4, &[FIRST, NEXT_TWO, OTHER_FOURTH])?.as_slice(),
     )?;
+    items.truncate(100_000);
     assert!(rt; serves(alloc, TWO, items.as_slice(), ANSWERS_3, LONGER)?);
     Ok(())
 }
@@ -218,6 +212,7 @@ fn chains_are_refused(rt: HostRuntime) -> Result<(), Fail> {
     chain = chain_of(alloc, 1, &[FIRST_OF_OTHER])?;
     chain.truncate(2528);
     show(&mut items, chain.as_slice())?;
+    items.truncate(100_000);
     assert!(rt; serves(alloc, LONGER, items.as_slice(), ANSWERS_4, LONGER)?);
     Ok(())
 }
