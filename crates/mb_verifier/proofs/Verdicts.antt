@@ -26,6 +26,7 @@ use Rattle.mb_model_lemmas.proofs.ChainLemmas.{accepted_is_ruled}
 use Rattle.mb_verifier.specs.declared.refusal.ChainRefusal as why
 use Rattle.mb_verifier.specs.Ends.{chain_refusal_of}
 use Rattle.mb_verifier.specs.Checked.{HasBadEntry}
+use Rattle.mb_verifier.specs.Entries.{IsOfEntries, IsEntriesRefused}
 
 -- ---- the entries of a chain
 
@@ -57,6 +58,24 @@ module _ (maker : PublicKey) (bytes : List ℕ) (n : ℕ) (chain : Chain) (spell
   entry_refuses bad_statement has = absurd has.bad
   entry_refuses (wrong_number named last) has = absurd has.bad
   entry_refuses key_ended has = absurd has.bad
+
+  -- and what it gives is a reason of the entries
+  reason_of_entries : (why : ChainRefusal) → HasBadEntry maker chain.entries why → IsOfEntries why
+  reason_of_entries (bad_signature i) has = tt
+  reason_of_entries (bad_order i) has = tt
+  reason_of_entries (breaks_rules i) has = tt
+  reason_of_entries (bad_form offset) has = tt
+  reason_of_entries key_unknown has = has.bad
+  reason_of_entries bad_statement has = has.bad
+  reason_of_entries (wrong_number named last) has = has.bad
+  reason_of_entries key_ended has = has.bad
+
+-- an entry that is not good refuses the bytes, whichever key is asked for
+pub entries_refuse : (maker : PublicKey) (bytes : List ℕ) (chain : Chain) → Spells chain_format bytes chain → (why : ChainRefusal) → HasBadEntry maker chain.entries why → IsEntriesRefused maker bytes why
+entries_refuse maker bytes chain spelled why has = record {
+  of_entries = reason_of_entries maker bytes 0 chain spelled why has;
+  refused = λ n. entry_refuses maker bytes n chain spelled why has;
+}
 
 of_some : {X : Type 0} (P : X → Type 0) (o : Option X) → IfSome o P → (x : X) → o ≡ Some x → P x
 of_some P o holds x is = subst (λ p. IfSome p P) is holds

@@ -10,7 +10,7 @@ mod listing;
 mod refusal;
 mod statement;
 
-pub use chain::verify;
+pub use chain::{verify, verify_entries};
 pub use listing::write_listing;
 pub use mb_model::Report;
 pub use refusal::ChainRefusal;

@@ -1,0 +1,10 @@
+pub mod Each
+pub mod Ascending
+pub mod Standing
+pub mod Counting
+pub mod Meeting
+pub mod Registers
+pub mod Reading
+pub mod Rowing
+pub mod Texts
+pub mod Runs

@@ -1,0 +1,127 @@
+-- Items that are served one after another.
+use Rattle.std.proofs.Common.{◌≡◌, ◌<◌, ◌≤◌, ◌+◌, ℕ, List, [], ◌∷◌, ◌++◌, length, take, drop, get_or, Option, Some, Result, Ok, Err, refl, sym, ap, subst, ◌∙◌, append_assoc, append-nil, arith}
+use Rattle.std.specs.Prelude.{OnOk, IfSome}
+use Rattle.std.specs.Global.{Vec}
+use Rattle.std.proofs.lemmas.List.{take_more, take_all, take-append-drop}
+use Rattle.mb_model.specs.declared.key.PublicKey.{PublicKey}
+use Rattle.mb_model.specs.declared.memory.NoMemory.{NoMemory}
+use Rattle.mb_model.specs.Texts.{ended}
+use Rattle.mb_model.specs.Lines.{text_of}
+use Rattle.mb_model.specs.VerifyCommand.{refused_line}
+use Rattle.mb_model.specs.Acceptance.{ChainRefusal}
+use Rattle.mb_bytes.specs.Puts.{Puts}
+use Rattle.mb_verifier.specs.Ends.{chain_refusal_of}
+use Rattle.mb_fleet.specs.declared.limits.TheConstants.{TEXT_LIMIT}
+use Rattle.mb_fleet.specs.declared.row.Row.{Row}
+use Rattle.mb_fleet.specs.declared.item.Item.{Item}
+use Rattle.mb_fleet.specs.declared.item.Item.TheVariants.{Show, Find, Codes}
+use Rattle.mb_fleet.specs.declared.end.FleetEnd.{FleetEnd}
+use Rattle.mb_fleet.specs.declared.end.FleetEnd.TheVariants as end
+use Rattle.mb_fleet.specs.Showing.{Answer, chain_refused, older, forked, full, IsChainAnswered}
+use Rattle.mb_fleet.specs.declared.question.CodeCount.{CodeCount}
+use Rattle.mb_fleet.specs.Questions.{serials_with, AreCounts}
+use Rattle.mb_fleet.specs.Serving.{answer_line, found_lines, count_lines, FleetStep, FleetRun, AreServed, IsTooLong}
+use Rattle.mb_fleet.specs.Ends.{AnswersChain, TellsEnd, AppendsStep}
+use Rattle.mb_fleet.proofs.Texts.{text_of_one, text_join}
+
+-- ---- a run with one item more
+
+pub run_more : (maker : PublicKey) (rows : List Row) (front : List Item) (item : Item) (lines first : List (List ℕ)) (middle after : List Row)
+    → FleetRun maker rows front lines middle → FleetStep maker middle item first after → FleetRun maker rows (front ++ item ∷ []) (lines ++ first) after
+run_more maker rows [] item lines first middle after run step = (
+  first,
+  [],
+  after,
+  subst (λ (r : List Row). FleetStep maker r item first after) run.1 step,
+  (refl, refl),
+  ap (λ (ls : List (List ℕ)). ls ++ first) run.0 ∙ sym (append-nil first),
+)
+run_more maker rows (one ∷ front) item lines first middle after run step = (
+  run.0,
+  run.1 ++ first,
+  run.2,
+  run.3,
+  run_more maker run.2 front item run.1 first middle after run.4 step,
+  ap (λ (ls : List (List ℕ)). ls ++ first) run.5 ∙ append_assoc run.0 run.1 first,
+)
+
+module _ (maker : PublicKey) (rows : List Row) (listed : List Item) (i : ℕ) (d : Item) (within : i < length listed)
+    (text text' : List ℕ) (middle after : List Row) (served : AreServed maker rows (take i listed) text middle)
+    (step : AppendsStep maker middle (get_or listed i d) text text' after) where
+  abbrev lines_now : List (List ℕ)
+  lines_now = served.lines ++ step.lines
+
+  run_now : FleetRun maker rows (take (i + 1) listed) lines_now after
+  run_now = subst (λ (ls : List Item). FleetRun maker rows ls lines_now after) (sym (take_more listed i d within))
+      (run_more maker rows (take i listed) (get_or listed i d) served.lines step.lines middle after served.run step.step)
+
+  text_now : text' ≡ text_of lines_now
+  text_now = step.appended ∙ ap (λ (t : List ℕ). t ++ text_of step.lines) served.text_is ∙ sym (text_join served.lines step.lines)
+
+  pub serving_goes_on : length text' ≤ TEXT_LIMIT → AreServed maker rows (take (i + 1) listed) text' after
+  serving_goes_on short = record { lines = lines_now; run = run_now; text_is = text_now; short = short }
+
+  pub serving_stops : TEXT_LIMIT < length text' → IsTooLong maker rows listed
+  serving_stops long = record {
+    front = take (i + 1) listed;
+    rest = drop (i + 1) listed;
+    split = sym (take-append-drop (i + 1) listed);
+    lines = lines_now;
+    after = after;
+    run = run_now;
+    long = subst (λ (t : List ℕ). TEXT_LIMIT < length t) text_now long;
+  }
+
+pub serving_begins : (maker : PublicKey) (rows : List Row) (text : List ℕ) → text ≡ [] → AreServed maker rows [] text rows
+serving_begins maker rows text none = record { lines = []; run = (refl, refl); text_is = none; short = rw none (omega arith) }
+
+pub serving_ends : (maker : PublicKey) (rows : List Row) (listed : List Item) (i : ℕ) (text : List ℕ) (after : List Row) → length listed ≤ i
+    → AreServed maker rows (take i listed) text after → AreServed maker rows listed text after
+serving_ends maker rows listed i text after over served = subst (λ (ls : List Item). AreServed maker rows ls text after) (take_all i listed over) served
+
+-- ---- a chain that is shown
+
+module _ (maker : PublicKey) (rows : List Row) (bytes old new : List ℕ) (after : List Row) where
+  pub answer_step : (answer : Answer) → IsChainAnswered maker rows bytes answer after → new ≡ old ++ ended (answer_line answer) → AppendsStep maker rows (Show bytes) old new after
+  answer_step answer answered put = record {
+    lines = answer_line answer ∷ [];
+    step = (answer, answered, refl);
+    appended = put ∙ ap (λ (t : List ℕ). old ++ t) (sym (text_of_one (answer_line answer)));
+  }
+
+  told : (P : ChainRefusal → Type 0) (o : Option ChainRefusal) (why : ChainRefusal) → o ≡ Some why → IfSome o P → P why
+  told P o why is holds = subst (λ (p : Option ChainRefusal). IfSome p P) is holds
+
+  pub end_step : (e : FleetEnd) (text : List ℕ) → AnswersChain maker rows bytes (Err e) after → TellsEnd e text → new ≡ old ++ text → AppendsStep maker rows (Show bytes) old new after
+  end_step (end.Chain refusal) text answers tells put = answer_step (chain_refused answers.0) answers.2
+      (put ∙ ap (λ (t : List ℕ). old ++ t) (told (λ why. text ≡ ended (refused_line why)) (chain_refusal_of refusal) answers.0 answers.1 tells))
+  end_step (end.Older serial have) text answers tells put = answer_step (older serial have) answers (put ∙ ap (λ (t : List ℕ). old ++ t) tells)
+  end_step (end.Fork serial place) text answers tells put = answer_step (forked serial place) answers (put ∙ ap (λ (t : List ℕ). old ++ t) tells)
+  end_step end.Full text answers tells put = answer_step full answers (put ∙ ap (λ (t : List ℕ). old ++ t) tells)
+  end_step end.NoMemory text answers tells put = absurd tells
+
+pub on_ok_put : (P : Type 0) (r : Result (Unit {0}) NoMemory) (text : List ℕ) (old new : Vec ℕ) → Puts text old r new → (new.items ≡ old.items ++ text → P) → OnOk r P
+on_ok_put P (Ok u) text old new puts then = then puts.items
+on_ok_put P (Err e) text old new puts then = tt
+
+-- ---- questions
+
+pub on_ok_weaker : {E P Q : Type 0} (r : Result (Unit {0}) E) → (P → Q) → OnOk r P → OnOk r Q
+on_ok_weaker (Ok u) weaker holds = weaker holds
+on_ok_weaker (Err e) weaker holds = tt
+
+pub find_step : (maker : PublicKey) (rows : List Row) (layer : ℕ) (hash : List ℕ) (serials : List (List ℕ)) (old new : List ℕ) → serials ≡ serials_with layer hash rows
+    → new ≡ old ++ text_of (found_lines serials) → AppendsStep maker rows (Find layer hash) old new rows
+find_step maker rows layer hash serials old new is put = record {
+  lines = found_lines (serials_with layer hash rows);
+  step = (refl, refl);
+  appended = put ∙ ap (λ (s : List (List ℕ)). old ++ text_of (found_lines s)) is;
+}
+
+pub codes_step : (maker : PublicKey) (rows : List Row) (layer : ℕ) (counts shown : List CodeCount) (old new : List ℕ) → AreCounts layer rows counts → shown ≡ counts
+    → new ≡ old ++ text_of (count_lines shown) → AppendsStep maker rows (Codes layer) old new rows
+codes_step maker rows layer counts shown old new are is put = record {
+  lines = count_lines counts;
+  step = (counts, are, refl, refl);
+  appended = put ∙ ap (λ (s : List CodeCount). old ++ text_of (count_lines s)) is;
+}

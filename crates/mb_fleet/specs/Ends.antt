@@ -1,0 +1,111 @@
+-- Which answer the result of a call names. What does `add` answer for the register?
+use Rattle.std.specs.Prelude.{◌≡◌, ℕ, ◌≤◌, List, [], ◌++◌, length, codes, Option, None, Some, IfSome, Result, Ok, Err}
+use Rattle.std.specs.Fmt.{decimal}
+use Rattle.mb_model.specs.declared.key.PublicKey.{PublicKey}
+use Rattle.mb_model.specs.declared.limits.TheConstants.{FILE_LIMIT}
+use Rattle.mb_model.specs.declared.tools.BadRecord.{BadRecord}
+use Rattle.mb_model.specs.Texts.{ended}
+use Rattle.mb_model.specs.Lines.{text_of}
+use Rattle.mb_model.specs.VerifyCommand.{refused_line}
+use Rattle.mb_model.specs.Acceptance.{ChainRefusal}
+use Rattle.mb_verifier.specs.declared.refusal.ChainRefusal as verifier
+use Rattle.mb_verifier.specs.declared.refusal.ChainRefusal.TheVariants as why
+use Rattle.mb_verifier.specs.Ends.{chain_refusal_of}
+use Rattle.mb_fleet.specs.declared.row.Row.{Row}
+use Rattle.mb_fleet.specs.declared.item.Item.{Item}
+use Rattle.mb_fleet.specs.declared.item.Item.TheVariants.{Show, Find, Codes}
+use Rattle.mb_fleet.specs.declared.end.Added.{Added}
+use Rattle.mb_fleet.specs.declared.end.Added.TheVariants as shown
+use Rattle.mb_fleet.specs.declared.end.FleetEnd.{FleetEnd}
+use Rattle.mb_fleet.specs.declared.end.FleetEnd.TheVariants as end
+use Rattle.mb_fleet.specs.declared.end.FleetReadEnd.{FleetReadEnd}
+use Rattle.mb_fleet.specs.declared.end.FleetReadEnd.TheVariants as reading
+use Rattle.mb_fleet.specs.declared.end.ServeEnd.{ServeEnd}
+use Rattle.mb_fleet.specs.declared.end.ServeEnd.TheVariants as serving
+use Rattle.mb_fleet.specs.Showing.{Answer, newly_added, same, extended, chain_refused, older, forked, full}
+use Rattle.mb_fleet.specs.Showing.{Meets, IsChainAnswered}
+use Rattle.mb_fleet.specs.ItemFormat.{AreItems, ItemsFailAt}
+use Rattle.mb_fleet.specs.Serving.{answer_line, FleetStep, AreServed, IsTooLong}
+
+-- the offset at which an error points, and None where an allocation failed
+abbrev pub fleet_at : FleetReadEnd → Option ℕ
+fleet_at (reading.Bad bad) = Some bad.at
+fleet_at reading.NoMemory = None
+
+abbrev pub answer_of : Added → Answer
+answer_of (shown.Same serial n) = same serial n
+answer_of (shown.Added serial n) = newly_added serial n
+answer_of (shown.Extended serial n) = extended serial n
+
+-- why a chain is not taken that the verifier does not answer: for its refusal, or for want of memory
+abbrev pub fleet_end_of : verifier.ChainRefusal → FleetEnd
+fleet_end_of (why.Form at) = end.Chain (why.Form at)
+fleet_end_of (why.Signature entry) = end.Chain (why.Signature entry)
+fleet_end_of (why.Order entry) = end.Chain (why.Order entry)
+fleet_end_of (why.Rules entry) = end.Chain (why.Rules entry)
+fleet_end_of why.KeyUnknown = end.Chain why.KeyUnknown
+fleet_end_of why.StatementSignature = end.Chain why.StatementSignature
+fleet_end_of (why.StatementNumber named last) = end.Chain (why.StatementNumber named last)
+fleet_end_of why.NotAlive = end.Chain why.NotAlive
+fleet_end_of why.NoMemory = end.NoMemory
+
+-- The result of `add` is the answer to a chain, and these are the rows afterwards. A refusal of the chain is never want
+-- of memory, and where memory lacks the rows are as they were.
+abbrev pub AnswersChain : PublicKey → List Row → List ℕ → Result Added FleetEnd → List Row → Type 0
+AnswersChain maker rows bytes (Ok answer) after = IsChainAnswered maker rows bytes (answer_of answer) after
+AnswersChain maker rows bytes (Err (end.Chain refusal)) after =
+    (reason : ChainRefusal) × (chain_refusal_of refusal ≡ Some reason)
+    × IsChainAnswered maker rows bytes (chain_refused reason) after
+AnswersChain maker rows bytes (Err (end.Older serial have)) after =
+    IsChainAnswered maker rows bytes (older serial have) after
+AnswersChain maker rows bytes (Err (end.Fork serial place)) after =
+    IsChainAnswered maker rows bytes (forked serial place) after
+AnswersChain maker rows bytes (Err end.Full) after = IsChainAnswered maker rows bytes full after
+AnswersChain maker rows bytes (Err end.NoMemory) after = after ≡ rows
+
+-- the same of a row that meets the rows, where no chain is refused
+abbrev pub AnswersRow : List Row → Row → Result Added FleetEnd → List Row → Type 0
+AnswersRow rows row (Ok answer) after = Meets rows row (answer_of answer) after
+AnswersRow rows row (Err (end.Chain refusal)) after = ⊥
+AnswersRow rows row (Err (end.Older serial have)) after = Meets rows row (older serial have) after
+AnswersRow rows row (Err (end.Fork serial place)) after = Meets rows row (forked serial place) after
+AnswersRow rows row (Err end.Full) after = Meets rows row full after
+AnswersRow rows row (Err end.NoMemory) after = after ≡ rows
+
+-- where a chain is wrong, as the end of a line, if it is in one place
+abbrev pub refused_place_words : Option ℕ → List ℕ
+refused_place_words None = []
+refused_place_words (Some place) = codes " " ++ decimal place
+
+-- a text is the line that tells of this end, which is not want of memory
+abbrev pub TellsEnd : FleetEnd → List ℕ → Type 0
+TellsEnd (end.Chain refusal) text = IfSome (chain_refusal_of refusal) (λ reason. text ≡ ended (refused_line reason))
+TellsEnd (end.Older serial have) text = text ≡ ended (answer_line (older serial have))
+TellsEnd (end.Fork serial place) text = text ≡ ended (answer_line (forked serial place))
+TellsEnd end.Full text = text ≡ ended (answer_line full)
+TellsEnd end.NoMemory text = ⊥
+
+-- an item is served, and the lines of its answer are appended to a text
+pub record AppendsStep (maker : PublicKey) (rows : List Row) (item : Item) (old new : List ℕ)
+    (after : List Row) : Type 0 where
+  pub lines : List (List ℕ)
+  pub step : FleetStep maker rows item lines after
+  pub appended : new ≡ old ++ text_of lines
+
+-- the chain of an item is no longer than a file
+abbrev pub HasShortChain : Item → Type 0
+HasShortChain (Show chain) = length chain ≤ FILE_LIMIT
+HasShortChain (Find layer hash) = Unit {0}
+HasShortChain (Codes layer) = Unit {0}
+
+-- the result of reading items: these are spelled, or the offset fails
+abbrev pub ReadsItems : List ℕ → Result (List Item) FleetReadEnd → Type 0
+ReadsItems bytes (Ok listed) = AreItems bytes listed
+ReadsItems bytes (Err (reading.Bad bad)) = ItemsFailAt bytes bad.at
+ReadsItems bytes (Err reading.NoMemory) = Unit {0}
+
+-- the result of serving items is the text of the answers, or tells that it is too long
+abbrev pub ServesItems : PublicKey → List Row → List Item → Result (List ℕ) ServeEnd → List Row → Type 0
+ServesItems maker rows listed (Ok text) after = AreServed maker rows listed text after
+ServesItems maker rows listed (Err serving.TooLong) after = IsTooLong maker rows listed
+ServesItems maker rows listed (Err serving.NoMemory) after = Unit {0}

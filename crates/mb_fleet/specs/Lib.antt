@@ -1,0 +1,9 @@
+pub mod Order
+pub mod Rows
+pub mod RegisterFormat
+pub mod ItemFormat
+pub mod Showing
+pub mod Questions
+pub mod Serving
+pub mod Ends
+pub mod Places

@@ -1,0 +1,63 @@
+-- Where a key stands in a list that ascends by it. Is it there, and else between which two items does it belong?
+use Rattle.std.specs.Prelude.{◌≡◌, ℕ, ◌+◌, ◌<◌, ◌≤◌, List, ◌∷◌, ◌++◌, length, if◌then◌else◌}
+use Rattle.std.specs.List.{AllByRecursion}
+use Rattle.mb_format.specs.Combinators.{same_bytes}
+use Rattle.mb_model.specs.declared.limits.TheConstants.{ENTRY_LIMIT}
+use Rattle.mb_fleet.specs.declared.limits.TheConstants.{DEVICE_LIMIT}
+use Rattle.mb_fleet.specs.declared.place.Place.{Place}
+use Rattle.mb_fleet.specs.declared.place.Place.TheVariants.{Held, Free}
+use Rattle.mb_fleet.specs.declared.row.Row.{Row}
+use Rattle.mb_fleet.specs.declared.question.CodeCount.{CodeCount}
+use Rattle.mb_fleet.specs.declared.comparison.Comparison.{Comparison}
+use Rattle.mb_fleet.specs.declared.comparison.Comparison.TheVariants as found
+use Rattle.mb_fleet.specs.Order.{IsBefore, IsAscending}
+use Rattle.mb_fleet.specs.Rows.{AreOrdered}
+use Rattle.mb_fleet.specs.Showing.{IsShorter, DifferAt}
+use Rattle.mb_fleet.specs.Questions.{hash_of_count, count_beside}
+
+module _ {A : Type 0} (key : A → List ℕ) where
+  -- an item with this key stands at this index
+  pub record IsHeld (xs : List A) (wanted : List ℕ) (index : ℕ) : Type 0 where
+    pub before : List A
+    pub item : A
+    pub later : List A
+    pub split : xs ≡ before ++ item ∷ later
+    pub index_is : index ≡ length before
+    pub key_is : key item ≡ wanted
+
+  -- no item has this key, and one that has it belongs at this index
+  pub record IsFree (xs : List A) (wanted : List ℕ) (index : ℕ) : Type 0 where
+    pub before : List A
+    pub later : List A
+    pub split : xs ≡ before ++ later
+    pub index_is : index ≡ length before
+    pub below : AllByRecursion (λ x. IsBefore (key x) wanted) before
+    pub above : AllByRecursion (λ x. IsBefore wanted (key x)) later
+
+  abbrev pub StandsAt : List A → List ℕ → Place → Type 0
+  StandsAt xs wanted (Held index) = IsHeld xs wanted index
+  StandsAt xs wanted (Free index) = IsFree xs wanted index
+
+-- what two lists of hashes, of which the first was shown before the second, have to do with each other
+abbrev pub Compares : List (List ℕ) → List (List ℕ) → Comparison → Type 0
+Compares old new found.Same = new ≡ old
+Compares old new found.Longer = IsShorter old new
+Compares old new found.Shorter = IsShorter new old
+Compares old new (found.Differs place) = DifferAt old new place
+
+-- a row has no more entries than a log
+abbrev pub HasFewEntries : Row → Type 0
+HasFewEntries row = length row.hashes ≤ ENTRY_LIMIT
+
+-- what is true of the rows that a register keeps
+pub record FitsRegister (rows : List Row) : Type 0 where
+  pub ordered : AreOrdered rows
+  pub few : length rows ≤ DEVICE_LIMIT
+  pub each : AllByRecursion HasFewEntries rows
+
+-- a hash was counted once more, in a list that stays in its form
+pub record CountsOneMore (old : List CodeCount) (hash : List ℕ) (new : List CodeCount) : Type 0 where
+  pub ordered : IsAscending hash_of_count new
+  pub some : AllByRecursion (λ c. 0 < c.count) old → AllByRecursion (λ c. 0 < c.count) new
+  pub counted : (other : List ℕ)
+      → count_beside other new ≡ count_beside other old + (if same_bytes other hash then 1 else 0)

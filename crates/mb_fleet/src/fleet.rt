@@ -1,0 +1,194 @@
+//! The register: its rows in ascending serials.
+
+ghost use Rattle.std.specs.Prelude.{◌≡◌, ◌≤◌, [], length, IfOk, OnOk, OnErr};
+ghost use Rattle.std.specs.List.{insert};
+ghost use Rattle.mb_model.specs.declared.limits.TheConstants.{FILE_LIMIT, ENTRY_LIMIT};
+ghost use Rattle.mb_bytes.specs.Reads.{ReadsWhole};
+ghost use Rattle.mb_bytes.specs.Puts.{Writes};
+ghost use Rattle.mb_fleet.specs.Ends.{fleet_at, fleet_end_of, AnswersChain, AnswersRow};
+ghost use Rattle.mb_fleet.specs.Places.{HasFewEntries, IsHeld, IsFree};
+ghost use Rattle.mb_fleet.specs.Questions.{serials_with, AreCounts};
+ghost use Rattle.mb_fleet.specs.RegisterFormat.{register_format};
+ghost use Rattle.mb_fleet.specs.Rows.{serial_of_row};
+
+use crate::comparison::{Comparison, compare};
+use crate::end::{Added, FleetEnd, FleetReadEnd};
+use crate::limits::DEVICE_LIMIT;
+use crate::place::{Place, place_of_serial};
+use crate::question::{Counts, Serials, count_codes, find_serials};
+use crate::register::{put_register, register_at};
+use crate::row::{Row, row_of};
+use mb_bytes::Cursor;
+use mb_model::{BadRecord, NoMemory, PublicKey};
+use mb_verifier::{ChainRefusal, verify_entries};
+use std::alloc::Global;
+use std::marker::Model;
+
+/// A register: what up to 512 devices have shown, which contracts see as its rows in ascending serials.
+#[derive(Drop)]
+pub struct Fleet {
+    rows: Vec<Row>,
+}
+
+impl Model for Fleet {
+    ghost use Rattle.std.specs.Prelude.{List};
+    ghost use Rattle.mb_fleet.specs.declared.row.Row.{Row};
+    ghost use Rattle.mb_fleet.specs.Places.{FitsRegister};
+
+    ghost Value = { List Row };
+
+    ghost view = { λ fleet. fleet.rows.items };
+
+    ghost invariant = { λ fleet. FitsRegister fleet.rows.items };
+}
+
+impl Fleet {
+    /// The register of no devices.
+    pub fn new(alloc: Global) -> Fleet
+        ensures { result ≡ [] }
+    {
+        Fleet {
+            rows: Vec::new(alloc),
+        }
+    }
+
+    /// The register that all of the bytes spell, at most 4,194,304 of them.
+    ///
+    /// Errors: `Bad` with the offset of the first field that lacks bytes or is not allowed, or of the first byte after
+    /// the last field; and `NoMemory`.
+    pub fn read(alloc: Global, bytes: &[u8]) -> Result<Fleet, FleetReadEnd>
+        requires { length bytes.now ≤ FILE_LIMIT }
+        ensures { ReadsWhole fleet_at register_format bytes.now result }
+    {
+        let mut cursor = Cursor::new(bytes);
+        let rows = register_at(alloc, &mut cursor)?;
+        if cursor.left() > 0 {
+            return Err(FleetReadEnd::Bad(BadRecord {
+                at: cursor.offset(),
+            }));
+        }
+        Ok(Fleet {
+            rows: rows.into_vec(),
+        })
+    }
+
+    /// Appends the spelling of the register, or leaves `out` as it was. It does not fail if the capacity of `out` holds
+    /// the spelling.
+    pub fn write(&self, out: &mut Vec<u8>) -> Result<(), NoMemory>
+        ensures { Writes (register_format.spelling self.now) out.old result out.new }
+    {
+        let length = out.len();
+        match put_register(out, self.rows.as_slice()) {
+            Ok(()) => Ok(()),
+            Err(error) => {
+                out.truncate(length);
+                Err(error)
+            }
+        }
+    }
+
+    /// Shows the register a chain of at most 4,194,304 bytes, whose entries have to be good under the maker's key
+    /// `root`; a statement counts only by its form. After an error the register is as it was.
+    ///
+    /// Errors: those of `FleetEnd`.
+    pub fn add(&mut self, alloc: Global, root: &PublicKey, chain: &[u8]) -> Result<Added, FleetEnd>
+        requires { length chain.now ≤ FILE_LIMIT }
+        ensures { AnswersChain root.now self.old chain.now result self.new }
+    {
+        let chain = match verify_entries(alloc, root, chain) {
+            Ok(chain) => chain,
+            Err(refusal) => return Err(end_of(refusal)),
+        };
+        let row = row_of(alloc, root, &chain)?;
+        self.meet(row)
+    }
+
+    /// The serials of the devices whose layer, 1 to 3, has this code now, in ascending order.
+    pub fn find(&self, alloc: Global, layer: u8, hash: &[u8; 32]) -> Result<Serials, NoMemory>
+        ensures { IfOk result (λ serials. serials ≡ serials_with layer hash.now self.now) }
+    {
+        find_serials(alloc, self.rows.as_slice(), layer, hash)
+    }
+
+    /// The codes that the layer, 1 to 3, of some device has now, in ascending order, each with the number of the
+    /// devices that have it.
+    pub fn codes(&self, alloc: Global, layer: u8) -> Result<Counts, NoMemory>
+        ensures { IfOk result (AreCounts layer self.now) }
+    {
+        count_codes(alloc, self.rows.as_slice(), layer)
+    }
+
+    /// Takes a row, if it is new or extends the one of its device.
+    fn meet(&mut self, row: Row) -> Result<Added, FleetEnd>
+        requires { HasFewEntries row }
+        ensures { AnswersRow self.old row result self.new }
+    {
+        match place_of_serial(self.rows.as_slice(), &row.serial) {
+            Place::Held(at) => self.meet_old(at, row),
+            Place::Free(at) => self.take_new(at, row),
+        }
+    }
+
+    /// Takes the row of a device that is not there, which belongs at this index.
+    fn take_new(&mut self, at: usize, row: Row) -> Result<Added, FleetEnd>
+        requires few { HasFewEntries row }
+        requires free { IsFree serial_of_row self.old row.serial at }
+        ensures { AnswersRow self.old row result self.new }
+    {
+        if self.rows.len() >= DEVICE_LIMIT as usize {
+            return Err(FleetEnd::Full);
+        }
+        let serial = row.serial;
+        let length = count_entries(&row);
+        insert_row(&mut self.rows, at, row)?;
+        Ok(Added::Added { serial, length })
+    }
+
+    /// Takes a row if it extends the one at this index, which is of the same device.
+    fn meet_old(&mut self, at: usize, row: Row) -> Result<Added, FleetEnd>
+        requires few { HasFewEntries row }
+        requires held { IsHeld serial_of_row self.old row.serial at }
+        ensures { AnswersRow self.old row result self.new }
+    {
+        let serial = row.serial;
+        let length = count_entries(&row);
+        let have = count_entries(&self.rows[at]);
+        match compare(self.rows[at].hashes.as_slice(), row.hashes.as_slice()) {
+            Comparison::Same => Ok(Added::Same { serial, length }),
+            Comparison::Shorter => Err(FleetEnd::Older { serial, have }),
+            Comparison::Differs { place } => Err(FleetEnd::Fork { serial, place }),
+            Comparison::Longer => {
+                self.rows[at] = row;
+                Ok(Added::Extended { serial, length })
+            }
+        }
+    }
+}
+
+/// Why a chain is not taken that the verifier does not answer.
+fn end_of(refusal: ChainRefusal) -> FleetEnd
+    ensures { result ≡ fleet_end_of refusal }
+{
+    match refusal {
+        ChainRefusal::NoMemory => FleetEnd::NoMemory,
+        _ => FleetEnd::Chain(refusal),
+    }
+}
+
+/// Inserts a row at this index, or leaves the rows as they were.
+fn insert_row(rows: &mut Vec<Row>, at: usize, row: Row) -> Result<(), NoMemory>
+    requires { at ≤ length rows.old.items }
+    ensures ok { OnOk result (rows.new.items ≡ insert rows.old.items at row) }
+    ensures err { OnErr result (rows.new.items ≡ rows.old.items) }
+{
+    rows.insert(at, row)?;
+    Ok(())
+}
+
+/// The number of the entries that a row tells of.
+fn count_entries(row: &Row) -> u32
+    requires { HasFewEntries row.now }
+    ensures { result ≡ length row.now.hashes }
+{
+    row.hashes.as_slice().len() as u32
+}

@@ -1,0 +1,31 @@
+//! A register of what many devices have shown: a device that shows another past is caught.
+//!
+//! This crate owns the rows of a register, how a register and items are spelled, what a register answers to a chain and
+//! to questions, and the text of all answers to a file of items. Whether the entries of a chain are good is decided by
+//! `mb_verifier`. The rows are defined in specs/Rows.antt, the answers in specs/Showing.antt and specs/Questions.antt.
+#![tactic(auto)]
+
+mod answer;
+mod comparison;
+mod end;
+mod fleet;
+mod item;
+mod laws;
+mod limits;
+mod place;
+mod question;
+mod register;
+mod row;
+mod serving;
+
+pub use end::{Added, FleetEnd, FleetReadEnd, ServeEnd};
+pub use fleet::Fleet;
+pub use item::{Item, read_items};
+pub use laws::registers_are_clear;
+pub use limits::{DEVICE_LIMIT, TEXT_LIMIT};
+pub use question::{CodeCount, Counts, Serials};
+pub use row::{CodeHashes, Row};
+pub use serving::serve_items;
+
+#[cfg(test)]
+mod tests;
