@@ -1,4 +1,4 @@
--- The order of serials and of hashes, by which lists of them ascend. Which of two comes first?
+-- When lists of serials or of hashes ascend. Which of two comes first?
 use Rattle.std.specs.Prelude.{◌≡◌, ℕ, List, [], ◌∷◌}
 use Rattle.std.specs.List.{AllByRecursion}
 use Rattle.std.specs.Ordering.{nat_cmp}

@@ -38,7 +38,7 @@ module _ {A : Type 0} (key : A → List ℕ) where
   StandsAt xs wanted (Held index) = IsHeld xs wanted index
   StandsAt xs wanted (Free index) = IsFree xs wanted index
 
--- what two lists of hashes, of which the first was shown before the second, have to do with each other
+-- how two lists of hashes compare; the first was shown before the second
 abbrev pub Compares : List (List ℕ) → List (List ℕ) → Comparison → Type 0
 Compares old new found.Same = new ≡ old
 Compares old new found.Longer = IsShorter old new

@@ -41,7 +41,7 @@ last_serial last row = Some row.serial
 unfoldable pub rows_format : Format (List Row)
 rows_format = led (between w16 0 DEVICE_LIMIT) length (λ n. items row_format last_serial n None)
 
--- the word by which a register is known: MBF1
+-- the first four bytes of a register: MBF1
 abbrev pub register_word : List ℕ
 register_word = 0x4D ∷ 0x42 ∷ 0x46 ∷ 0x31 ∷ []
 

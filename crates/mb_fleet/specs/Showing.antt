@@ -17,15 +17,15 @@ use Rattle.mb_fleet.specs.Rows.{IsRowOf}
 pub data Answer : Type 0 where
   -- the device with this serial is new, and has shown so many entries
   newly_added : List ℕ → ℕ → Answer
-  -- it has shown just these entries before, so many
+  -- the device has shown just these entries before, so many
   same : List ℕ → ℕ → Answer
-  -- it has shown a proper prefix of these entries, which are so many
+  -- the device has shown a proper prefix of these entries, which are so many
   extended : List ℕ → ℕ → Answer
   -- the verifier refuses the chain
   chain_refused : ChainRefusal → Answer
-  -- it has shown these entries and more, so many
+  -- the device has shown these entries and more, so many
   older : List ℕ → ℕ → Answer
-  -- it has shown another past: entries with this index, from 0, are the first that differ
+  -- the device has shown another past: entries with this index, from 0, are the first that differ
   forked : List ℕ → ℕ → Answer
   -- the device is new, and the register is full
   full : Answer

@@ -18,7 +18,7 @@ use mb_model::{BadRecord, ENTRY_LIMIT, Items, NoMemory};
 use std::alloc::Global;
 use std::cmp::Ordering;
 
-/// The word by which a register is known.
+/// The first four bytes of a register.
 const WORD: [u8; 4] = *b"MBF1";
 
 /// The rows of the register at the cursor.
