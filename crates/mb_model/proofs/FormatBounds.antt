@@ -19,10 +19,11 @@ use Rattle.mb_model.specs.Rules.{kind_of, least_layer}
 use Rattle.mb_model.specs.OrderFormat.{TargetTag, serial_tag, length_tag, owner_tag, code_tag, target_byte, target_rows, target_tag, demanded_serial, demanded_length, demanded_owner, demanded_code, target_by, target_format, form_byte, form_rows, other_rows, given_trusts, establish_in, load_in, emergency_in, made_in, payload_format, act_by, Body, body_by, body_format, sized_signature_format, Climb, countersignature_format, climbed, most_countersigned, countersignatures_format, order_format}
 use Rattle.mb_model.specs.ChainFormat.{statement_format, chain_word, chain_format}
 use Rattle.mb_model.specs.RootFormat.{region_key_format, outgoing_format, FateTag, keep_tag, empty_tag, drop_tag, add_tag, fate_byte, fate_rows, fate_tag, added_in, fate_by, fate_format, pending_format, root_format}
-use Rattle.mb_model.specs.RegionFormat.{is_name, secret_format, secrets_format, least_keys, keys_format, region_format}
+use Rattle.mb_model.specs.RegionFormat.{is_name, secret_format, most_secrets, secrets_format, least_keys, keys_format, region_by, region_format}
 use Rattle.mb_model.specs.PublicRecord.{code_format, codes_format, public_entry_format, public_format}
 use Rattle.mb_model.specs.HeaderFormat.{code_length_format, slot_format, entry_bytes_format, most_unsigned, unsigned_format, header_word, header_format, log_format}
 use Rattle.mb_model.proofs.HeaderFormatLaws.{few_unsigned}
+use Rattle.mb_model.proofs.RecordFormatLaws.{few_secrets}
 
 -- ---- keys and layers
 
@@ -239,17 +240,22 @@ secret_short : IsShort secret_format 166
 unfolding secret_format
 secret_short = bounds.as_record_short _ _ (bounds.pair_short (bounds.sized_that_short is_name 1 32 wide8) (bounds.pair_short (bounds.sized_short 0 128 wide8) (bounds.number_short wide32)))
 
-secrets_short : IsShort secrets_format 2657
+secrets_short : (most : ℕ) → most ≤ 22 → IsShort (secrets_format most) 3653
 unfolding secrets_format
-secrets_short = bounds.counted_short 0 16 wide8 secret_short
+secrets_short most few = bounds.short_more (bounds.counted_short 0 most wide8 secret_short) (omega (arith, few))
 
 keys_short : (least : ℕ) → IsShort (keys_format least) 433
 unfolding keys_format
 keys_short least = bounds.counted_short least 8 wide8 region_key_short
 
-pub region_short : IsShort region_format 3091
+region_by-short : (version : ℕ) → IsShort (region_by version) 4086
+unfolding region_by
+region_by-short version =
+    bounds.as_record_short _ _ (bounds.both_short (secrets_short (most_secrets version) (few_secrets version)) (λ secrets h. keys_short (least_keys secrets)))
+
+pub region_short : IsShort region_format 4087
 unfolding region_format
-region_short = bounds.then_value_short (bounds.mark_short (1 ∷ [])) (bounds.as_record_short _ _ (bounds.both_short secrets_short (λ secrets h. keys_short (least_keys secrets))))
+region_short = bounds.both_short (bounds.between_short 1 2 wide8) (λ version h. region_by-short version)
 
 code_format_short : IsShort code_format 32773
 unfolding code_format

@@ -6,4 +6,5 @@ pub mod OrderFormatLaws
 pub mod RecordFormatLaws
 pub mod HeaderFormatLaws
 pub mod FormatBounds
+pub mod RegionWriting
 pub mod OrderReach

@@ -1,14 +1,15 @@
 -- The records of a device's memory are read exactly.
-use Rattle.std.proofs.Common.{◌≡◌, ℕ, Some, refl, arith, rules}
+use Rattle.std.proofs.Common.{◌≡◌, ℕ, ◌<◌, ◌≤◌, ◌==◌, Bool, true, false, if◌then◌else◌, Some, refl, arith, rules, lit<, lit≤}
 use Rattle.std.specs.Int.{w8}
 use Rattle.mb_format.specs.Reading.{IsExact}
 use Rattle.mb_format.proofs.Rules.{exactly}
-use Rattle.mb_format.proofs.Fields.{IsTable, nothing_exact}
+use Rattle.mb_format.proofs.Fields.{IsTable, wide8, between_exact, nothing_exact}
+use Rattle.mb_format.proofs.Compositions.{both_exact, as_record_exact, counted_exact}
 use Rattle.mb_model.specs.declared.region.RegionKey.{RegionKey}
 use Rattle.mb_model.specs.declared.stored.Fate.{Fate}
 use Rattle.mb_model.specs.declared.stored.Fate.TheVariants.{AddKey}
 use Rattle.mb_model.specs.RootFormat.{region_key_format, outgoing_format, FateTag, keep_tag, empty_tag, drop_tag, add_tag, fate_byte, fate_rows, fate_tag, added_in, fate_by, fate_format, pending_format, root_format}
-use Rattle.mb_model.specs.RegionFormat.{secret_format, secrets_format, keys_format, region_format}
+use Rattle.mb_model.specs.RegionFormat.{secret_format, most_secrets, secrets_format, least_keys, keys_format, region_by, region_format}
 use Rattle.mb_model.specs.PublicRecord.{code_format, codes_format, public_entry_format, public_format}
 use Rattle.mb_model.proofs.KeyFormatLaws.{key_seed_exact}
 use Rattle.mb_model.proofs.EntryFormatLaws.{key_kind_exact, entry_exact}
@@ -59,17 +60,30 @@ pub secret_exact : IsExact secret_format
 unfolding secret_format
 secret_exact = search exactly depth 20
 
-pub secrets_exact : IsExact secrets_format
+pub secrets_exact : (most : ℕ) → most < 256 → IsExact (secrets_format most)
 unfolding secrets_format
-secrets_exact = search (exactly, secret_exact) depth 20
+secrets_exact most small = counted_exact (between_exact wide8 small) secret_exact
 
 pub keys_exact : (least : ℕ) → IsExact (keys_format least)
 unfolding keys_format
 keys_exact least = search (exactly, region_key_exact) depth 20
 
+pub few_secrets : (version : ℕ) → most_secrets version ≤ 22
+few_secrets version = by (version == 1)
+  where
+    by : (first : Bool) → (if first then 16 else 22) ≤ 22
+    by true = lit≤ tt
+    by false = lit≤ tt
+
+region_by-exact : (version : ℕ) → IsExact (region_by version)
+unfolding region_by
+region_by-exact version =
+    let few = few_secrets version in
+    as_record_exact _ _ (both_exact (secrets_exact (most_secrets version) (omega (arith, few))) (λ secrets h. keys_exact (least_keys secrets))) (λ p h. refl) (λ region. refl)
+
 pub region_exact : IsExact region_format
 unfolding region_format
-region_exact = search (exactly, secrets_exact, keys_exact) depth 20
+region_exact = both_exact (between_exact wide8 (lit< tt)) (λ version h. region_by-exact version)
 
 -- ---- the public record
 

@@ -1,5 +1,5 @@
 -- The image of a new device. With whose keys, code and owner does a device come into the world?
-use Rattle.std.specs.Prelude.{◌≡◌, ℕ, List, [], ◌∷◌, take, None, Some, true}
+use Rattle.std.specs.Prelude.{ℕ, List, [], ◌∷◌, take, None, Some, true}
 use Rattle.sha2.specs.Sha256.{sha256}
 use Rattle.mb_model.specs.declared.key.KeySeed.{KeySeed}
 use Rattle.mb_model.specs.declared.key.PublicKey.{PublicKey}
@@ -15,9 +15,7 @@ use Rattle.mb_model.specs.Regions.{empty_region}
 use Rattle.mb_model.specs.Born.{born_key}
 use Rattle.mb_model.specs.Signing.{public_of}
 use Rattle.mb_model.specs.OrderEffects.{signed_by}
-use Rattle.mb_model.specs.Memory.{IsImage}
-use Rattle.mb_model.specs.WrittenFlash.{IsFactoryFlash}
-use Rattle.mb_model.specs.Clean.{IsCleanFor}
+use Rattle.mb_model.specs.WrittenImage.{IsWrittenFor}
 
 -- layer 1 has its owner, this code and both trusts always, and nobody owns what is above
 abbrev pub layers_at_birth : PublicKey → List ℕ → Layers
@@ -61,17 +59,6 @@ state_at_birth maker index owner code noise = record {
   three = empty_region;
 }
 
--- a new device with this state: what the factory writes to the flash, a clean battery-backed memory, and the first of
--- two areas in force everywhere
-pub record IsBornWith (state : State) (image : List ℕ) : Type 0 where
-  pub flash : List ℕ
-  pub bbram : List ℕ
-  pub image_is : IsImage image flash bbram
-  pub written : IsFactoryFlash flash state.codes state.log
-  pub selectors : part 1 3 bbram ≡ 0 ∷ 0 ∷ 0 ∷ []
-  pub clean : IsCleanFor bbram state
-  pub area_is : clean.area ≡ 0
-
 -- the image of a new device
 abbrev pub IsFactoryImage : KeySeed → ℕ → PublicKey → List ℕ → List ℕ → List ℕ → Type 0
-IsFactoryImage maker index owner code noise image = IsBornWith (state_at_birth maker index owner code noise) image
+IsFactoryImage maker index owner code noise image = IsWrittenFor (state_at_birth maker index owner code noise) image

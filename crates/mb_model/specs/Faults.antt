@@ -10,16 +10,19 @@ use Rattle.mb_model.specs.Memory.{IsImage, IsBlank, current}
 use Rattle.mb_model.specs.StoredLog.{HasIndex}
 use Rattle.mb_model.specs.Flash.{HoldsPublic}
 use Rattle.mb_model.specs.Valid.{Valid}
-use Rattle.mb_model.specs.Meaning.{RootIn, HoldsRegion, Contents, HoldsContents, meant}
+use Rattle.mb_model.specs.Meaning.{RootIn, HoldsRegion, Contents, FlashForm, HoldsContentsBy, meant}
 
 pub data Fault : Type 0 where
   bad_length bad_root bad_public bad_region_two bad_region_three bad_state : Fault
 
 -- the flash holds some codes and entries, as the root says
-abbrev pub SomePublic : List ℕ → Root → Type 0
-SomePublic flash root =
+abbrev pub SomePublicBy : FlashForm → List ℕ → Root → Type 0
+SomePublicBy Form flash root =
     (codes : Codes) × (signed : List SignedEntry) × (unsigned : List Entry)
-    × HoldsPublic flash root codes signed unsigned
+    × Form flash root codes signed unsigned
+
+abbrev pub SomePublic : List ℕ → Root → Type 0
+SomePublic flash root = SomePublicBy HoldsPublic flash root
 
 -- the area holds some region
 abbrev pub SomeRegion : List ℕ → Type 0
@@ -29,20 +32,28 @@ SomeRegion area = (region : Region) × HoldsRegion area region
 abbrev pub AreSound : Contents → Type 0
 AreSound contents = HasIndex contents.root contents.root.pending × Valid (Some (meant contents))
 
--- The memory has this fault, and none that is named before it.
-abbrev pub IsFaulty : List ℕ → List ℕ → Fault → Type 0
-IsFaulty flash bbram bad_length = ⊥
-IsFaulty flash bbram bad_root = (IsBlank bbram → ⊥) × ((root : Root) → RootIn bbram root → ⊥)
-IsFaulty flash bbram bad_public = (root : Root) × RootIn bbram root × (SomePublic flash root → ⊥)
-IsFaulty flash bbram bad_region_two =
-    (root : Root) × RootIn bbram root × SomePublic flash root × (SomeRegion (current bbram 2) → ⊥)
-IsFaulty flash bbram bad_region_three =
-    (root : Root) × RootIn bbram root × SomePublic flash root
+-- The memory has this fault by this form of the flash, and none that is named before it.
+abbrev pub IsFaultyBy : FlashForm → List ℕ → List ℕ → Fault → Type 0
+IsFaultyBy Form flash bbram bad_length = ⊥
+IsFaultyBy Form flash bbram bad_root = (IsBlank bbram → ⊥) × ((root : Root) → RootIn bbram root → ⊥)
+IsFaultyBy Form flash bbram bad_public = (root : Root) × RootIn bbram root × (SomePublicBy Form flash root → ⊥)
+IsFaultyBy Form flash bbram bad_region_two =
+    (root : Root) × RootIn bbram root × SomePublicBy Form flash root × (SomeRegion (current bbram 2) → ⊥)
+IsFaultyBy Form flash bbram bad_region_three =
+    (root : Root) × RootIn bbram root × SomePublicBy Form flash root
     × SomeRegion (current bbram 2) × (SomeRegion (current bbram 3) → ⊥)
-IsFaulty flash bbram bad_state =
-    (contents : Contents) × HoldsContents flash bbram contents × (AreSound contents → ⊥)
+IsFaultyBy Form flash bbram bad_state =
+    (contents : Contents) × HoldsContentsBy Form flash bbram contents × (AreSound contents → ⊥)
+
+abbrev pub IsFaulty : List ℕ → List ℕ → Fault → Type 0
+IsFaulty flash bbram fault = IsFaultyBy HoldsPublic flash bbram fault
+
+-- the image has this fault by this form of the flash, and none that is named before it
+abbrev pub HasFaultBy : FlashForm → List ℕ → Fault → Type 0
+HasFaultBy Form image bad_length = length image ≢ IMAGE_LENGTH
+HasFaultBy Form image fault =
+    (flash : List ℕ) × (bbram : List ℕ) × IsImage image flash bbram × IsFaultyBy Form flash bbram fault
 
 -- the image has this fault, and none that is named before it
 abbrev pub HasFault : List ℕ → Fault → Type 0
-HasFault image bad_length = length image ≢ IMAGE_LENGTH
-HasFault image fault = (flash : List ℕ) × (bbram : List ℕ) × IsImage image flash bbram × IsFaulty flash bbram fault
+HasFault image fault = HasFaultBy HoldsPublic image fault

@@ -11,6 +11,7 @@ pub mod Inputs
 pub mod Keygen
 pub mod Sign
 pub mod FactoryCommand
+pub mod MigrateCommand
 pub mod RunCommand
 pub mod VerifyCommand
 pub mod ChainCommands
@@ -42,16 +43,18 @@ pub mod Valid
 pub mod Memory
 pub mod StoredLog
 pub mod PublicRecord
-pub mod OldFlash
 pub mod Sectors
 pub mod HeaderFormat
 pub mod Flash
 pub mod WrittenFlash
 pub mod Meaning
 pub mod Faults
+pub mod OldFlash
 pub mod Clean
 pub mod Acknowledged
 pub mod Runs
+pub mod WrittenImage
+pub mod Migration
 pub mod Factory
 pub mod Lines
 pub mod Script

@@ -50,12 +50,20 @@ pub record Contents : Type 0 where
   pub two : Region
   pub three : Region
 
--- the memory holds these contents
-pub record HoldsContents (flash bbram : List ℕ) (contents : Contents) : Type 0 where
+-- A form of the flash: when it holds these codes, signed entries and unsigned entries for a root.
+abbrev pub FlashForm : Type 1
+FlashForm = List ℕ → Root → Codes → List SignedEntry → List Entry → Type 0
+
+-- the memory holds these contents, and its flash has this form
+pub record HoldsContentsBy (Form : FlashForm) (flash bbram : List ℕ) (contents : Contents) : Type 0 where
   pub root : RootIn bbram contents.root
-  pub public : HoldsPublic flash contents.root contents.codes contents.signed contents.unsigned
+  pub public : Form flash contents.root contents.codes contents.signed contents.unsigned
   pub two : HoldsRegion (current bbram 2) contents.two
   pub three : HoldsRegion (current bbram 3) contents.three
+
+-- the memory holds these contents
+abbrev pub HoldsContents : List ℕ → List ℕ → Contents → Type 0
+HoldsContents flash bbram contents = HoldsContentsBy HoldsPublic flash bbram contents
 
 -- ---- the state, with pending work completed
 
@@ -99,24 +107,34 @@ meant contents =
       three = fated (fate_of_three root.pending) contents.three;
     }
 
--- These bytes stand for this state: for none where the battery-backed memory is all zero, as a tamper event leaves it,
--- whatever the flash holds.
-pub data HasMeaning (flash bbram : List ℕ) (state : Option State) : Type 0 where
-  is_dead : IsBlank bbram → state ≡ None → HasMeaning flash bbram state
-  is_live : (contents : Contents) → HoldsContents flash bbram contents → HasIndex contents.root contents.root.pending →
-      state ≡ Some (meant contents) → HasMeaning flash bbram state
+-- These bytes stand for this state, by this form of the flash: for none where the battery-backed memory is all zero, as
+-- a tamper event leaves it, whatever the flash holds.
+pub data HasMeaningBy (Form : FlashForm) (flash bbram : List ℕ) (state : Option State) : Type 0 where
+  is_dead : IsBlank bbram → state ≡ None → HasMeaningBy Form flash bbram state
+  is_live : (contents : Contents) → HoldsContentsBy Form flash bbram contents →
+      HasIndex contents.root contents.root.pending → state ≡ Some (meant contents) →
+      HasMeaningBy Form flash bbram state
+
+abbrev pub HasMeaning : List ℕ → List ℕ → Option State → Type 0
+HasMeaning flash bbram state = HasMeaningBy HoldsPublic flash bbram state
+
+pub record StandsForBy (Form : FlashForm) (flash bbram : List ℕ) (state : Option State) : Type 0 where
+  pub sized : AreSized flash bbram
+  pub meaning : HasMeaningBy Form flash bbram state
 
 -- The memory stands for this state.
-pub record StandsFor (flash bbram : List ℕ) (state : Option State) : Type 0 where
-  pub sized : AreSized flash bbram
-  pub meaning : HasMeaning flash bbram state
+abbrev pub StandsFor : List ℕ → List ℕ → Option State → Type 0
+StandsFor flash bbram state = StandsForBy HoldsPublic flash bbram state
 
 -- ---- whole images
 
--- an image that a device can have, and the state for which it stands
-pub record IsWellFormed (image : List ℕ) (state : Option State) : Type 0 where
+pub record IsWellFormedBy (Form : FlashForm) (image : List ℕ) (state : Option State) : Type 0 where
   pub flash : List ℕ
   pub bbram : List ℕ
   pub image_is : IsImage image flash bbram
-  pub stands : StandsFor flash bbram state
+  pub stands : StandsForBy Form flash bbram state
   pub valid : Valid state
+
+-- an image that a device can have, and the state for which it stands
+abbrev pub IsWellFormed : List ℕ → Option State → Type 0
+IsWellFormed image state = IsWellFormedBy HoldsPublic image state

@@ -1,16 +1,19 @@
 -- What stood in the flash of a device before it was divided into segments. What does an old image mean?
-use Rattle.std.specs.Prelude.{◌≡◌, ℕ, ◌*◌, ◌≤◌, List, ◌++◌, length, map, None, Some}
+use Rattle.std.specs.Prelude.{◌≡◌, ℕ, ◌*◌, ◌≤◌, List, ◌++◌, length, map, Option, None, Some}
 use Rattle.std.specs.Int.{w32, to_be_bytes}
 use Rattle.mb_format.specs.Format.{Format, Spells}
 use Rattle.mb_model.specs.declared.entry.Entry.{Entry}
 use Rattle.mb_model.specs.declared.entry.SignedEntry.{SignedEntry}
 use Rattle.mb_model.specs.declared.entry.PublicEntry.{PublicEntry}
 use Rattle.mb_model.specs.declared.state.Codes.{Codes}
+use Rattle.mb_model.specs.declared.state.State.{State}
 use Rattle.mb_model.specs.declared.stored.Public.{Public}
 use Rattle.mb_model.specs.declared.stored.Root.{Root}
 use Rattle.mb_model.specs.PublicRecord.{public_format}
 use Rattle.mb_model.specs.Pieces.{part}
 use Rattle.mb_model.specs.StoredLog.{AreCounted}
+use Rattle.mb_model.specs.Meaning.{IsWellFormedBy}
+use Rattle.mb_model.specs.Faults.{Fault, HasFaultBy}
 
 -- ---- where it stands
 
@@ -49,3 +52,13 @@ pub record HeldPublic
     (flash : List ℕ) (root : Root) (codes : Codes) (signed : List SignedEntry) (unsigned : List Entry) : Type 0 where
   pub begins : BeginsWithRecord public_format (flash_area flash root.area) (public_of_parts codes signed unsigned)
   pub counted : AreCounted root.pending unsigned
+
+-- ---- what an old image means
+
+-- an image that a device could have, and the state for which it stood
+abbrev pub WasWellFormed : List ℕ → Option State → Type 0
+WasWellFormed image state = IsWellFormedBy HeldPublic image state
+
+-- the old image has this fault, and none that is named before it
+abbrev pub HadFault : List ℕ → Fault → Type 0
+HadFault image fault = HasFaultBy HeldPublic image fault

@@ -1,11 +1,11 @@
 -- How a region is spelled: its secrets and its keys. What can a layer keep?
-use Rattle.std.specs.Prelude.{◌≡◌, ℕ, Bool, ◌&&◌, ◌⊎◌, nat_le, List, [], ◌∷◌}
+use Rattle.std.specs.Prelude.{◌≡◌, ℕ, ◌==◌, Bool, ◌&&◌, ◌⊎◌, nat_le, if◌then◌else◌, List, [], ◌∷◌}
 use Rattle.std.specs.Int.{w8, w32}
 use Rattle.std.specs.List.{list_all}
 use Rattle.mb_format.specs.Format.{Format, Spells}
-use Rattle.mb_format.specs.Combinators.{number, between, mark, both, pair, as_record, then_value}
-use Rattle.mb_format.specs.Combinators.{sized, sized_that, counted}
-use Rattle.mb_model.specs.declared.limits.TheConstants.{NAME_LIMIT, VALUE_LIMIT, SECRET_LIMIT, KEY_LIMIT}
+use Rattle.mb_format.specs.Combinators.{number, between, both, pair, as_record, sized, sized_that, counted}
+use Rattle.mb_model.specs.declared.limits.TheConstants.{NAME_LIMIT, VALUE_LIMIT, KEY_LIMIT}
+use Rattle.mb_model.specs.declared.limits.TheConstants.{SECRET_LIMIT, SECRET_LIMIT_VERSION_1, REGION_VERSION}
 use Rattle.mb_model.specs.declared.region.Secret.{Secret}
 use Rattle.mb_model.specs.declared.region.RegionKey.{RegionKey}
 use Rattle.mb_model.specs.declared.region.Region.{Region}
@@ -31,19 +31,47 @@ abbrev pub least_keys : List Secret → ℕ
 least_keys [] = 1
 least_keys (secret ∷ secrets) = 0
 
-unfoldable pub secrets_format : Format (List Secret)
-secrets_format = counted (between w8 0 SECRET_LIMIT) secret_format
-
 unfoldable pub keys_format : ℕ → Format (List RegionKey)
 keys_format least = counted (between w8 least KEY_LIMIT) region_key_format
 
--- the record of a region: its version, its secrets, its keys
-unfoldable pub region_format : Format Region
-region_format = then_value (mark (1 ∷ []))
-    (as_record (both secrets_format (λ secrets. keys_format (least_keys secrets)))
-    (λ (secrets, keys). record { secrets = secrets; keys = keys })
-    (λ region. (region.secrets, region.keys)))
+-- how many secrets a record of this version has at most
+abbrev pub most_secrets : ℕ → ℕ
+most_secrets version = if version == 1 then SECRET_LIMIT_VERSION_1 else SECRET_LIMIT
 
--- bytes stand for a region: for the empty one where there are none, and else for the one that they spell
+unfoldable pub secrets_format : ℕ → Format (List Secret)
+secrets_format most = counted (between w8 0 most) secret_format
+
+-- what stands after the version of a record: the region's secrets, its keys
+unfoldable pub region_by : ℕ → Format Region
+region_by version =
+    as_record (both (secrets_format (most_secrets version)) (λ secrets. keys_format (least_keys secrets)))
+    (λ (secrets, keys). record { secrets = secrets; keys = keys })
+    (λ region. (region.secrets, region.keys))
+
+-- The record of a region: its version, 1 or 2, and what stands after it. A region of at most 16 secrets has a record of
+-- either version.
+unfoldable pub region_format : Format (ℕ × Region)
+region_format = both (between w8 1 REGION_VERSION) region_by
+
+-- bytes are a record of a region, of one of the versions
+pub record IsRecordOf (bytes : List ℕ) (region : Region) : Type 0 where
+  pub version : ℕ
+  pub spelled : Spells region_format bytes (version, region)
+
+-- bytes stand for a region: for the empty one where there are none, and else for the one whose record they are
 abbrev pub SpellsRegion : List ℕ → Region → Type 0
-SpellsRegion bytes region = ((bytes ≡ []) × (region ≡ empty_region)) ⊎ Spells region_format bytes region
+SpellsRegion bytes region = ((bytes ≡ []) × (region ≡ empty_region)) ⊎ IsRecordOf bytes region
+
+-- ---- what is written
+
+-- a region can be written: it is empty, or has a record of the version that is written
+abbrev pub CanBeWritten : Region → Type 0
+CanBeWritten region = (region ≡ empty_region) ⊎ region_format.Allowed (REGION_VERSION, region)
+
+-- what is written for a region: no bytes where it is empty, and else that record
+abbrev pub written_with : List Secret → List RegionKey → List ℕ
+written_with [] [] = []
+written_with secrets keys = region_format.spelling (REGION_VERSION, record { secrets = secrets; keys = keys })
+
+abbrev pub written_region : Region → List ℕ
+written_region region = written_with region.secrets region.keys

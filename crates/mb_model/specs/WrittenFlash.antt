@@ -1,6 +1,6 @@
 -- A flash in segments that is written from nothing, for a device with these codes, this log and no pending work.
 -- Which bytes does the factory write?
-use Rattle.std.specs.Prelude.{◌≡◌, ℕ, ◌*◌, ◌-◌, ◌≤◌, List, [], ◌∷◌, ◌++◌, length, All, IfSome, Option, None, Some}
+use Rattle.std.specs.Prelude.{ℕ, ◌*◌, ◌-◌, ◌≤◌, List, [], ◌∷◌, ◌++◌, length, All, IfSome, Option, None, Some}
 use Rattle.mb_model.specs.declared.limits.TheConstants.{SECTOR_LENGTH, CODE_LIMIT, ENTRY_LIMIT}
 use Rattle.mb_model.specs.declared.entry.SignedEntry.{SignedEntry}
 use Rattle.mb_model.specs.declared.state.Codes.{Codes}
@@ -72,9 +72,3 @@ pub record LogFitsSectors (log : List SignedEntry) : Type 0 where
   pub some : 1 ≤ length log
   pub few : length log ≤ ENTRY_LIMIT
   pub allowed : All signed_entry_format.Allowed log
-
--- A flash was written from nothing, for codes and a log that fit it.
-pub record IsFactoryFlash (flash : List ℕ) (codes : Codes) (log : List SignedEntry) : Type 0 where
-  pub codes_fit : CodesFitSlots codes
-  pub log_fits : LogFitsSectors log
-  pub written : flash ≡ written_flash codes log

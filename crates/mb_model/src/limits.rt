@@ -54,10 +54,16 @@ pub const ENTRY_TEXT_LIMIT: u16 = 400;
 pub const STATEMENT_LIMIT: usize = 2_481;
 
 /// The most bytes of the record of a region.
-pub const REGION_LIMIT: usize = 3_091;
+pub const REGION_LIMIT: usize = 4_087;
+
+/// The version of the records of regions that are written.
+pub const REGION_VERSION: u8 = 2;
 
 /// The most secrets of a region.
-pub const SECRET_LIMIT: u8 = 16;
+pub const SECRET_LIMIT: u8 = 22;
+
+/// The most secrets in the record of a region that is of version 1.
+pub const SECRET_LIMIT_VERSION_1: u8 = 16;
 
 /// The most keys of a region.
 pub const KEY_LIMIT: u8 = 8;

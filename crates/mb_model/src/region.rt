@@ -16,7 +16,7 @@ pub struct Secret {
     pub born: u32,
 }
 
-/// The secrets of a region, at most 16.
+/// The secrets of a region, at most 22.
 pub type Secrets = Items<Secret>;
 
 /// A key of a region.

@@ -11,7 +11,7 @@ use Rattle.mb_model.specs.LayerFormat.{trust_format}
 use Rattle.mb_model.specs.EntryFormat.{key_kind_format}
 use Rattle.mb_model.specs.OrderFormat.{target_format, payload_format, body_format, sized_signature_format, countersignatures_format, order_format}
 use Rattle.mb_model.specs.ChainFormat.{chain_format}
-use Rattle.mb_model.specs.RegionFormat.{secrets_format, keys_format, region_format}
+use Rattle.mb_model.specs.RegionFormat.{secrets_format, keys_format, region_by, region_format}
 use Rattle.mb_model.proofs.OrderFormatLaws.{order_exact}
 use Rattle.mb_model.proofs.EntryFormatLaws.{chain_exact}
 use Rattle.mb_model.proofs.RecordFormatLaws.{region_exact}
@@ -26,7 +26,7 @@ fails_at : {A : Type 0} {f : Format A} → IsExact f → (bytes : List ℕ) (pla
 fails_at exact bytes place small e = (IsExactWhole-from_exact exact).fails bytes place (are_bytes bytes small) e
 
 pub failings : FailingExamples
-unfolding trust_format target_format payload_format body_format sized_signature_format countersignatures_format order_format chain_format secrets_format keys_format region_format number_at raw_at items
+unfolding trust_format target_format payload_format body_format sized_signature_format countersignatures_format order_format chain_format secrets_format keys_format region_by region_format number_at raw_at items
 failings = record {
   countersigned_surrender = fails_at order_exact (surrender_bytes ++ 0 ∷ 0 ∷ 1 ∷ []) 10 (search rules depth 20) refl;
   left_over = fails_at order_exact (surrender_bytes ++ 0 ∷ 0 ∷ 0 ∷ 9 ∷ []) 11 (search rules depth 20) refl;

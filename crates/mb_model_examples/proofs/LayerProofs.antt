@@ -13,7 +13,7 @@ use Rattle.mb_model_examples.proofs.StepProofs.{stops_between}
 
 pub puts : (signature : List ℕ) → PutExamples signature
 unfolding number_of with_secret put_event
-puts signature = record { replaced = refl; new = refl; above = refl; full = refl; full_replaced = refl }
+puts signature = record { replaced = refl; new = refl; above = refl; seventeenth = refl; full = refl; full_replaced = refl }
 
 pub gets : (signature : List ℕ) → GetExamples signature
 unfolding get_event drop_event

@@ -14,7 +14,7 @@ use Rattle.mb_model.specs.declared.reply.Reply.TheVariants as reply
 use Rattle.mb_model.specs.declared.state.State.{State}
 use Rattle.mb_model.specs.declared.stored.Root.{Root}
 use Rattle.mb_model.specs.RootFormat.{root_format}
-use Rattle.mb_model.specs.RegionFormat.{secrets_format, keys_format, region_format}
+use Rattle.mb_model.specs.RegionFormat.{secrets_format, keys_format, region_by, region_format}
 use Rattle.mb_model.specs.Memory.{IsImage, IsBlank, life_byte, other, HoldsInArea}
 use Rattle.mb_model.specs.Machine.{World, ratchet, Step, answered, lacks_memory, loses_power}
 use Rattle.mb_model.specs.Board.{Held}
@@ -50,9 +50,9 @@ no_root_of root (byte ∷ second ∷ bytes) holds spelled =
     let count = length (second ∷ bytes) + 1 in
     omega (arith, ap length holds.whole, length-append (second ∷ bytes) holds.rest)
 
-no_such_region : (region : Region) → Spells region_format (1 ∷ 0 ∷ 0 ∷ []) region → ⊥
-unfolding secrets_format keys_format region_format number_at raw_at items
-no_such_region region spelled = spells_none region_exact (1 ∷ 0 ∷ 0 ∷ []) 2 refl refl region spelled
+no_such_region : (version : ℕ) (region : Region) → Spells region_format (1 ∷ 0 ∷ 0 ∷ []) (version, region) → ⊥
+unfolding secrets_format keys_format region_by region_format number_at raw_at items
+no_such_region version region spelled = spells_none region_exact (1 ∷ 0 ∷ 0 ∷ []) 2 refl refl (version, region) spelled
 
 abbrev is_zero : ℕ → Type 0
 is_zero byte = byte ≡ 0
@@ -66,7 +66,7 @@ areas = record {
   no_root = λ root holds. no_root_of root holds.bytes holds.holds holds.spelled;
   no_region = λ region is. elim is [
     | inl empty ↦ cons_none 1 (0 ∷ 0 ∷ []) (sym empty.0)
-    | inr spelled ↦ no_such_region region spelled
+    | inr spelled ↦ no_such_region spelled.version region spelled.spelled
   ];
 }
 

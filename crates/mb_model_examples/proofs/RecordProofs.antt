@@ -16,7 +16,7 @@ use Rattle.mb_model.specs.Layers.{unowned}
 use Rattle.mb_model.specs.LayerFormat.{trust_format, code_name_format, layer_format, layers_format}
 use Rattle.mb_model.specs.EntryFormat.{key_kind_format, pair_format, birth_format, change_format, new_key_format, succession_format, entry_format, signed_entry_format}
 use Rattle.mb_model.specs.RootFormat.{region_key_format, outgoing_format, fate_format, pending_format, root_format}
-use Rattle.mb_model.specs.RegionFormat.{secret_format, secrets_format, keys_format, region_format}
+use Rattle.mb_model.specs.RegionFormat.{secret_format, secrets_format, keys_format, region_by, region_format}
 use Rattle.mb_model.specs.ChainFormat.{statement_format, chain_format}
 use Rattle.mb_model.specs.PublicRecord.{code_format, codes_format, public_entry_format, public_format}
 use Rattle.mb_model.specs.SignedTexts.{statement_text}
@@ -113,10 +113,12 @@ roots = record {
 }
 
 pub regions : RegionRecords
-unfolding decode_pairs number_bytes number_at raw_at items key_seed_format key_kind_format region_key_format secret_format secrets_format keys_format region_format
+unfolding decode_pairs number_bytes number_at raw_at items key_seed_format key_kind_format region_key_format secret_format secrets_format keys_format region_by region_format
 regions = record {
-  of_both = spells region_exact (bytes_of region_of_both_digits) region_of_both refl refl;
-  of_a_key = spells region_exact (bytes_of region_of_a_key_digits) region_of_a_key refl refl;
+  of_both = spells region_exact (bytes_of region_of_both_digits) (1, region_of_both) refl refl;
+  of_a_key = spells region_exact (bytes_of region_of_a_key_digits) (1, region_of_a_key) refl refl;
+  in_version_two = spells region_exact (with_byte 0 2 (bytes_of region_of_both_digits)) (2, region_of_both) refl refl;
+  is_written = refl;
   area_size = refl;
   area_hash = area_hash;
   in_area = record {
@@ -127,7 +129,7 @@ regions = record {
       whole = refl;
       blank = All-replicate (λ (byte : ℕ). byte ≡ 0) 4037 0 refl;
     };
-    spelled = spells region_exact (bytes_of region_of_a_key_digits) region_of_a_key refl refl;
+    spelled = spells region_exact (bytes_of region_of_a_key_digits) (1, region_of_a_key) refl refl;
   };
 }
 
@@ -159,7 +161,7 @@ bodies = record {
 -- ---- bytes that are no record
 
 pub failings : FailingRecords
-unfolding decode_pairs number_at raw_at items public_key_format key_seed_format trust_format code_name_format layer_format layers_format key_kind_format pair_format birth_format change_format entry_format region_key_format outgoing_format fate_format pending_format root_format secret_format secrets_format keys_format region_format target_format payload_format body_format
+unfolding decode_pairs number_at raw_at items public_key_format key_seed_format trust_format code_name_format layer_format layers_format key_kind_format pair_format birth_format change_format entry_format region_key_format outgoing_format fate_format pending_format root_format secret_format secrets_format keys_format region_by region_format target_format payload_format body_format
 failings = record {
   short_birth = fails entry_exact (take 170 (bytes_of birth_digits)) 170 refl refl;
   entry_tag = fails entry_exact (with_byte 0 4 (bytes_of birth_digits)) 0 refl refl;
@@ -179,6 +181,8 @@ failings = record {
   short_root = fails root_exact (take 174 (bytes_of busy_root_digits)) 174 refl refl;
   empty = fails region_exact (1 ∷ 0 ∷ 0 ∷ []) 2 refl refl;
   space_in_name = fails region_exact (with_byte 3 0x20 (bytes_of region_of_both_digits)) 3 refl refl;
-  version = fails region_exact (with_byte 0 2 (bytes_of region_of_both_digits)) 0 refl refl;
+  version = fails region_exact (with_byte 0 3 (bytes_of region_of_both_digits)) 0 refl refl;
+  many_secrets = fails region_exact (with_byte 1 17 (bytes_of region_of_both_digits)) 1 refl refl;
+  many_secrets_in_version_two = fails region_exact (with_byte 0 2 (with_byte 1 23 (bytes_of region_of_both_digits))) 1 refl refl;
   left_over = fails region_exact (bytes_of region_of_both_digits ++ 0 ∷ []) 131 refl refl;
 }

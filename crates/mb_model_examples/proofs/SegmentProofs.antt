@@ -17,6 +17,7 @@ use Rattle.mb_model.specs.WrittenFlash.{in_sectors, slots_with, sectors_of, writ
 use Rattle.mb_model.specs.KeyFormat.{public_key_format}
 use Rattle.mb_model.specs.LayerFormat.{trust_format, code_name_format, layer_format, layers_format}
 use Rattle.mb_model.specs.EntryFormat.{birth_format, entry_format}
+use Rattle.mb_model.specs.RegionFormat.{region_format}
 use Rattle.mb_model.specs.HeaderFormat.{code_length_format, slot_format, entry_bytes_format, unsigned_format, header_format, log_format}
 use Rattle.mb_model.specs.Sectors.{BeginsAs}
 use Rattle.mb_model.specs.Flash.{sector, code_slot, HoldsHeader, HoldsEntry, HoldsLog, AreBytesOf}
@@ -99,7 +100,7 @@ no_code_there = refl
 not_longer : nine_bytes ++ 7 ∷ [] ≡ take 9 (code_slot (only_code (nine_bytes ++ 7 ∷ [])) 1 1) → ⊥
 not_longer e = omega (arith, ap length (e ∙ more_stands))
 
-long_code : (codes : Codes) (code : List ℕ) → codes.two ≡ Some code → length code ≡ 32769 → CodesFitSlots codes → ⊥
+pub long_code : (codes : Codes) (code : List ℕ) → codes.two ≡ Some code → length code ≡ 32769 → CodesFitSlots codes → ⊥
 long_code codes code is long fit =
     let short : length code ≤ 32768 = subst (λ (c : Option (List ℕ)). IfSome c (λ bytes. length bytes ≤ 32768)) is fit.two in
     omega (arith, short, long)
@@ -224,7 +225,7 @@ holding root codes signed unsigned = record {
   other_area = λ area holds. no_header holds.header (subst (λ n. HoldsHeader only_header n holds.header) area holds.begins);
   uncounted = λ flash entry none holds. omega (arith, holds.counted.counted, ap unsigned_by none);
   empty = λ fit. omega (arith, fit.log_fits.some);
-  unwritten = λ is. omega (arith, written_is_whole only_header codes signed is, length-only_header);
+  unwritten = λ fit fits same. omega (arith, written_is_whole codes signed fit fits, ap length same, length-only_header);
 }
 
 -- ---- agreement
@@ -304,5 +305,11 @@ examples = record {
 }
 
 pub written : WrittenExamples
-unfolding decode_pairs number_bytes items erased code_length_format slot_format entry_bytes_format unsigned_format header_format log_format public_key_format trust_format code_name_format layer_format layers_format birth_format entry_format in_sectors slots_with sectors_of written_flash
-written = record { header = refl; code = refl; log = refl }
+unfolding decode_pairs number_bytes items region_format erased code_length_format slot_format entry_bytes_format unsigned_format header_format log_format public_key_format trust_format code_name_format layer_format layers_format birth_format entry_format in_sectors slots_with sectors_of written_flash
+written = record {
+  header = refl;
+  code = refl;
+  log = refl;
+  one_secret = λ secret. refl;
+  empty = refl;
+}

@@ -1,6 +1,6 @@
 -- The counterexamples of texts, draws and new devices, refuted.
-use Rattle.std.proofs.Common.{◌≡◌, ℕ, List, [], ◌∷◌, ◌++◌, length, inl, refl, sym, ap, subst, ◌∙◌, arith, lit<, lit≤}
-use Rattle.std.specs.Prelude.{codes, slice_index, ◌%◌}
+use Rattle.std.proofs.Common.{◌≡◌, ℕ, List, [], ◌∷◌, ◌++◌, length, Option, Some, ◌≤◌, inl, refl, sym, ap, subst, ◌∙◌, arith, lit<, lit≤}
+use Rattle.std.specs.Prelude.{codes, slice_index, ◌%◌, IfSome}
 use Rattle.std.proofs.lemmas.Bool.{false≢true}
 use Rattle.std.proofs.lemmas.List.Elements.{All-tail, All-same}
 use Rattle.mb_format.specs.Format.{Spells}
@@ -10,9 +10,10 @@ use Rattle.mb_model.specs.declared.event.Event.TheVariants as event
 use Rattle.mb_model.specs.declared.order.Order.{Order}
 use Rattle.mb_model.specs.declared.state.State.{State}
 use Rattle.mb_model.specs.declared.tools.Workload.{Workload}
-use Rattle.mb_model.specs.Memory.{IsBlank, selector_of}
+use Rattle.mb_model.specs.Memory.{IsImage, IsBlank, life_byte, selector_of}
 use Rattle.mb_model.specs.Pieces.{part}
-use Rattle.mb_model.specs.Factory.{IsBornWith}
+use Rattle.mb_model.specs.WrittenFlash.{written_flash}
+use Rattle.mb_model.specs.WrittenImage.{written_bbram, written_image, IsWrittenFor}
 use Rattle.mb_model.specs.ChainFormat.{statement_format}
 use Rattle.mb_model.specs.Lines.{ReadsLines, TextFailsAtLine}
 use Rattle.mb_model.specs.Script.{IsScript}
@@ -25,9 +26,11 @@ use Rattle.mb_model_lemmas.proofs.LineLemmas.{cons_same, cons_none, HasLines-sam
 use Rattle.mb_model_lemmas.proofs.MeaningLemmas.{not_blank}
 use Rattle.mb_model_lemmas.proofs.OrderLineLemmas.{IsOrderLine-same, surrender_is, zero_none}
 use Rattle.mb_model_lemmas.proofs.WordLemmas.{IsHex-same}
+use Rattle.mb_model_lemmas.proofs.WrittenImages.{written_is_sized}
 use Rattle.mb_model_lemmas.specs.SampleOrder.{surrender, surrender_line}
 use Rattle.mb_model_examples.specs.TextCounterExamples.{LineCounterExamples, boot_text, ScriptCounterExamples, surrender_lines, DraftCounterExamples, OrderLineCounterExamples, DrawCounterExamples, WorkloadCounterExamples, BirthCounterExamples}
 use Rattle.mb_model_examples.proofs.ChainCounterProofs.{no_statement}
+use Rattle.mb_model_examples.proofs.SegmentProofs.{long_code}
 use Rattle.mb_model_examples.proofs.TextExampleProofs as examples
 use Rattle.mb_model_examples.proofs.TextExampleProofs.{lines_plain, half_load}
 
@@ -119,27 +122,40 @@ blank_back : (xs ys : List ℕ) → IsBlank (xs ++ ys) → IsBlank ys
 blank_back [] ys blank = blank
 blank_back (x ∷ xs) ys blank = blank_back xs ys (All-tail is_zero x (xs ++ ys) blank)
 
-not_born_blank : (state : State) (image : List ℕ) → IsBlank image → IsBornWith state image → ⊥
-not_born_blank state image blank born =
-    let whole = All-same is_zero (born.flash ++ born.bbram) image (sym born.image_is.0) blank in
-    not_blank born.bbram (blank_back born.flash born.bbram whole) born.clean.root.alive
+alive : (state : State) → life_byte (written_bbram state) ≡ 0xA5
+unfolding written_bbram
+alive state = refl
+
+root_first : (state : State) → selector_of (written_bbram state) 1 ≡ 0
+unfolding written_bbram
+root_first state = refl
+
+-- the two memories of an image that was written
+written_parts : (state : State) (image : List ℕ) → IsWrittenFor state image → IsImage image (written_flash state.codes state.log) (written_bbram state)
+unfolding written_image
+written_parts state image is = (is.written, written_is_sized state is.fits)
+
+not_written_blank : (state : State) (image : List ℕ) → IsBlank image → IsWrittenFor state image → ⊥
+not_written_blank state image blank is =
+    let flash : List ℕ = written_flash state.codes state.log in
+    let whole : IsBlank (flash ++ written_bbram state) = All-same is_zero (flash ++ written_bbram state) image (sym (written_parts state image is).0) blank in
+    not_blank (written_bbram state) (blank_back flash (written_bbram state) whole) (alive state)
+
+not_written_used : (state : State) (image flash bbram : List ℕ) → IsImage image flash bbram → selector_of bbram 1 ≡ 1 → IsWrittenFor state image → ⊥
+not_written_used state image flash bbram parts one is =
+    let same : bbram ≡ written_bbram state = (image_parts image flash bbram (written_flash state.codes state.log) (written_bbram state) parts (written_parts state image is)).1 in
+    omega (arith, one, ap (λ (bytes : List ℕ). selector_of bytes 1) same, root_first state)
 
 pub workloads : (number rounds : ℕ) (workload : Workload) → WorkloadCounterExamples number rounds workload
 unfolding workload_lines
 workloads number rounds workload = record {
   no_script = λ none is. cons_none 98 _ (sym none ∙ is.script);
-  blank = λ blank is. not_born_blank _ workload.image blank is.image;
+  blank = λ blank is. not_written_blank _ workload.image blank is.image;
 }
-
-no_selector : (bbram : List ℕ) → part 1 3 bbram ≡ 0 ∷ 0 ∷ 0 ∷ [] → selector_of bbram 1 ≡ 1 → ⊥
-no_selector [] zeros one = omega (arith, one)
-no_selector (life ∷ []) zeros one = omega (arith, one)
-no_selector (life ∷ root ∷ bytes) zeros one = omega (arith, one, ap (λ (bs : List ℕ). slice_index bs 0) zeros)
 
 pub births : (state : State) (image : List ℕ) → BirthCounterExamples state image
 births state image = record {
-  blank = not_born_blank state image;
-  used = λ flash bbram is one born.
-      let same = (image_parts image flash bbram born.flash born.bbram is born.image_is).1 in
-      no_selector bbram (ap (part 1 3) same ∙ born.selectors) one;
+  blank = not_written_blank state image;
+  used = not_written_used state image;
+  long = λ code is long fits. long_code state.codes code is long fits.codes;
 }

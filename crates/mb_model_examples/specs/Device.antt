@@ -51,9 +51,13 @@ secrets_of_two = with_secrets (pin ∷ token ∷ [])
 abbrev pub key_of_three : ℕ → Region
 key_of_three uses = with_keys (key_one uses ∷ [])
 
--- a region with as many secrets as there may be, whose names are single letters, and one with as many keys
+-- a region of secrets whose names are these letters; one with as many secrets as there may be, and one with as many
+-- keys
+abbrev pub with_letters : List ℕ → Region
+with_letters letters = with_secrets (map (λ letter. secret (letter ∷ []) [] 4) letters)
+
 abbrev pub full_region : Region
-full_region = with_secrets (map (λ letter. secret (letter ∷ []) [] 4) (codes "abcdefghijklmnop"))
+full_region = with_letters (codes "abcdefghijklmnopqrstuv")
 
 abbrev pub eight_keys : Region
 eight_keys =

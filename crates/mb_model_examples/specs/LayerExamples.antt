@@ -10,7 +10,8 @@ use Rattle.mb_model.specs.ChainFormat.{statement_format}
 use Rattle.mb_model.specs.LayerEvents.{statement_of}
 use Rattle.mb_model.specs.Machine.{off, ratchet, Machine}
 use Rattle.mb_model_examples.specs.Device.{secret, pin, token, key_one, with_secrets, secrets_of_two, key_of_three}
-use Rattle.mb_model_examples.specs.Device.{full_region, with_regions, after_uses, alive, two_doubted, world_at}
+use Rattle.mb_model_examples.specs.Device.{with_letters, full_region, with_regions, after_uses, alive}
+use Rattle.mb_model_examples.specs.Device.{two_doubted, world_at}
 use Rattle.mb_model_examples.specs.StepExamples.{Refuses, armed_at, StopsBetween}
 
 -- While layer r runs, an event leads from one state to another.
@@ -35,9 +36,13 @@ pub record PutExamples (signature : List ℕ) : Type 0 where
   pub above : LeadsWorld 2 (alive signature) (event.Put 3 (codes "pin") (codes "5")) reply.Kept
       (with_regions secrets_of_two
       (record { secrets = secret (codes "pin") (codes "5") 4 ∷ []; keys = key_one 0 ∷ [] }) signature)
-  -- where there are 16, a new one is refused, and one with a name that is there is not
+  -- 16 secrets, as many as a record of version 1 holds, take one more
+  pub seventeenth : LeadsWorld 2 (with_regions (with_letters (codes "abcdefghijklmnop")) full_region signature)
+      (event.Put 2 (codes "q") []) reply.Kept
+      (with_regions (with_letters (codes "abcdefghijklmnopq")) full_region signature)
+  -- where there are 22, a new one is refused, and one with a name that is there is not
   pub full : Refuses (world_at (ratchet 2) (with_regions full_region full_region signature))
-      (event.Put 2 (codes "q") []) 5
+      (event.Put 2 (codes "w") []) 5
   pub full_replaced : LeadsWorld 2 (with_regions full_region full_region signature) (event.Put 3 (codes "c") [])
       reply.Kept
       (with_regions full_region full_region signature)

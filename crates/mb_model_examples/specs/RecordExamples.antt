@@ -11,7 +11,7 @@ use Rattle.mb_model.specs.Layers.{unowned}
 use Rattle.mb_model.specs.LayerFormat.{layer_format}
 use Rattle.mb_model.specs.EntryFormat.{entry_format}
 use Rattle.mb_model.specs.RootFormat.{root_format}
-use Rattle.mb_model.specs.RegionFormat.{region_format}
+use Rattle.mb_model.specs.RegionFormat.{region_format, written_region}
 use Rattle.mb_model.specs.Memory.{HoldsRecord}
 use Rattle.mb_model.specs.ChainFormat.{statement_format, chain_format}
 use Rattle.mb_model.specs.PublicRecord.{public_format}
@@ -38,6 +38,10 @@ use Rattle.mb_model_examples.specs.RecordValues.{load_of_version_two, load_of_ve
 use Rattle.mb_model_examples.specs.RecordValues.{split_load_body, split_load_body_digits, split_establish_body}
 use Rattle.mb_model_examples.specs.RecordValues.{split_establish_body_digits, split_emergency_body}
 use Rattle.mb_model_examples.specs.RecordValues.{split_emergency_body_digits}
+
+-- the bytes with another byte at an offset
+abbrev pub with_byte : ℕ → ℕ → List ℕ → List ℕ
+with_byte at byte bytes = take at bytes ++ byte ∷ drop (at + 1) bytes
 
 -- ---- values and their bytes: of long ones the program gave the length, the first bytes and the hash
 
@@ -74,9 +78,12 @@ pub record RootRecords : Type 0 where
   pub small : Spells root_format (bytes_of small_root_digits) small_root
 
 pub record RegionRecords : Type 0 where
-  pub of_both : Spells region_format (bytes_of region_of_both_digits) region_of_both
-  pub of_a_key : Spells region_format (bytes_of region_of_a_key_digits) region_of_a_key
-  pub in_area : HoldsRecord region_format area_of_a_key region_of_a_key
+  pub of_both : Spells region_format (bytes_of region_of_both_digits) (1, region_of_both)
+  pub of_a_key : Spells region_format (bytes_of region_of_a_key_digits) (1, region_of_a_key)
+  pub in_area : HoldsRecord region_format area_of_a_key (1, region_of_a_key)
+  -- the version alone differs in the record that is written
+  pub in_version_two : Spells region_format (with_byte 0 2 (bytes_of region_of_both_digits)) (2, region_of_both)
+  pub is_written : written_region region_of_both ≡ with_byte 0 2 (bytes_of region_of_both_digits)
   pub area_size : length area_of_a_key ≡ 4096
   pub area_hash : sha256 area_of_a_key
       ≡ bytes_of (codes "58d56411d7bd11d49bff3d8b11ed2b6d184005d3d7c5f21d926e2f8a030f48ab")
@@ -117,10 +124,6 @@ pub record BodyRecords : Type 0 where
 
 -- ---- bytes that are no record
 
--- the bytes with another byte at an offset
-abbrev pub with_byte : ℕ → ℕ → List ℕ → List ℕ
-with_byte at byte bytes = take at bytes ++ byte ∷ drop (at + 1) bytes
-
 pub record FailingRecords : Type 0 where
   -- a birth that ends before the trust of its layer 3
   pub short_birth : FailsWhole entry_format (take 170 (bytes_of birth_digits)) 170
@@ -148,6 +151,10 @@ pub record FailingRecords : Type 0 where
   pub empty : FailsWhole region_format (1 ∷ 0 ∷ 0 ∷ []) 2
   -- a name has no space: the whole name fails
   pub space_in_name : FailsWhole region_format (with_byte 3 0x20 (bytes_of region_of_both_digits)) 3
-  pub version : FailsWhole region_format (with_byte 0 2 (bytes_of region_of_both_digits)) 0
+  pub version : FailsWhole region_format (with_byte 0 3 (bytes_of region_of_both_digits)) 0
+  -- no region has 17 secrets in version 1, or 23 in version 2
+  pub many_secrets : FailsWhole region_format (with_byte 1 17 (bytes_of region_of_both_digits)) 1
+  pub many_secrets_in_version_two :
+      FailsWhole region_format (with_byte 0 2 (with_byte 1 23 (bytes_of region_of_both_digits))) 1
   -- nothing follows a region
   pub left_over : FailsWhole region_format (bytes_of region_of_both_digits ++ 0 ∷ []) 131

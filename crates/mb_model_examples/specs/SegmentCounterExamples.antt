@@ -12,7 +12,7 @@ use Rattle.mb_model.specs.Board.{Memory}
 use Rattle.mb_model.specs.Meaning.{RootIn}
 use Rattle.mb_model.specs.Flash.{sector, code_slot, HoldsHeader, HoldsCode, HoldsEntry, HoldsLog, AreBytesOf}
 use Rattle.mb_model.specs.Flash.{HoldsPublic}
-use Rattle.mb_model.specs.WrittenFlash.{CodesFitSlots, LogFitsSectors, IsFactoryFlash}
+use Rattle.mb_model.specs.WrittenFlash.{written_flash, CodesFitSlots, LogFitsSectors}
 use Rattle.mb_model_lemmas.specs.SegmentLaws.{IsOnlyHeader, HoldsNoEntry, IsSmallHeader, SegmentsFit, SpellsLog}
 use Rattle.mb_model_memory.specs.FlashInForce.{AgreeInSlots, AgreeForArea, KeepsSignedLog, SparesSectors, IsUncounted}
 use Rattle.mb_model_memory.specs.FlashInForce.{IsFreeSlot, IsUnused, DiffersOnlyIn, BeginsWithBytes, IsSectorWritten}
@@ -81,7 +81,7 @@ pub record HoldingCounterExamples (root : Root) (codes : Codes) (signed : List S
       → HoldsPublic flash root codes signed (entry ∷ unsigned) → ⊥
   pub empty : SegmentsFit codes [] unsigned → ⊥
   -- a flash of nothing but a header was not written from nothing, which gives every byte of a flash
-  pub unwritten : IsFactoryFlash only_header codes signed → ⊥
+  pub unwritten : CodesFitSlots codes → LogFitsSectors signed → written_flash codes signed ≡ only_header → ⊥
 
 -- ---- what does not stay
 

@@ -1,9 +1,13 @@
--- What small flashes in segments hold; the checker computes each line. Do the definitions hold of anything?
-use Rattle.std.specs.Prelude.{◌≡◌, ℕ, List, [], ◌∷◌, ◌++◌, take, replicate, codes, None, Some}
+-- What small flashes in segments hold, and what is written of regions; the checker computes each line. Do the
+-- definitions hold of anything?
+use Rattle.std.specs.Prelude.{◌≡◌, ℕ, List, [], ◌∷◌, ◌++◌, take, slice_index, replicate, codes, None, Some}
 use Rattle.mb_model.specs.declared.entry.Entry.{Entry}
 use Rattle.mb_model.specs.declared.entry.SignedEntry.{SignedEntry}
+use Rattle.mb_model.specs.declared.region.Secret.{Secret}
 use Rattle.mb_model.specs.declared.stored.Slot.{Slot}
 use Rattle.mb_model.specs.Pieces.{part}
+use Rattle.mb_model.specs.Regions.{empty_region}
+use Rattle.mb_model.specs.RegionFormat.{written_region}
 use Rattle.mb_model.specs.WrittenFlash.{written_flash}
 use Rattle.mb_model.specs.Flash.{HoldsHeader, HoldsCode, HoldsEntry, AreBytesOf}
 use Rattle.mb_model_examples.specs.RecordValues.{bytes_of, birth, birth_digits, succession, succession_digits}
@@ -45,3 +49,6 @@ pub record WrittenExamples : Type 0 where
   pub header : take 24 small_flash ≡ only_header ++ 0xFF ∷ 0xFF ∷ []
   pub code : part 8192 11 small_flash ≡ nine_bytes ++ 0xFF ∷ 0xFF ∷ []
   pub log : part 262144 2521 small_flash ≡ log_bytes
+  -- a region of one secret is written in version 2, and an empty one has no bytes
+  pub one_secret : (secret : Secret) → slice_index (written_region (record { secrets = secret ∷ []; keys = [] })) 0 ≡ 2
+  pub empty : written_region empty_region ≡ []

@@ -1,6 +1,6 @@
 -- Texts, draws and new devices for which the definitions do not hold; the checker refutes each line. Can a text be read
 -- as anything?
-use Rattle.std.specs.Prelude.{◌≡◌, ℕ, List, [], ◌∷◌, ◌++◌, length, codes}
+use Rattle.std.specs.Prelude.{◌≡◌, ℕ, List, [], ◌∷◌, ◌++◌, length, codes, Some}
 use Rattle.mb_model.specs.declared.entry.Statement.{Statement}
 use Rattle.mb_model.specs.declared.event.Event.{Event}
 use Rattle.mb_model.specs.declared.event.Event.TheVariants as event
@@ -10,7 +10,7 @@ use Rattle.mb_model.specs.declared.order.Target.TheVariants as target
 use Rattle.mb_model.specs.declared.state.State.{State}
 use Rattle.mb_model.specs.declared.tools.Workload.{Workload}
 use Rattle.mb_model.specs.Memory.{IsImage, IsBlank, selector_of}
-use Rattle.mb_model.specs.Factory.{IsBornWith}
+use Rattle.mb_model.specs.WrittenImage.{FitsImage, IsWrittenFor}
 use Rattle.mb_model.specs.Lines.{HasLines, ReadsLines, TextFailsAtLine}
 use Rattle.mb_model.specs.Script.{IsScriptEvent, IsScript}
 use Rattle.mb_model.specs.Drafts.{SaysTarget, IsDraft}
@@ -88,9 +88,11 @@ pub record WorkloadCounterExamples (number rounds : ℕ) (workload : Workload) :
   pub no_script : workload.script ≡ [] → IsWorkload number rounds workload → ⊥
   pub blank : IsBlank workload.image → IsWorkload number rounds workload → ⊥
 
--- an image is not that of a new device
+-- an image was not written from nothing for a state
 pub record BirthCounterExamples (state : State) (image : List ℕ) : Type 0 where
   -- it is all zero, as that of no live device
-  pub blank : IsBlank image → IsBornWith state image → ⊥
+  pub blank : IsBlank image → IsWrittenFor state image → ⊥
   -- the device has been in use: the second area of the root is the current one
-  pub used : (flash bbram : List ℕ) → IsImage image flash bbram → selector_of bbram 1 ≡ 1 → IsBornWith state image → ⊥
+  pub used : (flash bbram : List ℕ) → IsImage image flash bbram → selector_of bbram 1 ≡ 1 → IsWrittenFor state image → ⊥
+  -- with a code that has one byte more than a slot, a state fits no image
+  pub long : (code : List ℕ) → state.codes.two ≡ Some code → length code ≡ 32769 → FitsImage state → ⊥

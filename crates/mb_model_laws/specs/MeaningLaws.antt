@@ -1,6 +1,6 @@
 -- Laws of images: what a memory stands for and what is wrong with it exclude each other. Can one image be taken for
 -- two?
-use Rattle.std.specs.Prelude.{◌≡◌, ℕ, List, [], ◌∷◌, length, take, Option, None, Some}
+use Rattle.std.specs.Prelude.{◌≡◌, ℕ, List, [], length, Option, None, Some}
 use Rattle.mb_format.specs.Format.{IsBytes}
 use Rattle.mb_model.specs.declared.key.KeySeed.{KeySeed}
 use Rattle.mb_model.specs.declared.key.PublicKey.{PublicKey}
@@ -8,10 +8,12 @@ use Rattle.mb_model.specs.declared.state.State.{State}
 use Rattle.mb_model.specs.Log.{entries_of, layers_of}
 use Rattle.mb_model.specs.Memory.{IsBlank}
 use Rattle.mb_model.specs.Flash.{HoldsPublic}
-use Rattle.mb_model.specs.Meaning.{Contents, HoldsContents, StandsFor, IsWellFormed}
-use Rattle.mb_model.specs.Faults.{Fault, HasFault}
+use Rattle.mb_model.specs.Meaning.{Contents, FlashForm, HoldsContents, StandsFor, IsWellFormedBy, IsWellFormed}
+use Rattle.mb_model.specs.Faults.{Fault, HasFaultBy}
 use Rattle.mb_model.specs.Clean.{root_of, IsCleanFor, Clean}
 use Rattle.mb_model.specs.Factory.{state_at_birth, IsFactoryImage}
+
+-- ---- memories
 
 -- the bytes of a memory hold one contents at most
 abbrev pub HoldsOneContents : Type 0
@@ -25,26 +27,45 @@ StandsForOne =
     (flash bbram : List ℕ) (a b : Option State) → IsBytes flash → IsBytes bbram
     → StandsFor flash bbram a → StandsFor flash bbram b → a ≡ b
 
+-- ---- images, by a form of the flash
+
 -- an image of bytes has one fault at most
-abbrev pub OneFault : Type 0
-OneFault = (image : List ℕ) (a b : Fault) → IsBytes image → HasFault image a → HasFault image b → a ≡ b
+abbrev pub OneFaultBy : FlashForm → Type 0
+OneFaultBy Form =
+    (image : List ℕ) (a b : Fault) → IsBytes image → HasFaultBy Form image a → HasFaultBy Form image b → a ≡ b
 
 -- a well-formed one has none
-abbrev pub WellFormedHasNoFault : Type 0
-WellFormedHasNoFault =
+abbrev pub WellFormedHasNoFaultBy : FlashForm → Type 0
+WellFormedHasNoFaultBy Form =
     (image : List ℕ) (state : Option State) (fault : Fault) → IsBytes image
-    → IsWellFormed image state → HasFault image fault → ⊥
+    → IsWellFormedBy Form image state → HasFaultBy Form image fault → ⊥
 
 -- no image is neither well formed nor faulty
-abbrev pub WellFormedOrFaulty : Type 0
-WellFormedOrFaulty =
-    (image : List ℕ) → ((state : Option State) → IsWellFormed image state → ⊥)
-    → ((fault : Fault) → HasFault image fault → ⊥) → ⊥
+abbrev pub WellFormedOrFaultyBy : FlashForm → Type 0
+WellFormedOrFaultyBy Form =
+    (image : List ℕ) → ((state : Option State) → IsWellFormedBy Form image state → ⊥)
+    → ((fault : Fault) → HasFaultBy Form image fault → ⊥) → ⊥
 
 -- a well-formed one stands for one state
+abbrev pub WellFormedStandsForOneBy : FlashForm → Type 0
+WellFormedStandsForOneBy Form =
+    (image : List ℕ) (a b : Option State) → IsBytes image
+    → IsWellFormedBy Form image a → IsWellFormedBy Form image b → a ≡ b
+
+-- the same of the present form
+abbrev pub OneFault : Type 0
+OneFault = OneFaultBy HoldsPublic
+
+abbrev pub WellFormedHasNoFault : Type 0
+WellFormedHasNoFault = WellFormedHasNoFaultBy HoldsPublic
+
+abbrev pub WellFormedOrFaulty : Type 0
+WellFormedOrFaulty = WellFormedOrFaultyBy HoldsPublic
+
 abbrev pub WellFormedStandsForOne : Type 0
-WellFormedStandsForOne =
-    (image : List ℕ) (a b : Option State) → IsBytes image → IsWellFormed image a → IsWellFormed image b → a ≡ b
+WellFormedStandsForOne = WellFormedStandsForOneBy HoldsPublic
+
+-- ---- memories that are clean or written
 
 -- a memory that is clean for a state stands for it, where the flash holds its codes and its log as the root names it
 abbrev pub CleanStandsForIt : Type 0
@@ -57,14 +78,7 @@ CleanStandsForIt =
 abbrev pub BlankIsDead : Type 0
 BlankIsDead = (bbram : List ℕ) (state : Option State) → IsBlank bbram → Clean bbram state → state ≡ None
 
--- the battery-backed memory of a new device begins with the life byte and three selectors that are 0
-abbrev pub FactoryMemoryBegins : Type 0
-FactoryMemoryBegins =
-    (maker : KeySeed) (index : ℕ) (owner : PublicKey) (code noise image : List ℕ)
-    (made : IsFactoryImage maker index owner code noise image)
-    → take 4 made.bbram ≡ 0xA5 ∷ 0 ∷ 0 ∷ 0 ∷ []
-
--- and the image is well formed
+-- the image of a new device is well formed
 abbrev pub FactoryImageIsWellFormed : Type 0
 FactoryImageIsWellFormed =
     (maker : KeySeed) (index : ℕ) (owner : PublicKey) (code noise image : List ℕ)

@@ -2,6 +2,7 @@
 
 ghost use Rattle.std.specs.Prelude.{ℕ, List};
 ghost use Rattle.mb_model.specs.declared.event.Event.{Event};
+ghost use Rattle.mb_model.specs.MigrateCommand.{old_image_input};
 ghost use Rattle.mb_model.specs.Inputs.{IsClearInput, key_noise_input, birth_noise_input, key_input, owner_input, code_input, draft_input, order_input, image_input, script_input, root_input, chain_input, chain_bytes_input, statement_input, draws_input};
 
 /// No input of a command both stands for a value and is at fault.
@@ -14,6 +15,7 @@ pub fn inputs_are_clear()
     ensures draft { (name : List ℕ) → IsClearInput (draft_input name) }
     ensures order { (name : List ℕ) → IsClearInput (order_input name) }
     ensures image { (name : List ℕ) → IsClearInput (image_input name) }
+    ensures old_image { (name : List ℕ) → IsClearInput (old_image_input name) }
     ensures script { (name : List ℕ) → IsClearInput (script_input name) }
     ensures root { (name : List ℕ) → IsClearInput (root_input name) }
     ensures chain { (name : List ℕ) → IsClearInput (chain_input name) }

@@ -33,7 +33,8 @@ pub use laws::{
     unreliable_regions_are_empty,
 };
 pub use meaning::{
-    clean_memories_stand_for_it, factory_memories_begin_so, images_are_clear, one_meaning,
+    clean_memories_stand_for_it, factory_images_are_well_formed, images_are_clear,
+    old_images_are_clear, one_meaning, written_images_are_well_formed,
 };
 pub use reader::{a_key_is_met_once, a_key_lives_on, the_flag_is_life};
 pub use refusals::{orders_fail_one_check, refusals_leave_all, the_machine_is_a_function};

@@ -1,6 +1,9 @@
 //! Laws of what a memory stands for.
 
-ghost use Rattle.mb_model_laws.specs.MeaningLaws.{HoldsOneContents, StandsForOne, OneFault, WellFormedHasNoFault, WellFormedOrFaulty, WellFormedStandsForOne, CleanStandsForIt, BlankIsDead, FactoryMemoryBegins, FactoryImageIsWellFormed};
+ghost use Rattle.mb_model_laws.specs.MeaningLaws.{HoldsOneContents, StandsForOne, OneFaultBy, WellFormedHasNoFaultBy, WellFormedOrFaultyBy, WellFormedStandsForOneBy, OneFault, WellFormedHasNoFault, WellFormedOrFaulty, WellFormedStandsForOne, CleanStandsForIt, BlankIsDead, FactoryImageIsWellFormed};
+ghost use Rattle.mb_model.specs.OldFlash.{HeldPublic};
+ghost use Rattle.mb_model_lemmas.specs.FormLaws.{HoldsOnePublic, HoldsFittingParts};
+ghost use Rattle.mb_model_lemmas.specs.ImageLaws.{WrittenMemoriesAreSized, WrittenMemoryIsClean, WrittenImagesAreWellFormed};
 
 /// The bytes of a memory hold one contents at most, and stand for one state only.
 pub fn one_meaning()
@@ -17,6 +20,17 @@ pub fn images_are_clear()
     ensures state { WellFormedStandsForOne }
 {}
 
+/// An image of the form of the flash before segments has one fault at most, or else is well formed and stands for one
+/// state. A flash of that form holds one list of codes and one log for a root, for which a device has room.
+pub fn old_images_are_clear()
+    ensures public { HoldsOnePublic HeldPublic }
+    ensures fit { HoldsFittingParts HeldPublic }
+    ensures fault { OneFaultBy HeldPublic }
+    ensures none { WellFormedHasNoFaultBy HeldPublic }
+    ensures either { WellFormedOrFaultyBy HeldPublic }
+    ensures state { WellFormedStandsForOneBy HeldPublic }
+{}
+
 /// A memory that is clean for a state stands for it, where the public record is in the flash; one that is all zero is
 /// clean for the dead device alone.
 pub fn clean_memories_stand_for_it()
@@ -24,9 +38,15 @@ pub fn clean_memories_stand_for_it()
     ensures dead { BlankIsDead }
 {}
 
-/// The image from the factory is well formed, and stands for the state of a new device. Its battery-backed memory begins
-/// with these four bytes.
-pub fn factory_memories_begin_so()
-    ensures begins { FactoryMemoryBegins }
-    ensures well_formed { FactoryImageIsWellFormed }
+/// An image that is written from nothing, for a state that fits it, has two memories of their lengths, the
+/// battery-backed one clean for that state. It is well formed if the state is valid, and so is the image of a dead device.
+pub fn written_images_are_well_formed()
+    ensures sized { WrittenMemoriesAreSized }
+    ensures clean { WrittenMemoryIsClean }
+    ensures well_formed { WrittenImagesAreWellFormed }
+{}
+
+/// The image from the factory is well formed, and stands for the state of a new device.
+pub fn factory_images_are_well_formed()
+    ensures { FactoryImageIsWellFormed }
 {}

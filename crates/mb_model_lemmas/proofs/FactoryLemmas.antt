@@ -1,43 +1,19 @@
--- The image of a new device is well formed, and begins with its four bytes.
-use Rattle.std.proofs.Common.{◌≡◌, ◌≤◌, ℕ, List, [], ◌∷◌, ◌++◌, length, take, Some, refl, ap, subst, ◌∙◌, arith, length-append}
+-- The image of a new device is well formed.
+use Rattle.std.proofs.Common.{◌≡◌, ℕ, List, [], ◌∷◌, ◌++◌, length, Some, refl, sym, ap, subst, arith, length-append}
 use Rattle.std.proofs.lemmas.List.Elements.{All-nil}
 use Rattle.mb_model.specs.declared.entry.SignedEntry.{SignedEntry}
 use Rattle.mb_model.specs.declared.key.KeySeed.{KeySeed}
 use Rattle.mb_model.specs.declared.key.PublicKey.{PublicKey}
 use Rattle.mb_model.specs.declared.state.State.{State}
-use Rattle.mb_model.specs.Pieces.{part}
 use Rattle.mb_model.specs.Log.{figures_of, entries_of, last_of, layers_of, device_of, serial_of, used, has_version_two}
 use Rattle.mb_model.specs.Lives.{splits, alive_keys}
 use Rattle.mb_model.specs.Regions.{empty_region}
 use Rattle.mb_model.specs.OrderEffects.{signed_by}
-use Rattle.mb_model.specs.Memory.{life_byte}
-use Rattle.mb_model.specs.Flash.{HoldsPublic}
-use Rattle.mb_model.specs.WrittenFlash.{IsFactoryFlash}
 use Rattle.mb_model.specs.Valid.{Follows, EachFollows, IsValidRegion, IsValidState}
 use Rattle.mb_model.specs.Meaning.{IsWellFormed}
-use Rattle.mb_model.specs.Clean.{root_of}
 use Rattle.mb_model_lemmas.proofs.RuleLemmas.{version_two_may_follow}
 use Rattle.mb_model.specs.Factory.{layers_at_birth, birth_entry, state_at_birth, IsFactoryImage}
-use Rattle.mb_model_lemmas.proofs.FaultLemmas.{clean_stands_for_it}
-use Rattle.mb_model_lemmas.proofs.WrittenLemmas.{written_holds}
-
--- ---- the first bytes
-
-begins_so : (bbram : List ℕ) → 1 ≤ length bbram → life_byte bbram ≡ 0xA5 → part 1 3 bbram ≡ 0 ∷ 0 ∷ 0 ∷ [] → take 4 bbram ≡ 0xA5 ∷ 0 ∷ 0 ∷ 0 ∷ []
-begins_so [] long alive selectors = absurd (omega (arith, long))
-begins_so (byte ∷ rest) long alive selectors =
-    ap (λ (t : List ℕ). byte ∷ t) selectors ∙ ap (λ (b : ℕ). b ∷ 0 ∷ 0 ∷ 0 ∷ []) alive
-
-pub factory_begins : (maker : KeySeed) (index : ℕ) (owner : PublicKey) (code noise image : List ℕ) (made : IsFactoryImage maker index owner code noise image)
-    → take 4 made.bbram ≡ 0xA5 ∷ 0 ∷ 0 ∷ 0 ∷ []
-factory_begins maker index owner code noise image made =
-    begins_so made.bbram (omega (arith, made.image_is.1.bbram)) made.clean.root.alive made.selectors
-
--- ---- the flash
-
-factory_holds : (flash : List ℕ) (state : State) (area : ℕ) → area ≡ 0 → IsFactoryFlash flash state.codes state.log
-    → HoldsPublic flash (root_of state area) state.codes state.log []
-factory_holds flash state area first made = written_holds flash state.codes state.log (root_of state area) made first refl
+use Rattle.mb_model_lemmas.proofs.WrittenImages.{written_is_well_formed}
 
 -- ---- the state
 
@@ -85,13 +61,5 @@ module _ (maker : KeySeed) (index : ℕ) (owner : PublicKey) (code noise : List 
 
   pub factory_is_well_formed : (image : List ℕ) → IsFactoryImage maker index owner code noise image → IsWellFormed image (Some (state_at_birth maker index owner code noise))
   factory_is_well_formed image made =
-      let state = state_at_birth maker index owner code noise in
-      record {
-        flash = made.flash;
-        bbram = made.bbram;
-        image_is = made.image_is;
-        stands =
-            clean_stands_for_it made.flash made.bbram state made.clean made.image_is.1.flash (factory_holds made.flash state made.clean.area made.area_is made.written)
-            birth_is_valid.layers;
-        valid = birth_is_valid;
-      }
+      let state : State = state_at_birth maker index owner code noise in
+      subst (λ (bytes : List ℕ). IsWellFormed bytes (Some state)) (sym made.written) (written_is_well_formed (Some state) made.fits birth_is_valid)

@@ -14,7 +14,8 @@ use Rattle.mb_model.specs.EntryFormat.{entry_format, signed_entry_format}
 use Rattle.mb_model.specs.Pieces.{part}
 use Rattle.mb_model.specs.HeaderFormat.{slot_format, most_unsigned, unsigned_format, header_format, log_format}
 use Rattle.mb_model.specs.Sectors.{code_sector, log_sector, BeginsAs}
-use Rattle.mb_model.specs.Flash.{sector, code_slot, HoldsHeader, HoldsCode, HoldsEntry, HoldsLog, AreBytesOf}
+use Rattle.mb_model.specs.Flash.{sector, code_slot, HoldsHeader, HoldsCode, HoldsEntry, HoldsLog, AreBytesOf, HoldsPublic}
+use Rattle.mb_model_lemmas.specs.FormLaws.{HoldsFittingParts}
 use Rattle.mb_model_lemmas.specs.SegmentLaws.{IsSmallHeader, HeldSegmentsFit, SpellsLog}
 use Rattle.mb_model_lemmas.proofs.LogLemmas.{split_push}
 use Rattle.mb_model_lemmas.proofs.Splits.{All-from_splits}
@@ -100,6 +101,11 @@ segments_fit flash root codes signed unsigned holds =
       unsigned_allowed = texts_allowed header.first header.second unsigned holds.unsigned_are;
       together = omega (arith, few, holds.count, room_for_unsigned header.signed is.most);
     }
+
+pub segments_parts_fit : HoldsFittingParts HoldsPublic
+segments_parts_fit flash root codes signed unsigned holds =
+    let fit = segments_fit flash root codes signed unsigned holds in
+    record { codes_fit = fit.codes_fit; signed_allowed = fit.log_fits.allowed; unsigned_allowed = fit.unsigned_allowed; together = fit.together }
 
 -- ---- what was written stands
 

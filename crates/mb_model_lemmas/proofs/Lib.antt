@@ -27,7 +27,9 @@ pub mod Splits
 pub mod FaultLemmas
 pub mod HeldSegments
 pub mod OneFlash
+pub mod OldFlashLemmas
 pub mod WrittenLemmas
+pub mod WrittenImages
 pub mod FactoryLemmas
 pub mod ChainLemmas
 pub mod AttachLemmas

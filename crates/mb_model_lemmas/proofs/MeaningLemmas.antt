@@ -23,8 +23,9 @@ use Rattle.mb_model.specs.declared.limits.TheConstants.{AREA_LENGTH}
 use Rattle.mb_model.specs.Memory.{IsBlank, slots, selector_of, life_byte, first_area, second_area, current, HoldsInArea, HoldsRecord}
 use Rattle.mb_model.specs.OldFlash.{flash_area, BeginsArea, BeginsWithRecord}
 use Rattle.mb_model.specs.Flash.{HoldsPublic}
-use Rattle.mb_model.specs.Meaning.{HasRoot, RootIn, HoldsRegion, Contents, HoldsContents, meant, HasMeaning, is_dead, is_live, StandsFor}
+use Rattle.mb_model.specs.Meaning.{HasRoot, RootIn, HoldsRegion, Contents, FlashForm, HoldsContentsBy, HoldsContents, meant, HasMeaningBy, is_dead, is_live, StandsForBy, StandsFor}
 use Rattle.mb_model.proofs.RecordFormatLaws.{root_exact, region_exact}
+use Rattle.mb_model_lemmas.specs.FormLaws.{HoldsOnePublic}
 use Rattle.mb_model_lemmas.proofs.OneFlash.{one_list}
 
 -- ---- bytes after their length
@@ -102,15 +103,16 @@ one_begun format exact area a b are one other =
     (IsClearWhole-from_exact exact).one_value other.bytes a b bytes_are (subst (λ (bytes : List ℕ). Spells format bytes a) same one.spelled) other.spelled
 
 -- a region's record has bytes
-no_region_of_none : (region : Region) → Spells region_format [] region → ⊥
-unfolding region_format
-no_region_of_none region spelled = absurd (omega (arith, ap length spelled.whole))
+no_region_of_none : (version : ℕ) (region : Region) → Spells region_format [] (version, region) → ⊥
+unfolding region_format number_bytes
+no_region_of_none version region spelled = absurd (omega (arith, ap length spelled.whole))
 
 one_spelled_region : (bytes : List ℕ) (a b : Region) → IsBytes bytes → SpellsRegion bytes a → SpellsRegion bytes b → a ≡ b
 one_spelled_region bytes a b are (inl x) (inl y) = x.1 ∙ sym y.1
-one_spelled_region bytes a b are (inl x) (inr y) = absurd (no_region_of_none b (subst (λ (bs : List ℕ). Spells region_format bs b) x.0 y))
-one_spelled_region bytes a b are (inr x) (inl y) = absurd (no_region_of_none a (subst (λ (bs : List ℕ). Spells region_format bs a) y.0 x))
-one_spelled_region bytes a b are (inr x) (inr y) = (IsClearWhole-from_exact region_exact).one_value bytes a b are x y
+one_spelled_region bytes a b are (inl x) (inr y) = absurd (no_region_of_none y.version b (subst (λ (bs : List ℕ). Spells region_format bs (y.version, b)) x.0 y.spelled))
+one_spelled_region bytes a b are (inr x) (inl y) = absurd (no_region_of_none x.version a (subst (λ (bs : List ℕ). Spells region_format bs (x.version, a)) y.0 x.spelled))
+one_spelled_region bytes a b are (inr x) (inr y) =
+    ap (λ (versioned : ℕ × Region). versioned.1) ((IsClearWhole-from_exact region_exact).one_value bytes (x.version, a) (y.version, b) are x.spelled y.spelled)
 
 pub one_region : (area : List ℕ) (a b : Region) → IsBytes area → HoldsRegion area a → HoldsRegion area b → a ≡ b
 one_region area a b are one other =
@@ -125,42 +127,45 @@ one_root life between area a b are one other = one_record root_format root_exact
 pub one_root_in : (bbram : List ℕ) (a b : Root) → IsBytes bbram → RootIn bbram a → RootIn bbram b → a ≡ b
 one_root_in bbram a b are = one_root _ _ (current bbram 1) a b (IsBytes-current bbram 1 are)
 
-pub one_public : (flash : List ℕ) (root : Root) (cs ds : Codes) (ss ts : List SignedEntry) (us vs : List Entry) → IsBytes flash
-    → HoldsPublic flash root cs ss us → HoldsPublic flash root ds ts vs → (cs ≡ ds) × (ss ≡ ts) × (us ≡ vs)
-one_public = one_list
-
 -- ---- all of them
 
 abbrev pub contents_of : Root → Codes → List SignedEntry → List Entry → Region → Region → Contents
 contents_of root codes signed unsigned two three =
     record { root = root; codes = codes; signed = signed; unsigned = unsigned; two = two; three = three }
 
-pub one_contents : (flash bbram : List ℕ) (a b : Contents) → IsBytes flash → IsBytes bbram → HoldsContents flash bbram a → HoldsContents flash bbram b → a ≡ b
-one_contents flash bbram a b of_flash of_bbram one other =
-    let root : a.root ≡ b.root = one_root_in bbram a.root b.root of_bbram one.root other.root in
-    let held : HoldsPublic flash b.root a.codes a.signed a.unsigned = subst (λ (r : Root). HoldsPublic flash r a.codes a.signed a.unsigned) root one.public in
-    let public = one_public flash b.root a.codes b.codes a.signed b.signed a.unsigned b.unsigned of_flash held other.public in
-    let two : a.two ≡ b.two = one_region (current bbram 2) a.two b.two (IsBytes-current bbram 2 of_bbram) one.two other.two in
-    let three : a.three ≡ b.three = one_region (current bbram 3) a.three b.three (IsBytes-current bbram 3 of_bbram) one.three other.three in
-    ap (λ (x : Root). contents_of x a.codes a.signed a.unsigned a.two a.three) root
-    ∙ ap (λ (x : Codes). contents_of b.root x a.signed a.unsigned a.two a.three) public.0
-    ∙ ap (λ (x : List SignedEntry). contents_of b.root b.codes x a.unsigned a.two a.three) public.1
-    ∙ ap (λ (x : List Entry). contents_of b.root b.codes b.signed x a.two a.three) public.2
-    ∙ ap (λ (x : Region). contents_of b.root b.codes b.signed b.unsigned x a.three) two
-    ∙ ap (contents_of b.root b.codes b.signed b.unsigned b.two) three
-
 -- a memory that is all zero is not alive
 pub not_blank : (bbram : List ℕ) → IsBlank bbram → life_byte bbram ≡ 0xA5 → ⊥
 not_blank [] blank alive = omega (arith, alive)
 not_blank (byte ∷ bytes) blank alive = omega (arith, alive, blank 0 0 (omega arith))
 
--- the bytes of a memory stand for one state only
-only_meaning : (flash bbram : List ℕ) (a b : Option State) → IsBytes flash → IsBytes bbram → HasMeaning flash bbram a → HasMeaning flash bbram b → a ≡ b
-only_meaning flash bbram a b of_flash of_bbram (is_dead blank x) (is_dead blank' y) = x ∙ sym y
-only_meaning flash bbram a b of_flash of_bbram (is_dead blank x) (is_live c holds index y) = absurd (not_blank bbram blank holds.root.alive)
-only_meaning flash bbram a b of_flash of_bbram (is_live c holds index x) (is_dead blank y) = absurd (not_blank bbram blank holds.root.alive)
-only_meaning flash bbram a b of_flash of_bbram (is_live c holds index x) (is_live d holds' index' y) =
-    x ∙ ap (λ (contents : Contents). Some (meant contents)) (one_contents flash bbram c d of_flash of_bbram holds holds') ∙ sym y
+-- by a form that holds one list of codes and entries, the bytes of a memory hold one contents and stand for one state
+module _ (Form : FlashForm) (one_held_by : HoldsOnePublic Form) (flash bbram : List ℕ) (of_flash : IsBytes flash) (of_bbram : IsBytes bbram) where
+  pub one_contents_by : (a b : Contents) → HoldsContentsBy Form flash bbram a → HoldsContentsBy Form flash bbram b → a ≡ b
+  one_contents_by a b one other =
+      let root : a.root ≡ b.root = one_root_in bbram a.root b.root of_bbram one.root other.root in
+      let held : Form flash b.root a.codes a.signed a.unsigned = subst (λ (r : Root). Form flash r a.codes a.signed a.unsigned) root one.public in
+      let public = one_held_by flash b.root a.codes b.codes a.signed b.signed a.unsigned b.unsigned of_flash held other.public in
+      let two : a.two ≡ b.two = one_region (current bbram 2) a.two b.two (IsBytes-current bbram 2 of_bbram) one.two other.two in
+      let three : a.three ≡ b.three = one_region (current bbram 3) a.three b.three (IsBytes-current bbram 3 of_bbram) one.three other.three in
+      ap (λ (x : Root). contents_of x a.codes a.signed a.unsigned a.two a.three) root
+      ∙ ap (λ (x : Codes). contents_of b.root x a.signed a.unsigned a.two a.three) public.0
+      ∙ ap (λ (x : List SignedEntry). contents_of b.root b.codes x a.unsigned a.two a.three) public.1
+      ∙ ap (λ (x : List Entry). contents_of b.root b.codes b.signed x a.two a.three) public.2
+      ∙ ap (λ (x : Region). contents_of b.root b.codes b.signed b.unsigned x a.three) two
+      ∙ ap (contents_of b.root b.codes b.signed b.unsigned b.two) three
+
+  only_meaning : (a b : Option State) → HasMeaningBy Form flash bbram a → HasMeaningBy Form flash bbram b → a ≡ b
+  only_meaning a b (is_dead blank x) (is_dead blank' y) = x ∙ sym y
+  only_meaning a b (is_dead blank x) (is_live c holds index y) = absurd (not_blank bbram blank holds.root.alive)
+  only_meaning a b (is_live c holds index x) (is_dead blank y) = absurd (not_blank bbram blank holds.root.alive)
+  only_meaning a b (is_live c holds index x) (is_live d holds' index' y) =
+      x ∙ ap (λ (contents : Contents). Some (meant contents)) (one_contents_by c d holds holds') ∙ sym y
+
+  pub one_meaning_by : (a b : Option State) → StandsForBy Form flash bbram a → StandsForBy Form flash bbram b → a ≡ b
+  one_meaning_by a b one other = only_meaning a b one.meaning other.meaning
+
+pub one_contents : (flash bbram : List ℕ) (a b : Contents) → IsBytes flash → IsBytes bbram → HoldsContents flash bbram a → HoldsContents flash bbram b → a ≡ b
+one_contents flash bbram a b of_flash of_bbram = one_contents_by HoldsPublic one_list flash bbram of_flash of_bbram a b
 
 pub one_meaning : (flash bbram : List ℕ) (a b : Option State) → IsBytes flash → IsBytes bbram → StandsFor flash bbram a → StandsFor flash bbram b → a ≡ b
-one_meaning flash bbram a b of_flash of_bbram one other = only_meaning flash bbram a b of_flash of_bbram one.meaning other.meaning
+one_meaning flash bbram a b of_flash of_bbram = one_meaning_by HoldsPublic one_list flash bbram of_flash of_bbram a b

@@ -17,6 +17,7 @@ use Rattle.mb_model.specs.EntryFormat.{entry_format}
 use Rattle.mb_model.specs.HeaderFormat.{slot_format, entry_bytes_format, unsigned_format, header_word, header_format, log_format}
 use Rattle.mb_model.specs.Sectors.{header_sector, log_sector, BeginsAs}
 use Rattle.mb_model.specs.Flash.{sector, HoldsHeader, HoldsCode, HoldsEntry, HoldsLog, AreBytesOf, HoldsPublic}
+use Rattle.mb_model_lemmas.specs.FormLaws.{HoldsOnePublic}
 use Rattle.mb_model.proofs.EntryFormatLaws.{entry_exact}
 use Rattle.mb_model.proofs.HeaderFormatLaws.{header_exact, log_exact}
 
@@ -164,8 +165,7 @@ header_texts header are =
 abbrev codes_of : Option (List ℕ) → Option (List ℕ) → Option (List ℕ) → Codes
 codes_of one two three = record { one = one; two = two; three = three }
 
-pub one_list : (flash : List ℕ) (root : Root) (cs ds : Codes) (ss ts : List SignedEntry) (us vs : List Entry) → IsBytes flash
-    → HoldsPublic flash root cs ss us → HoldsPublic flash root ds ts vs → (cs ≡ ds) × (ss ≡ ts) × (us ≡ vs)
+pub one_list : HoldsOnePublic HoldsPublic
 one_list flash root cs ds ss ts us vs are a b =
     let same : a.header ≡ b.header = one_header flash root.area a.header b.header are a.begins b.begins in
     let texts : AreAllBytes b.header.first b.header.second = header_texts b.header (begun_bytes header_format (sector flash (header_sector root.area)) b.header (IsBytes-sector flash (header_sector root.area) are) b.begins) in

@@ -82,7 +82,7 @@ either_spares state false x y first second = second
 put_spares : (L : ℕ) (name value : List ℕ) (state : State) → Spares state (put_event L name value state)
 unfolding put_event
 put_spares L name value state =
-    either_spares state (not (list_any (has_name name) (region_of state L).secrets) && nat_le 16 (length (region_of state L).secrets)) _ _
+    either_spares state (not (list_any (has_name name) (region_of state L).secrets) && nat_le 22 (length (region_of state L).secrets)) _ _
     (λ n e. refl) (λ n e. absurd (grind (arith, e)))
 
 get_spares : (L : ℕ) (name : List ℕ) (state : State) → Spares state (get_event L name state)

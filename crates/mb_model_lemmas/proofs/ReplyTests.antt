@@ -44,7 +44,7 @@ module _ (test : Reply → Bool) (value : Bool) (has : HasValue test value) wher
   pub put_has : (L : ℕ) (name bytes : List ℕ) (state : State) → test (put_event L name bytes state).0 ≡ value
   unfolding put_event
   put_has L name bytes state =
-      either_reply (not (list_any (has_name name) (region_of state L).secrets) && nat_le 16 (length (region_of state L).secrets)) _ _ (has.refused _) has.kept
+      either_reply (not (list_any (has_name name) (region_of state L).secrets) && nat_le 22 (length (region_of state L).secrets)) _ _ (has.refused _) has.kept
 
   value_has : (secret : Option Secret) → test (value_reply secret) ≡ value
   value_has None = has.absent

@@ -103,7 +103,7 @@ unfolding put_event
 put_keeps L name value = where_it_runs L (put_event L name value) (λ state runs valid.
     let region : Region = region_of state L in
     let next : IsValidState (with_region state L _) = valid_with state L _ valid (λ upper. valid_over_put (entries_of state.log) state.layers L name value region (valid_is_ruled state valid) upper runs (region_is_valid state L upper valid)) in
-    either_keeps (not (list_any (has_name name) region.secrets) && nat_le 16 (length region.secrets)) _ _ valid next)
+    either_keeps (not (list_any (has_name name) region.secrets) && nat_le 22 (length region.secrets)) _ _ valid next)
 
 pub get_keeps : (L : ℕ) (name : List ℕ) → KeepsStatesValid L (get_event L name)
 unfolding get_event

@@ -27,7 +27,7 @@ use Rattle.mb_model_lemmas.proofs.PublicLemmas.{entry_from_signed}
 -- ---- pieces
 
 -- a piece stands where the pieces before it end
-stands_at : (pre bytes post flash : List ℕ) (at : ℕ) → flash ≡ pre ++ (bytes ++ post) → length pre ≡ at → part at (length bytes) flash ≡ bytes
+pub stands_at : (pre bytes post flash : List ℕ) (at : ℕ) → flash ≡ pre ++ (bytes ++ post) → length pre ≡ at → part at (length bytes) flash ≡ bytes
 stands_at pre bytes post flash at whole size =
     ap (λ (xs : List ℕ). part at (length bytes) xs) whole
     ∙ ap (λ k. part k (length bytes) (pre ++ (bytes ++ post))) (sym size)
@@ -92,14 +92,14 @@ entry_has_bytes signed is =
     (record { text = entry_format.spelling signed.entry; whole = entry_spells signed is; entry = record { allowed = entry_from_signed signed is; whole = refl } }, omega (arith, entry_fits signed is))
 
 -- the sectors of a log: those before an entry, its own, and those after it
-sectors_split : (before : List SignedEntry) (signed : SignedEntry) (rest : List SignedEntry) → sectors_of (before ++ signed ∷ rest) ≡ sectors_of before ++ (in_sectors 1 (entry_in_log signed) ++ sectors_of rest)
+pub sectors_split : (before : List SignedEntry) (signed : SignedEntry) (rest : List SignedEntry) → sectors_of (before ++ signed ∷ rest) ≡ sectors_of before ++ (in_sectors 1 (entry_in_log signed) ++ sectors_of rest)
 unfolding sectors_of
 sectors_split [] signed rest = refl
 sectors_split (first ∷ before) signed rest =
     ap (λ (xs : List ℕ). in_sectors 1 (entry_in_log first) ++ xs) (sectors_split before signed rest)
     ∙ sym (append_assoc (in_sectors 1 (entry_in_log first)) (sectors_of before) (in_sectors 1 (entry_in_log signed) ++ sectors_of rest))
 
-length-sectors : (log : List SignedEntry) → All signed_entry_format.Allowed log → length (sectors_of log) ≡ 4096 * length log
+pub length-sectors : (log : List SignedEntry) → All signed_entry_format.Allowed log → length (sectors_of log) ≡ 4096 * length log
 unfolding sectors_of
 length-sectors [] are = refl
 length-sectors (signed ∷ log) are =
@@ -156,7 +156,7 @@ module _ (codes : Codes) (log : List SignedEntry) (fit : CodesFitSlots codes) (f
   short_header : length header ≤ 826
   short_header = header_short.short (first_header codes log) (first_allowed codes log fit fits)
 
-  pub length-written : length (written_flash codes log) ≡ 1048576
+  length-written : length (written_flash codes log) ≡ 1048576
   unfolding written_flash
   length-written =
       let H : List ℕ = in_sectors 2 header in
@@ -187,7 +187,7 @@ module _ (codes : Codes) (log : List SignedEntry) (fit : CodesFitSlots codes) (f
         long_z,
       )
 
-  pub written_segments : (root : Root) → root.area ≡ 0 → root.pending ≡ None → HoldsPublic (written_flash codes log) root codes log []
+  written_segments : (root : Root) → root.area ≡ 0 → root.pending ≡ None → HoldsPublic (written_flash codes log) root codes log []
   unfolding written_flash
   written_segments root first none =
       let H : List ℕ = in_sectors 2 header in
@@ -234,8 +234,7 @@ module _ (codes : Codes) (log : List SignedEntry) (fit : CodesFitSlots codes) (f
       }
 
 pub written_is_whole : WrittenFlashIsWhole
-written_is_whole flash codes log is = ap length is.written ∙ length-written codes log is.codes_fit is.log_fits
+written_is_whole = length-written
 
 pub written_holds : WrittenFlashHolds
-written_holds flash codes log root is first none =
-    subst (λ (bytes : List ℕ). HoldsPublic bytes root codes log []) (sym is.written) (written_segments codes log is.codes_fit is.log_fits root first none)
+written_holds = written_segments

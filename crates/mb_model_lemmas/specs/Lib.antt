@@ -3,5 +3,7 @@ pub mod ReaderLaws
 pub mod RegionLaws
 pub mod SigningLaws
 pub mod RefusalLaws
+pub mod FormLaws
 pub mod SegmentLaws
+pub mod ImageLaws
 pub mod SampleOrder

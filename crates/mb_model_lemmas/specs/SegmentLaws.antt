@@ -13,7 +13,8 @@ use Rattle.mb_model.specs.EntryFormat.{entry_format, signed_entry_format}
 use Rattle.mb_model.specs.HeaderFormat.{log_format}
 use Rattle.mb_model.specs.Sectors.{log_sector}
 use Rattle.mb_model.specs.Flash.{sector, HoldsHeader, HoldsCode, HoldsEntry, HoldsLog, AreBytesOf, HoldsPublic}
-use Rattle.mb_model.specs.WrittenFlash.{entry_in_log, CodesFitSlots, LogFitsSectors, IsFactoryFlash}
+use Rattle.mb_model.specs.WrittenFlash.{entry_in_log, written_flash, CodesFitSlots, LogFitsSectors}
+use Rattle.mb_model_lemmas.specs.FormLaws.{HoldsOnePublic}
 
 -- ---- one value
 
@@ -29,11 +30,7 @@ IsOnlyHeader flash area header = (any : Header) → HoldsHeader flash area any �
 
 -- for a root, a flash of bytes holds one list of codes and one list of entries, signed and unsigned
 abbrev pub SegmentsHoldOne : Type 0
-SegmentsHoldOne =
-    (flash : List ℕ) (root : Root) (codes other_codes : Codes) (signed other_signed : List SignedEntry)
-    (unsigned other_unsigned : List Entry) → IsBytes flash → HoldsPublic flash root codes signed unsigned
-    → HoldsPublic flash root other_codes other_signed other_unsigned
-    → (codes ≡ other_codes) × (signed ≡ other_signed) × (unsigned ≡ other_unsigned)
+SegmentsHoldOne = HoldsOnePublic HoldsPublic
 
 -- this sector of the log holds no entry
 abbrev pub HoldsNoEntry : List ℕ → ℕ → Type 0
@@ -115,14 +112,15 @@ EntriesFitTheirSectors =
 
 -- ---- a flash that is written from nothing
 
--- a written flash is as long as a flash
+-- what fits a flash is written to one that is as long as a flash
 abbrev pub WrittenFlashIsWhole : Type 0
 WrittenFlashIsWhole =
-    (flash : List ℕ) (codes : Codes) (log : List SignedEntry) → IsFactoryFlash flash codes log
-    → length flash ≡ FLASH_LENGTH
+    (codes : Codes) (log : List SignedEntry) → CodesFitSlots codes → LogFitsSectors log
+    → length (written_flash codes log) ≡ FLASH_LENGTH
 
 -- it holds its codes and its log for a root that names area 0 and has no pending work
 abbrev pub WrittenFlashHolds : Type 0
 WrittenFlashHolds =
-    (flash : List ℕ) (codes : Codes) (log : List SignedEntry) (root : Root) → IsFactoryFlash flash codes log
-    → root.area ≡ 0 → root.pending ≡ None → HoldsPublic flash root codes log []
+    (codes : Codes) (log : List SignedEntry) → CodesFitSlots codes → LogFitsSectors log
+    → (root : Root) → root.area ≡ 0 → root.pending ≡ None
+    → HoldsPublic (written_flash codes log) root codes log []

@@ -28,7 +28,8 @@ use Rattle.mb_model_memory.specs.Commits.{new_entries}
 use Rattle.mb_model_memory.proofs.Additions.{outgoing_key, outgoing_with, gives_way, own_fate, outgoing_is, fate_is, new_entries_are}
 use Rattle.mb_model.specs.Memory.{AreSized}
 use Rattle.mb_model.specs.StoredLog.{AreCounted, HasIndex, signed_for, completed}
-use Rattle.mb_model.specs.Meaning.{Contents, HoldsContents, fated, fate_of_two, fate_of_three, meant, HasMeaning, is_dead, is_live, StandsFor}
+use Rattle.mb_model.specs.Flash.{HoldsPublic}
+use Rattle.mb_model.specs.Meaning.{Contents, FlashForm, HoldsContentsBy, HoldsContents, fated, fate_of_two, fate_of_three, meant, HasMeaningBy, is_dead, is_live, StandsForBy, StandsFor}
 use Rattle.mb_model.specs.Valid.{IsValidState}
 use Rattle.mb_model_lemmas.specs.RegionLaws.{AreFated}
 use Rattle.mb_model_lemmas.proofs.FateLemmas.{fated_twice}
@@ -85,23 +86,26 @@ pub stands_for_meant : (flash bbram : List ℕ) (contents : Contents) (state : S
 stands_for_meant flash bbram contents state sized holds index means =
     record { sized = sized; meaning = is_live contents holds index (ap Some (sym means)) }
 
--- the contents of a memory that stands for a live state
-pub record LiveContents (flash bbram : List ℕ) (state : State) : Type 0 where
+-- the contents of a memory that stands for a live state, by a form of the flash
+pub record LiveContentsBy (Form : FlashForm) (flash bbram : List ℕ) (state : State) : Type 0 where
   pub contents : Contents
-  pub holds : HoldsContents flash bbram contents
+  pub holds : HoldsContentsBy Form flash bbram contents
   pub index : HasIndex contents.root contents.root.pending
   pub means : state ≡ meant contents
 
-live_by : (flash bbram : List ℕ) (known : Option State) (state : State) → known ≡ Some state → HasMeaning flash bbram known → LiveContents flash bbram state
-live_by flash bbram known state e (is_dead blank none) =
+live_by : (Form : FlashForm) (flash bbram : List ℕ) (known : Option State) (state : State) → known ≡ Some state → HasMeaningBy Form flash bbram known → LiveContentsBy Form flash bbram state
+live_by Form flash bbram known state e (is_dead blank none) =
     let no : None ≡ Some state = sym none ∙ e in
     absurd (grind (arith, no))
-live_by flash bbram known state e (is_live contents holds index live) =
+live_by Form flash bbram known state e (is_live contents holds index live) =
     let same : Some state ≡ Some (meant contents) = sym e ∙ live in
     record { contents = contents; holds = holds; index = index; means = cc }
 
-pub live_contents : (flash bbram : List ℕ) (state : State) → StandsFor flash bbram (Some state) → LiveContents flash bbram state
-live_contents flash bbram state stands = live_by flash bbram (Some state) state refl stands.meaning
+pub live_contents_by : (Form : FlashForm) (flash bbram : List ℕ) (state : State) → StandsForBy Form flash bbram (Some state) → LiveContentsBy Form flash bbram state
+live_contents_by Form flash bbram state stands = live_by Form flash bbram (Some state) state refl stands.meaning
+
+pub live_contents : (flash bbram : List ℕ) (state : State) → StandsFor flash bbram (Some state) → LiveContentsBy HoldsPublic flash bbram state
+live_contents = live_contents_by HoldsPublic
 
 -- ---- the state in which the device key has an index for the order
 

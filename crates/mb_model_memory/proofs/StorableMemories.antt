@@ -29,18 +29,23 @@ use Rattle.mb_model.specs.KeyFormat.{public_key_format, key_seed_format}
 use Rattle.mb_model.specs.LayerFormat.{layers_format}
 use Rattle.mb_model.specs.EntryFormat.{birth_format, change_format, entry_format, signed_entry_format}
 use Rattle.mb_model.specs.RootFormat.{region_key_format, fate_format, pending_format, root_format}
-use Rattle.mb_model.specs.RegionFormat.{secret_format, secrets_format, keys_format, region_format, SpellsRegion}
+use Rattle.mb_model.specs.RegionFormat.{secret_format, secrets_format, keys_format, region_by, region_format, SpellsRegion}
 use Rattle.mb_model.specs.OrderEffects.{signed_by}
 use Rattle.mb_model.specs.StoredLog.{signed_for, outgoing_of, completed}
-use Rattle.mb_model.specs.Meaning.{Contents, HoldsContents, fated, fate_of_two, fate_of_three, meant, StandsFor}
+use Rattle.mb_model.specs.Flash.{HoldsPublic}
+use Rattle.mb_model.specs.OldFlash.{HeldPublic}
+use Rattle.mb_model.specs.Meaning.{Contents, FlashForm, HoldsContentsBy, fated, fate_of_two, fate_of_three, meant, StandsForBy}
 use Rattle.mb_model.specs.Valid.{IsValidState}
 use Rattle.mb_model.specs.Factory.{layers_at_birth, serial_from, birth_entry, state_at_birth}
 use Rattle.mb_model.proofs.Places.{length-part}
+use Rattle.mb_model.proofs.RecordFormatLaws.{few_secrets}
 use Rattle.mb_model_lemmas.proofs.PublicLemmas.{root_pending, entry_from_signed, length-signed_for}
-use Rattle.mb_model_lemmas.specs.SegmentLaws.{SegmentsFit}
-use Rattle.mb_model_lemmas.proofs.HeldSegments.{segments_fit}
+use Rattle.mb_model_lemmas.specs.FormLaws.{PublicPartsFit, HoldsFittingParts}
+use Rattle.mb_model_lemmas.proofs.HeldSegments.{segments_parts_fit}
+use Rattle.mb_model_lemmas.proofs.OldFlashLemmas.{old_parts_fit}
 use Rattle.mb_model_memory.specs.Storable.{IsStorableRegion, IsStorableState}
-use Rattle.mb_model_memory.proofs.CommitLemmas.{live_contents}
+use Rattle.mb_model_memory.specs.StorableLaws.{StoredStatesAreStorable, OldStatesAreStorable}
+use Rattle.mb_model_memory.proofs.CommitLemmas.{live_contents_by}
 use Rattle.mb_model_memory.proofs.StorableFormats.{fitting_codes, keep_allowed, small_number, born_seed_allowed, born_public_allowed, unowned_allowed, layers_allowed, layers_of_version_two, first_layer_allowed, first_codes_allowed, birth_allowed, signed_allowed}
 use Rattle.mb_model_memory.proofs.StorableOrders.{empty_storable}
 
@@ -67,14 +72,14 @@ fate_three (Some pending) is = is.1.1.1.1
 -- ---- regions
 
 pub spelled_storable : (bytes : List ℕ) (region : Region) → SpellsRegion bytes region → IsStorableRegion region
-unfolding region_format secrets_format keys_format
+unfolding region_format region_by secrets_format keys_format
 spelled_storable bytes region (inl none) = subst IsStorableRegion (sym none.1) empty_storable
 spelled_storable bytes region (inr spelled) =
-    let secrets = spelled.allowed.1.0 in
-    let keys = spelled.allowed.1.1 in
+    let secrets = spelled.spelled.allowed.1.0 in
+    let keys = spelled.spelled.allowed.1.1 in
     record {
       secrets = All-from_recursion secret_format.Allowed region.secrets (items_all secret_format (length region.secrets) region.secrets secrets.1).1;
-      few_secrets = secrets.0.1;
+      few_secrets = omega (arith, secrets.0.1, few_secrets spelled.version);
       keys = All-from_recursion region_key_format.Allowed region.keys (items_all region_key_format (length region.keys) region.keys keys.1).1;
       few_keys = keys.0.1;
     }
@@ -149,42 +154,50 @@ layers_of-allowed log are = named_or_none (last_of layers_in (entries_of log)) (
 
 -- ---- the state
 
-completed_allowed : (root : Root) (codes : Codes) (signed : List SignedEntry) (unsigned : List Entry) → SegmentsFit codes signed unsigned
+completed_allowed : (root : Root) (codes : Codes) (signed : List SignedEntry) (unsigned : List Entry) → PublicPartsFit codes signed unsigned
     → All signed_entry_format.Allowed (completed root signed unsigned)
 unfolding completed
 completed_allowed root codes signed unsigned fit =
-    All-append signed_entry_format.Allowed signed (signed_for root.device root.uses (outgoing_of root.pending) unsigned) fit.log_fits.allowed
+    All-append signed_entry_format.Allowed signed (signed_for root.device root.uses (outgoing_of root.pending) unsigned) fit.signed_allowed
     (all_signed root.device root.uses (outgoing_of root.pending) unsigned (recursion_from_All entry_format.Allowed unsigned fit.unsigned_allowed))
 
-completed_few : (root : Root) (codes : Codes) (signed : List SignedEntry) (unsigned : List Entry) → SegmentsFit codes signed unsigned → length (completed root signed unsigned) ≤ 128
+completed_few : (root : Root) (codes : Codes) (signed : List SignedEntry) (unsigned : List Entry) → PublicPartsFit codes signed unsigned → length (completed root signed unsigned) ≤ 128
 unfolding completed
 completed_few root codes signed unsigned fit =
     omega (arith, fit.together, length-append signed (signed_for root.device root.uses (outgoing_of root.pending) unsigned), length-signed_for root.device root.uses (outgoing_of root.pending) unsigned)
 
-pub meant_storable : (flash bbram : List ℕ) (contents : Contents) → HoldsContents flash bbram contents → length (meant contents).two.keys ≤ 8 → length (meant contents).three.keys ≤ 8
-    → IsStorableState (meant contents)
-unfolding meant
-meant_storable flash bbram c holds few_two few_three =
-    let root : root_format.Allowed c.root = holds.root.holds.spelled.allowed in
-    let public : SegmentsFit c.codes c.signed c.unsigned = segments_fit flash c.root c.codes c.signed c.unsigned holds.public in
-    let pending : (optional pending_format).Allowed c.root.pending = root_pending c.root root in
-    let log : All signed_entry_format.Allowed (completed c.root c.signed c.unsigned) = completed_allowed c.root c.codes c.signed c.unsigned public in
-    record {
-      serial = root_serial c.root root;
-      device = root_device c.root root;
-      layers = layers_of-allowed (completed c.root c.signed c.unsigned) log;
-      codes = fitting_codes c.codes public.codes_fit;
-      log = log;
-      few = completed_few c.root c.codes c.signed c.unsigned public;
-      two = fated_storable (fate_of_two c.root.pending) c.two (fate_two c.root.pending pending) (spelled_storable holds.two.bytes c.two holds.two.spelled) few_two;
-      three = fated_storable (fate_of_three c.root.pending) c.three (fate_three c.root.pending pending) (spelled_storable holds.three.bytes c.three holds.three.spelled) few_three;
-    }
+-- what a flash holds by this form fits a device
+module _ (Form : FlashForm) (fits : HoldsFittingParts Form) (flash bbram : List ℕ) where
+  meant_storable : (contents : Contents) → HoldsContentsBy Form flash bbram contents → length (meant contents).two.keys ≤ 8 → length (meant contents).three.keys ≤ 8
+      → IsStorableState (meant contents)
+  unfolding meant
+  meant_storable c holds few_two few_three =
+      let root : root_format.Allowed c.root = holds.root.holds.spelled.allowed in
+      let public : PublicPartsFit c.codes c.signed c.unsigned = fits flash c.root c.codes c.signed c.unsigned holds.public in
+      let pending : (optional pending_format).Allowed c.root.pending = root_pending c.root root in
+      let log : All signed_entry_format.Allowed (completed c.root c.signed c.unsigned) = completed_allowed c.root c.codes c.signed c.unsigned public in
+      record {
+        serial = root_serial c.root root;
+        device = root_device c.root root;
+        layers = layers_of-allowed (completed c.root c.signed c.unsigned) log;
+        codes = fitting_codes c.codes public.codes_fit;
+        log = log;
+        few = completed_few c.root c.codes c.signed c.unsigned public;
+        two = fated_storable (fate_of_two c.root.pending) c.two (fate_two c.root.pending pending) (spelled_storable holds.two.bytes c.two holds.two.spelled) few_two;
+        three = fated_storable (fate_of_three c.root.pending) c.three (fate_three c.root.pending pending) (spelled_storable holds.three.bytes c.three holds.three.spelled) few_three;
+      }
 
-pub stands_storable : (flash bbram : List ℕ) (state : State) → StandsFor flash bbram (Some state) → IsValidState state → IsStorableState state
-stands_storable flash bbram state stands valid =
-    let live = live_contents flash bbram state stands in
-    let own : IsValidState (meant live.contents) = subst IsValidState live.means valid in
-    subst IsStorableState (sym live.means) (meant_storable flash bbram live.contents live.holds own.two.few own.three.few)
+  pub stands_storable_by : (state : State) → StandsForBy Form flash bbram (Some state) → IsValidState state → IsStorableState state
+  stands_storable_by state stands valid =
+      let live = live_contents_by Form flash bbram state stands in
+      let own : IsValidState (meant live.contents) = subst IsValidState live.means valid in
+      subst IsStorableState (sym live.means) (meant_storable live.contents live.holds own.two.few own.three.few)
+
+pub stands_storable : StoredStatesAreStorable
+stands_storable = stands_storable_by HoldsPublic segments_parts_fit
+
+pub stood_storable : OldStatesAreStorable
+stood_storable = stands_storable_by HeldPublic old_parts_fit
 
 -- ---- a new device
 

@@ -1,6 +1,6 @@
 -- What can be stored has its records, and these have room.
-use Rattle.std.proofs.Common.{sym, ◌≡◌, ◌≢◌, ◌≤◌, ℕ, ◌+◌, List, [], ◌∷◌, ◌++◌, inl, inr, length, map, Bool, true, false, refl, subst, arith, length-append}
-use Rattle.std.specs.Prelude.{◌==◌, nat_lt, All, if◌then◌else◌}
+use Rattle.std.proofs.Common.{sym, ◌≡◌, ◌≢◌, ◌≤◌, ℕ, ◌+◌, List, [], ◌∷◌, ◌++◌, inl, inr, length, map, Bool, true, false, refl, subst, arith, lit≤, length-append}
+use Rattle.std.specs.Prelude.{◌==◌, nat_lt, All, Option, None, Some, IfSome, if◌then◌else◌}
 use Rattle.std.specs.List.{AllByRecursion}
 use Rattle.std.proofs.lemmas.List.{length-map}
 use Rattle.std.proofs.lemmas.List.Elements.{All-nil, All-cons, All-head, All-tail, recursion_from_All}
@@ -31,9 +31,11 @@ use Rattle.mb_model.specs.Signing.{public_of}
 use Rattle.mb_model.specs.KeyFormat.{key_seed_format}
 use Rattle.mb_model.specs.EntryFormat.{entry_format, signed_entry_format}
 use Rattle.mb_model.specs.RootFormat.{region_key_format, outgoing_format, fate_format, pending_format, root_format}
-use Rattle.mb_model.specs.RegionFormat.{secret_format, secrets_format, keys_format, region_format}
+use Rattle.mb_model.specs.RegionFormat.{secret_format, secrets_format, keys_format, region_by, region_format, CanBeWritten}
 use Rattle.mb_model.specs.OrderFormat.{order_format}
-use Rattle.mb_model.specs.PublicRecord.{codes_format, public_entry_format, public_format}
+use Rattle.mb_model.specs.PublicRecord.{code_format, codes_format, public_entry_format, public_format}
+use Rattle.mb_model.specs.WrittenFlash.{CodesFitSlots}
+use Rattle.mb_model.specs.WrittenImage.{FitsImage}
 use Rattle.mb_model.specs.OldFlash.{with_signature, without_signature, public_of_parts}
 use Rattle.mb_model.specs.OrderChecks.{needs_succession, Passes, view_of}
 use Rattle.mb_model.specs.OrderEffects.{signed_by, log_with, cosigned_by, key_made, ready_for, obeyed, succession_entry, entry_of, fact_of}
@@ -43,7 +45,7 @@ use Rattle.mb_model_memory.proofs.Additions.{own_fate, gives_way, outgoing_with,
 use Rattle.mb_model.specs.Fates.{change_fate}
 use Rattle.mb_model.specs.Clean.{root_of}
 use Rattle.mb_model.specs.Valid.{IsValidState}
-use Rattle.mb_model.proofs.FormatBounds.{root_short, region_short, public_short}
+use Rattle.mb_model.proofs.FormatBounds.{root_short, public_short}
 use Rattle.mb_model_lemmas.proofs.LogLemmas.{used-bound}
 use Rattle.mb_model_lemmas.proofs.Splits.{All-split}
 use Rattle.mb_model_lemmas.proofs.OwnEntries.{appends_own}
@@ -52,7 +54,7 @@ use Rattle.mb_model_lemmas.proofs.ValidLogs.{named_is_some}
 use Rattle.mb_model_lemmas.proofs.ValidSteps.{obeyed_valid}
 use Rattle.mb_model_lemmas.proofs.PublicLemmas.{entry_from_signed}
 use Rattle.mb_model_memory.specs.Commits.{root_for}
-use Rattle.mb_model_memory.specs.Storable.{IsStorableRegion, IsStorableState, HasRegionRecord}
+use Rattle.mb_model_memory.specs.Storable.{IsStorableRegion, IsStorableState}
 use Rattle.mb_model_memory.proofs.StorableFormats.{keep_allowed, some_allowed, none_allowed, born_public_allowed, succession_allowed}
 use Rattle.mb_model_memory.proofs.StorableOrders.{small_length, key_made_allowed, ready_by_storable, obeyed_storable}
 
@@ -211,9 +213,9 @@ public_room public is = omega (arith, public_short.short public is)
 
 -- ---- regions
 
-secrets_allowed : (secrets : List Secret) → All secret_format.Allowed secrets → length secrets ≤ 16 → secrets_format.Allowed secrets
+secrets_allowed : (most : ℕ) (secrets : List Secret) → All secret_format.Allowed secrets → length secrets ≤ most → (secrets_format most).Allowed secrets
 unfolding secrets_format
-secrets_allowed secrets are few = ((omega arith, few), all_items secret_format (length secrets) secrets refl (recursion_from_All secret_format.Allowed secrets are))
+secrets_allowed most secrets are few = ((omega arith, few), all_items secret_format (length secrets) secrets refl (recursion_from_All secret_format.Allowed secrets are))
 
 keys_allowed : (least : ℕ) (keys : List RegionKey) → All region_key_format.Allowed keys → least ≤ length keys → length keys ≤ 8 → (keys_format least).Allowed keys
 unfolding keys_format
@@ -222,20 +224,36 @@ keys_allowed least keys are some few = ((some, few), all_items region_key_format
 abbrev region_with : List Secret → List RegionKey → Region
 region_with secrets keys = record { secrets = secrets; keys = keys }
 
-spelled_region : (region : Region) → region_format.Allowed region → HasRegionRecord region
-spelled_region region is = record {
-  bytes = region_format.spelling region;
-  spelled = inr (record { allowed = is; whole = refl });
-  short = omega (arith, region_short.short region is);
+written_by : (secrets : List Secret) (keys : List RegionKey) → IsStorableRegion (region_with secrets keys) → CanBeWritten (region_with secrets keys)
+unfolding region_format region_by
+written_by [] [] is = inl refl
+written_by [] (key ∷ keys) is = inr ((lit≤ tt, lit≤ tt), (secrets_allowed 22 [] is.secrets is.few_secrets, keys_allowed 1 (key ∷ keys) is.keys (omega arith) is.few_keys))
+written_by (secret ∷ secrets) keys is =
+    inr ((lit≤ tt, lit≤ tt), (secrets_allowed 22 (secret ∷ secrets) is.secrets is.few_secrets, keys_allowed 0 keys is.keys (omega arith) is.few_keys))
+
+pub region_written : (region : Region) → IsStorableRegion region → CanBeWritten region
+region_written region is = written_by region.secrets region.keys is
+
+-- ---- images
+
+code_fits : (code : Option (List ℕ)) → code_format.Allowed code → IfSome code (λ code. length code ≤ 32768)
+unfolding code_format
+code_fits None is = tt
+code_fits (Some code) is = is.1.0.1
+
+codes_fit : (codes : Codes) → codes_format.Allowed codes → CodesFitSlots codes
+unfolding codes_format
+codes_fit codes is = record { one = code_fits codes.one is.0; two = code_fits codes.two is.1.0; three = code_fits codes.three is.1.1 }
+
+pub image_fits : (state : State) → IsValidState state → IsStorableState state → FitsImage state
+image_fits state valid is = record {
+  codes = codes_fit state.codes is.codes;
+  log = record {
+    some = not_empty state.log (named_is_some (entries_of state.log) (public_of state.device) valid.device);
+    few = is.few;
+    allowed = is.log;
+  };
+  root = resting_root state 0 (lit≤ tt) valid is;
+  two = region_written state.two is.two;
+  three = region_written state.three is.three;
 }
-
-region_by : (secrets : List Secret) (keys : List RegionKey) → IsStorableRegion (region_with secrets keys) → HasRegionRecord (region_with secrets keys)
-unfolding region_format
-region_by [] [] is = record { bytes = []; spelled = inl (refl, refl); short = omega arith }
-region_by [] (key ∷ keys) is =
-    spelled_region (region_with [] (key ∷ keys)) (tt, (secrets_allowed [] is.secrets is.few_secrets, keys_allowed 1 (key ∷ keys) is.keys (omega arith) is.few_keys))
-region_by (secret ∷ secrets) keys is =
-    spelled_region (region_with (secret ∷ secrets) keys) (tt, (secrets_allowed (secret ∷ secrets) is.secrets is.few_secrets, keys_allowed 0 keys is.keys (omega arith) is.few_keys))
-
-pub region_record : (region : Region) → IsStorableRegion region → HasRegionRecord region
-region_record region is = region_by region.secrets region.keys is

@@ -66,18 +66,18 @@ put_all P new secrets own old true =
     one false secret holds = holds
 put_all P new secrets own old false = All-push P secrets new old own
 
-put_few : (new : Secret) (secrets : List Secret) (there full : Bool) → nat_le 16 (length secrets) ≡ full → (not there && full) ≡ false → length secrets ≤ 16
-    → length (if there then map (λ old. if has_name new.name old then new else old) secrets else secrets ++ new ∷ []) ≤ 16
+put_few : (new : Secret) (secrets : List Secret) (there full : Bool) → nat_le 22 (length secrets) ≡ full → (not there && full) ≡ false → length secrets ≤ 22
+    → length (if there then map (λ old. if has_name new.name old then new else old) secrets else secrets ++ new ∷ []) ≤ 22
 put_few new secrets true full is room few = omega (arith, few, length-map secrets (λ (old : Secret). if has_name new.name old then new else old))
 put_few new secrets false true is room few = absurd (grind (arith, room))
-put_few new secrets false false is room few = omega (arith, leb-false 16 (length secrets) is, length-append secrets (new ∷ []))
+put_few new secrets false false is room few = omega (arith, leb-false 22 (length secrets) is, length-append secrets (new ∷ []))
 
-pub put_region : (new : Secret) (region : Region) → secret_format.Allowed new → IsStorableRegion region → (not (list_any (has_name new.name) region.secrets) && nat_le 16 (length region.secrets)) ≡ false
+pub put_region : (new : Secret) (region : Region) → secret_format.Allowed new → IsStorableRegion region → (not (list_any (has_name new.name) region.secrets) && nat_le 22 (length region.secrets)) ≡ false
     → IsStorableRegion (record region { secrets = with_secret new region.secrets })
 unfolding with_secret
 put_region new region own is room = record {
   secrets = put_all secret_format.Allowed new region.secrets own is.secrets (list_any (has_name new.name) region.secrets);
-  few_secrets = put_few new region.secrets (list_any (has_name new.name) region.secrets) (nat_le 16 (length region.secrets)) refl room is.few_secrets;
+  few_secrets = put_few new region.secrets (list_any (has_name new.name) region.secrets) (nat_le 22 (length region.secrets)) refl room is.few_secrets;
   keys = is.keys;
   few_keys = is.few_keys;
 }
@@ -94,7 +94,7 @@ put_keeps L name value is_name fits state valid is =
     let region : Region = region_of state L in
     let new : Secret = record { name = name; value = value; born = number_of (entries_of state.log) } in
     let own : secret_format.Allowed new = secret_allowed new is_name.some is_name.most (named name is_name) fits (number_small state is) in
-    either_kept (not (list_any (has_name name) region.secrets) && nat_le 16 (length region.secrets)) _ _ (λ full. is)
+    either_kept (not (list_any (has_name name) region.secrets) && nat_le 22 (length region.secrets)) _ _ (λ full. is)
     (λ room. with_region_storable state L (record region { secrets = with_secret new region.secrets }) is (put_region new region own (region_of-storable state L is) room))
 
 get_keeps : (L : ℕ) (name : List ℕ) → KeepsStorable (get_event L name)

@@ -13,25 +13,36 @@ use Rattle.mb_model.specs.declared.stored.Root.{Root}
 use Rattle.mb_model.specs.KeyFormat.{public_key_format}
 use Rattle.mb_model.specs.OrderFormat.{order_format}
 use Rattle.mb_model.specs.RootFormat.{root_format}
+use Rattle.mb_model.specs.RegionFormat.{CanBeWritten}
+use Rattle.mb_model.specs.WrittenImage.{FitsImage}
 use Rattle.mb_model.specs.PublicRecord.{public_format}
-use Rattle.mb_model.specs.OldFlash.{public_of_parts}
+use Rattle.mb_model.specs.OldFlash.{public_of_parts, HeldPublic}
 use Rattle.mb_model.specs.OrderChecks.{Passes, view_of}
 use Rattle.mb_model.specs.OrderEffects.{obeyed}
 use Rattle.mb_model_memory.specs.Commits.{new_entries}
 use Rattle.mb_model.specs.Machine.{World, Step, Run}
 use Rattle.mb_model.specs.Valid.{IsValidState, Valid}
-use Rattle.mb_model.specs.Meaning.{StandsFor}
+use Rattle.mb_model.specs.Flash.{HoldsPublic}
+use Rattle.mb_model.specs.Meaning.{FlashForm, StandsForBy}
 use Rattle.mb_model.specs.Clean.{root_of}
 use Rattle.mb_model.specs.Factory.{state_at_birth}
 use Rattle.mb_model.specs.Script.{IsScriptEvent}
 use Rattle.mb_model_memory.specs.Commits.{root_for}
-use Rattle.mb_model_memory.specs.Storable.{IsStorableRegion, IsStorableState, Storable, HasRegionRecord}
+use Rattle.mb_model_memory.specs.Storable.{IsStorableRegion, IsStorableState, Storable}
 
--- a valid state for which a memory stands can be stored
-abbrev pub StoredStatesAreStorable : Type 0
-StoredStatesAreStorable =
-    (flash bbram : List ℕ) (state : State) → StandsFor flash bbram (Some state) → IsValidState state
+-- a valid state for which a memory stands, by a form of the flash, can be stored
+abbrev pub StatesAreStorableBy : FlashForm → Type 0
+StatesAreStorableBy Form =
+    (flash bbram : List ℕ) (state : State) → StandsForBy Form flash bbram (Some state) → IsValidState state
     → IsStorableState state
+
+-- the same of the present form
+abbrev pub StoredStatesAreStorable : Type 0
+StoredStatesAreStorable = StatesAreStorableBy HoldsPublic
+
+-- and by the form before
+abbrev pub OldStatesAreStorable : Type 0
+OldStatesAreStorable = StatesAreStorableBy HeldPublic
 
 -- so can that of a new device, whose owner has a spelling and whose code and noise have the lengths that they may have
 abbrev pub BornStatesAreStorable : Type 0
@@ -84,9 +95,13 @@ CommittedPublicsAreAllowed =
     → Passes (view_of state) order
     → public_format.Allowed (public_of_parts (obeyed state order draw).codes state.log (new_entries state order draw))
 
--- each region that can be stored has a record
-abbrev pub StorableRegionsHaveRecords : Type 0
-StorableRegionsHaveRecords = (region : Region) → IsStorableRegion region → HasRegionRecord region
+-- each region that can be stored can be written
+abbrev pub StorableRegionsCanBeWritten : Type 0
+StorableRegionsCanBeWritten = (region : Region) → IsStorableRegion region → CanBeWritten region
+
+-- and each valid state that can be stored, as an image from nothing
+abbrev pub StorableStatesFitImages : Type 0
+StorableStatesFitImages = (state : State) → IsValidState state → IsStorableState state → FitsImage state
 
 -- each root that has a spelling has room in an area of the battery-backed memory
 abbrev pub RootsHaveRoom : Type 0

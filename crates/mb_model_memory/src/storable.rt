@@ -1,10 +1,12 @@
 //! Laws of what can be stored.
 
-ghost use Rattle.mb_model_memory.specs.StorableLaws.{StoredStatesAreStorable, BornStatesAreStorable, ObeyedStatesAreStorable, StepsKeepStorable, RunsKeepStorable, RestingRootsAreAllowed, CommittedRootsAreAllowed, RestingPublicsAreAllowed, CommittedPublicsAreAllowed, StorableRegionsHaveRecords, RootsHaveRoom, PublicsHaveRoom};
+ghost use Rattle.mb_model_memory.specs.StorableLaws.{StoredStatesAreStorable, OldStatesAreStorable, BornStatesAreStorable, ObeyedStatesAreStorable, StepsKeepStorable, RunsKeepStorable, RestingRootsAreAllowed, CommittedRootsAreAllowed, RestingPublicsAreAllowed, CommittedPublicsAreAllowed, StorableRegionsCanBeWritten, StorableStatesFitImages, RootsHaveRoom, PublicsHaveRoom};
 
-/// A valid state for which a memory stands can be stored again, and so can that of a new device.
+/// A valid state for which a memory stands can be stored again, also by the form of the flash before, and so can that of
+/// a new device.
 pub fn stored_states_are_storable()
     ensures stands { StoredStatesAreStorable }
+    ensures stood { OldStatesAreStorable }
     ensures born { BornStatesAreStorable }
 {}
 
@@ -17,13 +19,15 @@ pub fn steps_keep_states_storable()
 {}
 
 /// What can be stored has its records: the root and the public record have spellings, where nothing is pending and where
-/// an order is committed, each region has a record, and all of these have room.
+/// an order is committed, each region can be written, and all of these have room, also in an image that is written from
+/// nothing.
 pub fn storable_states_have_records()
     ensures root { RestingRootsAreAllowed }
     ensures committed_root { CommittedRootsAreAllowed }
     ensures public_record { RestingPublicsAreAllowed }
     ensures committed_public { CommittedPublicsAreAllowed }
-    ensures region { StorableRegionsHaveRecords }
+    ensures region { StorableRegionsCanBeWritten }
+    ensures image { StorableStatesFitImages }
     ensures root_room { RootsHaveRoom }
     ensures public_room { PublicsHaveRoom }
 {}

@@ -49,7 +49,7 @@ module _ (R : Option State → Option State → Type 0) (kept : IsKept R) where
   put_kept : (L : ℕ) (name value : List ℕ) (state : State) → R (Some state) (Some (put_event L name value state).1)
   unfolding put_event
   put_kept L name value state =
-      either_kept state (not (list_any (has_name name) (region_of state L).secrets) && nat_le 16 (length (region_of state L).secrets)) _ _
+      either_kept state (not (list_any (has_name name) (region_of state L).secrets) && nat_le 22 (length (region_of state L).secrets)) _ _
       (kept.same (Some state)) (kept.secrets state L _)
 
   get_kept : (L : ℕ) (name : List ℕ) (state : State) → R (Some state) (Some (get_event L name state).1)

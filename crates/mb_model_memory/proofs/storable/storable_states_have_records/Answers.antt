@@ -7,7 +7,8 @@ returns c = record {
   committed_root = lemmas.committed_root;
   public_record = lemmas.resting_public;
   committed_public = lemmas.committed_public;
-  region = lemmas.region_record;
+  region = lemmas.region_written;
+  image = lemmas.image_fits;
   root_room = lemmas.root_room;
   public_room = lemmas.public_room;
 }

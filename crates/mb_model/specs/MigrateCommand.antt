@@ -1,0 +1,37 @@
+-- What the command `migrate` does. Does OUT stand for the state for which IMAGE stands, whichever form that has?
+use Rattle.std.specs.Prelude.{◌≡◌, List, ℕ, ◌++◌, codes}
+use Rattle.hex.specs.Hex.{encode_lower}
+use Rattle.sha2.specs.Sha256.{sha256}
+use Rattle.mb_model.specs.declared.role.Role.TheVariants as role
+use Rattle.mb_model.specs.Texts.{ended}
+use Rattle.mb_model.specs.Faults.{Fault}
+use Rattle.mb_model.specs.Migration.{IsMigrated, MeansTheSame, CannotMigrate}
+use Rattle.mb_model.specs.Commands.{Input, Command, read, write, print}
+use Rattle.mb_model.specs.Inputs.{fault_place}
+
+-- the names of the files
+pub record MigrateNames : Type 0 where
+  pub image : List ℕ
+  pub out : List ℕ
+
+-- An image that may have the form before: it stands for what a migration makes of it, and where it can't be migrated it
+-- is at fault as in the present form.
+abbrev pub old_image_input : List ℕ → Input (List ℕ)
+old_image_input name = record {
+  role = role.Image;
+  name = name;
+  Is = λ bytes migrated. IsMigrated bytes migrated × MeansTheSame bytes migrated;
+  FaultyAt = λ bytes place. (faulty : Fault) × (place ≡ fault_place faulty) × CannotMigrate bytes faulty;
+}
+
+-- the line that tells the hash of the image that is written
+abbrev pub migrated_text : List ℕ → List ℕ
+migrated_text image = ended (codes "migrated " ++ encode_lower (sha256 image))
+
+abbrev pub write_migrated : MigrateNames → List ℕ → Command
+write_migrated names image =
+    write (record { role = role.Out; name = names.out; bytes = image }) (print (migrated_text image))
+
+-- an image is read, which may have the form before, and the image of the present form is written
+unfoldable pub migrate : MigrateNames → Command
+migrate names = read (old_image_input names.image) (write_migrated names)

@@ -1,0 +1,25 @@
+-- Laws of an image that is written from nothing. Does it stand for the state that it was written for, and is nothing
+-- else in it?
+use Rattle.std.specs.Prelude.{◌≡◌, IfSome, Option}
+use Rattle.mb_model.specs.declared.state.State.{State}
+use Rattle.mb_model.specs.Memory.{AreSized}
+use Rattle.mb_model.specs.WrittenFlash.{written_flash}
+use Rattle.mb_model.specs.Clean.{IsCleanFor}
+use Rattle.mb_model.specs.Valid.{Valid}
+use Rattle.mb_model.specs.Meaning.{IsWellFormed}
+use Rattle.mb_model.specs.WrittenImage.{written_bbram, written_image, FitsImage}
+
+-- for a state that fits an image, both memories have their lengths
+abbrev pub WrittenMemoriesAreSized : Type 0
+WrittenMemoriesAreSized =
+    (state : State) → FitsImage state → AreSized (written_flash state.codes state.log) (written_bbram state)
+
+-- The battery-backed memory is clean for the state, with a root that names area 0 of the flash.
+abbrev pub WrittenMemoryIsClean : Type 0
+WrittenMemoryIsClean =
+    (state : State) → FitsImage state → (clean : IsCleanFor (written_bbram state) state) × (clean.area ≡ 0)
+
+-- The image is well formed, for a valid state that fits an image and for the dead device.
+abbrev pub WrittenImagesAreWellFormed : Type 0
+WrittenImagesAreWellFormed =
+    (state : Option State) → IfSome state FitsImage → Valid state → IsWellFormed (written_image state) state
