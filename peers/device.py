@@ -1,12 +1,13 @@
 """A device's image, written from the formats alone: its log, its records, and work that an order has left to be done.
 
-    device.py full IMAGE           a log of 128 entries, sixteen keys and 32 secrets
+    device.py full IMAGE           a log of 128 entries, sixteen keys, and as many secrets as both regions hold
     device.py new IMAGE            a new device
     device.py pending KIND IMAGE   a device with work pending: entry, succession, renewal, last, add, short; with none: born
     device.py row KIND             a row of the tests of such work in crates/mb_test_cuts, whose birth is signed by zeros
 
-After `old`, as in `device.py old full IMAGE`, each birth and change has version 1, which spells one trust for each layer;
-otherwise version 2, which spells two. The rows are of version 1. Each image's line says what it stands for:
+After `old`, as in `device.py old full IMAGE`, each birth and change has version 1, which spells one trust for each layer,
+and so have the records of the regions, of at most 16 secrets each; otherwise version 2, which spells two trusts, and
+regions of at most 22. The rows are of version 1. Each image's line says what it stands for:
 `state LENGTH NUMBER USES`, the numbers of secrets and keys of regions 2 and 3, and the SHA-256 hash of the signatures of
 the log, one after another.
 """
@@ -222,7 +223,7 @@ class Device:
         secrets, keys = self.regions[layer]["secrets"], self.regions[layer]["keys"]
         if not secrets and not keys:
             return b""
-        text = u8(1) + u8(len(secrets))
+        text = u8(self.version) + u8(len(secrets))
         for name, value, born in secrets:
             text += u8(len(name)) + name + u8(len(value)) + value + u32(born)
         return text + u8(len(keys)) + b"".join(map(self.spelled_key, keys))
@@ -287,7 +288,7 @@ def full(version=2):
     for layer in (2, 3):
         for _ in range(8):
             device.make_key(layer)
-        for number in range(16):
+        for number in range(16 if version == 1 else 22):
             device.put(layer, b"name-%02d" % number, bytes([number]) * 128)
     while len(device.log) < 128:
         device.load(3 if len(device.log) < 127 or device.key.uses < 31 else 1)

@@ -182,10 +182,10 @@ def pending_images(source):
 
 
 def replaced_regions(source):
-    """The regions of a device, after one more use of each key, and with another secret in each."""
+    """The regions of a device in version 1, after one more use of each key, and with another secret in each."""
     found = []
     for name in ("", "_USED", "_PUT"):
-        owned, _, _ = device.left_to_do("entry", signed=False)
+        owned, _, _ = device.left_to_do("entry", signed=False, version=2 if name else 1)
         for layer in (2, 3) if name == "_USED" else ():
             owned.regions[layer]["keys"][0][1].uses += 1
         if name == "_PUT":

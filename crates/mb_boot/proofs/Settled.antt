@@ -25,14 +25,15 @@ use Rattle.mb_model_memory.specs.FlashInForce.{AgreeForArea, SparesSectors, IsUn
 use Rattle.mb_model_memory.specs.Holding.{Holds, Means, KeepsContents, KeepsMeaning}
 use Rattle.mb_model_memory.specs.InForce.{AgreeBesides}
 use Rattle.mb_model_memory.specs.NextHeaders.{header_settled}
-use Rattle.mb_model_memory.specs.Storable.{IsStorableState, HasRegionRecord}
+use Rattle.mb_model_memory.specs.Storable.{IsStorableState}
+use Rattle.mb_model.specs.RegionFormat.{CanBeWritten}
 use Rattle.mb_model_memory.proofs.HoldingLemmas.{contents_keep, keeps_then}
 use Rattle.mb_model_memory.proofs.CommitLemmas.{live_contents, both_done_means, work_ends}
 use Rattle.mb_model_memory.proofs.FlashFrames.{log_stays, signed_log_stays}
 use Rattle.mb_model_memory.proofs.FlashWrites.{log_appended, log_settled}
 use Rattle.mb_model_memory.proofs.RestLemmas.{rest_stands, meant_layers}
 use Rattle.mb_model_memory.proofs.StorableMemories.{stands_storable}
-use Rattle.mb_model_memory.proofs.StorableRecords.{region_record}
+use Rattle.mb_model_memory.proofs.StorableRecords.{region_written}
 use Rattle.mb_layout.specs.declared.room.Room.{Room}
 use Rattle.mb_area.specs.Flashes.{HasSomeHeader, IsPublicWritten, IsSpared}
 use Rattle.mb_area.specs.Roots.{HasSomeRoot, Finishes, KeepsOrFinishes, IsReadyToFinish}
@@ -90,17 +91,17 @@ three_root_still bbram after root agree is = only_moved bbram after 3 root (λ e
 -- ---- the regions
 
 -- the regions of the state that is meant can be stored
-stored_two : (memory : Memory) (state : State) (contents : Contents) → state ≡ meant contents → Means memory state → IsValidState state → HasRegionRecord (fated (fate_of_two contents.root.pending) contents.two)
+stored_two : (memory : Memory) (state : State) (contents : Contents) → state ≡ meant contents → Means memory state → IsValidState state → CanBeWritten (fated (fate_of_two contents.root.pending) contents.two)
 unfolding meant
 stored_two memory state contents same means valid =
     let storable : IsStorableState state = stands_storable memory.flash memory.bbram state means valid in
-    subst HasRegionRecord (ap (λ (s : State). s.two) same) (region_record state.two storable.two)
+    subst CanBeWritten (ap (λ (s : State). s.two) same) (region_written state.two storable.two)
 
-stored_three : (memory : Memory) (state : State) (contents : Contents) → state ≡ meant contents → Means memory state → IsValidState state → HasRegionRecord (fated (fate_of_three contents.root.pending) contents.three)
+stored_three : (memory : Memory) (state : State) (contents : Contents) → state ≡ meant contents → Means memory state → IsValidState state → CanBeWritten (fated (fate_of_three contents.root.pending) contents.three)
 unfolding meant
 stored_three memory state contents same means valid =
     let storable : IsStorableState state = stands_storable memory.flash memory.bbram state means valid in
-    subst HasRegionRecord (ap (λ (s : State). s.three) same) (region_record state.three storable.three)
+    subst CanBeWritten (ap (λ (s : State). s.three) same) (region_written state.three storable.three)
 
 pub two_is_pending : (memory : Memory) (root : Root) (fate : Fate) → fate ≡ fate_of_two root.pending → IsLive memory → IsOnlyRoot memory.bbram root → IsPending 2 fate memory
 two_is_pending memory root fate is live only =
@@ -110,7 +111,7 @@ two_is_pending memory root fate is live only =
       contents = held.contents;
       holds = held.holds;
       pending = own;
-      stored = subst (λ (f : Fate). HasRegionRecord (fated f held.contents.two)) (own held.contents held.holds) (stored_two memory live.state held.contents held.means live.means live.valid);
+      stored = subst (λ (f : Fate). CanBeWritten (fated f held.contents.two)) (own held.contents held.holds) (stored_two memory live.state held.contents held.means live.means live.valid);
     }
 
 pub three_is_pending : (memory : Memory) (root : Root) (fate : Fate) → fate ≡ fate_of_three root.pending → IsLive memory → IsOnlyRoot memory.bbram root → IsPending 3 fate memory
@@ -121,7 +122,7 @@ three_is_pending memory root fate is live only =
       contents = held.contents;
       holds = held.holds;
       pending = own;
-      stored = subst (λ (f : Fate). HasRegionRecord (fated f held.contents.three)) (own held.contents held.holds) (stored_three memory live.state held.contents held.means live.means live.valid);
+      stored = subst (λ (f : Fate). CanBeWritten (fated f held.contents.three)) (own held.contents held.holds) (stored_three memory live.state held.contents held.means live.means live.valid);
     }
 
 pub both_applied : (before between after : Memory) (root : Root) (two three : Fate) → IsOnlyRoot before.bbram root → two ≡ fate_of_two root.pending → three ≡ fate_of_three root.pending
@@ -169,7 +170,7 @@ some_header memory live =
 -- ---- the log
 
 -- the sector of an entry that is signed next can be written
-pub record CanBeWritten (memory : Memory) (position : ℕ) (log : List ℕ) : Type 0 where
+pub record SectorCanBeWritten (memory : Memory) (position : ℕ) (log : List ℕ) : Type 0 where
   pub within : position < 128
   pub some : 1 ≤ length log
   pub short : length log ≤ 4096
@@ -218,7 +219,7 @@ next_here memory root place position bytes log contents low only is signs holds 
     }
 
 pub can_be_written : (memory : Memory) (root : Root) (place position : ℕ) (bytes log : List ℕ) → place ≤ 1 → IsLive memory → IsOnlyRoot memory.bbram root
-    → bytes ≡ sector memory.flash (header_sector root.area) → SignsTextAt root place bytes (Some position) log → CanBeWritten memory position log
+    → bytes ≡ sector memory.flash (header_sector root.area) → SignsTextAt root place bytes (Some position) log → SectorCanBeWritten memory position log
 can_be_written memory root place position bytes log low live only is signs =
     let held = live_contents memory.flash memory.bbram live.state live.means in
     let contents : Contents = held.contents in

@@ -221,7 +221,7 @@ unfolding put_event
 put_goes_on L name value state =
     let region : Region = region_of state L in
     let new : Secret = record { name = name; value = value; born = number_of (entries_of state.log) } in
-    picked_goes_on (not (list_any (has_name name) region.secrets) && nat_le 16 (length region.secrets)) (refused RegionFull, state)
+    picked_goes_on (not (list_any (has_name name) region.secrets) && nat_le 22 (length region.secrets)) (refused RegionFull, state)
     (reply.Kept, with_region state L (record region { secrets = with_secret new region.secrets })) refl refl
 
 get_goes_on : (L : ℕ) (name : List ℕ) (state : State) → stop_told (get_event L name state).0 ≡ Ok tt

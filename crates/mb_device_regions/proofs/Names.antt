@@ -121,7 +121,7 @@ named_is read own name is same = is ∙ same_is read name ∙ ap (λ (xs : List 
 
 -- where a secret has the name, there is no want of room
 room_there : (name : List ℕ) (region : Region) → list_any (has_name name) region.secrets ≡ true → is_full_for name region ≡ false
-room_there name region there = ap (λ (b : Bool). not b && nat_le 16 (length region.secrets)) there
+room_there name region there = ap (λ (b : Bool). not b && nat_le 22 (length region.secrets)) there
 
 put_named : (secret : Secret) (secrets : List Secret) → list_any (has_name secret.name) secrets ≡ true → with_secret secret secrets ≡ replaced (has_name secret.name) secret secrets
 unfolding with_secret
@@ -148,7 +148,7 @@ put_there secret region name secrets new at is named read found set_is =
     }
 
 pub put_after : (secret : Secret) (region : Region) (name : List ℕ) (secrets new : List Secret) → name ≡ secret.name → secrets ≡ region.secrets
-    → None ≡ position (has_name name) secrets → length region.secrets < 16 → new ≡ region.secrets ++ secret ∷ [] → IsPut region secret (with_secrets region new)
+    → None ≡ position (has_name name) secrets → length region.secrets < 22 → new ≡ region.secrets ++ secret ∷ [] → IsPut region secret (with_secrets region new)
 put_after secret region name secrets new named read found few pushed =
     let p : Secret → Bool = has_name secret.name in
     let found_in : None ≡ position p region.secrets = subst (λ (n : List ℕ). None ≡ position (has_name n) region.secrets) named (subst (λ (xs : List Secret). None ≡ position (has_name name) xs) read found) in
@@ -158,20 +158,20 @@ put_after secret region name secrets new named read found few pushed =
       is = ap (with_secrets region) (pushed ∙ sym (put_last secret region.secrets none));
     }
   where
-    few_there : (name : List ℕ) (region : Region) → length region.secrets < 16 → is_full_for name region ≡ false
-    few_there name region few = by (list_any (has_name name) region.secrets) (nat_le 16 (length region.secrets)) refl
+    few_there : (name : List ℕ) (region : Region) → length region.secrets < 22 → is_full_for name region ≡ false
+    few_there name region few = by (list_any (has_name name) region.secrets) (nat_le 22 (length region.secrets)) refl
       where
-        by : (b full : Bool) → nat_le 16 (length region.secrets) ≡ full → (not b && full) ≡ false
+        by : (b full : Bool) → nat_le 22 (length region.secrets) ≡ full → (not b && full) ≡ false
         by true full e = refl
         by false true e = absurd (grind (arith, e, few))
         by false false e = refl
 
 pub full_there : (region : Region) (name own : List ℕ) (secrets : List Secret) → name ≡ own → secrets ≡ region.secrets
-    → None ≡ position (has_name name) secrets → 16 ≤ length region.secrets → is_full_for own region ≡ true
+    → None ≡ position (has_name name) secrets → 22 ≤ length region.secrets → is_full_for own region ≡ true
 full_there region name own secrets named read found many =
     let found_in : None ≡ position (has_name own) region.secrets = subst (λ (n : List ℕ). None ≡ position (has_name n) region.secrets) named (subst (λ (xs : List Secret). None ≡ position (has_name name) xs) read found) in
     let none : list_any (has_name own) region.secrets ≡ false = none_there (has_name own) region.secrets found_in in
-    ap (λ (b : Bool). not b && nat_le 16 (length region.secrets)) none ∙ le-leb 16 (length region.secrets) many
+    ap (λ (b : Bool). not b && nat_le 22 (length region.secrets)) none ∙ le-leb 22 (length region.secrets) many
 
 -- ---- secrets that are dropped
 

@@ -14,7 +14,7 @@ use Rattle.mb_model.specs.Log.{entries_of, number_of}
 use Rattle.mb_model.specs.Regions.{region_of, with_region}
 use Rattle.mb_model.specs.declared.reply.Refusal.TheVariants.{RegionFull}
 use Rattle.mb_model.specs.Refusals.{refused}
-use Rattle.mb_model.specs.RegionFormat.{secret_format}
+use Rattle.mb_model.specs.RegionFormat.{secret_format, CanBeWritten}
 use Rattle.mb_model.specs.Script.{IsName, FitsMessage}
 use Rattle.mb_model.specs.Valid.{IsValidState}
 use Rattle.mb_model_lemmas.proofs.ValidStates.{valid_is_ruled, region_is_valid, valid_with}
@@ -22,9 +22,8 @@ use Rattle.mb_model_lemmas.proofs.ValidRegions.{valid_over_put, valid_over_drop}
 use Rattle.mb_model_lemmas.specs.RegionLaws.{without_secret}
 use Rattle.mb_model_memory.specs.Holding.{Means, IsReady}
 use Rattle.mb_model_memory.specs.Answering.{IsAnswered, tells, IsCutShort}
-use Rattle.mb_model_memory.specs.Storable.{HasRegionRecord}
 use Rattle.mb_model_memory.proofs.StorableFormats.{secret_allowed}
-use Rattle.mb_model_memory.proofs.StorableRecords.{region_record}
+use Rattle.mb_model_memory.proofs.StorableRecords.{region_written}
 use Rattle.mb_model_memory.proofs.StorableSteps.{named, put_region, drop_region}
 use Rattle.mb_format.specs.Combinators.{limit}
 use Rattle.std.specs.Int.{w32}
@@ -41,14 +40,14 @@ cut_as {state} {outcome} {known} {after} same is = subst (λ (o : Outcome). IsCu
 
 -- ---- a region that has a record
 
-pub put_record : (name value : List ℕ) (number : ℕ) (old new : Region) → IsName name → FitsMessage value → number < limit w32 → IsKeptRegion old → IsPut old (secret_of name value number) new → HasRegionRecord new
+pub put_record : (name value : List ℕ) (number : ℕ) (old new : Region) → IsName name → FitsMessage value → number < limit w32 → IsKeptRegion old → IsPut old (secret_of name value number) new → CanBeWritten new
 put_record name value number old new is_name fits small kept is =
     let secret : Secret = secret_of name value number in
     let own : secret_format.Allowed secret = secret_allowed secret is_name.some is_name.most (named name is_name) fits small in
-    subst HasRegionRecord (sym is.is) (region_record (region_with_secret secret old) (put_region secret old own kept.storable is.room))
+    subst CanBeWritten (sym is.is) (region_written (region_with_secret secret old) (put_region secret old own kept.storable is.room))
 
-pub drop_record : (name : List ℕ) (old new : Region) → IsKeptRegion old → IsDropped old name new → HasRegionRecord new
-drop_record name old new kept is = subst HasRegionRecord (sym is.is) (region_record (without_secret name old) (drop_region name old kept.storable))
+pub drop_record : (name : List ℕ) (old new : Region) → IsKeptRegion old → IsDropped old name new → CanBeWritten new
+drop_record name old new kept is = subst CanBeWritten (sym is.is) (region_written (without_secret name old) (drop_region name old kept.storable))
 
 -- ---- what the stored region comes to
 

@@ -12,7 +12,7 @@ ghost use Rattle.mb_model.specs.Script.{IsName, FitsMessage};
 ghost use Rattle.mb_board.specs.Calls.{IsUp, RanOnBbram};
 ghost use Rattle.mb_model_memory.specs.Holding.{IsReady, HasReady};
 ghost use Rattle.mb_model_memory.specs.Answering.{IsAnswered, ComesTo, TellsOfWrites};
-ghost use Rattle.mb_model_memory.specs.Storable.{HasRegionRecord};
+ghost use Rattle.mb_model.specs.RegionFormat.{CanBeWritten};
 ghost use Rattle.mb_device_regions.specs.Uses.{CanAnswer};
 ghost use Rattle.mb_device_regions.specs.Secrets.{secret_of, PutsInto, DropsFrom};
 
@@ -42,7 +42,7 @@ fn region_with<S: Reaches<L>, L: Named, B: Board>(
     requires value { FitsMessage value.now }
     ensures put { (state : State) → IsReady (B.seen b.now).memory state
         → PutsInto (region_of state L.place) (secret_of name.now value.now number) result }
-    ensures stored { IfOk result (λ region. HasRegionRecord region) }
+    ensures stored { IfOk result (λ region. CanBeWritten region) }
     ensures plans { SamePlans room.old room.new }
 {
     let mut region = load::<S, L, B>(alloc, s, b, room)?;
@@ -122,7 +122,7 @@ fn region_without<S: Reaches<L>, L: Named, B: Board>(
     requires ready { HasReady (B.seen b.now).memory }
     ensures dropped { (state : State) → IsReady (B.seen b.now).memory state
         → DropsFrom (region_of state L.place) name.now result }
-    ensures stored { IfOk result (λ found. IfSome found (λ region. HasRegionRecord region)) }
+    ensures stored { IfOk result (λ found. IfSome found (λ region. CanBeWritten region)) }
     ensures plans { SamePlans room.old room.new }
 {
     let mut region = load::<S, L, B>(alloc, s, b, room)?;

@@ -10,7 +10,7 @@ ghost use Rattle.mb_model.specs.Regions.{region_of, with_region};
 ghost use Rattle.mb_model.specs.Valid.{IsValidState};
 ghost use Rattle.mb_board.specs.Calls.{IsUp, RanOnBbram};
 ghost use Rattle.mb_model_memory.specs.Holding.{Means, IsReady, HasReady};
-ghost use Rattle.mb_model_memory.specs.Storable.{HasRegionRecord};
+ghost use Rattle.mb_model.specs.RegionFormat.{CanBeWritten};
 ghost use Rattle.mb_slot.specs.Slots.{RanInSlot};
 ghost use Rattle.mb_region.specs.Regions.{ReplacesRegion, KeepsOrReplaces};
 ghost use Rattle.mb_device_regions.specs.Secrets.{IsKeptRegion};
@@ -47,7 +47,7 @@ fn exchange<S: Reaches<L>, L: Named, B: Board>(
     room: &mut Room,
 ) -> Result<S, Off>
     requires up { IsUp S.stage (B.seen b.old) }
-    requires stored { HasRegionRecord region.now }
+    requires stored { CanBeWritten region.now }
     ensures done { OnOk result (ReplacesRegion L.place region.now (B.seen b.old).memory
         (B.seen b.new).memory) }
     ensures either { KeepsOrReplaces L.place region.now (B.seen b.old).memory
@@ -70,7 +70,7 @@ pub(crate) fn replace<S: Reaches<L>, L: Named, B: Board>(
 ) -> Result<S, Off>
     requires up { IsUp S.stage (B.seen b.old) }
     requires bytes { IsBytes (B.seen b.old).memory.bbram }
-    requires stored { HasRegionRecord region.now }
+    requires stored { CanBeWritten region.now }
     ensures done { (state : State) → IsReady (B.seen b.old).memory state
         → IsValidState (with_region state L.place region.now)
         → OnOk result (IsReady (B.seen b.new).memory (with_region state L.place region.now)) }

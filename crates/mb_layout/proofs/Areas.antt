@@ -83,7 +83,7 @@ area_none {A} {f} {area} {bytes} {at} exact are h fails a other =
 
 no_region : {bytes : List ℕ} {at : ℕ} → IsBytes bytes → 0 < length bytes → FailsWhole region_format bytes at → (region : Region) → SpellsRegion bytes region → ⊥
 no_region are some fails region (inl none) = omega (arith, some, ap length none.0)
-no_region are some fails region (inr spelled) = spells_none region_exact are fails region spelled
+no_region are some fails region (inr spelled) = spells_none region_exact are fails (spelled.version, region) spelled.spelled
 
 pub region_none : {area bytes : List ℕ} {at : ℕ} → IsBytes area → 0 < length bytes → HoldsInArea area bytes → FailsWhole region_format bytes at → (region : Region) → HoldsRegion area region → ⊥
 region_none {area} {bytes} {at} are some h fails region other =

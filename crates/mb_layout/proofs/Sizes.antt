@@ -6,7 +6,8 @@ use Rattle.mb_model.specs.declared.region.RegionKey.{RegionKey}
 use Rattle.mb_model.specs.RootFormat.{region_key_format}
 use Rattle.mb_model.specs.declared.region.Secret.{Secret}
 use Rattle.mb_model.specs.declared.region.Region.{Region}
-use Rattle.mb_model.specs.RegionFormat.{secret_format, secrets_format, keys_format, region_format}
+use Rattle.mb_model.specs.RegionFormat.{secret_format, secrets_format, keys_format, region_by, region_format}
+use Rattle.mb_model.proofs.RecordFormatLaws.{few_secrets}
 use Rattle.mb_layout.specs.Bounds.{HasByteUses, SecretFits, RegionFits}
 
 pub key_fits : (key : RegionKey) → region_key_format.Allowed key → HasByteUses key
@@ -27,10 +28,10 @@ all_of item Fits one (suc n) [] h k d lt = absurd h
 all_of item Fits one (suc n) (x ∷ xs) h zero d lt = one x h.0
 all_of item Fits one (suc n) (x ∷ xs) h (suc k) d lt = all_of item Fits one n xs h.1 k d (omega arith)
 
-pub region_fits : (region : Region) → region_format.Allowed region → RegionFits region
-unfolding region_format secrets_format keys_format
-region_fits region h = record {
-  secrets = omega (arith, h.1.0.0.1);
+pub region_fits : (version : ℕ) (region : Region) → region_format.Allowed (version, region) → RegionFits region
+unfolding region_format region_by secrets_format keys_format
+region_fits version region h = record {
+  secrets = omega (arith, h.1.0.0.1, few_secrets version);
   each_secret = λ k d lt. all_of secret_format SecretFits secret_fits (length region.secrets) region.secrets h.1.0.1 k d lt;
   keys = omega (arith, h.1.1.0.1);
   each_key = λ k d lt. all_of region_key_format HasByteUses key_fits (length region.keys) region.keys h.1.1.1 k d lt;

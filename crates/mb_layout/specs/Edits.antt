@@ -1,36 +1,33 @@
 -- What an edit of a stored record, without memory, leaves. Which record do the bytes spell afterwards?
-use Rattle.std.specs.Prelude.{◌≡◌, ℕ, ◌<◌, ◌≤◌, ◌⊎◌, List, find}
+use Rattle.std.specs.Prelude.{◌≡◌, ℕ, ◌<◌, ◌≤◌, List, find}
 use Rattle.std.specs.Prelude.{Some, None, Result, Ok, Err}
 use Rattle.mb_model.specs.declared.limits.TheConstants.{KEY_USES}
 use Rattle.mb_model.specs.declared.region.Region.{Region}
 use Rattle.mb_model.specs.declared.region.RegionKey.{RegionKey}
 use Rattle.mb_model.specs.declared.stored.Fate.{Fate}
-use Rattle.mb_model.specs.Regions.{empty_region}
 use Rattle.mb_model.specs.LayerEvents.{has_number, with_use}
 use Rattle.mb_model.specs.Meaning.{fated}
-use Rattle.mb_model.specs.RegionFormat.{region_format, SpellsRegion}
+use Rattle.mb_model.specs.RegionFormat.{SpellsRegion, CanBeWritten, written_region}
 use Rattle.mb_layout.specs.declared.usage.NotUsed.{NotUsed}
 use Rattle.mb_layout.specs.declared.usage.NotUsed.TheVariants.{NoKey, Spent}
 
--- a region can be stored: it is empty, or its record is allowed
-abbrev pub CanBeStored : Region → Type 0
-CanBeStored region = (region ≡ empty_region) ⊎ region_format.Allowed region
-
--- If the old bytes stood for a region, the new ones stand for it after its fate, provided that can be stored.
+-- If the old bytes stood for a region, the new ones are those that are written for it after its fate, provided that can
+-- be written.
 abbrev pub IsFated : Fate → List ℕ → List ℕ → Type 0
 IsFated fate old new =
-    (region : Region) → SpellsRegion old region → CanBeStored (fated fate region) → SpellsRegion new (fated fate region)
+    (region : Region) → SpellsRegion old region → CanBeWritten (fated fate region)
+    → new ≡ written_region (fated fate region)
 
 -- the region with one more use of the key of this number
 abbrev pub region_with_use : ℕ → Region → Region
 region_with_use number region = record region { keys = with_use number region.keys }
 
--- The first key of this number has an index left, and the bytes afterwards stand for the region with one more use of
--- it, if that can be stored.
+-- The first key of this number has an index left, and the bytes afterwards are those that are written for the region
+-- with one more use of it, if that can be written.
 pub record IsUsed (region : Region) (number : ℕ) (key : RegionKey) (new : List ℕ) : Type 0 where
   pub found : find (has_number number) region.keys ≡ Some key
   pub left : key.uses < KEY_USES
-  pub stored : CanBeStored (region_with_use number region) → SpellsRegion new (region_with_use number region)
+  pub stored : CanBeWritten (region_with_use number region) → new ≡ written_region (region_with_use number region)
 
 -- no index of the key is left
 pub record IsSpent (region : Region) (number : ℕ) : Type 0 where

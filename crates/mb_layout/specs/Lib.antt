@@ -7,3 +7,4 @@ pub mod StoredRegion
 pub mod Uncopied
 pub mod Walks
 pub mod Plans
+pub mod RegionReads

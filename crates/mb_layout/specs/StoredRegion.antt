@@ -2,20 +2,22 @@
 use Rattle.std.specs.Prelude.{◌≡◌, ℕ, List, length, Option, Some, None, Result, Ok, Err}
 use Rattle.mb_model.specs.declared.tools.BadRecord.{BadRecord}
 use Rattle.mb_model.specs.declared.region.Region.{Region}
+use Rattle.mb_model.specs.declared.limits.TheConstants.{SECRET_LIMIT}
 use Rattle.mb_model.specs.RegionFormat.{least_keys, secrets_format, region_format, SpellsRegion}
 use Rattle.mb_layout.specs.declared.stored.StoredRegion.{StoredRegion}
 
 -- its bytes spell the secrets of the region, and its keys are those of the region
 pub record IsStoredAs (stored : StoredRegion) (region : Region) : Type 0 where
-  pub secrets : stored.secrets.now ≡ secrets_format.spelling region.secrets
+  pub secrets : stored.secrets.now ≡ (secrets_format SECRET_LIMIT).spelling region.secrets
   pub least : stored.least ≡ least_keys region.secrets
   pub keys : stored.keys ≡ region.keys
 
 -- a record was read from the beginning, and this is the region in it
 pub record IsWalked (bytes : List ℕ) (stored : StoredRegion) : Type 0 where
+  pub version : ℕ
   pub region : Region
   pub after : ℕ
-  pub reads : region_format.reads bytes 0 ≡ Ok (region, after)
+  pub reads : region_format.reads bytes 0 ≡ Ok ((version, region), after)
   pub stands : IsStoredAs stored region
 
 abbrev pub Walks : List ℕ → Result StoredRegion BadRecord → Type 0

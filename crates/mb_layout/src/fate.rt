@@ -4,9 +4,9 @@ ghost use Rattle.std.specs.Prelude.{◌≡◌, ◌≤◌, length, vec_capacity};
 ghost use Rattle.mb_model.specs.declared.limits.TheConstants.{FILE_LIMIT, KEY_LIMIT, REGION_LIMIT};
 ghost use Rattle.mb_model.specs.declared.region.Region.{Region};
 ghost use Rattle.mb_model.specs.Meaning.{fated, fated_keys};
-ghost use Rattle.mb_model.specs.RegionFormat.{SpellsRegion};
+ghost use Rattle.mb_model.specs.RegionFormat.{SpellsRegion, CanBeWritten};
 ghost use Rattle.mb_layout.specs.StoredRegion.{IsStoredAs};
-ghost use Rattle.mb_layout.specs.Edits.{IsFated, CanBeStored};
+ghost use Rattle.mb_layout.specs.Edits.{IsFated};
 
 use crate::row::{KeyRow, epoch_keys, has_key};
 use crate::stored::{StoredRegion, no_region, store, stored_region};
@@ -50,15 +50,15 @@ fn fated_region<'a>(fate: &Fate, stored: StoredRegion<'a>) -> StoredRegion<'a>
     }
 }
 
-/// Replaces `out` by the record of the stored region after its fate, or by no bytes if it is then empty. Nothing is
-/// said if the bytes stand for no region, or if the region afterwards cannot be stored, as one with nine keys. `out`
-/// has room for any record of a region.
+/// Replaces `out` by the record, of version 2, of the stored region after its fate, or by no bytes if it is then empty.
+/// Nothing is said if the bytes stand for no region, or if the region afterwards cannot be written, as one with nine
+/// keys. `out` has room for any record of a region.
 pub fn fate_record(bytes: &[u8], fate: &Fate, out: &mut Vec<u8>)
     requires room { REGION_LIMIT ≤ vec_capacity out.old }
     requires short { length bytes.now ≤ FILE_LIMIT }
     ensures fated { IsFated fate.now bytes.now out.new.items }
     ensures capacity { (region : Region) → SpellsRegion bytes.now region
-        → CanBeStored (fated fate.now region)
+        → CanBeWritten (fated fate.now region)
         → vec_capacity out.old ≤ vec_capacity out.new }
 {
     out.clear();

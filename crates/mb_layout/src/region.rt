@@ -4,23 +4,24 @@ ghost use Rattle.std.specs.Prelude.{◌≡◌, ◌≤◌, ◌<◌, length};
 ghost use Rattle.std.specs.List.{All};
 ghost use Rattle.std.specs.Int.{w8};
 ghost use Rattle.mb_format.specs.Combinators.{between, sized_that};
-ghost use Rattle.mb_model.specs.declared.limits.TheConstants.{FILE_LIMIT, NAME_LIMIT};
-ghost use Rattle.mb_model.specs.RegionFormat.{is_name, secret_format, secrets_format, least_keys, keys_format, region_format};
-ghost use Rattle.mb_bytes.specs.Reads.{bad_at, Reads, ReadsAs, ReadsExactly, ReadsWhole};
+ghost use Rattle.mb_model.specs.declared.limits.TheConstants.{FILE_LIMIT, NAME_LIMIT, REGION_VERSION, SECRET_LIMIT};
+ghost use Rattle.mb_model.specs.RegionFormat.{is_name, secret_format, most_secrets, secrets_format, least_keys, keys_format, region_by, region_format};
+ghost use Rattle.mb_bytes.specs.Reads.{bad_at, Reads, ReadsAs};
 ghost use Rattle.mb_bytes.specs.Puts.{Puts, Writes};
 ghost use Rattle.mb_layout.specs.Ends.{layout_at};
 ghost use Rattle.mb_layout.specs.Bounds.{SecretFits, RegionFits};
+ghost use Rattle.mb_layout.specs.RegionReads.{ReadsRegion, ReadsWholeRegion};
 ghost use Rattle.mb_layout.specs.Uncopied.{secret_in};
 
 use crate::end::LayoutEnd;
-use crate::records::{Record, read_record, whole_record, write_record};
-use crate::root::{put_region_key, region_key_at, version_at};
+use crate::records::{Record, read_record, whole_record};
+use crate::root::{put_region_key, region_key_at};
 use mb_bytes::{
     Cursor, bytes_after_u8, is_name, put_after_u8, put_slice, put_u8, put_u32, u8_between,
 };
 use mb_model::{
-    BadRecord, Bytes, Items, KEY_LIMIT, NAME_LIMIT, NoMemory, Region, RegionKey, RegionKeys,
-    SECRET_LIMIT, Secret, Secrets, VALUE_LIMIT,
+    BadRecord, Bytes, Items, KEY_LIMIT, NAME_LIMIT, NoMemory, REGION_VERSION, Region, RegionKey,
+    RegionKeys, SECRET_LIMIT, SECRET_LIMIT_VERSION_1, Secret, Secrets, VALUE_LIMIT,
 };
 use std::alloc::Global;
 
@@ -69,11 +70,29 @@ fn secret_at(alloc: Global, cursor: &mut Cursor<'_>) -> Result<Secret, LayoutEnd
     })
 }
 
-#[tactic(auto, unfolding(mb_model::specs::RegionFormat::secrets_format))]
-fn secrets_at(alloc: Global, cursor: &mut Cursor<'_>) -> Result<Secrets, LayoutEnd>
-    ensures { Reads layout_at secrets_format cursor.old result cursor.new }
+/// The version of a region's record.
+pub(crate) fn region_version_at(cursor: &mut Cursor<'_>) -> Result<u8, BadRecord>
+    ensures { Reads bad_at (between w8 1 REGION_VERSION) cursor.old result cursor.new }
 {
-    let count = u8_between(cursor, 0, SECRET_LIMIT)?;
+    u8_between(cursor, 1, REGION_VERSION)
+}
+
+/// The most secrets in a record of this version.
+pub(crate) fn most_secrets(version: u8) -> u8
+    ensures { result ≡ most_secrets version }
+{
+    if version == 1 {
+        SECRET_LIMIT_VERSION_1
+    } else {
+        SECRET_LIMIT
+    }
+}
+
+#[tactic(auto, unfolding(mb_model::specs::RegionFormat::secrets_format))]
+fn secrets_at(alloc: Global, cursor: &mut Cursor<'_>, most: u8) -> Result<Secrets, LayoutEnd>
+    ensures { Reads layout_at (secrets_format most) cursor.old result cursor.new }
+{
+    let count = u8_between(cursor, 0, most)?;
     let mut secrets = Items::new(alloc);
     for _i in 0..count {
         secrets.push(secret_at(alloc, cursor)?)?;
@@ -100,15 +119,25 @@ fn least_keys(secrets: &Secrets) -> u8
     if secrets.as_slice().is_empty() { 1 } else { 0 }
 }
 
-#[tactic(auto, unfolding(mb_model::specs::RegionFormat::region_format))]
-fn region_at(alloc: Global, cursor: &mut Cursor<'_>) -> Result<Region, LayoutEnd>
-    ensures { Reads layout_at region_format cursor.old result cursor.new }
+/// What stands after the version of a region's record.
+#[tactic(auto, unfolding(mb_model::specs::RegionFormat::region_by))]
+fn region_after(alloc: Global, cursor: &mut Cursor<'_>, version: u8) -> Result<Region, LayoutEnd>
+    ensures { Reads layout_at (region_by version) cursor.old result cursor.new }
 {
-    version_at(cursor)?;
-    let secrets = secrets_at(alloc, cursor)?;
+    let secrets = secrets_at(alloc, cursor, most_secrets(version))?;
     let least = least_keys(&secrets);
     let keys = keys_at(alloc, cursor, least)?;
     Ok(Region { secrets, keys })
+}
+
+/// The version of a region's record, and the region.
+#[tactic(auto, unfolding(mb_model::specs::RegionFormat::region_format))]
+fn region_at(alloc: Global, cursor: &mut Cursor<'_>) -> Result<(u8, Region), LayoutEnd>
+    ensures { Reads layout_at region_format cursor.old result cursor.new }
+{
+    let version = region_version_at(cursor)?;
+    let region = region_after(alloc, cursor, version)?;
+    Ok((version, region))
 }
 
 #[tactic(auto, unfolding(mb_model::specs::RegionFormat::secret_format))]
@@ -125,7 +154,7 @@ fn put_secret(out: &mut Vec<u8>, secret: &Secret) -> Result<(), NoMemory>
 fn put_secrets(out: &mut Vec<u8>, secrets: &Secrets) -> Result<(), NoMemory>
     requires count { length secrets.now < 256 }
     requires each { All SecretFits secrets.now }
-    ensures { Puts (secrets_format.spelling secrets.now) out.old result out.new }
+    ensures { Puts ((secrets_format SECRET_LIMIT).spelling secrets.now) out.old result out.new }
 {
     put_u8(out, secrets.as_slice().len() as u8)?;
     for secret in secrets.as_slice() {
@@ -147,17 +176,19 @@ pub fn put_keys(out: &mut Vec<u8>, keys: &[RegionKey]) -> Result<(), NoMemory>
     Ok(())
 }
 
-#[tactic(auto, unfolding(mb_model::specs::RegionFormat::region_format))]
-fn put_region(out: &mut Vec<u8>, region: &Region) -> Result<(), NoMemory>
+/// Appends the record of the region in this version.
+#[tactic(auto, unfolding(mb_model::specs::RegionFormat::region_format, mb_model::specs::RegionFormat::region_by, mb_model::specs::RegionFormat::secrets_format))]
+fn put_region(out: &mut Vec<u8>, version: u8, region: &Region) -> Result<(), NoMemory>
     requires { RegionFits region.now }
-    ensures { Puts (region_format.spelling region.now) out.old result out.new }
+    ensures { Puts (region_format.spelling (version, region.now)) out.old result out.new }
 {
-    put_slice(out, &[1])?;
+    put_u8(out, version)?;
     put_secrets(out, &region.secrets)?;
     put_keys(out, region.keys.as_slice())
 }
 
-impl Record for Region {
+/// A region with the version of its record.
+impl Record for (u8, Region) {
     ghost use Rattle.mb_model.specs.RegionFormat.{region_format};
     ghost use Rattle.mb_layout.specs.Ends.{layout_at};
     ghost use Rattle.mb_model.proofs.RecordFormatLaws.{region_exact};
@@ -170,7 +201,7 @@ impl Record for Region {
 
     ghost points = { layout_at };
 
-    fn read_at(needs: Global, cursor: &mut Cursor<'_>) -> Result<Region, LayoutEnd> {
+    fn read_at(needs: Global, cursor: &mut Cursor<'_>) -> Result<(u8, Region), LayoutEnd> {
         region_at(needs, cursor)
     }
 
@@ -178,35 +209,45 @@ impl Record for Region {
         LayoutEnd::Bad(BadRecord { at })
     }
 
-    #[tactic(auto, using(crate::proofs::Sizes::region_fits))]
     fn put(&self, out: &mut Vec<u8>) -> Result<(), NoMemory> {
-        put_region(out, self)
+        put_region(out, self.0, &self.1)
     }
 
     ghost exact = { region_exact };
 }
 
-/// The region record spelled at the cursor's offset; the cursor then stands after it. After an error the cursor is
-/// unchanged: `Bad` with the offset of the first field that lacks bytes or is not allowed, or `NoMemory`.
+/// The region whose record, of version 1 or 2, is spelled at the cursor's offset; the cursor then stands after it. After
+/// an error the cursor is unchanged: `Bad` with the offset of the first field that lacks bytes or is not allowed, or
+/// `NoMemory`.
 pub fn read_region(alloc: Global, c: &mut Cursor<'_>) -> Result<Region, LayoutEnd>
-    ensures { ReadsExactly layout_at region_format c.old result c.new }
+    ensures { ReadsRegion c.old result c.new }
 {
-    read_record(alloc, c)
+    let (_version, region) = read_record::<(u8, Region)>(alloc, c)?;
+    Ok(region)
 }
 
-/// The region record that these bytes spell, at most 4,194,304 of them. Else `Bad` with the offset of the first field
-/// that lacks bytes or is not allowed, or of the first byte after the last field; or `NoMemory`.
+/// The region whose record, of version 1 or 2, these bytes spell, at most 4,194,304 of them. Else `Bad` with the offset
+/// of the first field that lacks bytes or is not allowed, or of the first byte after the last field; or `NoMemory`.
 pub fn region_of_bytes(alloc: Global, bytes: &[u8]) -> Result<Region, LayoutEnd>
     requires { length bytes.now ≤ FILE_LIMIT }
-    ensures { ReadsWhole layout_at region_format bytes.now result }
+    ensures { ReadsWholeRegion bytes.now result }
 {
-    whole_record(alloc, bytes)
+    let (_version, region) = whole_record::<(u8, Region)>(alloc, bytes)?;
+    Ok(region)
 }
 
-/// Appends the spelling of the region record, or leaves `out` as it was. `Ok` if the capacity of `out` holds it.
+/// Appends the region's record of version 2, or leaves `out` as it was. `Ok` if the capacity of `out` holds it.
+#[tactic(auto, using(crate::proofs::Sizes::region_fits))]
 pub fn write_region(region: &Region, out: &mut Vec<u8>) -> Result<(), NoMemory>
-    requires { region_format.Allowed region.now }
-    ensures { Writes (region_format.spelling region.now) out.old result out.new }
+    requires { region_format.Allowed (REGION_VERSION, region.now) }
+    ensures { Writes (region_format.spelling (REGION_VERSION, region.now)) out.old result out.new }
 {
-    write_record(region, out)
+    let length = out.len();
+    match put_region(out, REGION_VERSION, region) {
+        Ok(()) => Ok(()),
+        Err(error) => {
+            out.truncate(length);
+            Err(error)
+        }
+    }
 }

@@ -1,20 +1,18 @@
 //! Stored regions in place: only their keys are decoded.
 
 ghost use Rattle.std.specs.Prelude.{◌≡◌, ◌≤◌, [], ◌∷◌, List, ◌++◌, length, vec_capacity};
-ghost use Rattle.mb_model.specs.declared.limits.TheConstants.{FILE_LIMIT, KEY_LIMIT, REGION_LIMIT};
+ghost use Rattle.mb_model.specs.declared.limits.TheConstants.{FILE_LIMIT, KEY_LIMIT, REGION_LIMIT, REGION_VERSION};
 ghost use Rattle.mb_model.specs.declared.region.Region.{Region};
 ghost use Rattle.mb_model.specs.declared.region.Secret.{Secret};
-ghost use Rattle.mb_model.specs.RegionFormat.{least_keys, secrets_format, keys_format, SpellsRegion};
+ghost use Rattle.mb_model.specs.RegionFormat.{least_keys, secrets_format, keys_format, CanBeWritten, written_region};
 ghost use Rattle.mb_bytes.specs.Puts.{Puts};
-ghost use Rattle.mb_layout.specs.Edits.{CanBeStored};
 ghost use Rattle.mb_layout.specs.Walks.{PassesOver};
 ghost use Rattle.mb_layout.specs.StoredRegion.{IsStoredAs, Walks, TakesApart, CountsKeys};
 
-use crate::region::{put_keys, stored_secret_at};
-use crate::root::version_at;
+use crate::region::{most_secrets, put_keys, region_version_at, stored_secret_at};
 use crate::row::{KeyRow, key_row_at};
 use mb_bytes::{Cursor, put_slice, u8_between};
-use mb_model::{BadRecord, NoMemory, RegionKey, SECRET_LIMIT};
+use mb_model::{BadRecord, NoMemory, REGION_VERSION, RegionKey};
 
 /// A stored region: the bytes of its secrets, and its keys.
 #[derive(Drop)]
@@ -26,12 +24,12 @@ pub struct StoredRegion<'a> {
     pub keys: KeyRow,
 }
 
-/// Moves the cursor past the secrets, without copying them, and returns their number.
+/// Moves the cursor past the secrets, at most so many, without copying them, and returns their number.
 #[tactic(auto, unfolding(mb_model::specs::RegionFormat::secrets_format))]
-fn pass_secrets(cursor: &mut Cursor<'_>) -> Result<u8, BadRecord>
-    ensures { PassesOver secrets_format cursor.old result cursor.new }
+fn pass_secrets(cursor: &mut Cursor<'_>, most: u8) -> Result<u8, BadRecord>
+    ensures { PassesOver (secrets_format most) cursor.old result cursor.new }
 {
-    let count = u8_between(cursor, 0, SECRET_LIMIT)?;
+    let count = u8_between(cursor, 0, most)?;
     for _i in 0..count {
         stored_secret_at(cursor)?;
     }
@@ -50,9 +48,9 @@ fn walk(bytes: &[u8]) -> Result<StoredRegion<'_>, BadRecord>
     ensures { Walks bytes.now result }
 {
     let mut cursor = Cursor::new(bytes);
-    version_at(&mut cursor)?;
+    let version = region_version_at(&mut cursor)?;
     let start = cursor.offset() as usize;
-    let count = pass_secrets(&mut cursor)?;
+    let count = pass_secrets(&mut cursor, most_secrets(version))?;
     let end = cursor.offset() as usize;
     let least = least_beside(count);
     let keys = key_row_at(&mut cursor, least)?;
@@ -101,20 +99,20 @@ pub fn count_keys(bytes: &[u8]) -> Option<u32>
 
 fn put_stored(out: &mut Vec<u8>, secrets: &[u8], keys: &[RegionKey]) -> Result<(), NoMemory>
     requires { length keys.now ≤ KEY_LIMIT }
-    ensures { Puts ((1 ∷ []) ++ (secrets.now ++
+    ensures { Puts ((REGION_VERSION ∷ []) ++ (secrets.now ++
         (keys_format 0).spelling keys.now)) out.old result out.new }
 {
-    put_slice(out, &[1])?;
+    put_slice(out, &[REGION_VERSION])?;
     put_slice(out, secrets)?;
     put_keys(out, keys)
 }
 
-/// Replaces `out` by the record of the region, or by no bytes if it is empty.
+/// Replaces `out` by the region's record of version 2, or by no bytes if it is empty.
 pub fn store(stored: &StoredRegion<'_>, out: &mut Vec<u8>)
     requires { REGION_LIMIT ≤ vec_capacity out.old }
-    ensures stored { (region : Region) → IsStoredAs stored.now region → CanBeStored region
-        → SpellsRegion out.new.items region }
-    ensures capacity { (region : Region) → IsStoredAs stored.now region → CanBeStored region
+    ensures stored { (region : Region) → IsStoredAs stored.now region → CanBeWritten region
+        → out.new.items ≡ written_region region }
+    ensures capacity { (region : Region) → IsStoredAs stored.now region → CanBeWritten region
         → vec_capacity out.old ≤ vec_capacity out.new }
 {
     out.clear();

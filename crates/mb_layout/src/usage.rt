@@ -1,10 +1,10 @@
 //! The use of a key in a stored region, without memory.
 
 ghost use Rattle.std.specs.Prelude.{◌≡◌, ◌≤◌, [], length, vec_capacity, OnErr};
-ghost use Rattle.mb_model.specs.RegionFormat.{SpellsRegion};
+ghost use Rattle.mb_model.specs.RegionFormat.{SpellsRegion, CanBeWritten};
 ghost use Rattle.mb_model.specs.declared.limits.TheConstants.{FILE_LIMIT, REGION_LIMIT};
 ghost use Rattle.mb_model.specs.declared.region.Region.{Region};
-ghost use Rattle.mb_layout.specs.Edits.{UseOf, CanBeStored, region_with_use};
+ghost use Rattle.mb_layout.specs.Edits.{UseOf, region_with_use};
 
 use crate::row::{key_of, used_keys};
 use crate::stored::{StoredRegion, store, stored_region};
@@ -20,7 +20,7 @@ pub enum NotUsed {
 }
 
 /// Uses the first key of this number in the stored region once: returns the key as it was before, and replaces `out` by
-/// the record of the region with one more use of it. `NoKey` exactly if the region has no key of that number, and
+/// the record of the region, of version 2, with one more use of it. `NoKey` exactly if the region has no key of that number, and
 /// `Spent` if that key has no index left; `out` is then empty. Nothing is said if the bytes stand for no region. `out`
 /// has room for any record of a region.
 pub fn use_in_record(bytes: &[u8], number: u32, out: &mut Vec<u8>) -> Result<RegionKey, NotUsed>
@@ -29,7 +29,7 @@ pub fn use_in_record(bytes: &[u8], number: u32, out: &mut Vec<u8>) -> Result<Reg
     ensures used { (region : Region) → SpellsRegion bytes.now region
         → UseOf region number result out.new.items }
     ensures capacity { (region : Region) → SpellsRegion bytes.now region
-        → CanBeStored (region_with_use number region)
+        → CanBeWritten (region_with_use number region)
         → vec_capacity out.old ≤ vec_capacity out.new }
     ensures refused { OnErr result (out.new.items ≡ []) }
     ensures refused_capacity { OnErr result (vec_capacity out.old ≤ vec_capacity out.new) }

@@ -7,17 +7,17 @@ use Rattle.mb_model.specs.declared.region.RegionKey.{RegionKey}
 use Rattle.mb_model.specs.declared.state.State.{State}
 use Rattle.mb_model.specs.Board.{Memory, IsLoaded}
 use Rattle.mb_model.specs.Memory.{current}
-use Rattle.mb_model.specs.RegionFormat.{SpellsRegion}
+use Rattle.mb_model.specs.RegionFormat.{SpellsRegion, CanBeWritten}
 use Rattle.mb_model.specs.Meaning.{HoldsRegion}
 use Rattle.mb_layout.specs.declared.usage.NotUsed.{NotUsed}
 use Rattle.mb_layout.specs.declared.usage.NotUsed.TheVariants.{NoKey, Spent}
-use Rattle.mb_layout.specs.Edits.{CanBeStored, region_with_use, UseOf}
+use Rattle.mb_layout.specs.Edits.{region_with_use, UseOf}
 use Rattle.mb_model_memory.proofs.StorableMemories.{spelled_storable}
-use Rattle.mb_model_memory.proofs.StorableRecords.{region_record}
+use Rattle.mb_model_memory.proofs.StorableRecords.{region_written}
 use Rattle.mb_model_memory.proofs.StorableSteps.{use_region}
 use Rattle.mb_model_memory.specs.Holding.{KeepsContents, Means}
 use Rattle.mb_region.specs.Regions.{IsRegionSlot, HasNoFate, HoldsSomeRegion, ReplacesRegion, KeepsOrReplaces}
-use Rattle.mb_region.proofs.Replaced.{region_found, can_be_stored, record_short, edited_holds, edited_either}
+use Rattle.mb_region.proofs.Replaced.{region_found, stands_written, record_short, edited_holds, edited_either}
 use Rattle.mb_outbound.specs.Binding.{HoldsOrdered, HasUse, StoresUse, KeepsOrStoresUse, state_used}
 use Rattle.mb_region.proofs.Meant.{edited_stands, edited_or_kept}
 use Rattle.mb_outbound.specs.Using.{IsUsable, FindsUse}
@@ -27,14 +27,15 @@ use Rattle.mb_outbound.specs.Using.{IsUsable, FindsUse}
 abbrev AreOrdered : Region → Type 0
 AreOrdered region = AllPairs (λ a b. a.number < b.number) region.keys
 
-use_stored : (bytes : List ℕ) (region : Region) (number : ℕ) (key : RegionKey) → AreOrdered region → SpellsRegion bytes region → HasUse region number key → CanBeStored (region_with_use number region)
-use_stored bytes region number key up stands has =
-    can_be_stored (region_with_use number region) (region_record (region_with_use number region) (use_region number key region up (spelled_storable bytes region stands) has.found has.left))
+use_written : (bytes : List ℕ) (region : Region) (number : ℕ) (key : RegionKey) → AreOrdered region → SpellsRegion bytes region → HasUse region number key → CanBeWritten (region_with_use number region)
+use_written bytes region number key up stands has =
+    region_written (region_with_use number region) (use_region number key region up (spelled_storable bytes region stands) has.found has.left)
 
 pub finds_use : (bytes new : List ℕ) (region : Region) (number : ℕ) (result : Result RegionKey NotUsed) → AreOrdered region → SpellsRegion bytes region → UseOf region number result new → FindsUse region number result new
 finds_use bytes new region number (Ok key) up stands outcome =
     let has : HasUse region number key = record { found = outcome.found; left = outcome.left } in
-    record { has_use = has; stands = outcome.stored (use_stored bytes region number key up stands has) }
+    let can : CanBeWritten (region_with_use number region) = use_written bytes region number key up stands has in
+    record { has_use = has; stands = stands_written new (region_with_use number region) can (outcome.stored can) }
 finds_use bytes new region number (Err NoKey) up stands outcome = outcome
 finds_use bytes new region number (Err Spent) up stands outcome = outcome
 
@@ -51,8 +52,8 @@ use_short region number bytes (Ok key) outcome = record_short bytes (region_with
 use_short region number bytes (Err refused) outcome = tt
 
 pub use_room : (bytes new : List ℕ) (region : Region) (number old_room new_room : ℕ) (result : Result RegionKey NotUsed) → AreOrdered region → SpellsRegion bytes region → UseOf region number result new
-    → (CanBeStored (region_with_use number region) → old_room ≤ new_room) → OnErr result (old_room ≤ new_room) → old_room ≤ new_room
-use_room bytes new region number old_room new_room (Ok key) up stands outcome kept refused = kept (use_stored bytes region number key up stands (record { found = outcome.found; left = outcome.left }))
+    → (CanBeWritten (region_with_use number region) → old_room ≤ new_room) → OnErr result (old_room ≤ new_room) → old_room ≤ new_room
+use_room bytes new region number old_room new_room (Ok key) up stands outcome kept refused = kept (use_written bytes region number key up stands (record { found = outcome.found; left = outcome.left }))
 use_room bytes new region number old_room new_room (Err end) up stands outcome kept refused = refused
 
 -- ---- a commit, and then a wipe

@@ -1,5 +1,5 @@
 -- What a memory holds once a region was replaced.
-use Rattle.std.proofs.Common.{◌≡◌, ℕ, ◌≤◌, ◌⊎◌, inl, inr, ◌==◌, if◌then◌else◌, Bool, true, false, List, length, Option, None, Some, Result, Ok, Err, OnOk, refl, sym, ap, subst, ◌∙◌, arith}
+use Rattle.std.proofs.Common.{◌≡◌, ℕ, ◌≤◌, ◌⊎◌, inl, inr, ◌==◌, if◌then◌else◌, Bool, true, false, List, [], ◌++◌, length, Option, None, Some, Result, Ok, Err, OnOk, refl, sym, ap, subst, ◌∙◌, arith}
 use Rattle.mb_format.specs.Format.{IsBytes}
 use Rattle.mb_model.specs.declared.region.Region.{Region}
 use Rattle.mb_model.specs.declared.state.State.{State}
@@ -8,17 +8,22 @@ use Rattle.mb_model.specs.declared.stored.Fate.TheVariants.{Keep}
 use Rattle.mb_model.specs.Board.{Memory, IsLoaded}
 use Rattle.mb_model.specs.Memory.{current, HoldsInArea}
 use Rattle.mb_model.specs.StoredLog.{HasIndex}
-use Rattle.mb_model.specs.RegionFormat.{SpellsRegion}
-use Rattle.mb_model.specs.Meaning.{HoldsRegion, Contents, fated, meant}
-use Rattle.mb_model.proofs.FormatBounds.{region_short}
+use Rattle.mb_model.specs.Regions.{empty_region}
+use Rattle.mb_model.specs.RegionFormat.{region_format, SpellsRegion, CanBeWritten, written_region}
+use Rattle.mb_model.specs.Meaning.{HoldsRegion, Contents, HoldsContents, fated, meant}
+use Rattle.mb_model.proofs.RegionWriting.{written_spells, spelled_short, written_short, written_is_record}
 use Rattle.mb_model_lemmas.proofs.MeaningLemmas.{one_region}
 use Rattle.mb_model_lemmas.proofs.FateLemmas.{kept_as_before}
-use Rattle.mb_layout.specs.Edits.{CanBeStored, IsFated}
+use Rattle.mb_layout.specs.Edits.{IsFated}
 use Rattle.mb_layout.specs.Found.{FindsBy}
 use Rattle.mb_layout.proofs.Areas.{one_held}
 use Rattle.mb_model.specs.declared.stored.Root.{Root}
+use Rattle.std.specs.Global.{Vec}
+use Rattle.std.specs.Vec.{vec_len, vec_capacity}
+use Rattle.mb_bytes.specs.Puts.{Writes}
+use Rattle.mb_model_memory.specs.InForce.{AgreeBesides}
+use Rattle.mb_model_memory.proofs.FrameLemmas.{two_replaced, three_replaced}
 use Rattle.mb_model_memory.specs.Holding.{Holds, Means, region_in_slot, with_region_in, fate_in_slot, KeepsContents}
-use Rattle.mb_model_memory.specs.Storable.{HasRegionRecord}
 use Rattle.mb_model_memory.proofs.CommitLemmas.{stands_for_meant, live_contents, two_done_means, three_done_means}
 use Rattle.mb_region.specs.Regions.{IsRegionSlot, HoldsSomeRegion, ReplacesRegion, KeepsOrReplaces}
 use Rattle.mb_region.specs.Fates.{CanBeFated, IsPending, fated_in, AppliesFate, KeepsOrApplies}
@@ -41,25 +46,74 @@ no_region_held area read same has none = none has.region (subst (λ (xs : List �
 pub region_found : (area read : List ℕ) (found region : Region) → IsBytes read → read ≡ area → HoldsRegion read found → HoldsRegion area region → found ≡ region
 region_found area read found region are same here has = one_region read found region are here (subst (λ (xs : List ℕ). HoldsRegion xs region) (sym same) has)
 
--- ---- a region that has a record
+-- ---- what is written for a region
 
-pub can_be_stored : (region : Region) → HasRegionRecord region → CanBeStored region
-can_be_stored region has = by_bytes has.spelled
-  where
-    by_bytes : {bytes : List ℕ} → SpellsRegion bytes region → CanBeStored region
-    by_bytes (inl none) = inl none.1
-    by_bytes (inr spelled) = inr spelled.allowed
+-- a buffer holds what is written for a region, and has no less room than before
+pub record IsWrittenIn (region : Region) (old new : Vec ℕ) : Type 0 where
+  pub written : new.items ≡ written_region region
+  pub capacity : vec_capacity old ≤ vec_capacity new
 
 pub record_short : (bytes : List ℕ) (region : Region) → SpellsRegion bytes region → length bytes ≤ 4094
-record_short bytes region (inl none) = omega (arith, ap length none.0)
-record_short bytes region (inr spelled) = omega (arith, ap length spelled.whole, region_short.short region spelled.allowed)
+record_short bytes region spelled = omega (arith, spelled_short bytes region spelled)
+
+pub stands_written : (bytes : List ℕ) (region : Region) → CanBeWritten region → bytes ≡ written_region region → SpellsRegion bytes region
+stands_written bytes region can same = subst (λ (xs : List ℕ). SpellsRegion xs region) (sym same) (written_spells region can)
+
+-- what a writer leaves that had room for the longest record
+pub record_written : {E : Type 0} (region : Region) (old new : Vec ℕ) (result : Result (Unit {0}) E) → CanBeWritten region → (region ≡ empty_region → ⊥) → Writes (region_format.spelling (2, region)) old result new
+    → old.items ≡ [] → vec_len old ≡ 0 → 4096 ≤ vec_capacity old → IsWrittenIn region old new
+record_written region old new (Ok u) can some wrote none empty room = record {
+  written = wrote.items ∙ ap (λ (front : List ℕ). front ++ region_format.spelling (2, region)) none ∙ sym (written_is_record region some);
+  capacity = wrote.capacity;
+}
+record_written region old new (Err e) can some wrote none empty room =
+    absurd (omega (arith, wrote.no_room, empty, room, ap length (written_is_record region some), written_short region can))
 
 -- after its fate a held region has the bytes that the edit left
 pub fated_stands : (fate : Fate) (area read bytes new : List ℕ) (region : Region) → IsBytes read → read ≡ area → CanBeFated fate area → HoldsInArea read bytes → IsFated fate bytes new → HoldsRegion area region → SpellsRegion new (fated fate region)
 fated_stands fate area read bytes new region are same can found edited has =
     let here : HoldsRegion read region = subst (λ (xs : List ℕ). HoldsRegion xs region) (sym same) has in
     let one : can.region ≡ region = region_found area read can.region region are same (subst (λ (xs : List ℕ). HoldsRegion xs can.region) (sym same) can.holds) has in
-    edited region (held_stands read bytes region found here) (can_be_stored (fated fate region) (subst (λ (r : Region). HasRegionRecord (fated fate r)) one can.stored))
+    let after : CanBeWritten (fated fate region) = subst (λ (r : Region). CanBeWritten (fated fate r)) one can.stored in
+    stands_written new (fated fate region) after (edited region (held_stands read bytes region found here) after)
+
+-- ---- the contents
+
+replaced_in : (slot : ℕ) (flash bbram other_bbram : List ℕ) (contents : Contents) (region : Region) → IsRegionSlot slot → AgreeBesides slot bbram other_bbram → HoldsRegion (current other_bbram slot) region
+    → HoldsContents flash bbram contents → HoldsContents flash other_bbram (with_region_in slot region contents)
+replaced_in slot flash bbram other_bbram contents region (inl same) agree own holds =
+    subst (λ (n : ℕ). HoldsContents flash other_bbram (with_region_in n region contents)) (sym same)
+    (two_replaced flash bbram other_bbram contents region (subst (λ (n : ℕ). AgreeBesides n bbram other_bbram) same agree) (subst (λ (n : ℕ). HoldsRegion (current other_bbram n) region) same own) holds)
+replaced_in slot flash bbram other_bbram contents region (inr same) agree own holds =
+    subst (λ (n : ℕ). HoldsContents flash other_bbram (with_region_in n region contents)) (sym same)
+    (three_replaced flash bbram other_bbram contents region (subst (λ (n : ℕ). AgreeBesides n bbram other_bbram) same agree) (subst (λ (n : ℕ). HoldsRegion (current other_bbram n) region) same own) holds)
+
+pub replaces : (slot : ℕ) (region : Region) (before after : Memory) → IsRegionSlot slot → after.flash ≡ before.flash → AgreeBesides slot before.bbram after.bbram → HoldsRegion (current after.bbram slot) region
+    → ReplacesRegion slot region before after
+replaces slot region before after which flash agree own = record {
+  replaced = λ contents holds.
+      subst (λ (f : List ℕ). HoldsContents f after.bbram (with_region_in slot region contents)) (sym flash) (replaced_in slot before.flash before.bbram after.bbram contents region which agree own holds);
+}
+
+as_it_was : (slot : ℕ) (flash bbram other_bbram : List ℕ) (contents : Contents) → IsRegionSlot slot → AgreeBesides slot bbram other_bbram → current other_bbram slot ≡ current bbram slot
+    → HoldsContents flash bbram contents → HoldsContents flash other_bbram contents
+as_it_was slot flash bbram other_bbram contents (inl same) agree area holds =
+    two_replaced flash bbram other_bbram contents contents.two (subst (λ (n : ℕ). AgreeBesides n bbram other_bbram) same agree)
+    (subst (λ (a : List ℕ). HoldsRegion a contents.two) (sym (subst (λ (n : ℕ). current other_bbram n ≡ current bbram n) same area)) holds.two) holds
+as_it_was slot flash bbram other_bbram contents (inr same) agree area holds =
+    three_replaced flash bbram other_bbram contents contents.three (subst (λ (n : ℕ). AgreeBesides n bbram other_bbram) same agree)
+    (subst (λ (a : List ℕ). HoldsRegion a contents.three) (sym (subst (λ (n : ℕ). current other_bbram n ≡ current bbram n) same area)) holds.three) holds
+
+pub keeps : (slot : ℕ) (before after : Memory) → IsRegionSlot slot → after.flash ≡ before.flash → AgreeBesides slot before.bbram after.bbram → current after.bbram slot ≡ current before.bbram slot → KeepsContents before after
+keeps slot before after which flash agree area = record {
+  kept = λ contents holds. subst (λ (f : List ℕ). HoldsContents f after.bbram contents) (sym flash) (as_it_was slot before.flash before.bbram after.bbram contents which agree area holds);
+}
+
+pub keeps_or_replaces : (slot : ℕ) (before after : Memory) (bytes : List ℕ) → IsRegionSlot slot → after.flash ≡ before.flash → AgreeBesides slot before.bbram after.bbram
+    → (current after.bbram slot ≡ current before.bbram slot) ⊎ HoldsInArea (current after.bbram slot) bytes → (region : Region) → SpellsRegion bytes region → KeepsOrReplaces slot region before after
+keeps_or_replaces slot before after bytes which flash agree (inl same) region spelled = inl (keeps slot before after which flash agree same)
+keeps_or_replaces slot before after bytes which flash agree (inr holds) region spelled =
+    inr (replaces slot region before after which flash agree (record { bytes = bytes; holds = holds; spelled = spelled }))
 
 -- ---- fates
 

@@ -3,22 +3,22 @@ use Rattle.std.specs.Prelude.{◌≡◌, ℕ, ◌⊎◌, List}
 use Rattle.mb_model.specs.declared.region.Region.{Region}
 use Rattle.mb_model.specs.declared.stored.Fate.{Fate}
 use Rattle.mb_model.specs.Board.{Memory}
+use Rattle.mb_model.specs.RegionFormat.{CanBeWritten}
 use Rattle.mb_model.specs.Meaning.{HoldsRegion, Contents, fated}
 use Rattle.mb_model_memory.specs.Holding.{Holds, region_in_slot, with_region_in, fate_in_slot}
-use Rattle.mb_model_memory.specs.Storable.{HasRegionRecord}
 
--- an area holds a region that has a record after this fate
+-- an area holds a region that can be written after this fate
 pub record CanBeFated (fate : Fate) (area : List ℕ) : Type 0 where
   pub region : Region
   pub holds : HoldsRegion area region
-  pub stored : HasRegionRecord (fated fate region)
+  pub stored : CanBeWritten (fated fate region)
 
--- The memory holds contents for whose region in the slot this fate is pending, and that region has a record after it.
+-- The memory holds contents for whose region in the slot this fate is pending, and that region can be written after it.
 pub record IsPending (slot : ℕ) (fate : Fate) (memory : Memory) : Type 0 where
   pub contents : Contents
   pub holds : Holds memory contents
   pub pending : (any : Contents) → Holds memory any → fate_in_slot slot any.root.pending ≡ fate
-  pub stored : HasRegionRecord (fated fate (region_in_slot slot contents))
+  pub stored : CanBeWritten (fated fate (region_in_slot slot contents))
 
 -- the contents after the fate of the region in the slot
 abbrev pub fated_in : ℕ → Fate → Contents → Contents

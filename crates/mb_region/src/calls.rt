@@ -8,12 +8,11 @@ ghost use Rattle.mb_model.specs.declared.state.State.{State};
 ghost use Rattle.mb_model.specs.declared.stored.Fate.TheVariants.{Keep};
 ghost use Rattle.mb_model.specs.Memory.{IsBlank, current, other};
 ghost use Rattle.mb_model.specs.Meaning.{HoldsRegion};
-ghost use Rattle.mb_model.specs.RegionFormat.{SpellsRegion};
+ghost use Rattle.mb_model.specs.RegionFormat.{SpellsRegion, CanBeWritten};
 ghost use Rattle.mb_model.specs.Regions.{with_region};
 ghost use Rattle.mb_board.specs.Calls.{IsUp};
 ghost use Rattle.mb_model_memory.specs.Holding.{Means, KeepsContents};
 ghost use Rattle.mb_model_memory.specs.InForce.{AgreeBesides};
-ghost use Rattle.mb_model_memory.specs.Storable.{HasRegionRecord};
 ghost use Rattle.mb_slot.specs.Slots.{RanInOther, RanInSlot};
 ghost use Rattle.mb_region.specs.Regions.{HoldsSomeRegion, HasNoFate, ReplacesRegion, KeepsOrReplaces};
 ghost use Rattle.mb_region.specs.Fates.{IsPending, AppliesFate, KeepsOrApplies};
@@ -92,7 +91,7 @@ pub fn commit_region<S: Reaches<L>, L: Named, B: Board>(
     room: &mut Room,
 ) -> Result<S, Off>
     requires up { IsUp S.stage (B.seen b.old) }
-    requires stored { HasRegionRecord region.now }
+    requires stored { CanBeWritten region.now }
     ensures done { OnOk result (ReplacesRegion L.place region.now (B.seen b.old).memory
         (B.seen b.new).memory) }
     ensures either { KeepsOrReplaces L.place region.now (B.seen b.old).memory

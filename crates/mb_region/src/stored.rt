@@ -1,6 +1,6 @@
 //! Regions by the number of their slot.
 
-ghost use Rattle.std.specs.Prelude.{◌≡◌, ◌≤◌, ◌⊎◌, length, OnOk, IfOk, Ok, vec_capacity};
+ghost use Rattle.std.specs.Prelude.{◌≡◌, ◌≤◌, ◌⊎◌, length, OnOk, IfOk, Ok, vec_capacity, ◌↔◌, IsTrue};
 ghost use Rattle.mb_format.specs.Format.{IsBytes};
 ghost use Rattle.mb_layout.specs.Plans.{SamePlans};
 ghost use Rattle.mb_model.specs.declared.limits.TheConstants.{AREA_LENGTH, RECORD_LIMIT};
@@ -8,9 +8,9 @@ ghost use Rattle.mb_model.specs.declared.region.Region.{Region};
 ghost use Rattle.mb_model.specs.declared.stored.Fate.TheVariants.{Keep};
 ghost use Rattle.mb_model.specs.Memory.{current, other, HoldsInArea};
 ghost use Rattle.mb_model.specs.Meaning.{HoldsRegion, fated};
-ghost use Rattle.mb_model.specs.RegionFormat.{SpellsRegion};
+ghost use Rattle.mb_model.specs.Regions.{empty_region};
+ghost use Rattle.mb_model.specs.RegionFormat.{SpellsRegion, CanBeWritten};
 ghost use Rattle.mb_model_memory.specs.InForce.{AgreeBesides};
-ghost use Rattle.mb_model_memory.specs.Storable.{HasRegionRecord};
 ghost use Rattle.mb_slot.specs.Slots.{CanUse, RanInSlot};
 ghost use Rattle.mb_region.specs.Regions.{IsRegionSlot, HoldsSomeRegion, ReplacesRegion, KeepsOrReplaces};
 ghost use Rattle.mb_region.specs.Fates.{CanBeFated, IsPending, AppliesFate, KeepsOrApplies};
@@ -73,16 +73,23 @@ pub(crate) fn replace<B: Board>(
     commit_bytes(b, slot, bytes, area)
 }
 
-/// Replaces `out` by the bytes that stand for the region: by no bytes if it is empty.
+/// Whether the region has neither secrets nor keys.
+fn is_empty(region: &Region) -> bool
+    ensures { IsTrue result ↔ (region.now ≡ empty_region) }
+{
+    region.secrets.as_slice().is_empty() && region.keys.as_slice().is_empty()
+}
+
+/// Replaces `out` by the bytes that are written for the region: by no bytes if it is empty.
 fn region_bytes(region: &Region, out: &mut Vec<u8>)
-    requires stored { HasRegionRecord region.now }
+    requires stored { CanBeWritten region.now }
     requires room { AREA_LENGTH ≤ vec_capacity out.old }
     ensures spelled { SpellsRegion out.new.items region.now }
     ensures short { length out.new.items ≤ RECORD_LIMIT }
     ensures capacity { vec_capacity out.old ≤ vec_capacity out.new }
 {
     out.clear();
-    if region.secrets.as_slice().is_empty() && region.keys.as_slice().is_empty() {
+    if is_empty(region) {
         return;
     }
     let _ = write_region(region, out);
@@ -97,7 +104,7 @@ pub(crate) fn store_region<B: Board>(
 ) -> Result<(), Stopped>
     requires can_use { CanUse (B.seen b.old) slot }
     requires slot { IsRegionSlot slot }
-    requires stored { HasRegionRecord region.now }
+    requires stored { CanBeWritten region.now }
     ensures done { OnOk result (ReplacesRegion slot region.now (B.seen b.old).memory
         (B.seen b.new).memory) }
     ensures either { KeepsOrReplaces slot region.now (B.seen b.old).memory (B.seen b.new).memory }

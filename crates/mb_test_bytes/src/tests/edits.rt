@@ -4,13 +4,10 @@ use super::spelled::bytes_of;
 use super::values::KEY_NINE;
 use super::vectors;
 use mb_layout::{Fate, NotUsed, fate_record, use_in_record};
-use mb_model::RegionKey;
+use mb_model::{REGION_LIMIT, RegionKey};
 use std::alloc::Global;
 use std::process::Abort;
 use std::test::Fail;
-
-/// The longest record of a region.
-const RECORD: usize = 3_091;
 
 /// The record after its fate is this one.
 fn fate_gives(
@@ -22,19 +19,27 @@ fn fate_gives(
 ) -> Result<(), Fail> {
     let bytes = bytes_of(alloc, text)?;
     let wanted = bytes_of(alloc, expected)?;
-    let mut out = Vec::with_capacity(alloc, RECORD)?;
+    let mut out = Vec::with_capacity(alloc, REGION_LIMIT)?;
     fate_record(bytes.as_slice(), fate, &mut out);
     assert!(rt; out.as_slice() == wanted.as_slice());
     Ok(())
 }
 
-/// The region of the vectors without its configuration key.
-const EPOCH_ALONE: &str = "01020370696e043132333400000102017400000000030100000002\
+/// The region of the vectors without its configuration key, in version 2.
+const EPOCH_ALONE: &str = "02020370696e043132333400000102017400000000030100000002\
     005757575757575757575757575757575758585858585858585858585858585858585858585858585858\
     5858585858585820";
 
-/// Regions, their fates, and what they become.
+/// Regions, their fates, and what they become, which is of version 2.
 const FATES: &[(&str, Fate, &str)] = &[
+    (vectors::OLD_REGION, Fate::Keep, vectors::REGION),
+    (vectors::OLD_REGION, Fate::DropConfiguration, EPOCH_ALONE),
+    (vectors::OLD_LONE_KEY, Fate::DropConfiguration, ""),
+    (
+        vectors::OLD_LONE_KEY,
+        Fate::AddKey(KEY_NINE),
+        vectors::LONE_KEY,
+    ),
     (vectors::REGION, Fate::Keep, vectors::REGION),
     (vectors::REGION, Fate::Empty, ""),
     (vectors::REGION, Fate::DropConfiguration, EPOCH_ALONE),
@@ -60,7 +65,8 @@ fn regions_take_their_fates(rt: HostRuntime) -> Result<(), Fail> {
     Ok(())
 }
 
-/// Using the key of this number answers so, and the record afterwards ends with this byte, or is empty.
+/// Using the key of this number answers so, and the record afterwards is of version 2 and ends with this byte, or is
+/// empty.
 fn using_gives(
     rt: &impl Abort,
     alloc: Global,
@@ -70,16 +76,19 @@ fn using_gives(
     last: &[u8],
 ) -> Result<(), Fail> {
     let bytes = bytes_of(alloc, text)?;
-    let mut out = Vec::with_capacity(alloc, RECORD)?;
+    let mut out = Vec::with_capacity(alloc, REGION_LIMIT)?;
     let used = use_in_record(bytes.as_slice(), number, &mut out);
     assert!(rt; used == expected);
     assert!(rt; out.as_slice().ends_with(last) && out.is_empty() == last.is_empty());
+    assert!(rt; out.is_empty() || out.starts_with(&[2]));
     Ok(())
 }
 
 /// Regions, the number of a key, what using it answers, and the last byte of the record afterwards.
 const USES: &[(&str, u32, Result<RegionKey, NotUsed>, &[u8])] = &[
+    (vectors::OLD_REGION, 9, Ok(KEY_NINE), &[4]),
     (vectors::REGION, 9, Ok(KEY_NINE), &[4]),
+    (vectors::OLD_LONE_KEY, 9, Ok(KEY_NINE), &[4]),
     (vectors::LONE_KEY, 9, Ok(KEY_NINE), &[4]),
     (vectors::REGION, 2, Err(NotUsed::Spent), &[]),
     (vectors::REGION, 3, Err(NotUsed::NoKey), &[]),

@@ -1,6 +1,8 @@
 //! Records of a device both ways, by bytes of another program.
 
-ghost use Rattle.std.specs.Prelude.{◌≡◌, ◌≤◌, ◌⊎◌, length};
+ghost use Rattle.std.specs.Prelude.{◌≡◌, ◌≤◌, ◌⊎◌, length, vec_len, IfOk};
+ghost use Rattle.mb_model.specs.declared.limits.TheConstants.{REGION_VERSION};
+ghost use Rattle.mb_model.specs.RegionFormat.{region_format};
 
 use super::spelled::bytes_of;
 use super::values::{
@@ -16,6 +18,7 @@ use mb_layout::{
     write_root,
 };
 use mb_model::{Entry, Layer, NoMemory, Region, RegionKey, Secret};
+use sha2::{Digest, Sha256};
 use std::alloc::Global;
 use std::process::Abort;
 use std::test::Fail;
@@ -135,16 +138,78 @@ fn is_read_at_cursor(alloc: Global, bytes: &[u8]) -> Result<bool, LayoutEnd>
     Ok(is_expected(&region))
 }
 
+/// The record of the region, of version 2.
+fn written(alloc: Global, region: &Region) -> Result<Vec<u8>, Fail>
+    requires { region_format.Allowed (REGION_VERSION, region.now) }
+{
+    let mut out = Vec::new(alloc);
+    write_region(region, &mut out)?;
+    Ok(out)
+}
+
+/// A region is read from a record of either version, and written in version 2.
+#[tactic(auto, using(mb_model::proofs::RegionWriting::later_version))]
 #[test]
 fn a_region_goes_both_ways(rt: HostRuntime) -> Result<(), Fail> {
     let alloc = rt.alloc();
-    let bytes = bytes_of(alloc, vectors::REGION)?;
-    let region = region_of_bytes(alloc, bytes.as_slice())?;
-    assert!(rt; is_expected(&region));
-    assert!(rt; is_read_at_cursor(alloc, bytes.as_slice()) == Ok(true));
-    let mut out = Vec::new(alloc);
-    write_region(&region, &mut out)?;
-    assert!(rt; out.as_slice() == bytes.as_slice());
+    let wanted = bytes_of(alloc, vectors::REGION)?;
+    for text in [vectors::OLD_REGION, vectors::REGION] {
+        let bytes = bytes_of(alloc, text)?;
+        let region = region_of_bytes(alloc, bytes.as_slice())?;
+        assert!(rt; is_expected(&region));
+        assert!(rt; is_read_at_cursor(alloc, bytes.as_slice()) == Ok(true));
+        assert!(rt; written(alloc, &region)?.as_slice() == wanted.as_slice());
+    }
+    Ok(())
+}
+
+/// The record of a region of so many secrets and key 9. The secret of number n is `s` and two digits, with n bytes of n,
+/// put at n.
+fn numbered(alloc: Global, count: u8) -> Result<Vec<u8>, Fail>
+    ensures { IfOk result (λ bytes. vec_len bytes ≤ 4000) }
+{
+    let mut bytes = Vec::new(alloc);
+    bytes.extend_from_slice(&[2, count])?;
+    for number in 0..count {
+        bytes.extend_from_slice(&[3, b's', b'0' + number / 10, b'0' + number % 10, number])?;
+        for _i in 0..number {
+            bytes.push(number)?;
+        }
+        bytes.extend_from_slice(&[0, 0, 0, number])?;
+    }
+    bytes.push(1)?;
+    let key = bytes_of(alloc, &vectors::LONE_KEY[6..])?;
+    bytes.extend_from_slice(key.as_slice())?;
+    bytes.truncate(4_000);
+    Ok(bytes)
+}
+
+/// How many secrets a region has, and the length and the hash of its record.
+const NUMBERED: &[(u8, usize, &str)] = &[
+    (
+        17,
+        346,
+        "a83f12c3088ad3960513d7d5922030c1dbc4ee6dd218138ee9e78428b71102a7",
+    ),
+    (
+        22,
+        486,
+        "a2bfca17c8ce6843a32bdbd1972c9b5b940c133e29667f9e9bd8a45a6bab3f25",
+    ),
+];
+
+#[tactic(auto, using(mb_model::proofs::RegionWriting::later_version))]
+#[test]
+fn regions_of_many_secrets_go_both_ways(rt: HostRuntime) -> Result<(), Fail> {
+    let alloc = rt.alloc();
+    for (count, length, hash) in NUMBERED {
+        let bytes = numbered(alloc, *count)?;
+        let region = region_of_bytes(alloc, bytes.as_slice())?;
+        assert!(rt; region.secrets.as_slice().len() == usize::from(*count));
+        let out = written(alloc, &region)?;
+        assert!(rt; out.len() == *length);
+        assert!(rt; Sha256::digest(&out).as_slice() == bytes_of(alloc, hash)?.as_slice());
+    }
     Ok(())
 }
 
@@ -161,7 +226,7 @@ fn holds_keys(alloc: Global, area: &[u8], keys: &[RegionKey]) -> Result<bool, No
 #[test]
 fn an_area_holds_a_record(rt: HostRuntime) -> Result<(), Fail> {
     let alloc = rt.alloc();
-    let bytes = bytes_of(alloc, vectors::LONE_KEY)?;
+    let bytes = bytes_of(alloc, vectors::OLD_LONE_KEY)?;
     let start = bytes_of(alloc, vectors::AREA_START)?;
     let mut area = [0xAA; 4096];
     fill_area(bytes.as_slice(), &mut area);

@@ -4,7 +4,7 @@ ghost use Rattle.std.specs.Prelude.{◌≡◌, ◌<◌, ◌≤◌, length, IfOk,
 ghost use Rattle.mb_model.specs.Board.{IsLoaded};
 ghost use Rattle.mb_model.specs.Memory.{current};
 ghost use Rattle.mb_model.specs.RootFormat.{root_format};
-ghost use Rattle.mb_model_memory.specs.Storable.{HasRegionRecord};
+ghost use Rattle.mb_model.specs.RegionFormat.{CanBeWritten};
 ghost use Rattle.mb_region.specs.Regions.{HoldsSomeRegion};
 ghost use Rattle.mb_boot.specs.Booting.{StandsForValid};
 ghost use Rattle.mb_test_cuts.specs.Staged.{IsLiveImage, IsReadyForCalls};
@@ -52,7 +52,7 @@ pub struct After {
 
 /// The region for which a record stands.
 pub fn region_of(alloc: Global, record: &str) -> Result<Region, Fail>
-    ensures { IfOk result HasRegionRecord }
+    ensures { IfOk result CanBeWritten }
 {
     let bytes = hex::decode(alloc, record)?;
     if bytes.len() > 4094 {

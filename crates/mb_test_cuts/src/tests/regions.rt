@@ -12,7 +12,7 @@ use std::alloc::Global;
 use std::process::Abort;
 use std::test::Fail;
 
-/// Region 2 of a device that has done what an order left: a secret, and key 1.
+/// Region 2 of a device that has done what an order left, in version 1: a secret, and key 1.
 const TWO: &str =
     "01010370696e043132333400000004010000000101bb85e69f768b454548412a965c3436199a21ceb74d969db602db1cb46e\
     4a5eefe94cd49a7cafd9830ae5d03bf0a7862d00";
@@ -22,21 +22,21 @@ const THREE: &str =
     "01000100000002002b98f80d867125f7622b17092bb5aec0baef31f723051f380f1ce09412fd2358fc74211fc5054269b941\
     06e0d3ee50f200";
 
-/// Each after one more use of its key.
+/// Each after one more use of its key, in version 2.
 const TWO_USED: &str =
-    "01010370696e043132333400000004010000000101bb85e69f768b454548412a965c3436199a21ceb74d969db602db1c\
+    "02010370696e043132333400000004010000000101bb85e69f768b454548412a965c3436199a21ceb74d969db602db1c\
     b46e4a5eefe94cd49a7cafd9830ae5d03bf0a7862d01";
 
 const THREE_USED: &str =
-    "01000100000002002b98f80d867125f7622b17092bb5aec0baef31f723051f380f1ce09412fd2358fc74211fc50542\
+    "02000100000002002b98f80d867125f7622b17092bb5aec0baef31f723051f380f1ce09412fd2358fc74211fc50542\
     69b94106e0d3ee50f201";
 
 /// Region 2 with another value of its secret, and region 3 with a secret.
 const TWO_PUT: &str =
-    "01010370696e043536373800000004010000000101bb85e69f768b454548412a965c3436199a21ceb74d969db602db1cb\
+    "02010370696e043536373800000004010000000101bb85e69f768b454548412a965c3436199a21ceb74d969db602db1cb\
     46e4a5eefe94cd49a7cafd9830ae5d03bf0a7862d00";
 
-const THREE_PUT: &str = "01010370696e043132333400000004010000000\
+const THREE_PUT: &str = "02010370696e043132333400000004010000000\
     2002b98f80d867125f7622b17092bb5aec0baef31f723051f380f1ce09412fd2358fc74211fc5054269b94106e0d3ee50f200";
 
 /// A call, the records of both regions after it, its writes, and with what the bytes of a torn one are filled.

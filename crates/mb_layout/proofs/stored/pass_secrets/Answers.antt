@@ -25,7 +25,7 @@ unfolding secrets_format
 returns-in_err-stored_secret_at c =
     let p = err_from_is_err_and c.from_residual-in_err-stored_secret_at.result c.from_residual-in_err-stored_secret_at.ensures.1 in
     let at = c.in_err-stored_secret_at.field-0.0.at in
-    rw (p.1, p.2) (list_fails_at (between w8 0 16) (λ (u : Unit {0}). secret_format) (λ u a. u) (λ n. tt) c.stored_secret_at.new.cursor (Some at) c.in_ok-count.ensures.reads c.loop-i-test.true c.loop-i.invariant.reading c.in_err-stored_secret_at.ensures)
+    rw (p.1, p.2) (list_fails_at (between w8 0 c.args.most) (λ (u : Unit {0}). secret_format) (λ u a. u) (λ n. tt) c.stored_secret_at.new.cursor (Some at) c.in_ok-count.ensures.reads c.loop-i-test.true c.loop-i.invariant.reading c.in_err-stored_secret_at.ensures)
 
 pub loop-i-preserved : goal.loop-i-preserved
 loop-i-preserved c = passing_goes_on (secret_in c.in_ok-stored_secret_at.field-0) c.loop-i-test.true c.loop-i.invariant c.in_ok-stored_secret_at.ensures

@@ -39,3 +39,11 @@ returns-clause-capacity c = λ region h can. (
       keys = c.used_keys.ensures fit ∙ ap (with_use c.args.number) same;
     }) can in
     omega (arith, more, c.clear.ensures.capacity))
+
+pub returns-in_default-clause-used : goal.returns-in_default-clause-used
+returns-in_default-clause-used c = λ region h. absurd (c.in_default.ensures region h)
+
+pub returns-in_default-key_of-clause-used : goal.returns-in_default-key_of-clause-used
+returns-in_default-key_of-clause-used c = λ region h. (
+    let stands = c.in-Some.ensures region h in
+    ap (find (has_number c.args.number)) (sym (c.as_slice.ensures.keys ∙ stands.keys)) ∙ sym c.in_default-key_of.ensures)

@@ -1,6 +1,7 @@
-use Rattle.std.proofs.Common.{◌∙◌}
+use Rattle.std.proofs.Common.{◌∙◌, arith}
+use Rattle.mb_model.specs.declared.region.Region.{Region}
 use Rattle.mb_model.specs.Meaning.{fated}
-use Rattle.mb_region.proofs.Replaced.{no_bytes_held, record_short, fated_stands, bytes_read}
+use Rattle.mb_region.proofs.Replaced.{no_bytes_held, record_short, fated_stands, still_stands, bytes_read}
 use Rattle.mb_region.proofs.stored.fate_bytes.Goals as goal
 
 pub unreachable-requires : goal.unreachable-requires
@@ -12,3 +13,10 @@ returns-clause-spelled g c = λ region has.
 
 pub returns-clause-short : goal.returns-clause-short
 returns-clause-short g c = record_short c.fate_record.new.out.items (fated c.args.fate.now c.requires.held.region) (returns-clause-spelled g c c.requires.held.region c.requires.held.holds)
+
+pub invariant_of-room-clause-other_room : goal.invariant_of-room-clause-other_room
+invariant_of-room-clause-other_room g c =
+    let region : Region = c.requires.held.region in
+    let stands = still_stands c.deref.result.now c.in-Some.bytes.now region (c.deref.ensures.value ∙ c.read_area.ensures.read) c.in-Some.ensures c.requires.held.holds in
+    let other = c.fate_record.ensures.capacity region stands c.requires.held.stored in
+    omega (arith, other, c.args.room.now.other_room)
