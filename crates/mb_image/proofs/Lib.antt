@@ -8,3 +8,5 @@ pub mod Reading
 pub mod RegionSteps
 pub mod Sectors
 pub mod ValidParts
+pub mod Writing
+pub mod WrittenSectors

@@ -1,6 +1,6 @@
 -- The state that stored contents mean.
 use Rattle.std.proofs.Common.{◌≡◌, ◌≤◌, ℕ, List, [], ◌∷◌, ◌++◌, length, map, Option, None, Some, sym, ap, subst, ◌∙◌, arith, length-append}
-use Rattle.std.specs.Prelude.{All}
+use Rattle.std.specs.Prelude.{All, IfSome}
 use Rattle.std.proofs.lemmas.List.Elements.{All-nil, All-cons, All-append, All-head, All-tail}
 use Rattle.mb_model.specs.declared.key.KeySeed.{KeySeed}
 use Rattle.mb_model.specs.declared.entry.Entry.{Entry}
@@ -12,11 +12,14 @@ use Rattle.mb_model.specs.Log.{entries_of, layers_of}
 use Rattle.mb_model.specs.OrderEffects.{signed_by}
 use Rattle.mb_model.specs.StoredLog.{HasIndex, signed_for, outgoing_of, completed}
 use Rattle.mb_model.specs.Memory.{IsImage}
-use Rattle.mb_model.specs.Meaning.{Contents, HoldsContents, meant, is_live, IsWellFormed}
-use Rattle.mb_model.specs.Faults.{AreSound}
+use Rattle.mb_model.specs.Meaning.{Contents, FlashForm, HoldsContentsBy, meant, is_live, IsWellFormedBy}
+use Rattle.mb_model.specs.Faults.{AreSound, IsFaultyBy, HasFaultBy}
 use Rattle.mb_model.specs.Signing.{public_of}
 use Rattle.mb_model.specs.Valid.{IsValidState}
 use Rattle.mb_model_lemmas.proofs.PublicLemmas.{length-signed_for}
+use Rattle.mb_image.specs.declared.image.ImageEnd.{ImageEnd}
+use Rattle.mb_image.specs.declared.image.ImageEnd.TheVariants as end
+use Rattle.mb_image.specs.Ends.{fault_of}
 use Rattle.mb_image.specs.Stored.{CanBeCompleted}
 
 abbrev pub IsSpelled : SignedEntry → Type 0
@@ -69,12 +72,22 @@ pub not_sound : (contents : Contents) (state : State) → state ≡ meant conten
 not_sound c state is fails sound = fails (subst IsValidState (sym is) sound.1)
 
 -- a live image
-pub live_image : (image flash bbram : List ℕ) (contents : Contents) (state : State) → IsImage image flash bbram → HoldsContents flash bbram contents
-    → AreSound contents → state ≡ meant contents → IsWellFormed image (Some state)
-live_image image flash bbram c state parts holds sound is = record {
+pub live_image : (Form : FlashForm) (image flash bbram : List ℕ) (contents : Contents) (state : State) → IsImage image flash bbram → HoldsContentsBy Form flash bbram contents
+    → AreSound contents → state ≡ meant contents → IsWellFormedBy Form image (Some state)
+live_image Form image flash bbram c state parts holds sound is = record {
   flash = flash;
   bbram = bbram;
   image_is = parts;
   stands = record { sized = parts.1; meaning = is_live c holds sound.0 (ap Some is) };
   valid = subst IsValidState (sym is) sound.1;
 }
+
+-- the fault of the memories of an image is one of the image
+pub fault_there : (Form : FlashForm) (image flash bbram : List ℕ) (ended : ImageEnd) → IsImage image flash bbram → IfSome (fault_of ended) (IsFaultyBy Form flash bbram) → IfSome (fault_of ended) (HasFaultBy Form image)
+fault_there Form image flash bbram end.Length is faulty = absurd faulty
+fault_there Form image flash bbram end.Root is faulty = (flash, bbram, is, faulty)
+fault_there Form image flash bbram end.Public is faulty = (flash, bbram, is, faulty)
+fault_there Form image flash bbram end.RegionTwo is faulty = (flash, bbram, is, faulty)
+fault_there Form image flash bbram end.RegionThree is faulty = (flash, bbram, is, faulty)
+fault_there Form image flash bbram end.State is faulty = (flash, bbram, is, faulty)
+fault_there Form image flash bbram end.NoMemory is faulty = tt

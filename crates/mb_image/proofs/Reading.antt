@@ -7,13 +7,13 @@ use Rattle.mb_model.specs.declared.region.Region.{Region}
 use Rattle.mb_model.specs.declared.stored.Root.{Root}
 use Rattle.mb_model.specs.EntryFormat.{entry_format, signed_entry_format}
 use Rattle.mb_model.specs.RootFormat.{root_format}
-use Rattle.mb_model.specs.Meaning.{RootIn, HoldsRegion, Contents, HoldsContents}
+use Rattle.mb_model.specs.Meaning.{RootIn, HoldsRegion, Contents, FlashForm, HoldsContentsBy}
 use Rattle.mb_model.specs.Memory.{IsBlank, life_byte, spare, current, HoldsRecord}
 use Rattle.mb_model.specs.Faults.{SomeRegion}
 use Rattle.mb_layout.specs.Found.{FindsBy}
-use Rattle.mb_model_lemmas.specs.SegmentLaws.{SegmentsFit}
-use Rattle.mb_model_lemmas.proofs.HeldSegments.{segments_fit}
+use Rattle.mb_model_lemmas.specs.FormLaws.{PublicPartsFit, HoldsFittingParts}
 use Rattle.mb_model_lemmas.proofs.PublicLemmas.{bounded_by, entry_from_signed}
+use Rattle.mb_image.specs.Forms.{CountsUnsigned}
 use Rattle.mb_image.specs.Stored.{CanBeCompleted}
 
 -- ---- regions
@@ -31,17 +31,17 @@ some_holds area held found region is finds some =
 -- ---- what is allowed
 
 -- the contents of a memory can be completed
-pub held_can_be_completed : (flash bbram : List ℕ) (contents : Contents) → HoldsContents flash bbram contents → CanBeCompleted contents
-held_can_be_completed flash bbram c holds =
+pub held_can_be_completed : (Form : FlashForm) → HoldsFittingParts Form → CountsUnsigned Form → (flash bbram : List ℕ) (contents : Contents) → HoldsContentsBy Form flash bbram contents → CanBeCompleted contents
+held_can_be_completed Form fits counts flash bbram c holds =
     let root : root_format.Allowed c.root = holds.root.holds.spelled.allowed in
     let bounded = bounded_by c.root root in
-    let fit : SegmentsFit c.codes c.signed c.unsigned = segments_fit flash c.root c.codes c.signed c.unsigned holds.public in
+    let fit : PublicPartsFit c.codes c.signed c.unsigned = fits flash c.root c.codes c.signed c.unsigned holds.public in
     record {
       uses = bounded.uses;
       outgoing = bounded.outgoing;
       few = fit.together;
-      unsigned = omega (arith, holds.public.counted.counted, bounded.unsigned);
-      signed_spelled = All-weaker signed_entry_format.Allowed (λ (s : SignedEntry). entry_format.Allowed s.entry) entry_from_signed c.signed fit.log_fits.allowed;
+      unsigned = omega (arith, (counts flash c.root c.codes c.signed c.unsigned holds.public).counted, bounded.unsigned);
+      signed_spelled = All-weaker signed_entry_format.Allowed (λ (s : SignedEntry). entry_format.Allowed s.entry) entry_from_signed c.signed fit.signed_allowed;
       unsigned_spelled = fit.unsigned_allowed;
     }
 

@@ -1,4 +1,5 @@
 pub mod Ends
+pub mod Forms
 pub mod Keys
 pub mod Losses
 pub mod Segments

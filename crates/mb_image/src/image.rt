@@ -1,11 +1,13 @@
 //! The state that an image means.
 
 ghost use Rattle.std.specs.Prelude.{◌≡◌, ◌+◌, ◌≤◌, IfOk, IfErr, IfSome};
-ghost use Rattle.mb_model.specs.Meaning.{IsWellFormed};
-ghost use Rattle.mb_model.specs.Faults.{HasFault};
+ghost use Rattle.mb_model.specs.Meaning.{IsWellFormedBy, IsWellFormed};
+ghost use Rattle.mb_model.specs.Faults.{HasFaultBy, HasFault};
 ghost use Rattle.mb_image.specs.Ends.{fault_of};
 
+use crate::form::FlashForm;
 use crate::memory::{memories, root_of};
+use crate::segments::Segments;
 use crate::sound::sound_state;
 use crate::stored::stored_in;
 use mb_layout::is_blank;
@@ -22,8 +24,9 @@ pub enum ImageEnd {
     Length,
     /// The battery-backed memory is neither all zero nor alive with a root record in its current area.
     Root,
-    /// The header area that the root names holds no header, a sector of the log that the header counts holds no entry
-    /// and signature, or its signed and unsigned entries do not stand as the root says.
+    /// The flash holds no codes and entries for the root. In segments: the header area that the root names holds no
+    /// header, a sector of the log that the header counts holds no entry and signature, or its signed and unsigned
+    /// entries do not stand as the root says.
     Public,
     /// The current area of region 2 holds no region.
     RegionTwo,
@@ -45,6 +48,36 @@ impl From<NoMemory> for ImageEnd {
     }
 }
 
+/// The state that an image of arbitrary bytes means by a form of the flash, `None` for a dead device, or the first
+/// fault of the image. It takes at most 621,330 hashes: those of the public keys of the device and of sixteen keys of
+/// regions, each derived once, and of the signatures that are still to be made.
+///
+/// Errors: those of `ImageEnd`.
+pub fn stand_for_by<F: FlashForm, L: Ledger>(
+    alloc: Global,
+    image: &[u8],
+    hashes: &mut HashCount<L>,
+) -> Result<Option<State>, ImageEnd>
+    ensures stands { IfOk result (λ state. IsWellFormedBy F.form image.now state) }
+    ensures fault { IfErr result (λ end. IfSome (fault_of end) (λ fault. HasFaultBy F.form image.now fault)) }
+    ensures cost { hashes.new ≤ hashes.old + 621330 }
+{
+    let Some((flash, bbram)) = memories(image) else {
+        return Err(ImageEnd::Length);
+    };
+    if is_blank(bbram) {
+        return Ok(None);
+    }
+    let Some(root) = root_of(bbram) else {
+        return Err(ImageEnd::Root);
+    };
+    let stored = stored_in::<F>(alloc, flash, bbram, root)?;
+    match sound_state(alloc, stored, hashes)? {
+        Some(state) => Ok(Some(state)),
+        None => Err(ImageEnd::State),
+    }
+}
+
 /// The state that an image of arbitrary bytes means, `None` for a dead device, or the first fault of the image. It
 /// takes at most 621,330 hashes: those of the public keys of the device and of sixteen keys of regions, each derived
 /// once, and of the signatures that are still to be made.
@@ -59,18 +92,5 @@ pub fn stand_for<L: Ledger>(
     ensures fault { IfErr result (λ end. IfSome (fault_of end) (λ fault. HasFault image.now fault)) }
     ensures cost { hashes.new ≤ hashes.old + 621330 }
 {
-    let Some((flash, bbram)) = memories(image) else {
-        return Err(ImageEnd::Length);
-    };
-    if is_blank(bbram) {
-        return Ok(None);
-    }
-    let Some(root) = root_of(bbram) else {
-        return Err(ImageEnd::Root);
-    };
-    let stored = stored_in(alloc, flash, bbram, root)?;
-    match sound_state(alloc, stored, hashes)? {
-        Some(state) => Ok(Some(state)),
-        None => Err(ImageEnd::State),
-    }
+    stand_for_by::<Segments, L>(alloc, image, hashes)
 }

@@ -1,7 +1,10 @@
-//! The state that an image means, or the image's first fault; and the length of the log of the image's device.
+//! The state that an image means, or the image's first fault; the length of the log of the image's device; and the image
+//! of a state, written from nothing.
 //!
 //! This crate owns the meaning of a device's memory as it lies: the current areas, the unsigned entries and their
-//! signatures, the pending work on the regions, and whether a device can have the state that results.
+//! signatures, the pending work on the regions, and whether a device can have the state that results. What a flash
+//! holds is read by its form (`FlashForm`), once for every form; the present one is a flash in segments (`Segments`).
+//! The crate also owns the places of all that stands in an image with no pending work.
 #![tactic(auto)]
 
 mod alive;
@@ -9,14 +12,20 @@ mod codes;
 mod complete;
 mod count;
 mod fates;
+mod form;
 mod image;
 mod log;
 mod memory;
+mod record;
 mod regions;
 mod segments;
 mod sound;
 mod stored;
 mod validity;
+mod written;
 
 pub use count::log_length;
-pub use image::{ImageEnd, stand_for};
+pub use form::{FlashForm, PublicParts};
+pub use image::{ImageEnd, stand_for, stand_for_by};
+pub use segments::Segments;
+pub use written::{ImageRoom, write_image};

@@ -57,7 +57,14 @@ fn may_be_there(layers: &Layers, layer: u8, region: &Region) -> bool
     } else {
         &layers.three
     };
-    own.reliable || (region.secrets.as_slice().is_empty() && region.keys.as_slice().is_empty())
+    own.reliable || is_empty(region)
+}
+
+/// Whether the region has no secret and no key.
+pub(crate) fn is_empty(region: &Region) -> bool
+    ensures { IsTrue result ↔ (region.now ≡ empty_region) }
+{
+    region.secrets.as_slice().is_empty() && region.keys.as_slice().is_empty()
 }
 
 /// Whether the secrets have different names, each was put at a configuration number up to the log's, and the layer has

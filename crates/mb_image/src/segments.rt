@@ -8,17 +8,19 @@ ghost use Rattle.mb_model.specs.EntryFormat.{entry_format};
 ghost use Rattle.mb_model.specs.HeaderFormat.{header_format};
 ghost use Rattle.mb_model.specs.Sectors.{header_sector, log_sector};
 ghost use Rattle.mb_model.specs.StoredLog.{unsigned_by, CanSign};
-ghost use Rattle.mb_model.specs.Flash.{sector, HoldsCode, HoldsEntry, AreBytesOf};
+ghost use Rattle.mb_model.specs.Flash.{sector, HoldsCode, HoldsEntry, AreBytesOf, HoldsPublic};
+ghost use Rattle.mb_model.specs.Faults.{SomePublic};
 ghost use Rattle.mb_model_lemmas.specs.SegmentLaws.{HoldsNoEntry};
 ghost use Rattle.mb_layout.specs.Found.{FindsBy};
 ghost use Rattle.mb_segments.specs.Beginnings.{FindsBeginning};
 ghost use Rattle.mb_segments.specs.Uncopied.{header_of};
 ghost use Rattle.mb_image.specs.Segments.{IsReadable, LacksEntry, IsLogOf, text_count};
 
+use crate::form::{FlashForm, PublicParts};
 use mb_bytes::Cursor;
 use mb_layout::read_entry;
 use mb_model::{
-    Bytes, Codes, Entries, Entry, Items, Log, NoMemory, Pending, SECTOR_LENGTH, SignedEntry,
+    Bytes, Codes, Entries, Entry, Items, Log, NoMemory, Pending, Root, SECTOR_LENGTH, SignedEntry,
 };
 use mb_segments::{Slot, StoredHeader, code_sector, header_at, header_sector, log_at, log_sector};
 use std::alloc::Global;
@@ -60,7 +62,7 @@ pub(crate) fn text_count(header: &StoredHeader<'_>) -> u16
 }
 
 /// Whether as many entries are unsigned as the pending work says, with an outgoing key if they are two.
-pub(crate) fn are_counted(pending: &Option<Pending>, count: u16) -> bool
+fn are_counted(pending: &Option<Pending>, count: u16) -> bool
     ensures { IsTrue result ↔ ((count ≡ unsigned_by pending.now) × CanSign pending.now) }
 {
     match pending {
@@ -92,11 +94,7 @@ fn code_in(alloc: Global, flash: &[u8], layer: u8, slot: Slot) -> Result<Option<
 }
 
 /// The code of each layer, in the slots that a header names.
-pub(crate) fn codes_in(
-    alloc: Global,
-    flash: &[u8],
-    header: &StoredHeader<'_>,
-) -> Result<Codes, NoMemory>
+fn codes_in(alloc: Global, flash: &[u8], header: &StoredHeader<'_>) -> Result<Codes, NoMemory>
     requires sized { length flash.now ≡ FLASH_LENGTH }
     requires readable { IsReadable (header_of header.now) }
     ensures one { IfOk result (λ codes. HoldsCode flash.now 1 header.now.one codes.one) }
@@ -146,7 +144,7 @@ fn signed_at(flash: &[u8], position: u32) -> Option<SignedEntry>
 
 /// The signed entries of a log that has `count` of them, at most 128; `None` if a sector of the log below `count` holds
 /// no entry.
-pub(crate) fn signed_in(alloc: Global, flash: &[u8], count: u32) -> Result<Option<Log>, NoMemory>
+fn signed_in(alloc: Global, flash: &[u8], count: u32) -> Result<Option<Log>, NoMemory>
     requires sized { length flash.now ≡ FLASH_LENGTH }
     requires count { count ≤ ENTRY_LIMIT }
     ensures { IfOk result (λ found. MatchOption found (LacksEntry flash.now count)
@@ -163,10 +161,7 @@ pub(crate) fn signed_in(alloc: Global, flash: &[u8], count: u32) -> Result<Optio
 }
 
 /// The unsigned entries that the texts of a header spell; `None` exactly if they spell none.
-pub(crate) fn unsigned_in(
-    alloc: Global,
-    header: &StoredHeader<'_>,
-) -> Result<Option<Entries>, NoMemory>
+fn unsigned_in(alloc: Global, header: &StoredHeader<'_>) -> Result<Option<Entries>, NoMemory>
     requires { IsReadable (header_of header.now) }
     ensures { IfOk result (λ found. FindsBy (λ entries. entries)
         (AreBytesOf (option_copied header.now.first) (option_copied header.now.second)) found) }
@@ -191,4 +186,60 @@ pub(crate) fn unsigned_in(
     };
     entries.push(second)?;
     Ok(Some(entries))
+}
+
+// ---- all of it
+
+/// Codes and entries of the header area that the root names; `None` if the area begins with no header, a sector of the
+/// log that the header counts holds no entry, a text of the header spells none, or not as many entries are unsigned as
+/// the root says.
+fn public_in(alloc: Global, flash: &[u8], root: &Root) -> Result<Option<PublicParts>, NoMemory>
+    requires sized { length flash.now ≡ FLASH_LENGTH }
+    requires area { root.now.area ≤ 1 }
+    ensures { IfOk result (λ found. MatchOption found (SomePublic flash.now root.now → ⊥)
+        (λ parts. HoldsPublic flash.now root.now parts.codes parts.signed parts.unsigned)) }
+{
+    let Some(header) = header_in(flash, root.area) else {
+        return Ok(None);
+    };
+    if !are_counted(&root.pending, text_count(&header)) {
+        return Ok(None);
+    }
+    let Some(unsigned) = unsigned_in(alloc, &header)? else {
+        return Ok(None);
+    };
+    let Some(signed) = signed_in(alloc, flash, header.signed)? else {
+        return Ok(None);
+    };
+    let codes = codes_in(alloc, flash, &header)?;
+    Ok(Some(PublicParts {
+        codes,
+        signed,
+        unsigned,
+    }))
+}
+
+/// The form of a flash in segments: headers, slots for code, and a sector for each signed entry of the log.
+pub struct Segments;
+
+impl FlashForm for Segments {
+    ghost use Rattle.mb_model.specs.Flash.{HoldsPublic};
+    ghost use Rattle.mb_model_lemmas.proofs.OneFlash.{one_list};
+    ghost use Rattle.mb_model_lemmas.proofs.HeldSegments.{segments_parts_fit};
+
+    ghost form = { HoldsPublic };
+
+    fn public_in(
+        alloc: Global,
+        flash: &[u8],
+        root: &Root,
+    ) -> Result<Option<PublicParts>, NoMemory> {
+        public_in(alloc, flash, root)
+    }
+
+    ghost one = { one_list };
+
+    ghost fits = { segments_parts_fit };
+
+    ghost counted = { λ flash root codes signed unsigned holds. holds.counted };
 }

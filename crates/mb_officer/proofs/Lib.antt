@@ -5,6 +5,5 @@ pub mod Drafts
 pub mod Signatures
 pub mod Spelled
 pub mod OrderTexts
-pub mod Images
 pub mod Births
 pub mod Trusting

@@ -1,3 +1,2 @@
 pub mod Drafting
 pub mod OrderReading
-pub mod NewImage

@@ -1,33 +1,30 @@
-//! A new device: its first entry, its records, and its image.
+//! A new device: its first entry, its state, and its image.
 
-ghost use Rattle.std.specs.Prelude.{◌≡◌, ◌↔◌, ◌+◌, ◌≤◌, [], length, None, Some, IfOk, OnOk, OnErr, IsErrOf};
+ghost use Rattle.std.specs.Prelude.{◌≡◌, ◌↔◌, ◌+◌, ◌≤◌, [], ◌∷◌, length, None, Some, IfOk, OnOk, OnErr, IsErrOf};
 ghost use Rattle.std.specs.Vec.{vec_len, vec_capacity};
-ghost use Rattle.mb_officer.specs.declared.birth.TheConstants.{LONGEST_ENTRY, LONGEST_HEADER, LONGEST_BIRTH};
+ghost use Rattle.mb_officer.specs.declared.birth.TheConstants.{LONGEST_ENTRY};
 ghost use Rattle.mb_model.specs.declared.limits.TheConstants.{CODE_LIMIT, KEY_USES, LAST_INDEX};
 ghost use Rattle.mb_model.specs.declared.entry.Entry.TheVariants as entry;
 ghost use Rattle.mb_model.specs.Key.{IsSized};
 ghost use Rattle.mb_model.specs.EntryFormat.{entry_format};
-ghost use Rattle.mb_model.specs.RootFormat.{root_format};
-ghost use Rattle.mb_model.specs.HeaderFormat.{header_format, log_format};
+ghost use Rattle.mb_model.specs.Regions.{empty_region};
 ghost use Rattle.mb_model.specs.Signing.{public_of};
 ghost use Rattle.mb_model.specs.OrderEffects.{signed_by};
 ghost use Rattle.mb_model.specs.SignedOrders.{used_once};
 ghost use Rattle.mb_model.specs.Meaning.{IsWellFormed};
-ghost use Rattle.mb_model.specs.Factory.{serial_from, first_key, layers_at_birth, state_at_birth, IsFactoryImage};
-ghost use Rattle.mb_officer.specs.NewImage.{header_at_birth, root_at_birth};
+ghost use Rattle.mb_model.specs.Factory.{serial_from, first_key, layers_at_birth, codes_at_birth, state_at_birth, IsFactoryImage};
 ghost use Rattle.mb_lms.specs.declared.hash_count.TheConstants.{SIGNING_HASHES, TREE_HASHES};
 
-use crate::image::put_image;
 use crate::signing::{SignEnd, sign_at};
-use mb_layout::{write_entry, write_root};
+use mb_image::ImageRoom;
+use mb_layout::write_entry;
 use mb_lms::HashCount;
 use mb_log::born;
 use mb_model::separators::ENTRY_TEXT;
 use mb_model::{
-    CodeName, DRAW_LENGTH, Entry, Header, IMAGE_LENGTH, KeySeed, Keyfile, Layer, Layers, NoMemory,
-    PublicKey, Root, SIGNATURE_LENGTH, SignedEntry, Slot, Trust, Trusts,
+    Bytes, CodeName, Codes, DRAW_LENGTH, Entry, Items, KeySeed, Keyfile, Layer, Layers, Log,
+    NoMemory, PublicKey, Region, SignedEntry, State, Trust, Trusts,
 };
-use mb_segments::{put_log, write_header};
 use mb_signer::public;
 use sha2::{Digest, Sha256};
 use std::alloc::Global;
@@ -35,12 +32,6 @@ use std::sync::ledger::Ledger;
 
 /// The longest entry, in bytes.
 const LONGEST_ENTRY: usize = 358;
-
-/// The longest header, in bytes.
-const LONGEST_HEADER: usize = 826;
-
-/// The longest content of a sector of the log, in bytes.
-const LONGEST_BIRTH: usize = 2_750;
 
 /// The serial and the first key of a new device.
 #[derive(Clone, Copy)]
@@ -75,21 +66,17 @@ pub fn factory<L: Ledger>(
         return Err(SignEnd::Spent);
     };
     key_sizes(owner);
+    let kept_code = Bytes::copy(alloc, code)?;
+    let mut text = room_for_text(alloc)?;
+    let entries = room_for_entry(alloc)?;
+    let image = ImageRoom::new(alloc)?;
     let device = device_of(noise);
-    let root = root_of(alloc, &device)?;
-    let mut text = room(alloc, LONGEST_ENTRY)?;
-    let mut header = room(alloc, LONGEST_HEADER)?;
-    let mut stored = room(alloc, LONGEST_BIRTH)?;
-    let mut image = room(alloc, IMAGE_LENGTH)?;
-    let birth = birth_of(&device, owner, code, hashes);
+    let layers = layers_of(owner, code);
+    let birth = birth_of(&device, layers, hashes);
     let signed = sign_birth(&k.seed, index, birth, &mut text, hashes);
-    store_header(code, &mut header);
-    store_birth(&text, &signed.signature, &mut stored);
-    let Ok(()) = put_image(&mut image, &header, code, &stored, &root) else {
-        unreachable!();
-    };
+    let state = state_of(alloc, &device, layers, kept_code, log_of(entries, signed));
     k.next = next;
-    Ok(image)
+    Ok(image.write(&Some(state)))
 }
 
 /// Shows that the fields of a public key have the sizes that their types say.
@@ -116,41 +103,26 @@ fn device_of(noise: &[u8; 48]) -> Device
     }
 }
 
-/// The bytes of a new device's root record.
-fn root_of(alloc: Global, device: &Device) -> Result<Vec<u8>, NoMemory>
-    requires { root_format.Allowed (root_at_birth device.now.serial device.now.key) }
-    ensures { IfOk result (λ root. root.items ≡ root_format.spelling (root_at_birth device.now.serial device.now.key)) }
-{
-    let root = Root {
-        area: 0,
-        serial: device.serial,
-        device: device.key,
-        uses: 0,
-        pending: None,
-    };
-    let mut bytes = Vec::new(alloc);
-    write_root(&root, &mut bytes)?;
-    Ok(bytes)
-}
-
-/// Room for `capacity` bytes.
-fn room(alloc: Global, capacity: usize) -> Result<Vec<u8>, NoMemory>
+/// Room for the bytes of an entry.
+fn room_for_text(alloc: Global) -> Result<Vec<u8>, NoMemory>
     ensures empty { IfOk result (λ room. room.items ≡ []) }
-    ensures length { IfOk result (λ room. vec_len room ≡ 0) }
-    ensures capacity { IfOk result (λ room. vec_capacity room ≡ capacity) }
+    ensures room { IfOk result (λ room. vec_len room + LONGEST_ENTRY ≤ vec_capacity room) }
 {
-    Ok(Vec::with_capacity(alloc, capacity)?)
+    Ok(Vec::with_capacity(alloc, LONGEST_ENTRY)?)
 }
 
-/// The first entry of a new device's log.
-fn birth_of<L: Ledger>(
-    device: &Device,
-    owner: &PublicKey,
-    code: &[u8],
-    hashes: &mut HashCount<L>,
-) -> Entry
-    ensures birth { result ≡ entry.Birth 2 device.now.serial (public_of device.now.key) (layers_at_birth owner.now code.now) }
-    ensures cost { hashes.new ≡ hashes.old + TREE_HASHES }
+/// A list with room for one entry.
+fn room_for_entry(alloc: Global) -> Result<Vec<SignedEntry>, NoMemory>
+    ensures empty { IfOk result (λ room. room.items ≡ []) }
+    ensures room { IfOk result (λ room. vec_len room + 1 ≤ vec_capacity room) }
+{
+    Ok(Vec::with_capacity(alloc, 1)?)
+}
+
+/// The layers of a new device: layer 1 has this owner and this code, which every order may change, and nobody owns the
+/// others.
+fn layers_of(owner: &PublicKey, code: &[u8]) -> Layers
+    ensures { result ≡ layers_at_birth owner.now code.now }
 {
     let name = CodeName {
         hash: Sha256::digest(code),
@@ -162,15 +134,23 @@ fn birth_of<L: Ledger>(
         reliable: true,
         trust: Trusts::equal(Trust::Always),
     };
+    Layers {
+        one,
+        two: Layer::unowned(),
+        three: Layer::unowned(),
+    }
+}
+
+/// The first entry of a new device's log.
+fn birth_of<L: Ledger>(device: &Device, layers: Layers, hashes: &mut HashCount<L>) -> Entry
+    ensures birth { result ≡ entry.Birth 2 device.now.serial (public_of device.now.key) layers }
+    ensures cost { hashes.new ≡ hashes.old + TREE_HASHES }
+{
     Entry::Birth {
         version: 2,
         serial: device.serial,
         key: public(&device.key, hashes),
-        layers: Layers {
-            one,
-            two: Layer::unowned(),
-            three: Layer::unowned(),
-        },
+        layers,
     }
 }
 
@@ -199,41 +179,53 @@ fn sign_birth<L: Ledger>(
     }
 }
 
-/// Writes the header of a new device with this code. There is room for it.
-fn store_header(code: &[u8], stored: &mut Vec<u8>)
-    requires code { length code.now ≤ CODE_LIMIT }
-    requires empty { stored.old.items ≡ [] }
-    requires room { vec_len stored.old + LONGEST_HEADER ≤ vec_capacity stored.old }
-    ensures { stored.new.items ≡ header_format.spelling (header_at_birth code.now) }
+/// The log of one entry, in a list that has room for it.
+fn log_of(mut room: Vec<SignedEntry>, signed: SignedEntry) -> Log
+    requires empty { room.items ≡ [] }
+    requires room { vec_len room + 1 ≤ vec_capacity room }
+    ensures { result ≡ signed ∷ [] }
 {
-    let none = Slot {
-        which: 0,
-        length: 0,
-    };
-    let header = Header {
-        one: Slot {
-            which: 1,
-            length: code.len() as u32,
-        },
-        two: none,
-        three: none,
-        signed: 1,
-        first: None,
-        second: None,
-    };
-    let Ok(()) = write_header(&header, stored) else {
+    let Ok(()) = room.push(signed) else {
         unreachable!();
     };
+    Log::from_vec(room)
 }
 
-/// Writes what the first sector of the log begins with: the bytes of the birth and its signature. There is room for it.
-fn store_birth(text: &[u8], signature: &[u8; SIGNATURE_LENGTH], stored: &mut Vec<u8>)
-    requires text { (1 ≤ length text.now) × (length text.now ≤ LONGEST_ENTRY) }
-    requires empty { stored.old.items ≡ [] }
-    requires room { vec_len stored.old + LONGEST_BIRTH ≤ vec_capacity stored.old }
-    ensures { stored.new.items ≡ log_format.spelling (text.now, signature.now) }
+/// The state of a new device, with two empty regions.
+fn state_of(alloc: Global, device: &Device, layers: Layers, code: Bytes, log: Log) -> State
+    ensures { result ≡ record {
+      serial = device.now.serial;
+      layers = layers;
+      codes = codes_at_birth code;
+      log = log;
+      device = device.now.key;
+      uses = 0;
+      two = empty_region;
+      three = empty_region;
+    } }
 {
-    let Ok(()) = put_log(text, signature, stored) else {
-        unreachable!();
-    };
+    State {
+        serial: device.serial,
+        layers,
+        codes: Codes {
+            one: Some(code),
+            two: None,
+            three: None,
+        },
+        log,
+        device: device.key,
+        uses: 0,
+        two: no_region(alloc),
+        three: no_region(alloc),
+    }
+}
+
+/// A region without secrets and keys.
+fn no_region(alloc: Global) -> Region
+    ensures { result ≡ empty_region }
+{
+    Region {
+        secrets: Items::new(alloc),
+        keys: Items::new(alloc),
+    }
 }

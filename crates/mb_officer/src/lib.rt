@@ -7,7 +7,6 @@
 
 mod birth;
 mod draft;
-mod image;
 mod keyfile;
 mod make;
 mod order_line;

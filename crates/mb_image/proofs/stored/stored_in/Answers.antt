@@ -3,10 +3,10 @@ use Rattle.mb_image.proofs.Reading.{none_holds, some_holds, matched}
 use Rattle.mb_image.proofs.stored.stored_in.Goals as goal
 
 pub public_in-requires-clause-area : goal.public_in-requires-clause-area
-public_in-requires-clause-area c = (bounded_by c.args.root c.requires.root.holds.spelled.allowed).area
+public_in-requires-clause-area g c = (bounded_by c.args.root c.requires.root.holds.spelled.allowed).area
 
 pub returns-in_default-2-clause-err : goal.returns-in_default-2-clause-err
-returns-in_default-2-clause-err c =
+returns-in_default-2-clause-err g c =
     let public = matched _ _ c.in_ok-public.field-0 c.in-Some.public c.in-Some.is c.in_ok-public.ensures in (
       c.args.root,
       c.requires.root,
@@ -15,7 +15,7 @@ returns-in_default-2-clause-err c =
     )
 
 pub returns-in_default-3-clause-err : goal.returns-in_default-3-clause-err
-returns-in_default-3-clause-err c =
+returns-in_default-3-clause-err g c =
     let public = matched _ _ c.in_ok-public.field-0 c.in-Some.public c.in-Some.is c.in_ok-public.ensures in (
       c.args.root,
       c.requires.root,
