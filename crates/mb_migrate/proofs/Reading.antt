@@ -8,18 +8,18 @@ use Rattle.mb_model.specs.declared.entry.SignedEntry.{SignedEntry}
 use Rattle.mb_model.specs.declared.stored.Public.{Public}
 use Rattle.mb_model.specs.declared.stored.Root.{Root}
 use Rattle.mb_model.specs.PublicRecord.{public_format}
-use Rattle.mb_model.specs.OldFlash.{flash_area, BeginsWithRecord, public_of_parts}
+use Rattle.mb_model.specs.OldFlash.{flash_area, BeginsWithRecord, public_of_parts, HeldPublic}
+use Rattle.mb_model.specs.Faults.{SomePublicBy}
 use Rattle.mb_layout.specs.Found.{FindsBy}
 use Rattle.mb_model.proofs.RecordFormatLaws.{public_exact}
 use Rattle.mb_model_lemmas.proofs.MeaningLemmas.{one_begun, IsBytes-flash_area}
 use Rattle.mb_migrate.specs.Entries.{IsSplitLog}
-use Rattle.mb_migrate.specs.Held.{SomeHeldPublic}
 
 -- ---- the public record
 
 -- nothing is held where no record begins the area
 pub none_begins : (flash : List ℕ) (root : Root) (area : List ℕ) (found : Option Public) → area ≡ flash_area flash root.area
-    → FindsBy (λ (public : Public). public) (BeginsWithRecord public_format area) found → found ≡ None → SomeHeldPublic flash root → ⊥
+    → FindsBy (λ (public : Public). public) (BeginsWithRecord public_format area) found → found ≡ None → SomePublicBy HeldPublic flash root → ⊥
 none_begins flash root area None is finds none some =
     finds _ (subst (λ (a : List ℕ). BeginsWithRecord public_format a (public_of_parts some.0 some.1 some.2)) (sym is) some.3.begins)
 none_begins flash root area (Some public) is finds none some = absurd (grind (arith, none))
@@ -35,7 +35,7 @@ pub none_split : (flash : List ℕ) (root : Root) (area : List ℕ) (found : Opt
     → IsBytes flash → area ≡ flash_area flash root.area
     → FindsBy (λ (p : Public). p) (BeginsWithRecord public_format area) found → found ≡ Some public → entries ≡ public.entries
     → MatchOption split ((signed : List SignedEntry) (unsigned : List Entry) → IsSplitLog entries root.pending signed unsigned → ⊥) Q → split ≡ None
-    → SomeHeldPublic flash root → ⊥
+    → SomePublicBy HeldPublic flash root → ⊥
 none_split flash root area found public entries Q (Some x) are is finds there entries_are fails none some = absurd (grind (arith, none))
 none_split flash root area found public entries Q None are is finds there entries_are fails none some =
     let begins = begins_with flash root area found public is finds there in

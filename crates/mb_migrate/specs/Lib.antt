@@ -1,4 +1,5 @@
 pub mod Bounds
 pub mod Entries
-pub mod Held
+pub mod MigrationLaws
 pub mod Parts
+pub mod Readings

@@ -1,15 +1,23 @@
 //! What the flash of a device held before it was divided into segments: a record of codes and log in each of two areas.
+//! Migration brings an image of that form, or of the present one, to the present form, with no work pending.
 //!
-//! This crate owns the public record of that form, read from bytes and written to bytes, and the reader of a flash of
-//! that form, from which images are still to be taken over. It stands on the definitions of `mb_model` (`OldFlash`,
-//! `PublicRecord`), the fields of `mb_bytes`, and the entries of `mb_layout`.
+//! This crate owns the public record of the form before, both ways, the meaning of an image of that form, and which of
+//! the two forms a migration tries first. It stands on the definitions of `mb_model` (`OldFlash`, `PublicRecord`,
+//! `Migration`), the fields of `mb_bytes`, the entries of `mb_layout`, and on `mb_image`, which reads an image by any
+//! form of the flash and writes one.
 #![tactic(auto)]
 
 mod area;
 mod entries;
+mod image;
+mod laws;
+mod migration;
 mod public;
 mod stored;
 
 pub use area::{public_at_start, record_at_start};
+pub use image::old_stand_for;
+pub use laws::migrations_are_clear;
+pub use migration::migrate;
 pub use public::{public_of_bytes, read_public, write_public_record};
-pub use stored::{PublicParts, public_in};
+pub use stored::OneRecord;

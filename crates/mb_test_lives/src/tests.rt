@@ -6,6 +6,7 @@ mod chains;
 mod devices;
 mod keys;
 mod lives;
+mod migration;
 mod rows;
 mod runs;
 mod segments;

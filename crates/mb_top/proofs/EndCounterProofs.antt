@@ -1,7 +1,7 @@
 -- The counterexamples of ends, refuted.
 use Rattle.std.proofs.Common.{◌≡◌, ◌≢◌, ℕ, ◌≤◌, List, [], length, ap, arith}
 use Rattle.mb_model.specs.Commands.{Ended}
-use Rattle.mb_top.specs.Top.{Request, runs, makes_key, signs, countersigns, makes_device, verifies, audits, shows_chain, attaches, generates, words_of, Ends, no_command, did}
+use Rattle.mb_top.specs.Top.{Request, runs, makes_key, signs, countersigns, makes_device, migrates, verifies, audits, shows_chain, attaches, generates, words_of, Ends, no_command, did}
 use Rattle.mb_top.specs.EndCounterExamples.{EndCounterExamples}
 
 three_words : (request : Request) (words : List (List ℕ)) → words ≡ words_of request → 3 ≤ length words
@@ -13,6 +13,7 @@ three_words (makes_device names) words is = omega (arith, ap length is)
 three_words (verifies names) words is = omega (arith, ap length is)
 three_words (audits names) words is = omega (arith, ap length is)
 three_words (shows_chain names) words is = omega (arith, ap length is)
+three_words (migrates names) words is = omega (arith, ap length is)
 three_words (attaches names) words is = omega (arith, ap length is)
 three_words (generates names) words is = omega (arith, ap length is)
 

@@ -4,6 +4,7 @@ pub mod WordLemmas
 pub mod OutputLemmas
 pub mod KeygenLemmas
 pub mod ImageLemmas
+pub mod MigrateLemmas
 pub mod RunLemmas
 pub mod Requests
 pub mod SignLemmas

@@ -8,7 +8,7 @@ use Rattle.mb_model.specs.Lines.{number_limit}
 use Rattle.mb_model.specs.Outside.{Outside}
 use Rattle.mb_model.specs.Board.{Held}
 use Rattle.mb_model.specs.Commands.{Ended, CommandEnds, HasInputsFor, IsFaultless, at_first}
-use Rattle.mb_top.specs.Top.{Request, runs, makes_key, signs, countersigns, makes_device, verifies, audits, shows_chain, attaches, generates, IsRequest, command_of, Ends, no_command, did}
+use Rattle.mb_top.specs.Top.{Request, runs, makes_key, signs, countersigns, makes_device, migrates, verifies, audits, shows_chain, attaches, generates, IsRequest, command_of, Ends, no_command, did}
 use Rattle.mb_top.specs.declared.end.End.{End}
 use Rattle.mb_top.specs.Ending.{CarriesOutRest, CarriesOut, CarriesOutWords}
 use Rattle.mb_top.proofs.Completing.{Completes, command_completes}
@@ -33,7 +33,13 @@ alone_carried_out words request answered final before now result is none carried
 upper_fits : (layer : ℕ) → IsTrue (is_upper layer) → layer ≤ number_limit
 upper_fits layer upper = grind (arith, upper)
 
--- the requests of a command and three words
+-- the requests of a command and two words
+of_two : List ℕ → List ℕ → List ℕ → Request
+of_two command first second =
+    if same_bytes command (codes "chain") then shows_chain (record { image = first; out = second })
+    else migrates (record { image = first; out = second })
+
+-- those of a command and three words
 of_three : List ℕ → List ℕ → List ℕ → List ℕ → Request
 of_three command first second third =
     if same_bytes command (codes "run") then runs (record { image = first; script = second; noise = third })
@@ -56,7 +62,7 @@ of_five command first second third fourth fifth =
 
 -- the request of which words are the spelling
 request_of : List (List ℕ) → Option Request
-request_of (command ∷ first ∷ second ∷ []) = Some (shows_chain (record { image = first; out = second }))
+request_of (command ∷ first ∷ second ∷ []) = Some (of_two command first second)
 request_of (command ∷ first ∷ second ∷ third ∷ []) = Some (of_three command first second third)
 request_of (command ∷ first ∷ second ∷ third ∷ fourth ∷ []) = Some (of_four command first second third fourth)
 request_of (command ∷ first ∷ second ∷ third ∷ fourth ∷ fifth ∷ []) =
@@ -64,7 +70,7 @@ request_of (command ∷ first ∷ second ∷ third ∷ fourth ∷ fifth ∷ []) 
 request_of _ = None
 
 request_again : (words : List (List ℕ)) (request : Request) → IsRequest words request → request_of words ≡ Some request
-unfolding request_of of_three of_four of_five
+unfolding request_of of_two of_three of_four of_five
 request_again words (runs names) is = ap request_of is.spelled
 request_again words (makes_key names) is = ap request_of is.spelled
 request_again words (signs names) is = ap request_of is.spelled
@@ -78,6 +84,7 @@ request_again words (audits names) is =
     ap request_of is.spelled
     ∙ ap (λ n. Some (audits (record { image = names.image; root = names.root; chain = names.chain; key = n }))) (number_again names.key is.allowed.3)
 request_again words (shows_chain names) is = ap request_of is.spelled
+request_again words (migrates names) is = ap request_of is.spelled
 request_again words (attaches names) is = ap request_of is.spelled
 request_again words (generates names) is =
     let again : ℕ → ℕ → Option Request =

@@ -10,11 +10,12 @@ use Rattle.mb_model.specs.RunCommand.{RunNames}
 use Rattle.mb_model.specs.Keygen.{KeygenNames}
 use Rattle.mb_model.specs.Sign.{SignNames, CountersignNames}
 use Rattle.mb_model.specs.FactoryCommand.{FactoryNames}
+use Rattle.mb_model.specs.MigrateCommand.{MigrateNames}
 use Rattle.mb_model.specs.VerifyCommand.{VerifyNames}
 use Rattle.mb_model.specs.AuditCommand.{AuditNames}
 use Rattle.mb_model.specs.ChainCommands.{ChainNames, AttachNames}
 use Rattle.mb_model.specs.GenerateCommand.{GenerateNames}
-use Rattle.mb_top.specs.Top.{Request, runs, makes_key, signs, countersigns, makes_device, verifies, audits, shows_chain, attaches, generates, IsRequest}
+use Rattle.mb_top.specs.Top.{Request, runs, makes_key, signs, countersigns, makes_device, migrates, verifies, audits, shows_chain, attaches, generates, IsRequest}
 use Rattle.mb_model_lemmas.proofs.WordLemmas.{upper_cases}
 use Rattle.mb_top.specs.Words.{IsCalled, IsLayerWord, IsRoundsWord}
 
@@ -117,17 +118,18 @@ no_generate words never names is = never (decimal names.number) (decimal names.r
 -- words that are none of the requests are none
 pub no_request : (words : List (List ℕ)) → ((names : RunNames) → IsRequest words (runs names) → ⊥) → ((names : VerifyNames) → IsRequest words (verifies names) → ⊥)
     → ((names : AuditNames) → IsRequest words (audits names) → ⊥) → ((names : ChainNames) → IsRequest words (shows_chain names) → ⊥)
-    → ((names : AttachNames) → IsRequest words (attaches names) → ⊥) → ((names : FactoryNames) → IsRequest words (makes_device names) → ⊥)
+    → ((names : AttachNames) → IsRequest words (attaches names) → ⊥) → ((names : FactoryNames) → IsRequest words (makes_device names) → ⊥) → ((names : MigrateNames) → IsRequest words (migrates names) → ⊥)
     → ((names : KeygenNames) → IsRequest words (makes_key names) → ⊥) → ((names : SignNames) → IsRequest words (signs names) → ⊥)
     → ((names : CountersignNames) → IsRequest words (countersigns names) → ⊥) → ((names : GenerateNames) → IsRequest words (generates names) → ⊥)
     → (request : Request) → IsRequest words request → ⊥
-no_request words not_run not_verify not_audit not_chain not_attach not_factory not_keygen not_sign not_countersign not_generate (runs names) is = not_run names is
-no_request words not_run not_verify not_audit not_chain not_attach not_factory not_keygen not_sign not_countersign not_generate (verifies names) is = not_verify names is
-no_request words not_run not_verify not_audit not_chain not_attach not_factory not_keygen not_sign not_countersign not_generate (audits names) is = not_audit names is
-no_request words not_run not_verify not_audit not_chain not_attach not_factory not_keygen not_sign not_countersign not_generate (shows_chain names) is = not_chain names is
-no_request words not_run not_verify not_audit not_chain not_attach not_factory not_keygen not_sign not_countersign not_generate (attaches names) is = not_attach names is
-no_request words not_run not_verify not_audit not_chain not_attach not_factory not_keygen not_sign not_countersign not_generate (makes_device names) is = not_factory names is
-no_request words not_run not_verify not_audit not_chain not_attach not_factory not_keygen not_sign not_countersign not_generate (makes_key names) is = not_keygen names is
-no_request words not_run not_verify not_audit not_chain not_attach not_factory not_keygen not_sign not_countersign not_generate (signs names) is = not_sign names is
-no_request words not_run not_verify not_audit not_chain not_attach not_factory not_keygen not_sign not_countersign not_generate (countersigns names) is = not_countersign names is
-no_request words not_run not_verify not_audit not_chain not_attach not_factory not_keygen not_sign not_countersign not_generate (generates names) is = not_generate names is
+no_request words not_run not_verify not_audit not_chain not_attach not_factory not_migrate not_keygen not_sign not_countersign not_generate (runs names) is = not_run names is
+no_request words not_run not_verify not_audit not_chain not_attach not_factory not_migrate not_keygen not_sign not_countersign not_generate (verifies names) is = not_verify names is
+no_request words not_run not_verify not_audit not_chain not_attach not_factory not_migrate not_keygen not_sign not_countersign not_generate (audits names) is = not_audit names is
+no_request words not_run not_verify not_audit not_chain not_attach not_factory not_migrate not_keygen not_sign not_countersign not_generate (shows_chain names) is = not_chain names is
+no_request words not_run not_verify not_audit not_chain not_attach not_factory not_migrate not_keygen not_sign not_countersign not_generate (attaches names) is = not_attach names is
+no_request words not_run not_verify not_audit not_chain not_attach not_factory not_migrate not_keygen not_sign not_countersign not_generate (makes_device names) is = not_factory names is
+no_request words not_run not_verify not_audit not_chain not_attach not_factory not_migrate not_keygen not_sign not_countersign not_generate (makes_key names) is = not_keygen names is
+no_request words not_run not_verify not_audit not_chain not_attach not_factory not_migrate not_keygen not_sign not_countersign not_generate (signs names) is = not_sign names is
+no_request words not_run not_verify not_audit not_chain not_attach not_factory not_migrate not_keygen not_sign not_countersign not_generate (countersigns names) is = not_countersign names is
+no_request words not_run not_verify not_audit not_chain not_attach not_factory not_migrate not_keygen not_sign not_countersign not_generate (generates names) is = not_generate names is
+no_request words not_run not_verify not_audit not_chain not_attach not_factory not_migrate not_keygen not_sign not_countersign not_generate (migrates names) is = not_migrate names is

@@ -8,6 +8,7 @@ use Rattle.mb_model.specs.RunCommand.{RunNames, run}
 use Rattle.mb_model.specs.Keygen.{KeygenNames, keygen}
 use Rattle.mb_model.specs.Sign.{SignNames, CountersignNames, sign, countersign}
 use Rattle.mb_model.specs.FactoryCommand.{FactoryNames, factory}
+use Rattle.mb_model.specs.MigrateCommand.{MigrateNames, migrate}
 use Rattle.mb_model.specs.VerifyCommand.{VerifyNames, verify}
 use Rattle.mb_model.specs.AuditCommand.{AuditNames, audit}
 use Rattle.mb_model.specs.ChainCommands.{ChainNames, AttachNames, chain, attach}
@@ -20,6 +21,7 @@ pub data Request : Type 0 where
   signs : SignNames → Request
   countersigns : CountersignNames → Request
   makes_device : FactoryNames → Request
+  migrates : MigrateNames → Request
   verifies : VerifyNames → Request
   audits : AuditNames → Request
   shows_chain : ChainNames → Request
@@ -35,6 +37,7 @@ words_of (countersigns names) =
     codes "countersign" ∷ names.key ∷ decimal names.layer ∷ names.order ∷ names.out ∷ []
 words_of (makes_device names) =
     codes "factory" ∷ names.noise ∷ names.key ∷ names.owner ∷ names.code ∷ names.image ∷ []
+words_of (migrates names) = codes "migrate" ∷ names.image ∷ names.out ∷ []
 words_of (verifies names) = codes "verify" ∷ names.root ∷ names.chain ∷ decimal names.key ∷ []
 words_of (audits names) = codes "audit" ∷ names.image ∷ names.root ∷ names.chain ∷ decimal names.key ∷ []
 words_of (shows_chain names) = codes "chain" ∷ names.image ∷ names.out ∷ []
@@ -52,6 +55,7 @@ IsAllowed (countersigns names) =
     (names.key ≢ []) × (names.order ≢ []) × (names.out ≢ []) × IsTrue (is_upper names.layer)
 IsAllowed (makes_device names) =
     (names.noise ≢ []) × (names.key ≢ []) × (names.owner ≢ []) × (names.code ≢ []) × (names.image ≢ [])
+IsAllowed (migrates names) = (names.image ≢ []) × (names.out ≢ [])
 IsAllowed (verifies names) = (names.root ≢ []) × (names.chain ≢ []) × (names.key ≤ number_limit)
 IsAllowed (audits names) = (names.image ≢ []) × (names.root ≢ []) × (names.chain ≢ []) × (names.key ≤ number_limit)
 IsAllowed (shows_chain names) = (names.image ≢ []) × (names.out ≢ [])
@@ -72,6 +76,7 @@ command_of (makes_key names) = keygen names
 command_of (signs names) = sign names
 command_of (countersigns names) = countersign names
 command_of (makes_device names) = factory names
+command_of (migrates names) = migrate names
 command_of (verifies names) = verify names
 command_of (audits names) = audit names
 command_of (shows_chain names) = chain names

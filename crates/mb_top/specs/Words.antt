@@ -6,17 +6,19 @@ use Rattle.mb_model.specs.RunCommand.{RunNames as RunFiles}
 use Rattle.mb_model.specs.Keygen.{KeygenNames as KeygenFiles}
 use Rattle.mb_model.specs.Sign.{SignNames as SignFiles, CountersignNames as CountersignFiles}
 use Rattle.mb_model.specs.FactoryCommand.{FactoryNames as FactoryFiles}
+use Rattle.mb_model.specs.MigrateCommand.{MigrateNames as MigrateFiles}
 use Rattle.mb_model.specs.VerifyCommand.{VerifyNames as VerifyFiles}
 use Rattle.mb_model.specs.AuditCommand.{AuditNames as AuditFiles}
 use Rattle.mb_model.specs.ChainCommands.{ChainNames as ChainFiles, AttachNames as AttachFiles}
 use Rattle.mb_top.specs.Top.{Request as Asked, runs, makes_key, signs, countersigns, makes_device}
 use Rattle.mb_model.specs.GenerateCommand.{GenerateNames as GenerateFiles}
-use Rattle.mb_top.specs.Top.{verifies, audits, shows_chain, attaches, generates}
+use Rattle.mb_top.specs.Top.{migrates, verifies, audits, shows_chain, attaches, generates}
 use Rattle.mb_top.specs.declared.words.RunNames.{RunNames}
 use Rattle.mb_top.specs.declared.words.KeygenNames.{KeygenNames}
 use Rattle.mb_top.specs.declared.words.SignNames.{SignNames}
 use Rattle.mb_top.specs.declared.words.CountersignNames.{CountersignNames}
 use Rattle.mb_top.specs.declared.words.FactoryNames.{FactoryNames}
+use Rattle.mb_top.specs.declared.words.MigrateNames.{MigrateNames}
 use Rattle.mb_top.specs.declared.words.VerifyNames.{VerifyNames}
 use Rattle.mb_top.specs.declared.words.AuditNames.{AuditNames}
 use Rattle.mb_top.specs.declared.words.ChainNames.{ChainNames}
@@ -65,6 +67,9 @@ factory_files names = record {
   image = names.image.now;
 }
 
+abbrev pub migrate_files : MigrateNames → MigrateFiles
+migrate_files names = record { image = names.image.now; out = names.out.now }
+
 abbrev pub verify_files : VerifyNames → VerifyFiles
 verify_files names = record { root = names.root.now; chain = names.chain.now; key = names.key }
 
@@ -93,6 +98,7 @@ asked_by (request.Keygen names) = makes_key (keygen_files names)
 asked_by (request.Sign names) = signs (sign_files names)
 asked_by (request.Countersign names) = countersigns (countersign_files names)
 asked_by (request.Factory names) = makes_device (factory_files names)
+asked_by (request.Migrate names) = migrates (migrate_files names)
 asked_by (request.Verify names) = verifies (verify_files names)
 asked_by (request.Audit names) = audits (audit_files names)
 asked_by (request.Chain names) = shows_chain (chain_files names)

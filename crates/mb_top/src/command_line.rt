@@ -43,6 +43,8 @@ usage:
                                      adds the countersignature of the owner of layer 2 or 3 to an order
                                      line, writes the key with one more index used and the order as a
                                      line, and prints the index
+  miniboot migrate IMAGE OUT         writes an image of the present form for the state of IMAGE, which may
+                                     have the form before, and prints the new image's hash
   miniboot generate NUMBER ROUNDS IMAGE SCRIPT NOISE
                                      makes the workload of a number with 1 to 24 rounds, writes its
                                      files, serves it, and prints a summary

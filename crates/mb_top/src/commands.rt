@@ -12,6 +12,7 @@ use crate::end::End;
 use crate::factory::factory;
 use crate::generate::generate;
 use crate::keygen::keygen;
+use crate::migrate::migrate;
 use crate::output::stop;
 use crate::run::run;
 use crate::sign::{countersign, sign};
@@ -67,6 +68,7 @@ fn counted_command<H: Host, B: Board, L: Ledger>(
         Some(Request::Chain(names)) => chain(alloc, &names, host, &mut hashes),
         Some(Request::Attach(names)) => attach(alloc, &names, host),
         Some(Request::Factory(names)) => factory(alloc, &names, host, &mut hashes),
+        Some(Request::Migrate(names)) => migrate(alloc, &names, host, &mut hashes),
         Some(Request::Keygen(names)) => keygen(alloc, &names, host, &mut hashes),
         Some(Request::Sign(names)) => sign(alloc, &names, host, &mut hashes),
         Some(Request::Countersign(names)) => countersign(alloc, &names, host, &mut hashes),

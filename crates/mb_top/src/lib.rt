@@ -18,6 +18,7 @@ mod factory;
 mod generate;
 mod input;
 mod keygen;
+mod migrate;
 mod output;
 mod replies;
 mod run;

@@ -3,18 +3,19 @@
 ghost use Rattle.std.specs.Prelude.{◌≡◌, ◌≢◌, ◌↔◌, ◌∷◌, ℕ, All, IsTrue, List, [], map, MatchOption, string_bytes};
 ghost use Rattle.mb_model.specs.Lines.{IsNumber, number_limit};
 ghost use Rattle.mb_top.specs.Top.{Request as Asked, runs, makes_key, signs, countersigns, makes_device, IsRequest};
-ghost use Rattle.mb_top.specs.Top.{verifies, audits, shows_chain, attaches, generates};
+ghost use Rattle.mb_top.specs.Top.{migrates, verifies, audits, shows_chain, attaches, generates};
 ghost use Rattle.mb_model.specs.RunCommand.{RunNames as RunFiles};
 ghost use Rattle.mb_model.specs.Keygen.{KeygenNames as KeygenFiles};
 ghost use Rattle.mb_model.specs.Sign.{SignNames as SignFiles, CountersignNames as CountersignFiles};
 ghost use Rattle.mb_model.specs.FactoryCommand.{FactoryNames as FactoryFiles};
+ghost use Rattle.mb_model.specs.MigrateCommand.{MigrateNames as MigrateFiles};
 ghost use Rattle.mb_model.specs.VerifyCommand.{VerifyNames as VerifyFiles};
 ghost use Rattle.mb_model.specs.AuditCommand.{AuditNames as AuditFiles};
 ghost use Rattle.mb_model.specs.ChainCommands.{ChainNames as ChainFiles, AttachNames as AttachFiles};
 ghost use Rattle.mb_model.specs.GenerateCommand.{GenerateNames as GenerateFiles};
 ghost use Rattle.mb_words.specs.Words.{FindsSome};
 ghost use Rattle.mb_top.specs.Words.{IsCalled, IsLayerWord, IsRoundsWord, generate_files, run_files, keygen_files, sign_files, countersign_files};
-ghost use Rattle.mb_top.specs.Words.{factory_files, verify_files, audit_files, chain_files, attach_files, asked_by};
+ghost use Rattle.mb_top.specs.Words.{factory_files, migrate_files, verify_files, audit_files, chain_files, attach_files, asked_by};
 
 use mb_words::read_number;
 
@@ -97,6 +98,13 @@ pub struct FactoryNames<'a> {
     pub image: &'a str,
 }
 
+/// The names of the files of `migrate`.
+#[derive(Clone, Copy)]
+pub struct MigrateNames<'a> {
+    pub image: &'a str,
+    pub out: &'a str,
+}
+
 /// The number of a workload, how many rounds it has, and the names of its files.
 #[derive(Clone, Copy)]
 pub struct GenerateNames<'a> {
@@ -117,6 +125,7 @@ pub enum Request<'a> {
     Chain(ChainNames<'a>),
     Attach(AttachNames<'a>),
     Factory(FactoryNames<'a>),
+    Migrate(MigrateNames<'a>),
     Keygen(KeygenNames<'a>),
     Sign(SignNames<'a>),
     Countersign(CountersignNames<'a>),
@@ -180,6 +189,9 @@ pub fn request_in(words: &[String]) -> Option<Request<'_>>
     }
     if let Some(names) = factory_in(words) {
         return Some(Request::Factory(names));
+    }
+    if let Some(names) = migrate_in(words) {
+        return Some(Request::Migrate(names));
     }
     if let Some(names) = keygen_in(words) {
         return Some(Request::Keygen(names));
@@ -377,6 +389,19 @@ fn attach_in(words: &[String]) -> Option<AttachNames<'_>>
         chain: names.first,
         statement: names.second,
         out: names.third,
+    })
+}
+
+/// The names in the words of `migrate`; `None` if the words are anything else.
+fn migrate_in(words: &[String]) -> Option<MigrateNames<'_>>
+    ensures { MatchOption result
+        ((names : MigrateFiles) → IsRequest (map string_bytes words.now) (migrates names) → ⊥)
+        (λ found. IsRequest (map string_bytes words.now) (migrates (migrate_files found))) }
+{
+    let names = two_in(words, "migrate")?;
+    Some(MigrateNames {
+        image: names.first,
+        out: names.second,
     })
 }
 

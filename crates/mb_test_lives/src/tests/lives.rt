@@ -2,6 +2,7 @@
 
 use super::births::owned_device_goes_through;
 use super::{Cut, Part, Step};
+use mb_model::{FLASH_LENGTH, IMAGE_LENGTH};
 use std::test::Fail;
 
 /// Secrets are put and a message is signed. What runs goes on across loads that are countersigned.
@@ -143,7 +144,7 @@ const A_LOAD_IS_CUT: &[Step] = &[
     }),
 ];
 
-/// What layers keep: a layer reaches what is its own or a layer's above it, and no region holds more than 16 secrets.
+/// What layers keep: a layer reaches what is its own or a layer's above it, and no region holds more than 22 secrets.
 const SECRETS_ARE_KEPT: &[Step] = &[
     Step::Writes("image", &[Part::File("keyed")]),
     Step::Serves(
@@ -153,15 +154,54 @@ const SECRETS_ARE_KEPT: &[Step] = &[
             a3aab1b8bfc6cdd4dbe2e9f0f7fe050c131a21282f363d444b525960676e757c\nget 2 pin\n\
             go\ngo\nget 2 pin\nput 3 a 01\nput 3 b 02\nput 3 c 03\nput 3 d 04\nput 3 e 05\nput 3 f 06\n\
             put 3 g 07\nput 3 h 08\nput 3 i 09\nput 3 j 0a\nput 3 k 0b\nput 3 l 0c\nput 3 m 0d\nput 3 n 0e\n\
-            put 3 o 0f\nput 3 p 10\nput 3 g 77\nput 3 q 11\ndrop 3 c\nput 3 q 11\nget 3 g\nget 3 q\ndrop 3 c\n",
+            put 3 o 0f\nput 3 p 10\nput 3 q 11\nput 3 r 12\nput 3 s 13\nput 3 t 14\nput 3 u 15\nput 3 v 16\n\
+            put 3 g 77\nput 3 w 17\ndrop 3 c\nput 3 w 17\nget 3 g\nget 3 w\ndrop 3 c\n",
         )],
         "nothing",
         "booted\nkept\nvalue -\nkept\nvalue 030a11181f262d343b424950575e656c737a81888f969da4abb2b9c0c7ced5dce3eaf1f8ff060d141b222930373e454c\
         535a61686f767d848b9299a0a7aeb5bcc3cad1d8dfe6edf4fb020910171e252c333a41484f565d646b727980878e959c\
         a3aab1b8bfc6cdd4dbe2e9f0f7fe050c131a21282f363d444b525960676e757c\n\
         at 2\nat 3\nrefused 4 layer\nkept\nkept\nkept\nkept\nkept\nkept\nkept\nkept\nkept\nkept\nkept\n\
-        kept\nkept\nkept\nkept\nkept\nkept\nrefused 5 full\ndropped\nkept\nvalue 77\nvalue 11\nabsent\n",
+        kept\nkept\nkept\nkept\nkept\nkept\nkept\nkept\nkept\nkept\nkept\nkept\nrefused 5 full\ndropped\n\
+        kept\nvalue 77\nvalue 17\nabsent\n",
     ),
+];
+
+/// Where the record of region 3 begins once 16 secrets were put, after its length in its second area.
+const RECORD: usize = FLASH_LENGTH + 24_576 + 2;
+
+/// A region with 16 secrets, whose record becomes one of version 1, takes more, and then has a record of version 2.
+const A_SEVENTEENTH_SECRET: &[Step] = &[
+    Step::Writes("image", &[Part::File("keyed")]),
+    Step::Serves(
+        &[Part::Text(
+            "boot\nput 3 a 01\nput 3 b 02\nput 3 c 03\nput 3 d 04\nput 3 e 05\nput 3 f 06\nput 3 g 07\n\
+            put 3 h 08\nput 3 i 09\nput 3 j 0a\nput 3 k 0b\nput 3 l 0c\nput 3 m 0d\nput 3 n 0e\nput 3 o 0f\n\
+            put 3 p 10\n",
+        )],
+        "nothing",
+        "booted\nkept\nkept\nkept\nkept\nkept\nkept\nkept\nkept\nkept\nkept\nkept\nkept\nkept\nkept\nkept\n\
+        kept\n",
+    ),
+    Step::Writes("version", &[Part::Slice("image", RECORD, RECORD + 1)]),
+    Step::Holds("version", "02"),
+    Step::Writes(
+        "image",
+        &[
+            Part::Slice("image", 0, RECORD),
+            Part::Text("\u{1}"),
+            Part::Slice("image", RECORD + 1, IMAGE_LENGTH),
+        ],
+    ),
+    Step::Serves(
+        &[Part::Text(
+            "boot\nget 3 p\nput 3 q 11\nput 3 r 12\nput 3 s 13\nput 3 t 14\nput 3 u 15\nput 3 v 16\nput 3 w 17\n",
+        )],
+        "nothing",
+        "booted\nvalue 10\nkept\nkept\nkept\nkept\nkept\nkept\nrefused 5 full\n",
+    ),
+    Step::Writes("version", &[Part::Slice("image", RECORD, RECORD + 1)]),
+    Step::Holds("version", "02"),
 ];
 
 /// A key signs 32 times, each time with the next index, and a key that is not there never.
@@ -273,6 +313,7 @@ fn layers_keep_and_sign(rt: HostRuntime) -> Result<(), Fail> {
         &rt,
         &[
             SECRETS_ARE_KEPT,
+            A_SEVENTEENTH_SECRET,
             A_KEY_IS_SPENT,
             INDICES_ARE_USED_ONCE,
             A_KEY_ENDS,

@@ -3,6 +3,7 @@
 ghost use Rattle.std.specs.Prelude.{IfOk, IfErr};
 ghost use Rattle.mb_model.specs.Meaning.{IsWellFormed};
 ghost use Rattle.mb_model.specs.Valid.{Valid};
+ghost use Rattle.mb_model.specs.MigrateCommand.{old_image_input};
 ghost use Rattle.mb_model.specs.Inputs.{birth_noise_input, code_input, image_input};
 ghost use Rattle.mb_model_memory.specs.Storable.{Storable};
 ghost use Rattle.mb_image.specs.Ends.{fault_of};
@@ -14,6 +15,7 @@ use crate::input::read_input;
 use mb_host::Host;
 use mb_image::{ImageEnd, stand_for};
 use mb_lms::HashCount;
+use mb_migrate::migrate;
 use mb_model::{CODE_LIMIT, Place, Role, State};
 use std::alloc::Global;
 use std::sync::ledger::Ledger;
@@ -65,6 +67,23 @@ pub fn read_image<H: Host, L: Ledger>(
     let bytes = read_input(alloc, host, Role::Image, name)?;
     match stand_for(alloc, &bytes, hashes) {
         Ok(state) => Ok(Image { bytes, state }),
+        Err(end) => Err(end_of_image(end)),
+    }
+}
+
+/// Reads an image of a device, which may have the form before, and makes of it one of the present form.
+pub fn read_old_image<H: Host, L: Ledger>(
+    alloc: Global,
+    host: &mut H,
+    name: &str,
+    hashes: &mut HashCount<L>,
+) -> Result<Vec<u8>, End>
+    ensures read { IfOk result (λ image. HasInput (old_image_input name.now) (H.outside host.old) (H.outside host.new) image.items) }
+    ensures err { IfErr result (StopsAt (old_image_input name.now) (H.outside host.old) (H.outside host.new)) }
+{
+    let bytes = read_input(alloc, host, Role::Image, name)?;
+    match migrate(alloc, &bytes, hashes) {
+        Ok(image) => Ok(image),
         Err(end) => Err(end_of_image(end)),
     }
 }

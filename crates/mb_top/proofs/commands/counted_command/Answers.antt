@@ -39,6 +39,13 @@ returns-in-Some-Factory-clause-carried g c =
     let asked = subst (λ r. IsRequest words (asked_by r)) c.in-Some-Factory.field-0-is c.in-Some-Factory.ensures in
     alone_carried_out words _ _ _ (outside c.args.host.now) (outside c.factory.new.host) c.factory.result asked c.requires.none_answered c.factory.ensures
 
+pub returns-in-Some-Migrate-clause-carried : goal.returns-in-Some-Migrate-clause-carried
+returns-in-Some-Migrate-clause-carried g c =
+    let words = map string_bytes c.args.words.now in
+    let outside = g.H.Host.outside in
+    let asked = subst (λ r. IsRequest words (asked_by r)) c.in-Some-Migrate.field-0-is c.in-Some-Migrate.ensures in
+    alone_carried_out words _ _ _ (outside c.args.host.now) (outside c.migrate.new.host) c.migrate.result asked c.requires.none_answered c.migrate.ensures
+
 pub returns-in-Some-Verify-clause-carried : goal.returns-in-Some-Verify-clause-carried
 returns-in-Some-Verify-clause-carried g c =
     let words = map string_bytes c.args.words.now in

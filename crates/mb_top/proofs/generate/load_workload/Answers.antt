@@ -1,4 +1,4 @@
-use Rattle.std.proofs.Common.{Some, ◌∙◌, sym, ap, subst}
+use Rattle.std.proofs.Common.{Some, ◌∙◌, sym, ap, subst, length, length-append, arith}
 use Rattle.std.proofs.lemmas.Result.{err_from_is_err_and}
 use Rattle.mb_model.specs.Acknowledged.{Shows}
 use Rattle.mb_model.specs.Machine.{opening}
@@ -74,3 +74,8 @@ returns-in_err-write_files-clause-stays g c = λ holds.
     let board = c.load.new.self in
     loaded_holds (g.B.Board.seen board).memory c.args.events (g.B.Board.seen board).ledger (g.B.Board.seen board).power (g.B.Board.seen board).level (g.B.Board.seen board).meter
     c.in-Ok.ensures.ledger c.load.ensures.power (ap (λ m. m.armed) c.in-Ok.ensures.meter)
+
+pub load-requires-clause-image : goal.load-requires-clause-image
+load-requires-clause-image g c =
+    let held = new_image c.args.names.now.number c.args.names.now.rounds c.args.files c.requires.generated in
+    omega (arith, ap length c.as_slice.ensures, ap length held.image_is.0, length-append held.flash held.bbram, held.image_is.1.flash, held.image_is.1.bbram)

@@ -1,0 +1,23 @@
+-- Laws of migration. Does an image become one other image, which means the same and is left as it is from then on?
+use Rattle.std.specs.Prelude.{◌≡◌, ℕ, List}
+use Rattle.mb_format.specs.Format.{IsBytes}
+use Rattle.mb_model.specs.Faults.{Fault}
+use Rattle.mb_model.specs.Migration.{IsMigrated, CannotMigrate, MeansTheSame}
+
+-- an image of bytes is migrated to one image
+abbrev pub MigratesToOne : Type 0
+MigratesToOne = (image a b : List ℕ) → IsBytes image → IsMigrated image a → IsMigrated image b → a ≡ b
+
+-- what a migration makes stands for the state for which the image stood
+abbrev pub MigrationKeepsState : Type 0
+MigrationKeepsState = (image out : List ℕ) → IsMigrated image out → MeansTheSame image out
+
+-- a second migration changes nothing
+abbrev pub MigratedStaysSo : Type 0
+MigratedStaysSo =
+    (image out again : List ℕ) → IsBytes out → IsMigrated image out → IsMigrated out again → again ≡ out
+
+-- no image of bytes can be migrated and cannot
+abbrev pub MigratesOrCannot : Type 0
+MigratesOrCannot =
+    (image out : List ℕ) (fault : Fault) → IsBytes image → IsMigrated image out → CannotMigrate image fault → ⊥
