@@ -21,7 +21,7 @@ use Rattle.mb_model.specs.Valid.{IsValidState}
 use Rattle.mb_model_lemmas.proofs.FateLemmas.{keys_increase}
 use Rattle.mb_model_lemmas.proofs.ValidStates.{valid_is_ruled, region_is_valid, valid_with}
 use Rattle.mb_model_lemmas.proofs.ValidRegions.{valid_over_use}
-use Rattle.mb_layout.specs.Edits.{region_with_use, IsSpent}
+use Rattle.mb_layout_edits.specs.Edits.{region_with_use, IsSpent}
 use Rattle.mb_model_memory.specs.Holding.{Means, IsReady, HasReady}
 use Rattle.mb_model_memory.specs.Answering.{IsAnswered, tells, IsCutShort}
 use Rattle.mb_model_memory.proofs.StorableSteps.{found_number}

@@ -1,10 +1,7 @@
 pub mod Bounds
-pub mod Edits
 pub mod Ends
 pub mod Found
 pub mod Parts
-pub mod StoredRegion
 pub mod Uncopied
-pub mod Walks
 pub mod Plans
 pub mod RegionReads

@@ -25,11 +25,14 @@ use mb_model::{
 };
 use std::alloc::Global;
 
-/// A secret in place, not copied.
+/// A secret of a stored region, whose bytes are borrowed from the record.
 #[derive(Clone, Copy)]
 pub struct StoredSecret<'a> {
+    /// 1 to 32 printable bytes, none of them a space.
     pub name: &'a [u8],
+    /// At most 128 bytes.
     pub value: &'a [u8],
+    /// The configuration number at which it was put.
     pub born: u32,
 }
 
@@ -48,7 +51,8 @@ fn name_at<'a>(cursor: &mut Cursor<'a>) -> Result<&'a [u8], BadRecord>
     }
 }
 
-/// Reads a secret, and does not copy it.
+/// Reads a secret at the cursor's offset, as a part of a record, without copying it. Else the offset of the field that
+/// lacks bytes or is not allowed; the cursor may then stand anywhere.
 #[tactic(auto, unfolding(mb_model::specs::RegionFormat::secret_format))]
 pub fn stored_secret_at<'a>(cursor: &mut Cursor<'a>) -> Result<StoredSecret<'a>, BadRecord>
     ensures { ReadsAs secret_in bad_at secret_format cursor.old result cursor.new }
@@ -70,15 +74,16 @@ fn secret_at(alloc: Global, cursor: &mut Cursor<'_>) -> Result<Secret, LayoutEnd
     })
 }
 
-/// The version of a region's record.
-pub(crate) fn region_version_at(cursor: &mut Cursor<'_>) -> Result<u8, BadRecord>
+/// Reads the version of a region's record, 1 or 2, at the cursor's offset. Else that offset, if the byte is missing or
+/// another number; the cursor may then stand anywhere.
+pub fn region_version_at(cursor: &mut Cursor<'_>) -> Result<u8, BadRecord>
     ensures { Reads bad_at (between w8 1 REGION_VERSION) cursor.old result cursor.new }
 {
     u8_between(cursor, 1, REGION_VERSION)
 }
 
-/// The most secrets in a record of this version.
-pub(crate) fn most_secrets(version: u8) -> u8
+/// The most secrets that a region's record of this version has: 16 in version 1, and 22 in version 2.
+pub fn most_secrets(version: u8) -> u8
     ensures { result ≡ most_secrets version }
 {
     if version == 1 {
@@ -163,7 +168,8 @@ fn put_secrets(out: &mut Vec<u8>, secrets: &Secrets) -> Result<(), NoMemory>
     Ok(())
 }
 
-/// Appends the number of keys, in a byte, and the keys.
+/// Appends the keys of a region's record, at most 255, after a byte for their number. If memory lacks, a part of the
+/// spelling may have been appended.
 #[tactic(auto, unfolding(mb_model::specs::RegionFormat::keys_format))]
 pub fn put_keys(out: &mut Vec<u8>, keys: &[RegionKey]) -> Result<(), NoMemory>
     requires { length keys.now < 256 }
@@ -216,9 +222,9 @@ impl Record for (u8, Region) {
     ghost exact = { region_exact };
 }
 
-/// The region whose record, of version 1 or 2, is spelled at the cursor's offset; the cursor then stands after it. After
-/// an error the cursor is unchanged: `Bad` with the offset of the first field that lacks bytes or is not allowed, or
-/// `NoMemory`.
+/// The region whose record, of version 1 or 2, is spelled at the cursor's offset; the cursor then stands after it.
+/// After an error the cursor is unchanged: `Bad` with the offset of the first field that lacks bytes or is not allowed,
+/// or `NoMemory`.
 pub fn read_region(alloc: Global, c: &mut Cursor<'_>) -> Result<Region, LayoutEnd>
     ensures { ReadsRegion c.old result c.new }
 {

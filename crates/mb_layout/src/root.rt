@@ -31,7 +31,8 @@ pub fn version_at(cursor: &mut Cursor<'_>) -> Result<(), BadRecord>
     Ok(())
 }
 
-/// Reads a key of a region.
+/// Reads a key of a region at the cursor's offset, as a part of a record. Else the offset of the field that lacks bytes
+/// or is not allowed; the cursor may then stand anywhere.
 #[tactic(auto, unfolding(mb_model::specs::RootFormat::region_key_format))]
 pub fn region_key_at(cursor: &mut Cursor<'_>) -> Result<RegionKey, BadRecord>
     ensures { Reads bad_at region_key_format cursor.old result cursor.new }

@@ -9,9 +9,9 @@ use Rattle.mb_model.specs.Board.{Memory, IsLoaded}
 use Rattle.mb_model.specs.Memory.{current}
 use Rattle.mb_model.specs.RegionFormat.{SpellsRegion, CanBeWritten}
 use Rattle.mb_model.specs.Meaning.{HoldsRegion}
-use Rattle.mb_layout.specs.declared.usage.NotUsed.{NotUsed}
-use Rattle.mb_layout.specs.declared.usage.NotUsed.TheVariants.{NoKey, Spent}
-use Rattle.mb_layout.specs.Edits.{region_with_use, UseOf}
+use Rattle.mb_layout_edits.specs.declared.usage.NotUsed.{NotUsed}
+use Rattle.mb_layout_edits.specs.declared.usage.NotUsed.TheVariants.{NoKey, Spent}
+use Rattle.mb_layout_edits.specs.Edits.{region_with_use, UseOf}
 use Rattle.mb_model_memory.proofs.StorableMemories.{spelled_storable}
 use Rattle.mb_model_memory.proofs.StorableRecords.{region_written}
 use Rattle.mb_model_memory.proofs.StorableSteps.{use_region}

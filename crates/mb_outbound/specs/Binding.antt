@@ -11,7 +11,7 @@ use Rattle.mb_model.specs.LayerEvents.{has_number}
 use Rattle.mb_model.specs.Regions.{region_of, with_region}
 use Rattle.mb_model.specs.Meaning.{HoldsRegion, Contents}
 use Rattle.mb_model_memory.specs.Holding.{Holds, region_in_slot, with_region_in}
-use Rattle.mb_layout.specs.Edits.{region_with_use, IsSpent}
+use Rattle.mb_layout_edits.specs.Edits.{region_with_use, IsSpent}
 use Rattle.mb_outbound.specs.declared.binding.BindEnd.{BindEnd}
 use Rattle.mb_outbound.specs.declared.binding.BindEnd.TheVariants.{NoKey, Spent, Stopped}
 

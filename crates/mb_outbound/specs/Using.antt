@@ -4,9 +4,9 @@ use Rattle.mb_model.specs.declared.region.Region.{Region}
 use Rattle.mb_model.specs.declared.region.RegionKey.{RegionKey}
 use Rattle.mb_model.specs.LayerEvents.{has_number}
 use Rattle.mb_model.specs.RegionFormat.{SpellsRegion}
-use Rattle.mb_layout.specs.declared.usage.NotUsed.{NotUsed}
-use Rattle.mb_layout.specs.declared.usage.NotUsed.TheVariants.{NoKey, Spent}
-use Rattle.mb_layout.specs.Edits.{region_with_use, IsSpent}
+use Rattle.mb_layout_edits.specs.declared.usage.NotUsed.{NotUsed}
+use Rattle.mb_layout_edits.specs.declared.usage.NotUsed.TheVariants.{NoKey, Spent}
+use Rattle.mb_layout_edits.specs.Edits.{region_with_use, IsSpent}
 use Rattle.mb_outbound.specs.Binding.{HasUse}
 
 -- the key has an index left, and the bytes stand for the region with one more use of it

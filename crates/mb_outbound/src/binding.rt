@@ -17,7 +17,8 @@ ghost use Rattle.mb_outbound.specs.Binding.{HoldsOrdered, BindOf, power_in, Stay
 ghost use Rattle.mb_outbound.specs.Using.{FindsUse};
 
 use mb_board::Board;
-use mb_layout::{NotUsed, Room, record_in, use_in_record};
+use mb_layout::{Room, record_in};
+use mb_layout_edits::{NotUsed, use_in_record};
 use mb_model::{KeySeed, RegionKey};
 use mb_ratchet::{Off, Reaches};
 use mb_region::{Named, commit_record, read_area, wipe_region};

@@ -14,7 +14,7 @@ use Rattle.mb_model.specs.Meaning.{HoldsRegion, Contents, HoldsContents, fated, 
 use Rattle.mb_model.proofs.RegionWriting.{written_spells, spelled_short, written_short, written_is_record}
 use Rattle.mb_model_lemmas.proofs.MeaningLemmas.{one_region}
 use Rattle.mb_model_lemmas.proofs.FateLemmas.{kept_as_before}
-use Rattle.mb_layout.specs.Edits.{IsFated}
+use Rattle.mb_layout_edits.specs.Edits.{IsFated}
 use Rattle.mb_layout.specs.Found.{FindsBy}
 use Rattle.mb_layout.proofs.Areas.{one_held}
 use Rattle.mb_model.specs.declared.stored.Root.{Root}

@@ -16,9 +16,8 @@ ghost use Rattle.mb_region.specs.Regions.{IsRegionSlot, HoldsSomeRegion, Replace
 ghost use Rattle.mb_region.specs.Fates.{CanBeFated, IsPending, AppliesFate, KeepsOrApplies};
 
 use mb_board::{Board, Stopped};
-use mb_layout::{
-    Room, count_keys, fate_record, fill_area, make_area, record_in, region_in, write_region,
-};
+use mb_layout::{Room, fill_area, make_area, record_in, region_in, write_region};
+use mb_layout_edits::{count_keys, fate_record};
 use mb_model::{Fate, NoMemory, Region};
 use mb_slot::{commit, read_current};
 use std::alloc::Global;

@@ -3,8 +3,8 @@
 use super::spelled::bytes_of;
 use super::values::KEY_NINE;
 use super::vectors;
-use mb_layout::{Fate, NotUsed, fate_record, use_in_record};
-use mb_model::{REGION_LIMIT, RegionKey};
+use mb_layout_edits::{NotUsed, fate_record, use_in_record};
+use mb_model::{Fate, REGION_LIMIT, RegionKey};
 use std::alloc::Global;
 use std::process::Abort;
 use std::test::Fail;

@@ -1,6 +1,0 @@
-use Rattle.std.proofs.Common.{◌≡◌, find, drop}
-use Rattle.mb_model.specs.LayerEvents.{has_number}
-use Rattle.mb_layout.proofs.row.key_of.Given as goal
-
-abbrev pub invariant-loop-key : goal.invariant-loop-key
-invariant-loop-key l = find (has_number l.number) (drop l.key-index l.keys) ≡ find (has_number l.number) l.keys

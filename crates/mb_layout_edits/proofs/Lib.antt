@@ -1,0 +1,3 @@
+pub mod RegionParts
+pub mod Rows
+pub mod Walking

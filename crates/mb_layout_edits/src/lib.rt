@@ -1,0 +1,16 @@
+//! Stored regions changed in place: as bytes, and without memory.
+//!
+//! This crate owns how the record of a region is changed while the work of an order is done: by the fate that an order
+//! gave the region, and by the use of a key. Only keys are decoded; the secrets are copied as the bytes that they are.
+//! It stands on the format of `mb_model` (`RegionFormat`), on `mb_layout`, which reads and writes the parts of such a
+//! record, and on the fields of `mb_bytes`.
+#![tactic(auto)]
+
+mod fate;
+mod row;
+mod stored;
+mod usage;
+
+pub use fate::fate_record;
+pub use stored::count_keys;
+pub use usage::{NotUsed, use_in_record};
