@@ -44,6 +44,12 @@ reading_fails {item} {next} {n} {i} {first} {state} {front} {old} {now} {after} 
   reads = items_fail item next n i state front old.bytes.now now.offset offset _ lt (rw (← is.bytes) r.reads) is.so_far;
 }
 
+-- the same where the error points at an offset or nowhere
+pub reading_fails_at : {A S : Type 0} {item : S → Format A} {next : S → A → S} {n i : ℕ} {first state : S} {front : List A} {old now : Cursor} (after : Cursor) (at : Option ℕ) → i < n
+    → IsReading item next n i first state front old now → ReadsErrAt (item state) now at after → ReadsErrAt (items item next n first) old at after
+reading_fails_at after (Some at) lt is r = reading_fails lt is r
+reading_fails_at after None lt is r = r ∙ is.bytes
+
 pub reading_ends : {A S : Type 0} {item : S → Format A} {next : S → A → S} {n i : ℕ} {first state : S} {front : List A} {old now : Cursor} → n ≤ i
     → IsReading item next n i first state front old now → ReadsOk (items item next n first) old front now
 reading_ends {item} {next} {n} {i} {first} {state} {front} {old} {now} le is = record {

@@ -1,7 +1,7 @@
 //! A record of a number, raw bytes and a counted list, read and written.
 //!
-//! The example shows how the contracts of this crate are composed. It is checked with the crate, so that a change of
-//! the contracts that would leave readers and writers above unproved is seen here first.
+//! The example shows how a record is written with the contracts of this crate. It is checked with the crate, so that a
+//! change of the contracts that would leave readers and writers above unproved is seen here first.
 
 ghost use Rattle.std.specs.Prelude.{◌≡◌, ◌<◌, ◌≤◌, length};
 ghost use Rattle.mb_model.specs.declared.limits.TheConstants.{FILE_LIMIT};
@@ -9,7 +9,10 @@ ghost use Rattle.mb_bytes.specs.Reads.{Reads, ReadsExactly, ReadsWhole};
 ghost use Rattle.mb_bytes.specs.Puts.{Puts, Writes};
 ghost use Rattle.mb_bytes.specs.Example.{example, values, points};
 
-use crate::{Cursor, Short, put_slice, put_u8, put_u16, put_u32};
+use crate::{
+    Cursor, Field, ReadError, ReadMemoryError, Short, WriteField, items_at, put_items, put_slice,
+    put_u8, put_u32, read_field, read_whole, write_field,
+};
 use mb_model::{Items, NoMemory};
 use std::alloc::Global;
 
@@ -46,90 +49,35 @@ impl From<Short> for NotRead {
     }
 }
 
-impl From<NoMemory> for NotRead {
-    ghost use Rattle.mb_bytes.specs.declared.example.NotRead.TheVariants.{NoMemory};
+impl ReadError for NotRead {
+    ghost use Rattle.mb_bytes.specs.Example.{points};
 
-    ghost from_gives = { λ _ e. e ≡ NoMemory };
+    ghost points = { points };
 
-    fn from(_error: NoMemory) -> NotRead {
-        NotRead::NoMemory
+    fn bad(at: u32) -> NotRead {
+        NotRead::BadRecord { at }
     }
-}
 
-#[tactic(auto, unfolding(crate::specs::Example::example))]
-fn example_at(alloc: Global, cursor: &mut Cursor) -> Result<Example, NotRead>
-    ensures { Reads points example cursor.old result cursor.new }
-{
-    let number = cursor.take_u32()?;
-    let name = cursor.take_array()?;
-    let values = values_at(alloc, cursor)?;
-    Ok(Example {
-        number,
-        name,
-        values,
-    })
-}
-
-#[tactic(auto, unfolding(crate::specs::Example::values))]
-fn values_at(alloc: Global, cursor: &mut Cursor) -> Result<Items<u16>, NotRead>
-    ensures { Reads points values cursor.old result cursor.new }
-{
-    let count = cursor.take_u8()?;
-    let mut values = Items::new(alloc);
-    for _i in 0..count {
-        values.push(cursor.take_u16()?)?;
-    }
-    Ok(values)
-}
-
-/// The example that is spelled at the cursor's offset; the cursor is unchanged after an error.
-pub fn read_example(alloc: Global, cursor: &mut Cursor) -> Result<Example, NotRead>
-    ensures { ReadsExactly points example cursor.old result cursor.new }
-{
-    let mut ahead = *cursor;
-    let value = example_at(alloc, &mut ahead)?;
-    *cursor = ahead;
-    Ok(value)
-}
-
-/// The example that all of the bytes spell.
-pub fn read_whole_example(alloc: Global, bytes: &[u8]) -> Result<Example, NotRead>
-    requires { length bytes.now ≤ FILE_LIMIT }
-    ensures { ReadsWhole points example bytes.now result }
-{
-    let mut cursor = Cursor::new(bytes);
-    let value = example_at(alloc, &mut cursor)?;
-    if cursor.left() > 0 {
-        return Err(NotRead::BadRecord {
-            at: cursor.offset(),
-        });
-    }
-    Ok(value)
-}
-
-/// Appends the spelling of the example, or leaves `out` as it was.
-pub fn write_example(out: &mut Vec<u8>, value: &Example) -> Result<(), NoMemory>
-    requires { length value.now.values < 256 }
-    ensures { Writes (example.spelling value.now) out.old result out.new }
-{
-    let length = out.len();
-    match put_example(out, value) {
-        Ok(()) => Ok(()),
-        Err(error) => {
-            out.truncate(length);
-            Err(error)
+    fn offset(&self) -> Option<u32> {
+        match self {
+            NotRead::NoMemory => None,
+            NotRead::BadRecord { at } => Some(*at),
         }
     }
 }
 
-#[tactic(auto, unfolding(crate::specs::Example::example))]
-fn put_example(out: &mut Vec<u8>, value: &Example) -> Result<(), NoMemory>
-    requires { length value.now.values < 256 }
-    ensures { Puts (example.spelling value.now) out.old result out.new }
+impl ReadMemoryError for NotRead {
+    fn no_memory() -> NotRead {
+        NotRead::NoMemory
+    }
+}
+
+#[tactic(auto, unfolding(crate::specs::Example::values))]
+fn values_at(alloc: Global, cursor: &mut Cursor<'_>) -> Result<Items<u16>, NotRead>
+    ensures { Reads points values cursor.old result cursor.new }
 {
-    put_u32(out, value.number)?;
-    put_slice(out, &value.name)?;
-    put_values(out, &value.values)
+    let count = cursor.take_u8()?;
+    items_at::<u16, NotRead>(alloc, (), cursor, count as u32)
 }
 
 #[tactic(auto, unfolding(crate::specs::Example::values))]
@@ -138,8 +86,66 @@ fn put_values(out: &mut Vec<u8>, list: &Items<u16>) -> Result<(), NoMemory>
     ensures { Puts (values.spelling list.now) out.old result out.new }
 {
     put_u8(out, list.as_slice().len() as u8)?;
-    for value in list.as_slice() {
-        put_u16(out, *value)?;
+    put_items::<u16>(out, list.as_slice())
+}
+
+#[tactic(auto, unfolding(crate::specs::Example::example))]
+impl Field for Example {
+    ghost use Rattle.mb_bytes.specs.Example.{example};
+    ghost use Rattle.mb_bytes.specs.ExampleLaw.{example_exact};
+
+    type Value = Example;
+
+    type Needs = Global;
+
+    type End = NotRead;
+
+    ghost format = { example };
+
+    fn read_at(alloc: Global, cursor: &mut Cursor<'_>) -> Result<Example, NotRead> {
+        let number = cursor.take_u32()?;
+        let name = cursor.take_array()?;
+        let values = values_at(alloc, cursor)?;
+        Ok(Example {
+            number,
+            name,
+            values,
+        })
     }
-    Ok(())
+
+    ghost exact = { example_exact };
+}
+
+#[tactic(auto, unfolding(crate::specs::Example::example))]
+impl WriteField for Example {
+    ghost Fits = { λ e. length e.values < 256 };
+
+    fn put(value: &Example, out: &mut Vec<u8>) -> Result<(), NoMemory> {
+        put_u32(out, value.number)?;
+        put_slice(out, &value.name)?;
+        put_values(out, &value.values)
+    }
+}
+
+/// The example that is spelled at the cursor's offset; the cursor is unchanged after an error.
+pub fn read_example(alloc: Global, cursor: &mut Cursor) -> Result<Example, NotRead>
+    ensures { ReadsExactly points example cursor.old result cursor.new }
+{
+    read_field::<Example>(alloc, cursor)
+}
+
+/// The example that all of the bytes spell.
+pub fn read_whole_example(alloc: Global, bytes: &[u8]) -> Result<Example, NotRead>
+    requires { length bytes.now ≤ FILE_LIMIT }
+    ensures { ReadsWhole points example bytes.now result }
+{
+    read_whole::<Example>(alloc, bytes)
+}
+
+/// Appends the spelling of the example, or leaves `out` as it was.
+pub fn write_example(out: &mut Vec<u8>, value: &Example) -> Result<(), NoMemory>
+    requires { length value.now.values < 256 }
+    ensures { Writes (example.spelling value.now) out.old result out.new }
+{
+    write_field::<Example>(value, out)
 }

@@ -11,7 +11,7 @@ ghost use Rattle.mb_model.specs.EntryFormat.{key_kind_byte, key_kind_format};
 ghost use Rattle.mb_bytes.specs.Reads.{bad_at, Reads, ReadsWhole};
 ghost use Rattle.mb_bytes.specs.Puts.{Puts};
 
-use crate::{Cursor, put_slice, put_u8, put_u32};
+use crate::{Cursor, put_slice, put_u8, put_u32, read_whole};
 use mb_model::{BadRecord, Chains, KeyKind, KeySeed, NoMemory, PublicKey, Tree, Trust, Trusts};
 
 fn tree_at(cursor: &mut Cursor) -> Result<Tree, BadRecord>
@@ -65,14 +65,7 @@ pub fn read_public_key(bytes: &[u8]) -> Result<PublicKey, BadRecord>
     requires { length bytes.now ≤ FILE_LIMIT }
     ensures { ReadsWhole bad_at public_key_format bytes.now result }
 {
-    let mut cursor = Cursor::new(bytes);
-    let key = public_key_at(&mut cursor)?;
-    if cursor.left() > 0 {
-        return Err(BadRecord {
-            at: cursor.offset(),
-        });
-    }
-    Ok(key)
+    read_whole::<PublicKey>((), bytes)
 }
 
 /// The seed of a key: its identifier and its secret.

@@ -3,16 +3,24 @@
 //! Numbers are big-endian. The contracts speak of the formats of `mb_format`: `specs/Reads.antt` says what a reader of
 //! a format gives, `specs/Puts.antt` what a writer appends. Readers and writers of whole records, in the crates above,
 //! have the same contracts and are composed of these by `?`. Fields that several of those records share stand here too:
-//! magic words, numbers within bounds, flags, names, bytes after their number, keys, trust and kinds of keys.
+//! magic words, numbers within bounds, flags, names, bytes after their number, keys, trust and kinds of keys. A record
+//! is a type with `Field`, which says how one value is read; what other crates call then follows (`read_whole`,
+//! `write_field`, ..).
 #![tactic(auto)]
 
 mod cursor;
 pub mod example;
+mod field;
 mod fields;
 mod keys;
+mod own;
 mod puts;
 
 pub use cursor::{Cursor, Short};
+pub use field::{
+    Field, ReadError, ReadMemoryError, WriteField, items_at, optional_at, put_items, put_optional,
+    read_field, read_whole, write_field,
+};
 pub use fields::{
     bytes_after_u8, bytes_after_u16, bytes_after_u32, flag_at, is_name, put_after_u8,
     put_after_u16, put_after_u32, put_flag, u8_between, u16_between, u32_between, word_at,

@@ -2,7 +2,7 @@
 
 ghost use Rattle.std.specs.Prelude.{◌≡◌};
 
-use mb_bytes::Short;
+use mb_bytes::{ReadError, ReadMemoryError, Short};
 use mb_model::{BadRecord, NoMemory};
 
 /// Why no record was read.
@@ -41,6 +41,29 @@ impl From<NoMemory> for LayoutEnd {
     ghost from_gives = { λ _ e. e ≡ NoMemory };
 
     fn from(_error: NoMemory) -> LayoutEnd {
+        LayoutEnd::NoMemory
+    }
+}
+
+impl ReadError for LayoutEnd {
+    ghost use Rattle.mb_layout.specs.Ends.{layout_at};
+
+    ghost points = { layout_at };
+
+    fn bad(at: u32) -> LayoutEnd {
+        LayoutEnd::Bad(BadRecord { at })
+    }
+
+    fn offset(&self) -> Option<u32> {
+        match self {
+            LayoutEnd::Bad(bad) => Some(bad.at),
+            LayoutEnd::NoMemory => None,
+        }
+    }
+}
+
+impl ReadMemoryError for LayoutEnd {
+    fn no_memory() -> LayoutEnd {
         LayoutEnd::NoMemory
     }
 }

@@ -2,18 +2,16 @@
 
 ghost use Rattle.std.specs.Prelude.{◌≡◌};
 ghost use Rattle.std.specs.Int.{w8};
-ghost use Rattle.mb_format.specs.Combinators.{table, optional};
-ghost use Rattle.mb_model.specs.KeyFormat.{public_key_format};
+ghost use Rattle.mb_format.specs.Combinators.{table};
 ghost use Rattle.mb_model.specs.EntryFormat.{change_rows, change_byte, birth_tag, change_tag, entry_byte, pair_byte, pair_format, birth_format, change_format, new_key_format, succession_format, entry_format};
 ghost use Rattle.mb_bytes.specs.Reads.{bad_at, Reads, ReadsExactly};
 ghost use Rattle.mb_bytes.specs.Puts.{Puts, Writes};
 ghost use Rattle.mb_layout.specs.Parts.{kept_bytes, changed_bytes, made_key_bytes};
 
 use crate::layer::{layers_at, put_layers};
-use crate::records::{Record, read_record, write_record};
 use mb_bytes::{
-    Cursor, flag_at, key_kind_at, public_key_at, put_flag, put_key_kind, put_public_key, put_slice,
-    put_u8, put_u32, u8_between,
+    Cursor, Field, WriteField, key_kind_at, optional_at, public_key_at, put_key_kind, put_optional,
+    put_public_key, put_slice, put_u8, put_u32, read_field, u8_between, write_field,
 };
 use mb_model::{BadRecord, ChangeKind, Entry, KeyKind, Layers, NoMemory, Pair, PublicKey};
 
@@ -56,16 +54,6 @@ fn pair_at(cursor: &mut Cursor<'_>) -> Result<Pair, BadRecord>
     }
 }
 
-fn next_key_at(cursor: &mut Cursor<'_>) -> Result<Option<PublicKey>, BadRecord>
-    ensures { Reads bad_at (optional public_key_format) cursor.old result cursor.new }
-{
-    if flag_at(cursor)? {
-        Ok(Some(public_key_at(cursor)?))
-    } else {
-        Ok(None)
-    }
-}
-
 #[tactic(auto, unfolding(mb_model::specs::EntryFormat::birth_format))]
 fn birth_at(cursor: &mut Cursor<'_>, version: u8) -> Result<Entry, BadRecord>
     ensures { Reads bad_at (birth_format version) cursor.old result cursor.new }
@@ -92,7 +80,7 @@ fn change_at(cursor: &mut Cursor<'_>, version: u8) -> Result<Entry, BadRecord>
     let cosigned = pair_at(cursor)?;
     let kept = pair_at(cursor)?;
     let layers = layers_at(cursor, version)?;
-    let next = next_key_at(cursor)?;
+    let next = optional_at::<PublicKey>((), cursor)?;
     Ok(Entry::Change {
         version,
         position,
@@ -188,18 +176,6 @@ fn pair_number(pair: Pair) -> u8
     }
 }
 
-fn put_next_key(out: &mut Vec<u8>, next: &Option<PublicKey>) -> Result<(), NoMemory>
-    ensures { Puts ((optional public_key_format).spelling next.now) out.old result out.new }
-{
-    match next {
-        Some(key) => {
-            put_flag(out, true)?;
-            put_public_key(out, key)
-        }
-        None => put_flag(out, false),
-    }
-}
-
 #[tactic(auto, unfolding(mb_model::specs::EntryFormat::pair_format))]
 fn put_pair(out: &mut Vec<u8>, pair: Pair) -> Result<(), NoMemory>
     ensures { Puts (pair_format.spelling pair) out.old result out.new }
@@ -218,7 +194,7 @@ fn put_kept(
 {
     put_pair(out, kept)?;
     put_layers(out, layers, version)?;
-    put_next_key(out, next)
+    put_optional::<PublicKey>(out, next)
 }
 
 fn put_changed(
@@ -309,10 +285,14 @@ pub fn put_entry(out: &mut Vec<u8>, entry: &Entry) -> Result<(), NoMemory>
     }
 }
 
-impl Record for Entry {
+/// An entry of the log.
+pub struct EntryField;
+
+impl Field for EntryField {
     ghost use Rattle.mb_model.specs.EntryFormat.{entry_format};
-    ghost use Rattle.mb_bytes.specs.Reads.{bad_at};
     ghost use Rattle.mb_model.proofs.EntryFormatLaws.{entry_exact};
+
+    type Value = Entry;
 
     type Needs = ();
 
@@ -320,21 +300,19 @@ impl Record for Entry {
 
     ghost format = { entry_format };
 
-    ghost points = { bad_at };
-
     fn read_at(_needs: (), cursor: &mut Cursor<'_>) -> Result<Entry, BadRecord> {
         entry_at(cursor)
     }
 
-    fn bad(at: u32) -> BadRecord {
-        BadRecord { at }
-    }
-
-    fn put(&self, out: &mut Vec<u8>) -> Result<(), NoMemory> {
-        put_entry(out, self)
-    }
-
     ghost exact = { entry_exact };
+}
+
+impl WriteField for EntryField {
+    ghost Fits = { λ _. Unit {0} };
+
+    fn put(entry: &Entry, out: &mut Vec<u8>) -> Result<(), NoMemory> {
+        put_entry(out, entry)
+    }
 }
 
 /// The entry spelled at the cursor's offset; the cursor then stands after it. Else the offset of the first field that
@@ -342,7 +320,7 @@ impl Record for Entry {
 pub fn read_entry(c: &mut Cursor<'_>) -> Result<Entry, BadRecord>
     ensures { ReadsExactly bad_at entry_format c.old result c.new }
 {
-    read_record((), c)
+    read_field::<EntryField>((), c)
 }
 
 /// Appends the spelling of the entry, or leaves `out` as it was. `Ok` if the capacity of `out` holds it.
@@ -350,5 +328,5 @@ pub fn write_entry(entry: &Entry, out: &mut Vec<u8>) -> Result<(), NoMemory>
     requires { entry_format.Allowed entry.now }
     ensures { Writes (entry_format.spelling entry.now) out.old result out.new }
 {
-    write_record(entry, out)
+    write_field::<EntryField>(entry, out)
 }

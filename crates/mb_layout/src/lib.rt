@@ -9,14 +9,13 @@ mod area;
 mod end;
 mod entry;
 mod layer;
-mod records;
 mod region;
 mod room;
 mod root;
 
 pub use area::{fill_area, is_blank, record_in, region_in, root_in};
 pub use end::LayoutEnd;
-pub use entry::{read_entry, write_entry};
+pub use entry::{EntryField, read_entry, write_entry};
 pub use layer::{read_layer, write_layer};
 pub use mb_model::{BadRecord, Fate, Outgoing, Pending, Root};
 pub use region::{

@@ -14,13 +14,13 @@ ghost use Rattle.mb_layout.specs.RegionReads.{ReadsRegion, ReadsWholeRegion};
 ghost use Rattle.mb_layout.specs.Uncopied.{secret_in};
 
 use crate::end::LayoutEnd;
-use crate::records::{Record, read_record, whole_record};
-use crate::root::{put_region_key, region_key_at};
+use crate::root::RegionKeyField;
 use mb_bytes::{
-    Cursor, bytes_after_u8, is_name, put_after_u8, put_slice, put_u8, put_u32, u8_between,
+    Cursor, Field, WriteField, bytes_after_u8, is_name, items_at, put_after_u8, put_items, put_u8,
+    put_u32, read_field, read_whole, u8_between,
 };
 use mb_model::{
-    BadRecord, Bytes, Items, KEY_LIMIT, NAME_LIMIT, NoMemory, REGION_VERSION, Region, RegionKey,
+    BadRecord, Bytes, KEY_LIMIT, NAME_LIMIT, NoMemory, REGION_VERSION, Region, RegionKey,
     RegionKeys, SECRET_LIMIT, SECRET_LIMIT_VERSION_1, Secret, Secrets, VALUE_LIMIT,
 };
 use std::alloc::Global;
@@ -63,15 +63,45 @@ pub fn stored_secret_at<'a>(cursor: &mut Cursor<'a>) -> Result<StoredSecret<'a>,
     Ok(StoredSecret { name, value, born })
 }
 
-fn secret_at(alloc: Global, cursor: &mut Cursor<'_>) -> Result<Secret, LayoutEnd>
-    ensures { Reads layout_at secret_format cursor.old result cursor.new }
-{
-    let stored = stored_secret_at(cursor)?;
-    Ok(Secret {
-        name: Bytes::copy(alloc, stored.name)?,
-        value: Bytes::copy(alloc, stored.value)?,
-        born: stored.born,
-    })
+/// A secret, copied.
+struct SecretField;
+
+#[tactic(auto, unfolding(mb_model::specs::RegionFormat::secret_format))]
+impl Field for SecretField {
+    ghost use Rattle.mb_model.specs.RegionFormat.{secret_format};
+    ghost use Rattle.mb_model.proofs.RecordFormatLaws.{secret_exact};
+
+    type Value = Secret;
+
+    type Needs = Global;
+
+    type End = LayoutEnd;
+
+    ghost format = { secret_format };
+
+    fn read_at(alloc: Global, cursor: &mut Cursor<'_>) -> Result<Secret, LayoutEnd> {
+        let stored = stored_secret_at(cursor)?;
+        Ok(Secret {
+            name: Bytes::copy(alloc, stored.name)?,
+            value: Bytes::copy(alloc, stored.value)?,
+            born: stored.born,
+        })
+    }
+
+    ghost exact = { secret_exact };
+}
+
+#[tactic(auto, unfolding(mb_model::specs::RegionFormat::secret_format))]
+impl WriteField for SecretField {
+    ghost use Rattle.mb_layout.specs.Bounds.{SecretFits};
+
+    ghost Fits = { SecretFits };
+
+    fn put(secret: &Secret, out: &mut Vec<u8>) -> Result<(), NoMemory> {
+        put_after_u8(out, secret.name.as_slice())?;
+        put_after_u8(out, secret.value.as_slice())?;
+        put_u32(out, secret.born)
+    }
 }
 
 /// Reads the version of a region's record, 1 or 2, at the cursor's offset. Else that offset, if the byte is missing or
@@ -98,11 +128,7 @@ fn secrets_at(alloc: Global, cursor: &mut Cursor<'_>, most: u8) -> Result<Secret
     ensures { Reads layout_at (secrets_format most) cursor.old result cursor.new }
 {
     let count = u8_between(cursor, 0, most)?;
-    let mut secrets = Items::new(alloc);
-    for _i in 0..count {
-        secrets.push(secret_at(alloc, cursor)?)?;
-    }
-    Ok(secrets)
+    items_at::<SecretField, LayoutEnd>(alloc, alloc, cursor, count as u32)
 }
 
 #[tactic(auto, unfolding(mb_model::specs::RegionFormat::keys_format))]
@@ -110,11 +136,7 @@ fn keys_at(alloc: Global, cursor: &mut Cursor<'_>, least: u8) -> Result<RegionKe
     ensures { Reads layout_at (keys_format least) cursor.old result cursor.new }
 {
     let count = u8_between(cursor, least, KEY_LIMIT)?;
-    let mut keys = Items::new(alloc);
-    for _i in 0..count {
-        keys.push(region_key_at(cursor)?)?;
-    }
-    Ok(keys)
+    items_at::<RegionKeyField, LayoutEnd>(alloc, (), cursor, count as u32)
 }
 
 /// The least number of keys beside these secrets: a region without secrets and keys has no record.
@@ -145,16 +167,6 @@ fn region_at(alloc: Global, cursor: &mut Cursor<'_>) -> Result<(u8, Region), Lay
     Ok((version, region))
 }
 
-#[tactic(auto, unfolding(mb_model::specs::RegionFormat::secret_format))]
-fn put_secret(out: &mut Vec<u8>, secret: &Secret) -> Result<(), NoMemory>
-    requires { SecretFits secret.now }
-    ensures { Puts (secret_format.spelling secret.now) out.old result out.new }
-{
-    put_after_u8(out, secret.name.as_slice())?;
-    put_after_u8(out, secret.value.as_slice())?;
-    put_u32(out, secret.born)
-}
-
 #[tactic(auto, unfolding(mb_model::specs::RegionFormat::secrets_format))]
 fn put_secrets(out: &mut Vec<u8>, secrets: &Secrets) -> Result<(), NoMemory>
     requires count { length secrets.now < 256 }
@@ -162,10 +174,7 @@ fn put_secrets(out: &mut Vec<u8>, secrets: &Secrets) -> Result<(), NoMemory>
     ensures { Puts ((secrets_format SECRET_LIMIT).spelling secrets.now) out.old result out.new }
 {
     put_u8(out, secrets.as_slice().len() as u8)?;
-    for secret in secrets.as_slice() {
-        put_secret(out, secret)?;
-    }
-    Ok(())
+    put_items::<SecretField>(out, secrets.as_slice())
 }
 
 /// Appends the keys of a region's record, at most 255, after a byte for their number. If memory lacks, a part of the
@@ -176,10 +185,7 @@ pub fn put_keys(out: &mut Vec<u8>, keys: &[RegionKey]) -> Result<(), NoMemory>
     ensures { Puts ((keys_format 0).spelling keys.now) out.old result out.new }
 {
     put_u8(out, keys.len() as u8)?;
-    for key in keys {
-        put_region_key(out, key)?;
-    }
-    Ok(())
+    put_items::<RegionKeyField>(out, keys)
 }
 
 /// Appends the record of the region in this version.
@@ -193,11 +199,14 @@ fn put_region(out: &mut Vec<u8>, version: u8, region: &Region) -> Result<(), NoM
     put_keys(out, region.keys.as_slice())
 }
 
-/// A region with the version of its record.
-impl Record for (u8, Region) {
+/// A region after the version of its record.
+struct RegionField;
+
+impl Field for RegionField {
     ghost use Rattle.mb_model.specs.RegionFormat.{region_format};
-    ghost use Rattle.mb_layout.specs.Ends.{layout_at};
     ghost use Rattle.mb_model.proofs.RecordFormatLaws.{region_exact};
+
+    type Value = (u8, Region);
 
     type Needs = Global;
 
@@ -205,21 +214,21 @@ impl Record for (u8, Region) {
 
     ghost format = { region_format };
 
-    ghost points = { layout_at };
-
-    fn read_at(needs: Global, cursor: &mut Cursor<'_>) -> Result<(u8, Region), LayoutEnd> {
-        region_at(needs, cursor)
-    }
-
-    fn bad(at: u32) -> LayoutEnd {
-        LayoutEnd::Bad(BadRecord { at })
-    }
-
-    fn put(&self, out: &mut Vec<u8>) -> Result<(), NoMemory> {
-        put_region(out, self.0, &self.1)
+    fn read_at(alloc: Global, cursor: &mut Cursor<'_>) -> Result<(u8, Region), LayoutEnd> {
+        region_at(alloc, cursor)
     }
 
     ghost exact = { region_exact };
+}
+
+impl WriteField for RegionField {
+    ghost use Rattle.mb_layout.specs.Bounds.{RegionFits};
+
+    ghost Fits = { λ p. RegionFits p.1 };
+
+    fn put(versioned: &(u8, Region), out: &mut Vec<u8>) -> Result<(), NoMemory> {
+        put_region(out, versioned.0, &versioned.1)
+    }
 }
 
 /// The region whose record, of version 1 or 2, is spelled at the cursor's offset; the cursor then stands after it.
@@ -228,7 +237,7 @@ impl Record for (u8, Region) {
 pub fn read_region(alloc: Global, c: &mut Cursor<'_>) -> Result<Region, LayoutEnd>
     ensures { ReadsRegion c.old result c.new }
 {
-    let (_version, region) = read_record::<(u8, Region)>(alloc, c)?;
+    let (_version, region) = read_field::<RegionField>(alloc, c)?;
     Ok(region)
 }
 
@@ -238,11 +247,13 @@ pub fn region_of_bytes(alloc: Global, bytes: &[u8]) -> Result<Region, LayoutEnd>
     requires { length bytes.now ≤ FILE_LIMIT }
     ensures { ReadsWholeRegion bytes.now result }
 {
-    let (_version, region) = whole_record::<(u8, Region)>(alloc, bytes)?;
+    let (_version, region) = read_whole::<RegionField>(alloc, bytes)?;
     Ok(region)
 }
 
 /// Appends the region's record of version 2, or leaves `out` as it was. `Ok` if the capacity of `out` holds it.
+///
+/// Not by `write_field`: the region is borrowed, and a value of `RegionField` owns it.
 #[tactic(auto, using(crate::proofs::Sizes::region_fits))]
 pub fn write_region(region: &Region, out: &mut Vec<u8>) -> Result<(), NoMemory>
     requires { region_format.Allowed (REGION_VERSION, region.now) }

@@ -2,17 +2,16 @@
 
 ghost use Rattle.std.specs.Prelude.{◌≤◌, [], ◌∷◌, length};
 ghost use Rattle.std.specs.Int.{w8};
-ghost use Rattle.mb_format.specs.Combinators.{mark, number, optional};
+ghost use Rattle.mb_format.specs.Combinators.{mark, number};
 ghost use Rattle.mb_model.specs.declared.limits.TheConstants.{FILE_LIMIT};
 ghost use Rattle.mb_model.specs.RootFormat.{region_key_format, outgoing_format, add_tag, fate_by, fate_format, pending_format, root_format};
 ghost use Rattle.mb_bytes.specs.Reads.{bad_at, Reads, ReadsExactly, ReadsWhole};
 ghost use Rattle.mb_bytes.specs.Puts.{Puts, Writes};
 ghost use Rattle.mb_layout.specs.Parts.{root_key_bytes};
 
-use crate::records::{Record, read_record, whole_record, write_record};
 use mb_bytes::{
-    Cursor, flag_at, key_kind_at, key_seed_at, put_flag, put_key_kind, put_key_seed, put_slice,
-    put_u8, put_u32, u8_between,
+    Cursor, Field, WriteField, key_kind_at, key_seed_at, optional_at, put_key_kind, put_key_seed,
+    put_optional, put_slice, put_u8, put_u32, read_field, read_whole, u8_between, write_field,
 };
 use mb_model::{BadRecord, Fate, KEY_USES, NoMemory, Outgoing, Pending, RegionKey, Root};
 
@@ -49,18 +48,6 @@ pub fn region_key_at(cursor: &mut Cursor<'_>) -> Result<RegionKey, BadRecord>
     })
 }
 
-#[tactic(auto, unfolding(mb_model::specs::RootFormat::outgoing_format))]
-fn outgoing_at(cursor: &mut Cursor<'_>) -> Result<Outgoing, BadRecord>
-    ensures { Reads bad_at outgoing_format cursor.old result cursor.new }
-{
-    let seed = key_seed_at(cursor)?;
-    let uses = u8_between(cursor, 1, KEY_USES)?;
-    Ok(Outgoing {
-        seed,
-        uses: uses as u32,
-    })
-}
-
 fn added_at(cursor: &mut Cursor<'_>) -> Result<Fate, BadRecord>
     ensures { Reads bad_at (fate_by add_tag) cursor.old result cursor.new }
 {
@@ -81,39 +68,112 @@ fn fate_at(cursor: &mut Cursor<'_>) -> Result<Fate, BadRecord>
     }
 }
 
-fn some_outgoing_at(cursor: &mut Cursor<'_>) -> Result<Option<Outgoing>, BadRecord>
-    ensures { Reads bad_at (optional outgoing_format) cursor.old result cursor.new }
-{
-    if flag_at(cursor)? {
-        Ok(Some(outgoing_at(cursor)?))
-    } else {
-        Ok(None)
+/// A key of a region.
+pub struct RegionKeyField;
+
+impl Field for RegionKeyField {
+    ghost use Rattle.mb_model.specs.RootFormat.{region_key_format};
+    ghost use Rattle.mb_model.proofs.RecordFormatLaws.{region_key_exact};
+
+    type Value = RegionKey;
+
+    type Needs = ();
+
+    type End = BadRecord;
+
+    ghost format = { region_key_format };
+
+    fn read_at(_needs: (), cursor: &mut Cursor<'_>) -> Result<RegionKey, BadRecord> {
+        region_key_at(cursor)
+    }
+
+    ghost exact = { region_key_exact };
+}
+
+impl WriteField for RegionKeyField {
+    ghost Fits = { λ _. Unit {0} };
+
+    fn put(key: &RegionKey, out: &mut Vec<u8>) -> Result<(), NoMemory> {
+        put_region_key(out, key)
     }
 }
 
-#[tactic(auto, unfolding(mb_model::specs::RootFormat::pending_format))]
-fn pending_at(cursor: &mut Cursor<'_>) -> Result<Pending, BadRecord>
-    ensures { Reads bad_at pending_format cursor.old result cursor.new }
-{
-    let unsigned = u8_between(cursor, 1, 2)?;
-    let outgoing = some_outgoing_at(cursor)?;
-    let two = fate_at(cursor)?;
-    let three = fate_at(cursor)?;
-    Ok(Pending {
-        unsigned,
-        outgoing,
-        two,
-        three,
-    })
+/// The device key that gives way.
+struct OutgoingField;
+
+#[tactic(auto, unfolding(mb_model::specs::RootFormat::outgoing_format))]
+impl Field for OutgoingField {
+    ghost use Rattle.mb_model.specs.RootFormat.{outgoing_format};
+    ghost use Rattle.mb_model.proofs.RecordFormatLaws.{outgoing_exact};
+
+    type Value = Outgoing;
+
+    type Needs = ();
+
+    type End = BadRecord;
+
+    ghost format = { outgoing_format };
+
+    fn read_at(_needs: (), cursor: &mut Cursor<'_>) -> Result<Outgoing, BadRecord> {
+        let seed = key_seed_at(cursor)?;
+        let uses = u8_between(cursor, 1, KEY_USES)?;
+        Ok(Outgoing {
+            seed,
+            uses: uses as u32,
+        })
+    }
+
+    ghost exact = { outgoing_exact };
 }
 
-fn some_pending_at(cursor: &mut Cursor<'_>) -> Result<Option<Pending>, BadRecord>
-    ensures { Reads bad_at (optional pending_format) cursor.old result cursor.new }
-{
-    if flag_at(cursor)? {
-        Ok(Some(pending_at(cursor)?))
-    } else {
-        Ok(None)
+#[tactic(auto, unfolding(mb_model::specs::RootFormat::outgoing_format))]
+impl WriteField for OutgoingField {
+    ghost Fits = { λ _. Unit {0} };
+
+    fn put(outgoing: &Outgoing, out: &mut Vec<u8>) -> Result<(), NoMemory> {
+        put_key_seed(out, &outgoing.seed)?;
+        put_uses(out, outgoing.uses)
+    }
+}
+
+/// The work that is still to be done.
+struct PendingField;
+
+#[tactic(auto, unfolding(mb_model::specs::RootFormat::pending_format))]
+impl Field for PendingField {
+    ghost use Rattle.mb_model.specs.RootFormat.{pending_format};
+    ghost use Rattle.mb_model.proofs.RecordFormatLaws.{pending_exact};
+
+    type Value = Pending;
+
+    type Needs = ();
+
+    type End = BadRecord;
+
+    ghost format = { pending_format };
+
+    fn read_at(_needs: (), cursor: &mut Cursor<'_>) -> Result<Pending, BadRecord> {
+        let unsigned = u8_between(cursor, 1, 2)?;
+        let outgoing = optional_at::<OutgoingField>((), cursor)?;
+        let two = fate_at(cursor)?;
+        let three = fate_at(cursor)?;
+        Ok(Pending {
+            unsigned,
+            outgoing,
+            two,
+            three,
+        })
+    }
+
+    ghost exact = { pending_exact };
+}
+
+#[tactic(auto, unfolding(mb_model::specs::RootFormat::pending_format))]
+impl WriteField for PendingField {
+    ghost Fits = { λ _. Unit {0} };
+
+    fn put(pending: &Pending, out: &mut Vec<u8>) -> Result<(), NoMemory> {
+        put_pending(out, pending)
     }
 }
 
@@ -126,7 +186,7 @@ fn root_at(cursor: &mut Cursor<'_>) -> Result<Root, BadRecord>
     let serial = cursor.take_array()?;
     let device = key_seed_at(cursor)?;
     let uses = u8_between(cursor, 0, KEY_USES)?;
-    let pending = some_pending_at(cursor)?;
+    let pending = optional_at::<PendingField>((), cursor)?;
     Ok(Root {
         area,
         serial,
@@ -154,20 +214,6 @@ pub fn put_region_key(out: &mut Vec<u8>, key: &RegionKey) -> Result<(), NoMemory
     put_uses(out, key.uses)
 }
 
-#[tactic(auto, unfolding(mb_model::specs::RootFormat::outgoing_format))]
-fn put_outgoing(out: &mut Vec<u8>, outgoing: &Option<Outgoing>) -> Result<(), NoMemory>
-    ensures { Puts ((optional outgoing_format).spelling outgoing.now) out.old result out.new }
-{
-    match outgoing {
-        Some(key) => {
-            put_flag(out, true)?;
-            put_key_seed(out, &key.seed)?;
-            put_uses(out, key.uses)
-        }
-        None => put_flag(out, false),
-    }
-}
-
 #[tactic(auto, unfolding(mb_model::specs::RootFormat::fate_format))]
 fn put_fate(out: &mut Vec<u8>, fate: &Fate) -> Result<(), NoMemory>
     ensures { Puts (fate_format.spelling fate.now) out.old result out.new }
@@ -188,21 +234,9 @@ fn put_pending(out: &mut Vec<u8>, pending: &Pending) -> Result<(), NoMemory>
     ensures { Puts (pending_format.spelling pending.now) out.old result out.new }
 {
     put_u8(out, pending.unsigned)?;
-    put_outgoing(out, &pending.outgoing)?;
+    put_optional::<OutgoingField>(out, &pending.outgoing)?;
     put_fate(out, &pending.two)?;
     put_fate(out, &pending.three)
-}
-
-fn put_some_pending(out: &mut Vec<u8>, pending: &Option<Pending>) -> Result<(), NoMemory>
-    ensures { Puts ((optional pending_format).spelling pending.now) out.old result out.new }
-{
-    match pending {
-        Some(work) => {
-            put_flag(out, true)?;
-            put_pending(out, work)
-        }
-        None => put_flag(out, false),
-    }
 }
 
 fn put_root_key(out: &mut Vec<u8>, root: &Root) -> Result<(), NoMemory>
@@ -210,7 +244,7 @@ fn put_root_key(out: &mut Vec<u8>, root: &Root) -> Result<(), NoMemory>
 {
     put_key_seed(out, &root.device)?;
     put_uses(out, root.uses)?;
-    put_some_pending(out, &root.pending)
+    put_optional::<PendingField>(out, &root.pending)
 }
 
 #[tactic(auto, unfolding(mb_model::specs::RootFormat::root_format))]
@@ -223,10 +257,14 @@ fn put_root(out: &mut Vec<u8>, root: &Root) -> Result<(), NoMemory>
     put_root_key(out, root)
 }
 
-impl Record for Root {
+/// A root record.
+struct RootField;
+
+impl Field for RootField {
     ghost use Rattle.mb_model.specs.RootFormat.{root_format};
-    ghost use Rattle.mb_bytes.specs.Reads.{bad_at};
     ghost use Rattle.mb_model.proofs.RecordFormatLaws.{root_exact};
+
+    type Value = Root;
 
     type Needs = ();
 
@@ -234,21 +272,19 @@ impl Record for Root {
 
     ghost format = { root_format };
 
-    ghost points = { bad_at };
-
     fn read_at(_needs: (), cursor: &mut Cursor<'_>) -> Result<Root, BadRecord> {
         root_at(cursor)
     }
 
-    fn bad(at: u32) -> BadRecord {
-        BadRecord { at }
-    }
-
-    fn put(&self, out: &mut Vec<u8>) -> Result<(), NoMemory> {
-        put_root(out, self)
-    }
-
     ghost exact = { root_exact };
+}
+
+impl WriteField for RootField {
+    ghost Fits = { λ _. Unit {0} };
+
+    fn put(root: &Root, out: &mut Vec<u8>) -> Result<(), NoMemory> {
+        put_root(out, root)
+    }
 }
 
 /// The root record spelled at the cursor's offset; the cursor then stands after it. Else the offset of the first field
@@ -256,7 +292,7 @@ impl Record for Root {
 pub fn read_root(c: &mut Cursor<'_>) -> Result<Root, BadRecord>
     ensures { ReadsExactly bad_at root_format c.old result c.new }
 {
-    read_record((), c)
+    read_field::<RootField>((), c)
 }
 
 /// The root record that these bytes spell, at most 4,194,304 of them. Else the offset of the first field that lacks
@@ -265,7 +301,7 @@ pub fn root_of_bytes(bytes: &[u8]) -> Result<Root, BadRecord>
     requires { length bytes.now ≤ FILE_LIMIT }
     ensures { ReadsWhole bad_at root_format bytes.now result }
 {
-    whole_record((), bytes)
+    read_whole::<RootField>((), bytes)
 }
 
 /// Appends the spelling of the root record, or leaves `out` as it was. `Ok` if the capacity of `out` holds it.
@@ -273,5 +309,5 @@ pub fn write_root(root: &Root, out: &mut Vec<u8>) -> Result<(), NoMemory>
     requires { root_format.Allowed root.now }
     ensures { Writes (root_format.spelling root.now) out.old result out.new }
 {
-    write_record(root, out)
+    write_field::<RootField>(root, out)
 }

@@ -6,4 +6,4 @@ pub returns : goal.returns
 unfolding pending_format
 returns c =
     let r = c.put_fate-2.result in
-    puts_both _ _ r c.in_ok-put_u8.ensures.puts (puts_both _ _ r c.in_ok-put_outgoing.ensures (puts_both _ _ r c.in_ok-put_fate.ensures c.put_fate-2.ensures))
+    puts_both _ _ r c.in_ok-put_u8.ensures.puts (puts_both _ _ r c.in_ok-put_optional.ensures (puts_both _ _ r c.in_ok-put_fate.ensures c.put_fate-2.ensures))
