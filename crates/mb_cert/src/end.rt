@@ -2,7 +2,7 @@
 
 ghost use Rattle.std.specs.Prelude.{◌≡◌};
 
-use mb_bytes::Short;
+use mb_bytes::{ReadError, ReadMemoryError, Short};
 use mb_model::{BadRecord, NoMemory};
 
 /// Why no chain or statement was read.
@@ -45,6 +45,29 @@ impl From<NoMemory> for ChainEnd {
     ghost from_gives = { λ _ e. e ≡ NoMemory };
 
     fn from(_error: NoMemory) -> ChainEnd {
+        ChainEnd::NoMemory
+    }
+}
+
+impl ReadError for ChainEnd {
+    ghost use Rattle.mb_cert.specs.Ends.{chain_at};
+
+    ghost points = { chain_at };
+
+    fn bad(at: u32) -> ChainEnd {
+        ChainEnd::BadChain { at }
+    }
+
+    fn offset(&self) -> Option<u32> {
+        match self {
+            ChainEnd::BadChain { at } => Some(*at),
+            ChainEnd::NoMemory => None,
+        }
+    }
+}
+
+impl ReadMemoryError for ChainEnd {
+    fn no_memory() -> ChainEnd {
         ChainEnd::NoMemory
     }
 }

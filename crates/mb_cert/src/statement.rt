@@ -1,30 +1,61 @@
 //! Whole statements in bytes.
 
-ghost use Rattle.std.specs.Prelude.{◌≤◌, ◌<◌, length};
+ghost use Rattle.std.specs.Prelude.{◌≤◌, length};
 ghost use Rattle.mb_model.specs.declared.limits.TheConstants.{FILE_LIMIT};
 ghost use Rattle.mb_model.specs.ChainFormat.{statement_format};
-ghost use Rattle.mb_bytes.specs.Reads.{Reads, ReadsWhole};
-ghost use Rattle.mb_bytes.specs.Puts.{Puts, Writes};
+ghost use Rattle.mb_bytes.specs.Reads.{ReadsWhole};
+ghost use Rattle.mb_bytes.specs.Puts.{Writes};
 ghost use Rattle.mb_cert.specs.Ends.{chain_at};
 
 use crate::end::ChainEnd;
-use mb_bytes::{Cursor, bytes_after_u8, put_after_u8, put_slice, put_u32};
+use mb_bytes::{
+    Cursor, Field, WriteField, bytes_after_u8, put_after_u8, put_slice, put_u32, read_whole,
+    write_field,
+};
 use mb_model::{Bytes, MESSAGE_LIMIT, NoMemory, Statement};
 use std::alloc::Global;
 
-/// The statement at the cursor's offset; after an error the cursor may stand anywhere.
+/// A statement.
+pub(crate) struct StatementField;
+
 #[tactic(auto, unfolding(mb_model::specs::ChainFormat::statement_format))]
-pub(crate) fn statement_at(alloc: Global, cursor: &mut Cursor) -> Result<Statement, ChainEnd>
-    ensures { Reads chain_at statement_format cursor.old result cursor.new }
-{
-    let number = cursor.take_u32()?;
-    let message = bytes_after_u8(cursor, 0, MESSAGE_LIMIT)?;
-    let signature = cursor.take_array()?;
-    Ok(Statement {
-        number,
-        message: Bytes::copy(alloc, message)?,
-        signature,
-    })
+impl Field for StatementField {
+    ghost use Rattle.mb_model.specs.ChainFormat.{statement_format};
+    ghost use Rattle.mb_model.proofs.EntryFormatLaws.{statement_exact};
+
+    type Value = Statement;
+
+    type Needs = Global;
+
+    type End = ChainEnd;
+
+    ghost format = { statement_format };
+
+    fn read_at(alloc: Global, cursor: &mut Cursor<'_>) -> Result<Statement, ChainEnd> {
+        let number = cursor.take_u32()?;
+        let message = bytes_after_u8(cursor, 0, MESSAGE_LIMIT)?;
+        let signature = cursor.take_array()?;
+        Ok(Statement {
+            number,
+            message: Bytes::copy(alloc, message)?,
+            signature,
+        })
+    }
+
+    ghost exact = { statement_exact };
+}
+
+#[tactic(auto, unfolding(mb_model::specs::ChainFormat::statement_format))]
+impl WriteField for StatementField {
+    ghost use Rattle.mb_cert.specs.Bounds.{StatementFits};
+
+    ghost Fits = { StatementFits };
+
+    fn put(statement: &Statement, out: &mut Vec<u8>) -> Result<(), NoMemory> {
+        put_u32(out, statement.number)?;
+        put_after_u8(out, statement.message.as_slice())?;
+        put_slice(out, &statement.signature)
+    }
 }
 
 /// The statement that all of the bytes spell, at most 4,194,304 of them.
@@ -35,25 +66,7 @@ pub fn read_statement(alloc: Global, bytes: &[u8]) -> Result<Statement, ChainEnd
     requires { length bytes.now ≤ FILE_LIMIT }
     ensures { ReadsWhole chain_at statement_format bytes.now result }
 {
-    let mut cursor = Cursor::new(bytes);
-    let statement = statement_at(alloc, &mut cursor)?;
-    if cursor.left() > 0 {
-        return Err(ChainEnd::BadChain {
-            at: cursor.offset(),
-        });
-    }
-    Ok(statement)
-}
-
-/// Appends the spelling, or a prefix of it if an allocation fails.
-#[tactic(auto, unfolding(mb_model::specs::ChainFormat::statement_format))]
-pub(crate) fn put_statement(out: &mut Vec<u8>, statement: &Statement) -> Result<(), NoMemory>
-    requires { length statement.now.message < 256 }
-    ensures { Puts (statement_format.spelling statement.now) out.old result out.new }
-{
-    put_u32(out, statement.number)?;
-    put_after_u8(out, statement.message.as_slice())?;
-    put_slice(out, &statement.signature)
+    read_whole::<StatementField>(alloc, bytes)
 }
 
 /// Appends the spelling of the statement, whose message has at most 128 bytes, or leaves `out` as it was. It does not
@@ -63,12 +76,5 @@ pub fn write_statement(statement: &Statement, out: &mut Vec<u8>) -> Result<(), N
     requires { statement_format.Allowed statement.now }
     ensures { Writes (statement_format.spelling statement.now) out.old result out.new }
 {
-    let length = out.len();
-    match put_statement(out, statement) {
-        Ok(()) => Ok(()),
-        Err(error) => {
-            out.truncate(length);
-            Err(error)
-        }
-    }
+    write_field::<StatementField>(statement, out)
 }

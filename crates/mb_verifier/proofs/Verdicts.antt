@@ -15,7 +15,7 @@ use Rattle.mb_model.specs.Log.{figures_of, entries_of, RuledLog}
 use Rattle.mb_model.specs.EntryFormat.{entry_format}
 use Rattle.mb_model.specs.ChainFormat.{chain_format}
 use Rattle.mb_model.specs.Acceptance.{ChainRefusal, bad_form, bad_signature, bad_order, breaks_rules, key_unknown, bad_statement, wrong_number, key_ended, AreGood, IsNext, IfStatement, IsCurrent, message_of, Accepts, IsRefused}
-use Rattle.mb_cert.proofs.Sizes.{chain_fits}
+use Rattle.mb_cert.proofs.Sizes.{entries_allowed}
 use Rattle.mb_model.specs.declared.state.Figures.{Figures}
 use Rattle.mb_log.specs.declared.life.BornKey.{BornKey}
 use Rattle.mb_log.specs.declared.life.Life.{Life}
@@ -31,7 +31,7 @@ use Rattle.mb_verifier.specs.Entries.{IsOfEntries, IsEntriesRefused}
 -- ---- the entries of a chain
 
 pub entries_spelled : (chain : Chain) → chain_format.Allowed chain → All (λ (signed : SignedEntry). entry_format.Allowed signed.entry) chain.entries
-entries_spelled chain is = (chain_fits chain is).entries.each
+entries_spelled chain is = entries_allowed chain is
 
 pub entries_few : (chain : Chain) → chain_format.Allowed chain → length chain.entries ≤ 128
 unfolding chain_format
