@@ -2,7 +2,7 @@
 
 ghost use Rattle.std.specs.Prelude.{◌≡◌};
 
-use mb_bytes::Short;
+use mb_bytes::{ReadError, ReadMemoryError, Short};
 use mb_model::{BadRecord, NoMemory};
 
 /// Why no order was read.
@@ -44,6 +44,29 @@ impl From<NoMemory> for OrderEnd {
     ghost from_gives = { λ _ e. e ≡ NoMemory };
 
     fn from(_error: NoMemory) -> OrderEnd {
+        OrderEnd::NoMemory
+    }
+}
+
+impl ReadError for OrderEnd {
+    ghost use Rattle.mb_command.specs.Ends.{order_text_at};
+
+    ghost points = { order_text_at };
+
+    fn bad(at: u32) -> OrderEnd {
+        OrderEnd::BadText { at }
+    }
+
+    fn offset(&self) -> Option<u32> {
+        match self {
+            OrderEnd::BadText { at } => Some(*at),
+            OrderEnd::NoMemory => None,
+        }
+    }
+}
+
+impl ReadMemoryError for OrderEnd {
+    fn no_memory() -> OrderEnd {
         OrderEnd::NoMemory
     }
 }

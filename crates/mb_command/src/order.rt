@@ -1,10 +1,9 @@
 //! Whole orders.
 
-ghost use Rattle.std.specs.Prelude.{◌≤◌, length, IfErr, IfSome};
+ghost use Rattle.std.specs.Prelude.{◌≤◌, IfErr, IfSome};
 ghost use Rattle.mb_command.specs.declared.order.TheConstants.{ORDER_LIMIT};
-ghost use Rattle.mb_model.specs.declared.limits.TheConstants.{FILE_LIMIT};
 ghost use Rattle.mb_model.specs.OrderFormat.{order_format};
-ghost use Rattle.mb_bytes.specs.Reads.{Reads, ReadsWhole};
+ghost use Rattle.mb_bytes.specs.Reads.{ReadsWhole};
 ghost use Rattle.mb_bytes.specs.Puts.{Puts, Writes};
 ghost use Rattle.mb_command.specs.Ends.{order_text_at};
 ghost use Rattle.mb_command.specs.Writing.{IsSizedOrder};
@@ -14,41 +13,53 @@ use crate::countersignatures::{
     countersignatures_at, put_countersignatures, put_signature, signature_at,
 };
 use crate::end::OrderEnd;
-use mb_bytes::Cursor;
+use mb_bytes::{Cursor, Field, WriteField, read_whole, write_field};
 use mb_model::{NoMemory, Order};
 use std::alloc::Global;
 
 /// A length that no order reaches, in bytes: no more than these are read of a text.
 pub const ORDER_LIMIT: usize = 65_536;
 
+/// An order.
+struct OrderField;
+
 #[tactic(auto, unfolding(mb_model::specs::OrderFormat::order_format))]
-fn order_at(alloc: Global, cursor: &mut Cursor) -> Result<Order, OrderEnd>
-    ensures { Reads order_text_at order_format cursor.old result cursor.new }
-{
-    let body = body_at(alloc, cursor)?;
-    let signature = signature_at(alloc, cursor)?;
-    let countersignatures = countersignatures_at(alloc, cursor, &body)?;
-    Ok(Order {
-        layer: body.layer,
-        targets: body.targets,
-        act: body.act,
-        signature,
-        countersignatures,
-    })
+impl Field for OrderField {
+    ghost use Rattle.mb_model.specs.OrderFormat.{order_format};
+    ghost use Rattle.mb_model.proofs.OrderFormatLaws.{order_exact};
+
+    type Value = Order;
+
+    type Needs = Global;
+
+    type End = OrderEnd;
+
+    ghost format = { order_format };
+
+    fn read_at(alloc: Global, cursor: &mut Cursor<'_>) -> Result<Order, OrderEnd> {
+        let body = body_at(alloc, cursor)?;
+        let signature = signature_at(alloc, cursor)?;
+        let countersignatures = countersignatures_at(alloc, cursor, &body)?;
+        Ok(Order {
+            layer: body.layer,
+            targets: body.targets,
+            act: body.act,
+            signature,
+            countersignatures,
+        })
+    }
+
+    ghost exact = { order_exact };
 }
 
-fn whole_order(alloc: Global, bytes: &[u8]) -> Result<Order, OrderEnd>
-    requires { length bytes.now ≤ FILE_LIMIT }
-    ensures { ReadsWhole order_text_at order_format bytes.now result }
-{
-    let mut cursor = Cursor::new(bytes);
-    let order = order_at(alloc, &mut cursor)?;
-    if cursor.left() > 0 {
-        return Err(OrderEnd::BadText {
-            at: cursor.offset(),
-        });
+impl WriteField for OrderField {
+    ghost use Rattle.mb_command.specs.Writing.{IsSizedOrder};
+
+    ghost Fits = { IsSizedOrder };
+
+    fn put(order: &Order, out: &mut Vec<u8>) -> Result<(), NoMemory> {
+        put_order(out, order)
     }
-    Ok(order)
 }
 
 /// Reads the order that the whole of the bytes spells. The bytes may be more than any order has.
@@ -60,8 +71,8 @@ pub fn read_order(alloc: Global, bytes: &[u8]) -> Result<Order, OrderEnd>
     ensures near { IfErr result (λ end. IfSome (order_text_at end) (λ at. at ≤ ORDER_LIMIT)) }
 {
     match bytes.get(..ORDER_LIMIT) {
-        Some(first) => whole_order(alloc, first),
-        None => whole_order(alloc, bytes),
+        Some(first) => read_whole::<OrderField>(alloc, first),
+        None => read_whole::<OrderField>(alloc, bytes),
     }
 }
 
@@ -82,12 +93,5 @@ pub fn write_order(order: &Order, out: &mut Vec<u8>) -> Result<(), NoMemory>
     requires { order_format.Allowed order.now }
     ensures { Writes (order_format.spelling order.now) out.old result out.new }
 {
-    let length = out.len();
-    match put_order(out, order) {
-        Ok(()) => Ok(()),
-        Err(error) => {
-            out.truncate(length);
-            Err(error)
-        }
-    }
+    write_field::<OrderField>(order, out)
 }

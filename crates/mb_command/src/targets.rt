@@ -11,8 +11,10 @@ ghost use Rattle.mb_command.specs.Ends.{order_text_at};
 ghost use Rattle.mb_command.specs.Parts.{named_bytes};
 
 use crate::end::OrderEnd;
-use mb_bytes::{Cursor, put_slice, put_u8, put_u32, u8_between};
-use mb_model::{BadRecord, Items, NoMemory, TARGET_LIMIT, Target, Targets};
+use mb_bytes::{
+    Cursor, Field, WriteField, items_at, put_items, put_slice, put_u8, put_u32, u8_between,
+};
+use mb_model::{BadRecord, NoMemory, TARGET_LIMIT, Target, Targets};
 use std::alloc::Global;
 
 fn serial_at(cursor: &mut Cursor) -> Result<Target, BadRecord>
@@ -43,17 +45,53 @@ fn code_at(cursor: &mut Cursor) -> Result<Target, BadRecord>
     Ok(Target::Code { layer, hash })
 }
 
+/// A target, after the byte that says which of the four kinds it is.
+struct TargetField;
+
 #[tactic(auto, unfolding(mb_model::specs::OrderFormat::target_format))]
-fn target_at(cursor: &mut Cursor) -> Result<Target, BadRecord>
-    ensures { Reads bad_at target_format cursor.old result cursor.new }
-{
-    let at = cursor.offset();
-    match cursor.take_u8()? {
-        1 => serial_at(cursor),
-        2 => length_at(cursor),
-        3 => owner_at(cursor),
-        4 => code_at(cursor),
-        _ => Err(BadRecord { at }),
+impl Field for TargetField {
+    ghost use Rattle.mb_model.specs.OrderFormat.{target_format};
+    ghost use Rattle.mb_model.proofs.OrderFormatLaws.{target_exact};
+
+    type Value = Target;
+
+    type Needs = ();
+
+    type End = BadRecord;
+
+    ghost format = { target_format };
+
+    fn read_at(_needs: (), cursor: &mut Cursor<'_>) -> Result<Target, BadRecord> {
+        let at = cursor.offset();
+        match cursor.take_u8()? {
+            1 => serial_at(cursor),
+            2 => length_at(cursor),
+            3 => owner_at(cursor),
+            4 => code_at(cursor),
+            _ => Err(BadRecord { at }),
+        }
+    }
+
+    ghost exact = { target_exact };
+}
+
+#[tactic(auto, unfolding(mb_model::specs::OrderFormat::target_format))]
+impl WriteField for TargetField {
+    ghost Fits = { λ _. Unit {0} };
+
+    fn put(target: &Target, out: &mut Vec<u8>) -> Result<(), NoMemory> {
+        match target {
+            Target::Serial(serial) => {
+                put_u8(out, 1)?;
+                put_slice(out, serial)
+            }
+            Target::Length(length) => {
+                put_u8(out, 2)?;
+                put_u32(out, *length)
+            }
+            Target::Owner { layer, hash } => put_named(out, 3, *layer, hash),
+            Target::Code { layer, hash } => put_named(out, 4, *layer, hash),
+        }
     }
 }
 
@@ -62,11 +100,7 @@ pub fn targets_at(alloc: Global, cursor: &mut Cursor) -> Result<Targets, OrderEn
     ensures { Reads order_text_at (counted (between w8 0 TARGET_LIMIT) target_format) cursor.old result cursor.new }
 {
     let count = u8_between(cursor, 0, TARGET_LIMIT)?;
-    let mut targets = Items::new(alloc);
-    for _i in 0..count {
-        targets.push(target_at(cursor)?)?;
-    }
-    Ok(targets)
+    items_at::<TargetField, OrderEnd>(alloc, (), cursor, count as u32)
 }
 
 fn put_named(out: &mut Vec<u8>, tag: u8, layer: u8, hash: &[u8; 32]) -> Result<(), NoMemory>
@@ -77,34 +111,13 @@ fn put_named(out: &mut Vec<u8>, tag: u8, layer: u8, hash: &[u8; 32]) -> Result<(
     put_slice(out, hash)
 }
 
-#[tactic(auto, unfolding(mb_model::specs::OrderFormat::target_format))]
-fn put_target(out: &mut Vec<u8>, target: &Target) -> Result<(), NoMemory>
-    ensures { Puts (target_format.spelling target.now) out.old result out.new }
-{
-    match target {
-        Target::Serial(serial) => {
-            put_u8(out, 1)?;
-            put_slice(out, serial)
-        }
-        Target::Length(length) => {
-            put_u8(out, 2)?;
-            put_u32(out, *length)
-        }
-        Target::Owner { layer, hash } => put_named(out, 3, *layer, hash),
-        Target::Code { layer, hash } => put_named(out, 4, *layer, hash),
-    }
-}
-
 /// Appends the number of the targets, in a byte, and the targets.
 pub fn put_targets(out: &mut Vec<u8>, targets: &Targets) -> Result<(), NoMemory>
     requires { length targets.now ≤ TARGET_LIMIT }
     ensures { Puts ((counted (between w8 0 TARGET_LIMIT) target_format).spelling targets.now) out.old result out.new }
 {
     put_u8(out, targets.as_slice().len() as u8)?;
-    for target in targets.as_slice() {
-        put_target(out, target)?;
-    }
-    Ok(())
+    put_items::<TargetField>(out, targets.as_slice())
 }
 
 #[tactic(auto, unfolding(mb_model::specs::OrderFormat::target_format))]

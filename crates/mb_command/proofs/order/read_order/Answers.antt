@@ -9,14 +9,14 @@ use Rattle.mb_command.proofs.order.read_order.Goals as goal
 pub returns-in-Some-clause-reads : goal.returns-in-Some-clause-reads
 returns-in-Some-clause-reads c =
     let are : IsBytes c.args.bytes.now = λ i. omega (arith, c.type_inv.bytes i) in
-    whole_first (λ a. a) order_text_at order_exact order_local c.args.bytes.now c.in-Some.first.now 65536 are (lit< tt) c.in-Some.ensures.lookup.0.2 c.whole_order.result c.whole_order.ensures
+    whole_first (λ a. a) order_text_at order_exact order_local c.args.bytes.now c.in-Some.first.now 65536 are (lit< tt) c.in-Some.ensures.lookup.0.2 c.read_whole.result c.read_whole.ensures
 
 pub returns-in-Some-clause-near : goal.returns-in-Some-clause-near
 returns-in-Some-clause-near c =
     let are : IsBytes c.args.bytes.now = λ i. omega (arith, c.type_inv.bytes i) in
-    reads_near (λ a. a) order_text_at order_exact order_local c.args.bytes.now are 65536 (lit≤ tt) c.whole_order.result (returns-in-Some-clause-reads c)
+    reads_near (λ a. a) order_text_at order_exact order_local c.args.bytes.now are 65536 (lit≤ tt) c.read_whole.result (returns-in-Some-clause-reads c)
 
 pub returns-in-None-clause-near : goal.returns-in-None-clause-near
 returns-in-None-clause-near c =
     let are : IsBytes c.args.bytes.now = λ i. omega (arith, c.type_inv.bytes i) in
-    reads_near (λ a. a) order_text_at order_exact order_local c.args.bytes.now are 65536 (lit≤ tt) c.whole_order-in-None.result c.whole_order-in-None.ensures
+    reads_near (λ a. a) order_text_at order_exact order_local c.args.bytes.now are 65536 (lit≤ tt) c.read_whole-in-None.result c.read_whole-in-None.ensures
