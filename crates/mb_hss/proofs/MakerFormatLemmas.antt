@@ -1,40 +1,20 @@
--- A maker's file is read exactly.
-use Rattle.std.proofs.Common.{ℕ, zero, suc, ◌<◌, ◌≤◌, ◌^◌, ◌≡◌, ◌%◌, List, [], ◌∷◌, ◌++◌, length, ap, ◌∙◌, arith, lit<}
+-- What bytes that spell a maker's file are.
+use Rattle.std.proofs.Common.{ℕ, ◌≤◌, ◌≡◌, ◌%◌, List, [], ◌∷◌, ◌++◌, length, ap, ◌∙◌, arith}
 use Rattle.std.specs.Int.{w8, w64, to_be_bytes}
+use Rattle.std.specs.Prelude.{IfOk, Result, Ok, Err}
 use Rattle.mb_format.specs.Format.{Spells}
-use Rattle.mb_format.specs.Combinators.{limit, number_bytes, raw, between, pair}
-use Rattle.mb_format.specs.Reading.{IsExact}
-use Rattle.mb_format.proofs.Fields.{wide64, raw_exact, between_exact}
-use Rattle.mb_format.proofs.Compositions.{pair_exact}
-use Rattle.mb_format.proofs.Rules.{exactly}
+use Rattle.mb_model.specs.declared.tools.BadRecord.{BadRecord}
+use Rattle.mb_bytes.specs.Reads.{bad_at, ReadsWhole}
+use Rattle.mb_format.specs.Combinators.{number_bytes}
 use Rattle.mb_hss.specs.declared.maker.Maker.{Maker}
 use Rattle.mb_hss.specs.MakerKeys.{IsMaker}
 use Rattle.mb_hss.specs.MakerFormat.{maker_word, maker_format}
 
--- the numbers of at most 8 levels have eight bytes
-numbers_fit : (levels : ℕ) → levels ≤ 8 → 32 ^ levels < limit w64
-numbers_fit zero within = lit< tt
-numbers_fit (suc zero) within = lit< tt
-numbers_fit (suc (suc zero)) within = lit< tt
-numbers_fit (suc (suc (suc zero))) within = lit< tt
-numbers_fit (suc (suc (suc (suc zero)))) within = lit< tt
-numbers_fit (suc (suc (suc (suc (suc zero))))) within = lit< tt
-numbers_fit (suc (suc (suc (suc (suc (suc zero)))))) within = lit< tt
-numbers_fit (suc (suc (suc (suc (suc (suc (suc zero))))))) within = lit< tt
-numbers_fit (suc (suc (suc (suc (suc (suc (suc (suc zero)))))))) within = lit< tt
-numbers_fit (suc (suc (suc (suc (suc (suc (suc (suc (suc n))))))))) within = absurd (omega arith)
-
-seed_and_next : (levels : ℕ) → (1 ≤ levels) × (levels ≤ 8) → IsExact (pair (raw 32) (between w64 0 (32 ^ levels)))
-seed_and_next levels within = pair_exact (raw_exact 32) (between_exact wide64 (numbers_fit levels within.1))
-
-pub maker_exact : IsExact maker_format
+-- what is read is a maker that signs
+pub read_is_maker : (bytes : List ℕ) (r : Result Maker BadRecord) → ReadsWhole bad_at maker_format bytes r → IfOk r IsMaker
 unfolding maker_format
-maker_exact = search (exactly, seed_and_next) depth 20
-
--- what is spelled is a maker that signs
-pub spelled_maker : (bytes : List ℕ) (maker : Maker) → Spells maker_format bytes maker → IsMaker maker
-unfolding maker_format
-spelled_maker bytes maker spells =
+read_is_maker bytes (Err bad) fails = tt
+read_is_maker bytes (Ok maker) spells =
     let allowed = spells.allowed.1 in
     record { least = allowed.0.0; most = allowed.0.1; next = allowed.1.1.1 }
 

@@ -5,3 +5,4 @@ pub mod MakerKeys
 pub mod MakerSignatures
 pub mod MakerFormat
 pub mod MakerLaws
+pub mod ExactFormats

@@ -5,9 +5,9 @@ ghost use Rattle.mb_format.specs.Format.{Spells};
 ghost use Rattle.mb_model.specs.declared.limits.TheConstants.{FILE_LIMIT};
 ghost use Rattle.mb_hss.specs.declared.key.HssKey.{HssKey};
 ghost use Rattle.mb_hss.specs.HssKeyFormat.{hss_key_format};
-ghost use Rattle.mb_bytes.specs.Reads.{Reads, ReadsWhole, bad_at};
+ghost use Rattle.mb_bytes.specs.Reads.{ReadsWhole, bad_at};
 
-use mb_bytes::{Cursor, public_key_at, put_at, u32_between};
+use mb_bytes::{Cursor, Field, public_key_at, put_at, read_whole, u32_between};
 use mb_lms::key_bytes;
 use mb_model::{BadRecord, PublicKey};
 
@@ -23,17 +23,32 @@ pub struct HssKey {
     pub top: PublicKey,
 }
 
-/// A public key of HSS, at the cursor.
+/// A public key of HSS.
+struct HssKeyField;
+
 #[tactic(auto, unfolding(crate::specs::HssKeyFormat::hss_key_format))]
-fn hss_key_at(cursor: &mut Cursor) -> Result<HssKey, BadRecord>
-    ensures { Reads bad_at hss_key_format cursor.old result cursor.new }
-{
-    let levels = u32_between(cursor, 1, u32::from(MOST_LEVELS))?;
-    let top = public_key_at(cursor)?;
-    Ok(HssKey {
-        levels: levels as u8,
-        top,
-    })
+impl Field for HssKeyField {
+    ghost use Rattle.mb_hss.specs.HssKeyFormat.{hss_key_format};
+    ghost use Rattle.mb_hss.specs.ExactFormats.{hss_key_exact};
+
+    type Value = HssKey;
+
+    type Needs = ();
+
+    type End = BadRecord;
+
+    ghost format = { hss_key_format };
+
+    fn read_at(_needs: (), cursor: &mut Cursor<'_>) -> Result<HssKey, BadRecord> {
+        let levels = u32_between(cursor, 1, u32::from(MOST_LEVELS))?;
+        let top = public_key_at(cursor)?;
+        Ok(HssKey {
+            levels: levels as u8,
+            top,
+        })
+    }
+
+    ghost exact = { hss_key_exact };
 }
 
 /// The key that the bytes spell, of any of the twenty pairs of types; else the offset of the first field that is not in
@@ -44,14 +59,7 @@ pub fn read_hss_key(bytes: &[u8]) -> Result<HssKey, BadRecord>
     ensures reads { ReadsWhole bad_at hss_key_format bytes.now result }
     ensures levels { IfOk result (λ key. (1 ≤ key.levels) × (key.levels ≤ 8)) }
 {
-    let mut cursor = Cursor::new(bytes);
-    let key = hss_key_at(&mut cursor)?;
-    if cursor.left() > 0 {
-        return Err(BadRecord {
-            at: cursor.offset(),
-        });
-    }
-    Ok(key)
+    read_whole::<HssKeyField>((), bytes)
 }
 
 /// The key that 60 bytes spell; `None` exactly if they spell no key: the number of levels is not 1 to 8, or a type

@@ -11,7 +11,7 @@ ghost use Rattle.mb_hss.specs.MakerFormat.{maker_format};
 
 use crate::key::MOST_LEVELS;
 use crate::maker::{Maker, number_count};
-use mb_bytes::{Cursor, Short, put_at, u8_between, word_at};
+use mb_bytes::{Cursor, Field, Short, put_at, read_whole, u8_between, word_at};
 use mb_model::BadRecord;
 
 /// The word by which a maker's file is known.
@@ -37,16 +37,31 @@ fn next_at(cursor: &mut Cursor, levels: u8) -> Result<u64, BadRecord>
     Ok(next)
 }
 
-/// A maker of its file, at the cursor.
+/// The file of a maker.
+struct MakerField;
+
 #[tactic(auto, unfolding(crate::specs::MakerFormat::maker_format))]
-fn maker_at(cursor: &mut Cursor) -> Result<Maker, BadRecord>
-    ensures { Reads bad_at maker_format cursor.old result cursor.new }
-{
-    word_at(cursor, &WORD)?;
-    let levels = u8_between(cursor, 1, MOST_LEVELS)?;
-    let seed = cursor.take_array()?;
-    let next = next_at(cursor, levels)?;
-    Ok(Maker { levels, seed, next })
+impl Field for MakerField {
+    ghost use Rattle.mb_hss.specs.MakerFormat.{maker_format};
+    ghost use Rattle.mb_hss.specs.ExactFormats.{maker_exact};
+
+    type Value = Maker;
+
+    type Needs = ();
+
+    type End = BadRecord;
+
+    ghost format = { maker_format };
+
+    fn read_at(_needs: (), cursor: &mut Cursor<'_>) -> Result<Maker, BadRecord> {
+        word_at(cursor, &WORD)?;
+        let levels = u8_between(cursor, 1, MOST_LEVELS)?;
+        let seed = cursor.take_array()?;
+        let next = next_at(cursor, levels)?;
+        Ok(Maker { levels, seed, next })
+    }
+
+    ghost exact = { maker_exact };
 }
 
 /// The maker that the bytes spell; else the offset of the first field that is not in its form, or of the first byte
@@ -56,14 +71,7 @@ pub fn read_maker(bytes: &[u8]) -> Result<Maker, BadRecord>
     ensures reads { ReadsWhole bad_at maker_format bytes.now result }
     ensures valid { IfOk result IsMaker }
 {
-    let mut cursor = Cursor::new(bytes);
-    let maker = maker_at(&mut cursor)?;
-    if cursor.left() > 0 {
-        return Err(BadRecord {
-            at: cursor.offset(),
-        });
-    }
-    Ok(maker)
+    read_whole::<MakerField>((), bytes)
 }
 
 /// The maker as 45 bytes: the word MBK2, the number of levels, the seed and the next number.

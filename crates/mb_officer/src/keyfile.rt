@@ -7,7 +7,7 @@ ghost use Rattle.mb_format.specs.Combinators.{between};
 ghost use Rattle.mb_model.specs.KeyFormat.{keyfile_format};
 ghost use Rattle.mb_bytes.specs.Reads.{Reads, ReadsWhole, bad_at};
 
-use mb_bytes::{Cursor, key_seed_at, put_at, word_at};
+use mb_bytes::{Cursor, Field, key_seed_at, put_at, read_whole, word_at};
 use mb_model::{BadRecord, Keyfile, NextIndex};
 
 /// The word by which a key file is known.
@@ -24,14 +24,30 @@ fn next_at(cursor: &mut Cursor) -> Result<NextIndex, BadRecord>
     }
 }
 
+/// A key file.
+struct KeyfileField;
+
 #[tactic(auto, unfolding(mb_model::specs::KeyFormat::keyfile_format))]
-fn keyfile_at(cursor: &mut Cursor) -> Result<Keyfile, BadRecord>
-    ensures { Reads bad_at keyfile_format cursor.old result cursor.new }
-{
-    word_at(cursor, &WORD)?;
-    let seed = key_seed_at(cursor)?;
-    let next = next_at(cursor)?;
-    Ok(Keyfile { seed, next })
+impl Field for KeyfileField {
+    ghost use Rattle.mb_model.specs.KeyFormat.{keyfile_format};
+    ghost use Rattle.mb_model.proofs.KeyFormatLaws.{keyfile_exact};
+
+    type Value = Keyfile;
+
+    type Needs = ();
+
+    type End = BadRecord;
+
+    ghost format = { keyfile_format };
+
+    fn read_at(_needs: (), cursor: &mut Cursor<'_>) -> Result<Keyfile, BadRecord> {
+        word_at(cursor, &WORD)?;
+        let seed = key_seed_at(cursor)?;
+        let next = next_at(cursor)?;
+        Ok(Keyfile { seed, next })
+    }
+
+    ghost exact = { keyfile_exact };
 }
 
 /// Reads a key file of at most 4,194,304 bytes.
@@ -42,14 +58,7 @@ pub fn read_keyfile(bytes: &[u8]) -> Result<Keyfile, BadRecord>
     requires { length bytes.now ≤ FILE_LIMIT }
     ensures { ReadsWhole bad_at keyfile_format bytes.now result }
 {
-    let mut cursor = Cursor::new(bytes);
-    let keyfile = keyfile_at(&mut cursor)?;
-    if cursor.left() > 0 {
-        return Err(BadRecord {
-            at: cursor.offset(),
-        });
-    }
-    Ok(keyfile)
+    read_whole::<KeyfileField>((), bytes)
 }
 
 /// The bytes of a key file: its word, the identifier, the secret and the next index.

@@ -1,5 +1,5 @@
 use Rattle.mb_format.proofs.Whole.{IsClearWhole-from_exact}
-use Rattle.mb_hss.proofs.HssKeyLemmas.{hss_key_exact}
+use Rattle.mb_hss.specs.ExactFormats.{hss_key_exact}
 use Rattle.mb_hss.proofs.key.parse.Goals as goal
 
 pub returns-in-Err : goal.returns-in-Err
