@@ -37,3 +37,7 @@ module _ {X : Type 0} (P : X → Type 0) where
 pub each_weaker : {X : Type 0} (P Q : X → Type 0) → ((x : X) → P x → Q x) → (xs : List X) → AllByRecursion P xs → AllByRecursion Q xs
 each_weaker P Q weaker [] each = tt
 each_weaker P Q weaker (x ∷ xs) each = (weaker x each.0, each_weaker P Q weaker xs each.1)
+
+pub each_any : {X : Type 0} (P : X → Type 0) → ((x : X) → P x) → (xs : List X) → AllByRecursion P xs
+each_any P holds [] = tt
+each_any P holds (x ∷ xs) = (holds x, each_any P holds xs)

@@ -1,7 +1,8 @@
 pub mod Each
 pub mod Ascending
 pub mod Standing
-pub mod Counting
+pub mod Indexing
+pub mod Listings
 pub mod Meeting
 pub mod Registers
 pub mod Reading

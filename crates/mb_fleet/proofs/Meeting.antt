@@ -1,19 +1,36 @@
 -- A row that meets the rows of a register.
-use Rattle.std.proofs.Common.{◌≡◌, ◌<◌, ◌≤◌, ◌+◌, ◌-◌, ℕ, Bool, true, false, List, [], ◌∷◌, ◌++◌, length, take, drop, get_or, Some, refl, sym, ap, subst, ◌∙◌, true≢false, arith}
-use Rattle.std.specs.Prelude.{not, nat_eq, slice_get, slice_set}
+use Rattle.std.proofs.Common.{◌≡◌, ◌==◌, ◌<◌, ◌≤◌, ◌+◌, ◌-◌, ℕ, Bool, true, false, List, [], ◌∷◌, ◌++◌, length, take, drop, get_or, Some, refl, sym, ap, subst, ◌∙◌, true≢false, arith}
+use Rattle.std.specs.Prelude.{not, nat_eq, slice_get, slice_set, ◌&&◌, if◌then◌else◌}
+use Rattle.std.specs.Str.{bytes_eq}
 use Rattle.std.specs.List.{AllByRecursion, insert}
 use Rattle.std.specs.Cmp.Lexicographic.{pointwise}
 use Rattle.std.proofs.lemmas.Cmp.{nat_list_eq_equiv}
 use Rattle.std.proofs.lemmas.Option.{slice_get-get_or, get_or_from_slice_get}
 use Rattle.std.proofs.lemmas.List.{take_all, take_more_same, take-append-drop, length-drop, length-append}
+use Rattle.mb_format.specs.Combinators.{same_bytes}
+use Rattle.mb_format.proofs.Fields.{same_bytes-true}
 use Rattle.mb_fleet.specs.declared.row.Row.{Row}
 use Rattle.mb_fleet.specs.Rows.{AreOrdered, serial_of_row}
 use Rattle.mb_fleet.specs.Showing.{Answer, newly_added, same, extended, older, forked, full, IsShorter, DifferAt, HasOld, Meets, is_added, is_full, is_same, is_extended, is_older, is_forked}
 use Rattle.mb_fleet.specs.Places.{IsHeld, IsFree, HasFewEntries, FitsRegister}
 use Rattle.mb_fleet.proofs.Each.{each_between, each_instead}
 use Rattle.mb_fleet.proofs.Ascending.{ascending_between, ascending_instead, none_has}
-use Rattle.mb_fleet.proofs.Counting.{equal_bytes}
 use Rattle.mb_fleet.proofs.Standing.{held_here_is, insert_between, set_between}
+
+-- ---- bytes
+
+same_is : (xs ys : List ℕ) → bytes_eq xs ys ≡ same_bytes xs ys
+same_is [] [] = refl
+same_is [] (y ∷ ys) = refl
+same_is (x ∷ xs) [] = refl
+same_is (x ∷ xs) (y ∷ ys) = both (x == y) (bytes_eq xs ys) (same_bytes xs ys) (same_is xs ys)
+  where
+    both : (b one other : Bool) → one ≡ other → (b && one) ≡ (if b then other else false)
+    both true one other e = e
+    both false one other e = refl
+
+equal_bytes : (xs ys : List ℕ) → bytes_eq xs ys ≡ true → xs ≡ ys
+equal_bytes xs ys is = same_bytes-true xs ys (sym (same_is xs ys) ∙ is)
 
 -- ---- two lists of hashes
 

@@ -15,7 +15,7 @@ use Rattle.mb_fleet.proofs.Each.{each_push}
 use Rattle.mb_fleet.proofs.Ascending.{before_all, after_is_before, equal_keys, middle_above}
 
 -- a list about one of its items
-about : {A : Type 0} (xs : List A) (i : ℕ) (d : A) → i < length xs → xs ≡ take i xs ++ get_or xs i d ∷ drop (i + 1) xs
+pub about : {A : Type 0} (xs : List A) (i : ℕ) (d : A) → i < length xs → xs ≡ take i xs ++ get_or xs i d ∷ drop (i + 1) xs
 about xs i d lt = sym (take-append-drop i xs) ∙ ap (λ rest. take i xs ++ rest) (item_at xs i d lt)
 
 count_front : {A : Type 0} (xs : List A) (i : ℕ) → i ≤ length xs → i ≡ length (take i xs)

@@ -7,3 +7,4 @@ pub mod Questions
 pub mod Serving
 pub mod Ends
 pub mod Places
+pub mod Indexes

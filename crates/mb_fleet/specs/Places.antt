@@ -1,19 +1,16 @@
 -- Where a key stands in a list that ascends by it. Is it there, and else between which two items does it belong?
-use Rattle.std.specs.Prelude.{◌≡◌, ℕ, ◌+◌, ◌<◌, ◌≤◌, List, ◌∷◌, ◌++◌, length, if◌then◌else◌}
+use Rattle.std.specs.Prelude.{◌≡◌, ℕ, ◌≤◌, List, ◌∷◌, ◌++◌, length}
 use Rattle.std.specs.List.{AllByRecursion}
-use Rattle.mb_format.specs.Combinators.{same_bytes}
 use Rattle.mb_model.specs.declared.limits.TheConstants.{ENTRY_LIMIT}
 use Rattle.mb_fleet.specs.declared.limits.TheConstants.{DEVICE_LIMIT}
 use Rattle.mb_fleet.specs.declared.place.Place.{Place}
 use Rattle.mb_fleet.specs.declared.place.Place.TheVariants.{Held, Free}
 use Rattle.mb_fleet.specs.declared.row.Row.{Row}
-use Rattle.mb_fleet.specs.declared.question.CodeCount.{CodeCount}
 use Rattle.mb_fleet.specs.declared.comparison.Comparison.{Comparison}
 use Rattle.mb_fleet.specs.declared.comparison.Comparison.TheVariants as found
 use Rattle.mb_fleet.specs.Order.{IsBefore, IsAscending}
 use Rattle.mb_fleet.specs.Rows.{AreOrdered}
 use Rattle.mb_fleet.specs.Showing.{IsShorter, DifferAt}
-use Rattle.mb_fleet.specs.Questions.{hash_of_count, count_beside}
 
 module _ {A : Type 0} (key : A → List ℕ) where
   -- an item with this key stands at this index
@@ -54,10 +51,3 @@ pub record FitsRegister (rows : List Row) : Type 0 where
   pub ordered : AreOrdered rows
   pub few : length rows ≤ DEVICE_LIMIT
   pub each : AllByRecursion HasFewEntries rows
-
--- a hash was counted once more, in a list that stays in its form
-pub record CountsOneMore (old : List CodeCount) (hash : List ℕ) (new : List CodeCount) : Type 0 where
-  pub ordered : IsAscending hash_of_count new
-  pub some : AllByRecursion (λ c. 0 < c.count) old → AllByRecursion (λ c. 0 < c.count) new
-  pub counted : (other : List ℕ)
-      → count_beside other new ≡ count_beside other old + (if same_bytes other hash then 1 else 0)

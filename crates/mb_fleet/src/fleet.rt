@@ -1,4 +1,4 @@
-//! The register: its rows in ascending serials.
+//! The register: its rows in ascending serials, and indexes by code beside them.
 
 ghost use Rattle.std.specs.Prelude.{◌≡◌, ◌≤◌, [], length, IfOk, OnOk, OnErr};
 ghost use Rattle.std.specs.List.{insert};
@@ -13,11 +13,12 @@ ghost use Rattle.mb_fleet.specs.Rows.{serial_of_row};
 
 use crate::comparison::{Comparison, compare};
 use crate::end::{Added, FleetEnd, FleetReadEnd};
+use crate::indexes::CodeIndexes;
 use crate::limits::DEVICE_LIMIT;
 use crate::place::{Place, place_of_serial};
-use crate::question::{Counts, Serials, count_codes, find_serials};
+use crate::question::{Counts, Serials};
 use crate::register::{put_register, register_at};
-use crate::row::{Row, row_of};
+use crate::row::{CodeHashes, Row, row_of};
 use mb_bytes::Cursor;
 use mb_model::{BadRecord, NoMemory, PublicKey};
 use mb_verifier::{ChainRefusal, verify_entries};
@@ -28,18 +29,20 @@ use std::marker::Model;
 #[derive(Drop)]
 pub struct Fleet {
     rows: Vec<Row>,
+    indexes: CodeIndexes,
 }
 
 impl Model for Fleet {
     ghost use Rattle.std.specs.Prelude.{List};
     ghost use Rattle.mb_fleet.specs.declared.row.Row.{Row};
     ghost use Rattle.mb_fleet.specs.Places.{FitsRegister};
+    ghost use Rattle.mb_fleet.specs.Indexes.{AreIndexesOf};
 
     ghost Value = { List Row };
 
     ghost view = { λ fleet. fleet.rows.items };
 
-    ghost invariant = { λ fleet. FitsRegister fleet.rows.items };
+    ghost invariant = { λ fleet. FitsRegister fleet.rows.items × AreIndexesOf fleet.rows.items fleet.indexes };
 }
 
 impl Fleet {
@@ -49,6 +52,7 @@ impl Fleet {
     {
         Fleet {
             rows: Vec::new(alloc),
+            indexes: CodeIndexes::new(alloc),
         }
     }
 
@@ -67,8 +71,10 @@ impl Fleet {
                 at: cursor.offset(),
             }));
         }
+        let indexes = CodeIndexes::of_rows(alloc, rows.as_slice())?;
         Ok(Fleet {
             rows: rows.into_vec(),
+            indexes,
         })
     }
 
@@ -100,14 +106,14 @@ impl Fleet {
             Err(refusal) => return Err(end_of(refusal)),
         };
         let row = row_of(alloc, root, &chain)?;
-        self.meet(row)
+        self.meet(alloc, row)
     }
 
     /// The serials of the devices whose layer, 1 to 3, has this code now, in ascending order.
     pub fn find(&self, alloc: Global, layer: u8, hash: &[u8; 32]) -> Result<Serials, NoMemory>
         ensures { IfOk result (λ serials. serials ≡ serials_with layer hash.now self.now) }
     {
-        find_serials(alloc, self.rows.as_slice(), layer, hash)
+        self.indexes.find(alloc, layer, hash)
     }
 
     /// The codes that the layer, 1 to 3, of some device has now, in ascending order, each with the number of the
@@ -115,22 +121,22 @@ impl Fleet {
     pub fn codes(&self, alloc: Global, layer: u8) -> Result<Counts, NoMemory>
         ensures { IfOk result (AreCounts layer self.now) }
     {
-        count_codes(alloc, self.rows.as_slice(), layer)
+        self.indexes.codes(alloc, layer)
     }
 
     /// Takes a row, if it is new or extends the one of its device.
-    fn meet(&mut self, row: Row) -> Result<Added, FleetEnd>
+    fn meet(&mut self, alloc: Global, row: Row) -> Result<Added, FleetEnd>
         requires { HasFewEntries row }
         ensures { AnswersRow self.old row result self.new }
     {
         match place_of_serial(self.rows.as_slice(), &row.serial) {
-            Place::Held(at) => self.meet_old(at, row),
-            Place::Free(at) => self.take_new(at, row),
+            Place::Held(at) => self.meet_old(alloc, at, row),
+            Place::Free(at) => self.take_new(alloc, at, row),
         }
     }
 
     /// Takes the row of a device that is not there, which belongs at this index.
-    fn take_new(&mut self, at: usize, row: Row) -> Result<Added, FleetEnd>
+    fn take_new(&mut self, alloc: Global, at: usize, row: Row) -> Result<Added, FleetEnd>
         requires few { HasFewEntries row }
         requires free { IsFree serial_of_row self.old row.serial at }
         ensures { AnswersRow self.old row result self.new }
@@ -140,12 +146,16 @@ impl Fleet {
         }
         let serial = row.serial;
         let length = count_entries(&row);
+        let change = self
+            .indexes
+            .prepare(alloc, &serial, &CodeHashes::none(), &row.code)?;
         insert_row(&mut self.rows, at, row)?;
+        self.indexes.change(change);
         Ok(Added::Added { serial, length })
     }
 
     /// Takes a row if it extends the one at this index, which is of the same device.
-    fn meet_old(&mut self, at: usize, row: Row) -> Result<Added, FleetEnd>
+    fn meet_old(&mut self, alloc: Global, at: usize, row: Row) -> Result<Added, FleetEnd>
         requires few { HasFewEntries row }
         requires held { IsHeld serial_of_row self.old row.serial at }
         ensures { AnswersRow self.old row result self.new }
@@ -158,7 +168,10 @@ impl Fleet {
             Comparison::Shorter => Err(FleetEnd::Older { serial, have }),
             Comparison::Differs { place } => Err(FleetEnd::Fork { serial, place }),
             Comparison::Longer => {
+                let from = self.rows[at].code;
+                let change = self.indexes.prepare(alloc, &serial, &from, &row.code)?;
                 self.rows[at] = row;
+                self.indexes.change(change);
                 Ok(Added::Extended { serial, length })
             }
         }

@@ -9,6 +9,8 @@ mod answer;
 mod comparison;
 mod end;
 mod fleet;
+mod index;
+mod indexes;
 mod item;
 mod laws;
 mod limits;

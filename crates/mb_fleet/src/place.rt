@@ -1,11 +1,8 @@
-//! Where a serial stands among rows, and a hash among counts.
+//! Where a serial stands among rows.
 
 ghost use Rattle.mb_fleet.specs.Rows.{serial_of_row, AreOrdered};
-ghost use Rattle.mb_fleet.specs.Order.{IsAscending};
-ghost use Rattle.mb_fleet.specs.Questions.{hash_of_count};
 ghost use Rattle.mb_fleet.specs.Places.{StandsAt};
 
-use crate::question::CodeCount;
 use crate::row::Row;
 use std::cmp::Ordering;
 
@@ -31,19 +28,4 @@ pub(crate) fn place_of_serial(rows: &[Row], serial: &[u8; 16]) -> Place
         }
     }
     Place::Free(rows.len())
-}
-
-/// Where the count beside this hash stands.
-pub(crate) fn place_of_hash(counts: &[CodeCount], hash: &[u8; 32]) -> Place
-    requires { IsAscending hash_of_count counts.now }
-    ensures { StandsAt hash_of_count counts.now hash.now result }
-{
-    for index in 0..counts.len() {
-        match counts[index].hash.cmp(hash) {
-            Ordering::Less => {}
-            Ordering::Equal => return Place::Held(index),
-            Ordering::Greater => return Place::Free(index),
-        }
-    }
-    Place::Free(counts.len())
 }

@@ -7,7 +7,7 @@ ghost use Rattle.mb_model.specs.Log.{entries_of};
 ghost use Rattle.mb_model.specs.EntryFormat.{entry_format};
 ghost use Rattle.mb_model.specs.ChainFormat.{chain_format};
 ghost use Rattle.mb_model.specs.Acceptance.{AreGood};
-ghost use Rattle.mb_fleet.specs.Rows.{hash_of_code, code_hashes, code_at, entry_hash, IsRowOf};
+ghost use Rattle.mb_fleet.specs.Rows.{hash_of_code, code_hashes, entry_hash, IsRowOf};
 
 use mb_layout::write_entry;
 use mb_log::{figures_of, serial_of};
@@ -36,16 +36,13 @@ pub struct Row {
     pub hashes: Items<[u8; 32]>,
 }
 
-impl Row {
-    /// The hash of the code of layer 1, 2 or 3, if it has code.
-    pub(crate) fn code_at(&self, layer: u8) -> Option<[u8; 32]>
-        ensures { result ≡ code_at layer self.now }
-    {
-        match layer {
-            1 => self.code.one,
-            2 => self.code.two,
-            3 => self.code.three,
-            _ => None,
+impl CodeHashes {
+    /// No layer has code.
+    pub(crate) fn none() -> CodeHashes {
+        CodeHashes {
+            one: None,
+            two: None,
+            three: None,
         }
     }
 }

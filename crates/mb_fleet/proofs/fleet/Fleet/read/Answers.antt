@@ -1,7 +1,9 @@
-use Rattle.std.proofs.Common.{ap, ◌∙◌, length, arith}
+use Rattle.std.proofs.Common.{ap, ◌∙◌, length, arith, subst, List}
 use Rattle.std.proofs.lemmas.Result.{err_from_is_err_and}
 use Rattle.mb_bytes.proofs.Exactly.{whole_read, whole_left, whole_failed_at}
+use Rattle.mb_fleet.specs.declared.row.Row.{Row}
 use Rattle.mb_fleet.specs.Ends.{fleet_at}
+use Rattle.mb_fleet.specs.Indexes.{AreIndexesOf}
 use Rattle.mb_fleet.proofs.Registers.{register_exact, spelled_fits}
 use Rattle.mb_fleet.proofs.fleet.Fleet.read.Goals as goal
 
@@ -25,9 +27,19 @@ returns c =
     let size = ap length (read.bytes ∙ start.all) in
     rw c.into_vec.ensures (whole_read c.args.bytes.now register_exact start.all start.first read (omega (arith, size, c.left.ensures)))
 
+pub of_rows-requires : goal.of_rows-requires
+of_rows-requires c =
+    let start = c.new-cursor.ensures in
+    let read = c.in_ok-rows.ensures in
+    let size = ap length (read.bytes ∙ start.all) in
+    rw c.as_slice.ensures (spelled_fits c.in_ok-rows.rows (whole_read c.args.bytes.now register_exact start.all start.first read (omega (arith, size, c.left.ensures))).allowed).ordered
+
 pub invariant_of-result : goal.invariant_of-result
 invariant_of-result c =
     let start = c.new-cursor.ensures in
     let read = c.in_ok-rows.ensures in
     let size = ap length (read.bytes ∙ start.all) in
-    rw c.into_vec.ensures (spelled_fits c.in_ok-rows.rows (whole_read c.args.bytes.now register_exact start.all start.first read (omega (arith, size, c.left.ensures))).allowed)
+    rw c.into_vec.ensures (
+      spelled_fits c.in_ok-rows.rows (whole_read c.args.bytes.now register_exact start.all start.first read (omega (arith, size, c.left.ensures))).allowed,
+      subst (λ (rs : List Row). AreIndexesOf rs c.in_ok-indexes.indexes) c.as_slice.ensures c.in_ok-indexes.ensures,
+    )

@@ -1,0 +1,7 @@
+-- The serials so far.
+use Rattle.std.proofs.Common.{◌≡◌, ◌++◌, take}
+use Rattle.mb_fleet.specs.Indexes.{lower}
+use Rattle.mb_fleet.proofs.index.put_lower.Given as goal
+
+abbrev pub invariant-loop-other : goal.invariant-loop-other
+invariant-loop-other l = l.out ≡ l.initial.out ++ lower l.serial (take l.other-index l.serials)
