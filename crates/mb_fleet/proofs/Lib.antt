@@ -9,3 +9,6 @@ pub mod Reading
 pub mod Rowing
 pub mod Texts
 pub mod Runs
+pub mod ClearItems
+pub mod Determined
+pub mod ExampleProofs

@@ -65,7 +65,7 @@ unfolding item_format
 item_exact = search (exactly, item_table, item_by-exact, item_keyed) depth 20
 
 -- the spelling of an item begins with its tag
-item_some : (item : Item) → 0 < length (item_format.spelling item)
+pub item_some : (item : Item) → 0 < length (item_format.spelling item)
 unfolding item_format number_bytes
 item_some item = omega (arith, length-append (number_bytes w8 (item_byte (item_tag item))) ((item_by (item_tag item)).spelling item))
 

@@ -8,3 +8,5 @@ pub mod Serving
 pub mod Ends
 pub mod Places
 pub mod Indexes
+pub mod Laws
+pub mod Examples

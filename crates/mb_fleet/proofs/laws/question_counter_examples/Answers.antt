@@ -1,0 +1,5 @@
+use Rattle.mb_fleet.proofs.ExampleProofs.{question_counter_examples}
+use Rattle.mb_fleet.proofs.laws.question_counter_examples.Goals as goal
+
+pub returns : goal.returns
+returns c = question_counter_examples
