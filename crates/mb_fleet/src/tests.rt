@@ -1,5 +1,6 @@
 //! Registers, items and answers, by values of another program.
 
 mod entries;
+mod limits;
 mod records;
 mod runs;

@@ -11,7 +11,7 @@ use std::alloc::Global;
 use std::test::Fail;
 
 /// The maker's key.
-const ROOT: &str =
+pub const ROOT: &str =
     "00000005000000036eddf2c6eb4a342405043d3f908fa7c6b2d8509c74fc5e0b54060d6218945725f67a168b109bc038dec\
      738c6cda77a12";
 
@@ -97,7 +97,7 @@ fn append(alloc: Global, out: &mut Vec<u8>, word: &str) -> Result<(), Fail> {
 }
 
 /// A chain of so many entries, which are given in hexadecimal pieces.
-fn chain_of(alloc: Global, count: u16, pieces: &[&str]) -> Result<Vec<u8>, Fail> {
+pub fn chain_of(alloc: Global, count: u16, pieces: &[&str]) -> Result<Vec<u8>, Fail> {
     let mut chain = Vec::from_slice(alloc, b"MBC1")?;
     put_u16(&mut chain, count)?;
     for piece in pieces {
@@ -108,7 +108,7 @@ fn chain_of(alloc: Global, count: u16, pieces: &[&str]) -> Result<Vec<u8>, Fail>
 }
 
 /// Appends an item that shows these bytes as a chain.
-fn show(out: &mut Vec<u8>, chain: &[u8]) -> Result<(), Fail> {
+pub fn show(out: &mut Vec<u8>, chain: &[u8]) -> Result<(), Fail> {
     put_slice(out, &[1])?;
     put_u32(out, u32::try_from(chain.len()).unwrap_or(u32::MAX))?;
     put_slice(out, chain)?;

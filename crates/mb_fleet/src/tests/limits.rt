@@ -1,0 +1,94 @@
+//! A full register.
+
+ghost use Rattle.std.specs.Prelude.{◌≤◌, length};
+ghost use Rattle.mb_model.specs.declared.limits.TheConstants.{FILE_LIMIT};
+
+use super::entries::{FIRST, FIRST_OF_OTHER, NEXT_TWO};
+use super::runs::{ROOT, chain_of, show};
+use crate::{DEVICE_LIMIT, Fleet, read_items, serve_items};
+use hex::FromHex;
+use mb_bytes::{put_slice, put_u16, put_u32, read_public_key};
+use mb_model::Bytes;
+use std::alloc::Global;
+use std::test::Fail;
+
+/// The row of the device that shows `FIRST` and `NEXT_TWO`, by another program.
+const SHOWN: &str =
+    "e77cff2486ff16314c9990f68ac68f9000000002017692c3ad3540bb803c020b3aee66cd8887123234ea0c6e7143c0add73f\
+     f431ed01ba7816bf8f01cfea414140de5dae2223b00361a396177a9cb410ff61f20015ad0000039141fb7ffba5f026cad5e009be05f2b71176\
+     d9b6d9bed4251481ac2edb3b2262add24b2d3823f611a3bb5391bfe2eda1c8928e33359b114d6ac44d07553fa1619de479e298b8dc612c961f\
+     4b3075c4dc9e1518a4bc0f9794f871b1f22e2cd742";
+
+/// The answers to a chain of another device, to a shorter chain of this one, and to the chain that it has shown.
+const ANSWERS: &str = "refused 32 full\n\
+    refused 31 older e77cff2486ff16314c9990f68ac68f90 3\n\
+    same e77cff2486ff16314c9990f68ac68f90 3\n";
+
+/// Appends the row of a made device, whose serial and whose code of layer 1 begin with this number.
+fn put_made(out: &mut Vec<u8>, number: u32) -> Result<(), Fail> {
+    put_u32(out, number)?;
+    put_slice(out, &[0; 12])?;
+    put_u32(out, 0)?;
+    put_slice(out, &[1])?;
+    put_u32(out, number)?;
+    put_slice(out, &[0; 28])?;
+    put_slice(out, &[0, 0])?;
+    put_u16(out, 1)?;
+    put_slice(out, &[7; 32])?;
+    Ok(())
+}
+
+/// The bytes of a register of made devices, and the device that has shown three entries.
+fn full_register(alloc: Global) -> Result<Vec<u8>, Fail> {
+    let mut register = Vec::from_slice(alloc, b"MBF1")?;
+    put_u16(&mut register, DEVICE_LIMIT)?;
+    for number in 1..u32::from(DEVICE_LIMIT) {
+        put_made(&mut register, number)?;
+    }
+    put_slice(&mut register, hex::decode(alloc, SHOWN)?.as_slice())?;
+    Ok(register)
+}
+
+/// A full register.
+fn full_fleet(alloc: Global) -> Result<Fleet, Fail> {
+    let mut register = full_register(alloc)?;
+    register.truncate(100_000);
+    Ok(Fleet::read(alloc, register.as_slice())?)
+}
+
+/// What a full register answers to items.
+fn serve_full(alloc: Global, items: &[u8]) -> Result<Bytes, Fail>
+    requires { length items.now ≤ FILE_LIMIT }
+{
+    let root = read_public_key(&<[u8; 56] as FromHex>::from_hex(ROOT)?)?;
+    let mut fleet = full_fleet(alloc)?;
+    let items = read_items(alloc, items)?;
+    Ok(serve_items(alloc, &mut fleet, &root, items.as_slice())?)
+}
+
+#[test]
+fn a_full_register_takes_no_new_device(rt: HostRuntime) -> Result<(), Fail> {
+    let alloc = rt.alloc();
+    let mut items = Vec::new(alloc);
+    show(
+        &mut items,
+        chain_of(alloc, 1, &[FIRST_OF_OTHER])?.as_slice(),
+    )?;
+    show(&mut items, chain_of(alloc, 1, &[FIRST])?.as_slice())?;
+    show(
+        &mut items,
+        chain_of(alloc, 3, &[FIRST, NEXT_TWO])?.as_slice(),
+    )?;
+    items.truncate(100_000);
+    let text = serve_full(alloc, items.as_slice())?;
+    assert!(rt; text.as_slice() == ANSWERS.as_bytes());
+    Ok(())
+}
+
+/// 512 codes make 36,874 bytes of text.
+#[test]
+fn a_full_register_tells_all_codes(rt: HostRuntime) -> Result<(), Fail> {
+    let text = serve_full(rt.alloc(), &[3, 1, 3, 2])?;
+    assert!(rt; text.as_slice().len() == 36_874 + 80);
+    Ok(())
+}
