@@ -1,14 +1,13 @@
 -- Lists that ascend: cut in two, with one item more, and with one item in place of another.
 use Rattle.std.proofs.Common.{◌≡◌, ℕ, List, [], ◌∷◌, ◌++◌, true≢false, sym, ap, subst, ◌∙◌}
 use Rattle.std.specs.List.{AllByRecursion}
-use Rattle.std.specs.Cmp.{IsTotalOrder}
 use Rattle.std.specs.Cmp.Lexicographic.{slice_cmp}
 use Rattle.std.specs.Ordering.{nat_cmp, is_lt, ordering_reverse}
 use Rattle.std.specs.declared.cmp.Ordering.TheVariants.{Less, Equal, Greater}
 use Rattle.std.proofs.lemmas.Cmp.{nat_list_cmp_total}
 use Rattle.std.proofs.lemmas.Map.Lookups.{exact_bytes}
 use Rattle.mb_fleet.specs.Order.{IsBefore, IsAscending}
-use Rattle.mb_fleet.proofs.Each.{each_join, each_front, each_back, each_weaker, each_push}
+use Rattle.mb_fleet.proofs.Each.{each_join, each_front, each_back, each_weaker}
 
 -- ---- two keys
 

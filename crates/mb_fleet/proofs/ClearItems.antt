@@ -1,12 +1,12 @@
 -- Bytes are the items of one list, or fail at one offset.
-use Rattle.std.proofs.Common.{◌≡◌, ◌<◌, ◌≤◌, ◌+◌, ℕ, List, [], ◌∷◌, ◌++◌, length, drop, Option, Some, None, refl, sym, ap, subst, ◌∙◌, append_assoc, length-append, drop_at, drop-drop, arith, true≢false, is_some}
-use Rattle.mb_format.specs.Format.{IsBytes, IsOffset, SpelledAt, Spells, IsClear, IsClearWhole}
+use Rattle.std.proofs.Common.{◌≡◌, ◌<◌, ◌+◌, ℕ, List, [], ◌∷◌, ◌++◌, length, drop, Option, Some, None, refl, sym, ap, subst, ◌∙◌, append_assoc, length-append, drop_at, drop-drop, arith, true≢false, is_some}
+use Rattle.mb_format.specs.Format.{IsOffset, SpelledAt, IsClear}
 use Rattle.mb_format.specs.Combinators.{times, items}
 use Rattle.mb_format.proofs.Exact.{IsClear-from_exact, after_offset}
 use Rattle.mb_format.proofs.Whole.{at_start, whole_spelled, IsClearWhole-from_exact}
 use Rattle.mb_model_lemmas.proofs.Splits.{some_same}
 use Rattle.mb_fleet.specs.declared.item.Item.{Item}
-use Rattle.mb_fleet.specs.ItemFormat.{item_format, AreItems, ItemsFailAt}
+use Rattle.mb_fleet.specs.ItemFormat.{item_format, AreItems}
 use Rattle.mb_fleet.specs.Laws.{ItemsAreClear, FleetInputsAreClear}
 use Rattle.mb_fleet.proofs.Reading.{item_exact, item_some}
 use Rattle.mb_fleet.proofs.Registers.{register_exact}

@@ -1,5 +1,5 @@
 -- A chain that is shown has one answer, and leaves one list of rows.
-use Rattle.std.proofs.Common.{◌≡◌, ◌≢◌, ◌<◌, ◌≤◌, ◌+◌, ◌⊎◌, inl, inr, ℕ, zero, suc, Bool, true, false, List, [], ◌∷◌, ◌++◌, length, take, Option, Some, None, refl, sym, ap, subst, ◌∙◌, arith}
+use Rattle.std.proofs.Common.{◌≡◌, ◌≢◌, ◌<◌, ◌≤◌, ◌⊎◌, inl, inr, ℕ, zero, suc, Bool, true, false, List, [], ◌∷◌, ◌++◌, length, take, Option, Some, None, refl, sym, ap, subst, ◌∙◌, arith}
 use Rattle.std.specs.Prelude.{slice_get, if◌then◌else◌}
 use Rattle.std.specs.List.{AllByRecursion}
 use Rattle.mb_format.specs.Format.{IsBytes, Spells, IsClearWhole}
@@ -9,21 +9,21 @@ use Rattle.mb_format.proofs.Whole.{IsClearWhole-from_exact}
 use Rattle.mb_model.specs.declared.key.PublicKey.{PublicKey}
 use Rattle.mb_model.specs.declared.entry.Entry.{Entry}
 use Rattle.mb_model.specs.declared.entry.Chain.{Chain}
-use Rattle.mb_model.specs.Log.{entries_of, serial_of}
+use Rattle.mb_model.specs.Log.{entries_of}
 use Rattle.mb_model.specs.ChainFormat.{chain_format}
 use Rattle.mb_model.specs.Acceptance.{ChainRefusal, bad_form, bad_signature, bad_order, breaks_rules, key_unknown, bad_statement, wrong_number, key_ended, AreGood, IsRefused}
 use Rattle.mb_model.proofs.EntryFormatLaws.{chain_exact}
 use Rattle.mb_model_lemmas.proofs.Splits.{some_same}
 use Rattle.mb_model_lemmas.proofs.ChainLemmas.{one_refusal}
 use Rattle.mb_model_lemmas.proofs.LineLemmas.{cons_same}
-use Rattle.mb_verifier.specs.Entries.{IsOfEntries, IsEntriesRefused}
+use Rattle.mb_verifier.specs.Entries.{IsOfEntries}
 use Rattle.mb_fleet.specs.declared.row.CodeHashes.{CodeHashes}
 use Rattle.mb_fleet.specs.declared.row.Row.{Row}
 use Rattle.mb_fleet.specs.declared.comparison.Comparison.{Comparison}
 use Rattle.mb_fleet.specs.declared.comparison.Comparison.TheVariants as found
 use Rattle.mb_fleet.specs.Order.{IsBefore}
 use Rattle.mb_fleet.specs.Rows.{AreOrdered, IsRowOf, serial_of_row}
-use Rattle.mb_fleet.specs.Showing.{Answer, newly_added, same, extended, chain_refused, older, forked, full, IsNewDevice, StandsBetween, HasOld, IsShorter, DifferAt, Meets, is_added, is_full, is_same, is_extended, is_older, is_forked, IsShown, IsChainAnswered, is_chain_refused, is_shown}
+use Rattle.mb_fleet.specs.Showing.{Answer, newly_added, same, extended, chain_refused, older, forked, full, IsNewDevice, StandsBetween, HasOld, Meets, is_added, is_full, is_same, is_extended, is_older, is_forked, IsShown, is_chain_refused, is_shown}
 use Rattle.mb_fleet.specs.Places.{Compares}
 use Rattle.mb_fleet.specs.Laws.{RowsHaveOneAnswer, ChainsHaveOneAnswer}
 use Rattle.mb_fleet.proofs.Each.{each_weaker, each_middle}

@@ -1,5 +1,5 @@
 -- What holds of each item of a list, where the list grows, is cut, or has one item replaced.
-use Rattle.std.proofs.Common.{◌≡◌, ◌<◌, ℕ, zero, suc, List, [], ◌∷◌, ◌++◌, length, get_or, arith}
+use Rattle.std.proofs.Common.{zero, suc, List, [], ◌∷◌, ◌++◌, arith}
 use Rattle.std.specs.List.{AllByRecursion, All}
 
 module _ {X : Type 0} (P : X → Type 0) where

@@ -1,16 +1,15 @@
 -- Small registers, items and answers, computed.
-use Rattle.std.proofs.Common.{◌≡◌, ◌<◌, ◌≤◌, ◌+◌, ℕ, List, [], ◌∷◌, ◌++◌, length, get_or, map, Option, Some, None, Ok, Err, refl, sym, ap, subst, ◌∙◌, arith, rules, codes, lit≤, ltb, true}
-use Rattle.std.specs.Prelude.{replicate, slice_get, sum_by, count_by}
+use Rattle.std.proofs.Common.{◌≡◌, ◌<◌, ◌+◌, ℕ, List, [], ◌∷◌, ◌++◌, length, get_or, Ok, Err, refl, sym, ap, subst, ◌∙◌, arith, rules, lit≤, ltb, true}
+use Rattle.std.specs.Prelude.{replicate}
 use Rattle.std.specs.List.{AllByRecursion}
 use Rattle.std.specs.Fmt.{digits}
-use Rattle.mb_format.specs.Format.{IsBytes, Format, Spells, FailsWhole, IsClearWhole}
+use Rattle.mb_format.specs.Format.{Format, Spells, FailsWhole}
 use Rattle.mb_format.specs.Combinators.{number_bytes, items, times}
 use Rattle.mb_format.specs.Reading.{IsExact, reads_whole, raw_at, number_at}
 use Rattle.mb_format.proofs.Examples.{are_bytes}
 use Rattle.mb_format.proofs.Compositions.{times_exact}
 use Rattle.mb_format.proofs.Whole.{at_start, IsExactWhole-from_exact, IsClearWhole-from_exact}
 use Rattle.mb_model.specs.declared.key.PublicKey.{PublicKey}
-use Rattle.mb_model.specs.Texts.{ended}
 use Rattle.mb_model.specs.Lines.{text_of}
 use Rattle.mb_model.specs.ChainFormat.{chain_format}
 use Rattle.mb_model.specs.Acceptance.{bad_form}
@@ -23,9 +22,9 @@ use Rattle.mb_fleet.specs.Order.{IsBefore}
 use Rattle.mb_fleet.specs.Rows.{AreOrdered}
 use Rattle.mb_fleet.specs.RegisterFormat.{rows_format, register_format}
 use Rattle.mb_fleet.specs.ItemFormat.{show_format, find_format, codes_item_format, item_format, AreItems, ItemsFailAt}
-use Rattle.mb_fleet.specs.Showing.{Answer, newly_added, same, extended, chain_refused, older, forked, full, Meets, is_added, is_same, is_extended, is_older, is_forked, IsChainAnswered, is_chain_refused}
+use Rattle.mb_fleet.specs.Showing.{Answer, newly_added, same, extended, chain_refused, older, forked, full, is_added, is_same, is_extended, is_older, is_forked, IsChainAnswered, is_chain_refused}
 use Rattle.mb_fleet.specs.Questions.{AreCounts}
-use Rattle.mb_fleet.specs.Serving.{count_lines, FleetRun, AreServed, IsTooLong}
+use Rattle.mb_fleet.specs.Serving.{count_lines, FleetRun}
 use Rattle.mb_fleet.specs.Examples.{small_row, two_rows, FleetBytesExamples, FleetBytesCounterExamples, ShownExamples, ShownCounterExamples, QuestionExamples, QuestionCounterExamples}
 use Rattle.mb_fleet.proofs.Ascending.{before_trans, not_before_itself, before_differs}
 use Rattle.mb_fleet.proofs.ClearItems.{items_are_clear}

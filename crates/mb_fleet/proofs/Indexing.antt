@@ -1,5 +1,5 @@
 -- Indexes: what they list after a row is put among others, and the codes that they tell of.
-use Rattle.std.proofs.Common.{◌≡◌, ◌<◌, ◌≤◌, ◌+◌, ℕ, Bool, true, false, List, [], ◌∷◌, ◌++◌, length, take, drop, get_or, map, filter, Option, Some, None, Result, Ok, Err, IfOk, is_some, cond, ◌==◌, refl, sym, ap, subst, ◌∙◌, true≢false, append-nil, arith}
+use Rattle.std.proofs.Common.{◌≡◌, ◌<◌, ◌+◌, ℕ, Bool, true, false, List, [], ◌∷◌, ◌++◌, length, take, drop, get_or, map, filter, Option, Some, None, Result, Ok, Err, IfOk, is_some, cond, ◌==◌, refl, sym, ap, subst, ◌∙◌, true≢false, append-nil, arith}
 use Rattle.std.specs.Prelude.{if◌then◌else◌, slice_set, unwrap_or}
 use Rattle.std.specs.List.{AllByRecursion, insert}
 use Rattle.std.specs.Ordering.{nat_cmp, is_lt, is_eq}
@@ -23,7 +23,7 @@ use Rattle.mb_fleet.specs.Order.{IsBefore}
 use Rattle.mb_fleet.specs.Rows.{code_at, serial_of_row, AreOrdered}
 use Rattle.mb_fleet.specs.Places.{IsHeld, IsFree}
 use Rattle.mb_fleet.specs.Questions.{is_hash, row_has_code, serials_with}
-use Rattle.mb_fleet.specs.Indexes.{serials_at, IsIndexOf, lower, higher, without, among, IsListingOf, IsChangeOf, overlaid, IsChanged, HasCode, KeepsCodes, ListsSame, HasCodeOf, AreIndexesOf, AreChangesOf, AreChanged}
+use Rattle.mb_fleet.specs.Indexes.{serials_at, IsIndexOf, lower, higher, without, among, IsListingOf, IsChangeOf, overlaid, IsChanged, KeepsCodes, ListsSame, HasCodeOf, AreIndexesOf, AreChangesOf, AreChanged}
 use Rattle.mb_fleet.proofs.Each.{each_weaker, each_any}
 use Rattle.mb_fleet.proofs.Ascending.{before_trans, not_before_itself, equal_keys, middle_below, middle_above}
 use Rattle.mb_fleet.proofs.Standing.{about, insert_between, set_between}

@@ -1,6 +1,6 @@
 -- The codes that an index tells of, and how many devices have each.
-use Rattle.std.proofs.Common.{◌≡◌, ◌<◌, ◌≤◌, ◌+◌, ℕ, Bool, true, false, List, [], ◌∷◌, ◌++◌, length, map, filter, Option, Some, None, refl, sym, ap, subst, ◌∙◌, true≢false, append-nil, append_assoc, arith}
-use Rattle.std.specs.Prelude.{sum_by, count_by, if◌then◌else◌, unwrap_or}
+use Rattle.std.proofs.Common.{◌≡◌, ◌<◌, ◌≤◌, ◌+◌, ℕ, Bool, true, false, List, [], ◌∷◌, ◌++◌, length, filter, Option, Some, refl, sym, ap, subst, ◌∙◌, true≢false, append_assoc, arith}
+use Rattle.std.specs.Prelude.{count_by, if◌then◌else◌, unwrap_or}
 use Rattle.std.specs.List.{AllByRecursion}
 use Rattle.std.specs.List.Sorted.{IsStrictlySortedBy}
 use Rattle.std.specs.Map.{lookup, keys_of}
@@ -11,7 +11,7 @@ use Rattle.std.specs.Cmp.Lexicographic.{slice_cmp}
 use Rattle.std.specs.declared.cmp.Ordering.{Ordering}
 use Rattle.std.specs.declared.cmp.Ordering.TheVariants.{Less, Equal, Greater}
 use Rattle.std.proofs.lemmas.List.{length-map}
-use Rattle.std.proofs.lemmas.List.Sums.{sum_by-append, sum_by-cons, length-filter, count_by-le-length}
+use Rattle.std.proofs.lemmas.List.Sums.{sum_by-cons, length-filter, count_by-le-length}
 use Rattle.mb_format.specs.Combinators.{same_bytes}
 use Rattle.mb_format.proofs.Fields.{same_bytes-refl, same_bytes-true}
 use Rattle.mb_fleet.specs.declared.row.Row.{Row}
@@ -21,7 +21,7 @@ use Rattle.mb_fleet.specs.declared.indexes.CodeIndexes.{CodeIndexes}
 use Rattle.mb_fleet.specs.Order.{IsBefore, IsAscending}
 use Rattle.mb_fleet.specs.Rows.{serial_of_row}
 use Rattle.mb_fleet.specs.Questions.{row_has_code, serials_with, hash_of_count, count_beside, AreCounts}
-use Rattle.mb_fleet.specs.Indexes.{serials_at, IsIndexOf, IsOfFewRows, AreIndexesOf, AreOfFewRows, AreListed}
+use Rattle.mb_fleet.specs.Indexes.{IsIndexOf, IsOfFewRows, AreIndexesOf, AreOfFewRows, AreListed}
 use Rattle.mb_fleet.proofs.Each.{each_join, each_weaker}
 use Rattle.mb_fleet.proofs.Indexing.{turned_off, none_found}
 use Rattle.mb_fleet.proofs.Ascending.{equal_keys, before_differs}

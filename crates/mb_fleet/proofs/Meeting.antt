@@ -1,6 +1,6 @@
 -- A row that meets the rows of a register.
-use Rattle.std.proofs.Common.{◌≡◌, ◌==◌, ◌<◌, ◌≤◌, ◌+◌, ◌-◌, ℕ, Bool, true, false, List, [], ◌∷◌, ◌++◌, length, take, drop, get_or, Some, refl, sym, ap, subst, ◌∙◌, true≢false, arith}
-use Rattle.std.specs.Prelude.{not, nat_eq, slice_get, slice_set, ◌&&◌, if◌then◌else◌}
+use Rattle.std.proofs.Common.{◌≡◌, ◌==◌, ◌<◌, ◌≤◌, ◌+◌, ℕ, Bool, true, false, List, [], ◌∷◌, ◌++◌, length, take, drop, get_or, refl, sym, ap, subst, ◌∙◌, true≢false, arith}
+use Rattle.std.specs.Prelude.{not, nat_eq, slice_set, ◌&&◌, if◌then◌else◌}
 use Rattle.std.specs.Str.{bytes_eq}
 use Rattle.std.specs.List.{AllByRecursion, insert}
 use Rattle.std.specs.Cmp.Lexicographic.{pointwise}
@@ -11,7 +11,7 @@ use Rattle.mb_format.specs.Combinators.{same_bytes}
 use Rattle.mb_format.proofs.Fields.{same_bytes-true}
 use Rattle.mb_fleet.specs.declared.row.Row.{Row}
 use Rattle.mb_fleet.specs.Rows.{AreOrdered, serial_of_row}
-use Rattle.mb_fleet.specs.Showing.{Answer, newly_added, same, extended, older, forked, full, IsShorter, DifferAt, HasOld, Meets, is_added, is_full, is_same, is_extended, is_older, is_forked}
+use Rattle.mb_fleet.specs.Showing.{newly_added, same, extended, older, forked, full, IsShorter, DifferAt, HasOld, Meets, is_added, is_full, is_same, is_extended, is_older, is_forked}
 use Rattle.mb_fleet.specs.Places.{IsHeld, IsFree, HasFewEntries, FitsRegister}
 use Rattle.mb_fleet.proofs.Each.{each_between, each_instead}
 use Rattle.mb_fleet.proofs.Ascending.{ascending_between, ascending_instead, none_has}

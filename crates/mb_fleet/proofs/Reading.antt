@@ -6,7 +6,7 @@ use Rattle.std.specs.List.{AllByRecursion}
 use Rattle.std.proofs.lemmas.List.{length-append, drop_all}
 use Rattle.std.proofs.lemmas.List.Concat.{flat_map-cons}
 use Rattle.std.proofs.lemmas.Grind.{flat_map-append}
-use Rattle.mb_format.specs.Format.{SpelledAt, Spells}
+use Rattle.mb_format.specs.Format.{SpelledAt}
 use Rattle.mb_format.specs.Reading.{IsExact}
 use Rattle.mb_format.specs.Combinators.{times, number_bytes}
 use Rattle.mb_format.proofs.Rules.{exactly}

@@ -3,7 +3,6 @@ use Rattle.std.specs.Prelude.{◌≡◌, ℕ, ◌≤◌, List, [], ◌++◌, len
 use Rattle.std.specs.Fmt.{decimal}
 use Rattle.mb_model.specs.declared.key.PublicKey.{PublicKey}
 use Rattle.mb_model.specs.declared.limits.TheConstants.{FILE_LIMIT}
-use Rattle.mb_model.specs.declared.tools.BadRecord.{BadRecord}
 use Rattle.mb_model.specs.Texts.{ended}
 use Rattle.mb_model.specs.Lines.{text_of}
 use Rattle.mb_model.specs.VerifyCommand.{refused_line}

@@ -7,7 +7,6 @@ use Rattle.mb_model.specs.Texts.{ended}
 use Rattle.mb_model.specs.Acceptance.{bad_form}
 use Rattle.mb_fleet.specs.declared.row.Row.{Row}
 use Rattle.mb_fleet.specs.declared.item.Item.TheVariants.{Show, Codes}
-use Rattle.mb_fleet.specs.declared.question.CodeCount.{CodeCount}
 use Rattle.mb_fleet.specs.Rows.{AreOrdered}
 use Rattle.mb_fleet.specs.RegisterFormat.{register_format}
 use Rattle.mb_fleet.specs.ItemFormat.{AreItems, ItemsFailAt}

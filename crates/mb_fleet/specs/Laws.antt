@@ -1,6 +1,6 @@
 -- What the definitions give: items are read in one way, and a chain that is shown has one answer.
 use Rattle.std.specs.Prelude.{◌≡◌, ℕ, List}
-use Rattle.mb_format.specs.Format.{IsBytes, Spells, FailsWhole}
+use Rattle.mb_format.specs.Format.{IsBytes}
 use Rattle.mb_model.specs.declared.key.PublicKey.{PublicKey}
 use Rattle.mb_model.specs.declared.role.Role.TheVariants as role
 use Rattle.mb_model.specs.declared.role.Place.TheVariants as fault

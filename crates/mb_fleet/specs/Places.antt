@@ -8,7 +8,7 @@ use Rattle.mb_fleet.specs.declared.place.Place.TheVariants.{Held, Free}
 use Rattle.mb_fleet.specs.declared.row.Row.{Row}
 use Rattle.mb_fleet.specs.declared.comparison.Comparison.{Comparison}
 use Rattle.mb_fleet.specs.declared.comparison.Comparison.TheVariants as found
-use Rattle.mb_fleet.specs.Order.{IsBefore, IsAscending}
+use Rattle.mb_fleet.specs.Order.{IsBefore}
 use Rattle.mb_fleet.specs.Rows.{AreOrdered}
 use Rattle.mb_fleet.specs.Showing.{IsShorter, DifferAt}
 

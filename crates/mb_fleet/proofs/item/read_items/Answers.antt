@@ -1,6 +1,5 @@
-use Rattle.std.proofs.Common.{arith, ap, length, ◌∙◌}
+use Rattle.std.proofs.Common.{arith, ap, length}
 use Rattle.std.proofs.lemmas.Result.{err_from_is_err_and}
-use Rattle.mb_fleet.specs.Ends.{fleet_at}
 use Rattle.mb_fleet.proofs.Reading.{reading_more, reading_advances, reading_ends_at, reading_is_over}
 use Rattle.mb_fleet.proofs.item.read_items.Goals as goal
 

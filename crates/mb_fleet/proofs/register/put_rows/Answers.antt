@@ -1,7 +1,7 @@
 use Rattle.std.proofs.Common.{None, ℕ, List, subst}
 use Rattle.std.proofs.lemmas.Result.{err_from_is_err_and}
 use Rattle.mb_bytes.specs.Puts.{Appends, StopsShort}
-use Rattle.mb_fleet.specs.RegisterFormat.{row_format, last_serial, rows_format}
+use Rattle.mb_fleet.specs.RegisterFormat.{last_serial, rows_format}
 use Rattle.mb_bytes.proofs.Putting.{puts_then, puts_stop_later, item_is, writing_goes_on, writing_stops, writing_ends}
 use Rattle.mb_fleet.proofs.Registers.{rows_begin, row_spelling}
 use Rattle.mb_fleet.proofs.register.put_rows.Goals as goal

@@ -1,5 +1,5 @@
 use Rattle.std.proofs.lemmas.Result.{err_from_is_err_and}
-use Rattle.std.specs.Prelude.{Some, None}
+use Rattle.std.specs.Prelude.{None}
 use Rattle.std.specs.Int.{w16}
 use Rattle.mb_format.specs.Combinators.{between}
 use Rattle.mb_fleet.specs.Ends.{fleet_at}

@@ -1,9 +1,6 @@
-use Rattle.std.proofs.Common.{◌∙◌, sym, subst, List, arith, ap, length}
-use Rattle.std.specs.List.{All}
+use Rattle.std.proofs.Common.{◌∙◌, sym, arith, ap, length}
 use Rattle.std.proofs.lemmas.List.{length-map}
-use Rattle.mb_model.specs.declared.entry.Entry.{Entry}
 use Rattle.mb_model.specs.declared.entry.SignedEntry.{SignedEntry}
-use Rattle.mb_model.specs.EntryFormat.{entry_format}
 use Rattle.mb_model.specs.Log.{entries_of}
 use Rattle.mb_verifier.proofs.Verdicts.{entries_spelled, entries_few}
 use Rattle.mb_fleet.specs.Rows.{entry_hash}

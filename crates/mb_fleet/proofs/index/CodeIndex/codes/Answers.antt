@@ -1,4 +1,4 @@
-use Rattle.std.proofs.Common.{◌++◌, List, ℕ, ap, sym, ◌∙◌, append-nil, arith, length}
+use Rattle.std.proofs.Common.{◌++◌, List, ap, sym, ◌∙◌, append-nil, arith, length}
 use Rattle.std.specs.Map.Iter.{deref_pair}
 use Rattle.std.proofs.lemmas.Cmp.{nat_list_cmp_total}
 use Rattle.std.proofs.lemmas.Map.Iter.{rest_all, btree_map_turn}
