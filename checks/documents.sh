@@ -240,8 +240,15 @@ def commands_of(path, begins):
     ]
 
 
+def commands_in_table(path):
+    """The commands of the program's table, each with the words after its name."""
+    rows = re.findall(r'\(\s*Command::\w+,\s*"(\w+)",\s*&\[([\w\s,]*)\]', path.read_text())
+    return [" ".join([name, *re.findall(r"\w+", words)]) for name, words in rows]
+
+
 def check_commands(path):
-    usage = commands_of(pathlib.Path("crates/mb_top/src/command_line.rt"), "  miniboot ")
+    usage = commands_in_table(pathlib.Path("crates/mb_top/src/table.rt"))
+    usage += ["--help", "--version"]
     listed = commands_of(path, "    miniboot ")[: len(usage)]
     for said, printed in itertools.zip_longest(listed, usage):
         if said != printed:

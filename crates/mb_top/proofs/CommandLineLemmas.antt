@@ -5,8 +5,8 @@ use Rattle.mb_model.specs.Outside.{Outside, FailsToPrint}
 use Rattle.mb_model.specs.Board.{Held}
 use Rattle.mb_model.specs.Commands.{Ended, PrintEnds, not_printed, SaysLine, at_first}
 use Rattle.mb_top.specs.Top.{Ends}
-use Rattle.mb_top.specs.declared.end.End.TheVariants as end
-use Rattle.mb_top.specs.Ending.{ended_at, end_line, end_status}
+use Rattle.mb_console.specs.declared.end.End.TheVariants as end
+use Rattle.mb_console.specs.Ending.{ended_at, end_line, end_status}
 use Rattle.mb_top.specs.Program.{ProgramEnds, helped, versioned, commanded}
 
 pub text_not_printed : (text : List ℕ) (before mid now : Outside) (final : Held) (status : ℕ) → FailsToPrint text before mid

@@ -1,29 +1,47 @@
 -- The counterexamples of ends, refuted.
-use Rattle.std.proofs.Common.{◌≡◌, ◌≢◌, ℕ, ◌≤◌, List, [], length, ap, arith}
+use Rattle.std.proofs.Common.{◌≡◌, ◌≢◌, ℕ, ◌≤◌, Bool, true, false, nat_lt, List, [], ◌∷◌, length, refl, ap, arith}
 use Rattle.mb_model.specs.Commands.{Ended}
-use Rattle.mb_top.specs.Top.{Request, runs, makes_key, signs, countersigns, makes_device, migrates, verifies, audits, shows_chain, attaches, generates, words_of, Ends, no_command, did}
+use Rattle.mb_console.specs.declared.words.Kind.{Kind}
+use Rattle.mb_console.specs.Words.{Argument, Row, AreWordsFor, IsCalled, IsCall}
+use Rattle.mb_console.proofs.WordLemmas.{all_rows, row_of_call}
+use Rattle.mb_top.specs.declared.table.Command.{Command}
+use Rattle.mb_top.specs.Top.{commands, Ends, no_command, did}
 use Rattle.mb_top.specs.EndCounterExamples.{EndCounterExamples}
 
-three_words : (request : Request) (words : List (List ℕ)) → words ≡ words_of request → 3 ≤ length words
-three_words (runs names) words is = omega (arith, ap length is)
-three_words (makes_key names) words is = omega (arith, ap length is)
-three_words (signs names) words is = omega (arith, ap length is)
-three_words (countersigns names) words is = omega (arith, ap length is)
-three_words (makes_device names) words is = omega (arith, ap length is)
-three_words (verifies names) words is = omega (arith, ap length is)
-three_words (audits names) words is = omega (arith, ap length is)
-three_words (shows_chain names) words is = omega (arith, ap length is)
-three_words (migrates names) words is = omega (arith, ap length is)
-three_words (attaches names) words is = omega (arith, ap length is)
-three_words (generates names) words is = omega (arith, ap length is)
+-- whether at least two words come after the name
+has_two_words : Row Command → Bool
+has_two_words row = nat_lt 1 (length row.2)
+
+all_have_two : all_rows has_two_words commands ≡ true
+unfolding commands has_two_words
+all_have_two = refl
+
+as_many : (kinds : List Kind) (words : List (List ℕ)) (arguments : List Argument) → AreWordsFor kinds words arguments → length words ≡ length kinds
+as_many [] [] arguments is = refl
+as_many [] (word ∷ words) arguments is = absurd is
+as_many (kind ∷ kinds) [] arguments is = absurd is
+as_many (kind ∷ kinds) (word ∷ words) [] is = absurd is
+as_many (kind ∷ kinds) (word ∷ words) (argument ∷ arguments) is = omega (arith, as_many kinds words arguments is.1)
+
+called_by_many : (name : List ℕ) (kinds : List Kind) (words : List (List ℕ)) (given : List Argument) → nat_lt 1 (length kinds) ≡ true → IsCalled name kinds words given → 3 ≤ length words
+called_by_many name kinds [] given two is = absurd is
+called_by_many name kinds (first ∷ words) given two is =
+    let many = as_many kinds words given is.1 in
+    grind (arith, many, two)
+
+three_words : (words : List (List ℕ)) (called : Command) (given : List Argument) → IsCall commands words called given → 3 ≤ length words
+unfolding has_two_words
+three_words words called given is =
+    let row = row_of_call has_two_words commands words called given all_have_two is in
+    called_by_many row.row.1 row.row.2 words given row.passes row.called
 
 no_other_status : (words : List (List ℕ)) (e : Ended) → length words ≤ 2 → e.status ≢ 2 → Ends words e → ⊥
 no_other_status words e few other (no_command none stops) = other stops.status_is
-no_other_status words e few other (did request is ends) = omega (arith, few, three_words request words is.spelled)
+no_other_status words e few other (did called given is ends) = omega (arith, few, three_words words called given is)
 
 nothing_answered : (words : List (List ℕ)) (e : Ended) → length words ≤ 2 → e.answered ≢ [] → Ends words e → ⊥
 nothing_answered words e few some (no_command none stops) = some stops.answered
-nothing_answered words e few some (did request is ends) = omega (arith, few, three_words request words is.spelled)
+nothing_answered words e few some (did called given is ends) = omega (arith, few, three_words words called given is)
 
 pub no_other_ends : (words : List (List ℕ)) (e : Ended) → EndCounterExamples words e
 no_other_ends words e = record { status = no_other_status words e; answered = nothing_answered words e }

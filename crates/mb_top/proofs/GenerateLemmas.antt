@@ -23,13 +23,13 @@ use Rattle.mb_model.specs.GenerateCommand.{GenerateNames, Prepared, IsPrepared, 
 use Rattle.mb_model_lemmas.proofs.EventLemmas.{IsScript-same}
 use Rattle.mb_model_lemmas.proofs.LineLemmas.{HasLines-same, FailsAtLine-none}
 use Rattle.mb_model_lemmas.proofs.FactoryLemmas.{factory_is_well_formed}
-use Rattle.mb_top.specs.declared.end.End.{End}
-use Rattle.mb_top.specs.declared.end.End.TheVariants as end
-use Rattle.mb_top.specs.Ending.{CarriesOutAfter, CarriesOutRest}
-use Rattle.mb_top.specs.Outputs.{writes, WritesAll, StopsWriting}
+use Rattle.mb_console.specs.declared.end.End.{End}
+use Rattle.mb_console.specs.declared.end.End.TheVariants as end
+use Rattle.mb_console.specs.Ending.{CarriesOutAfter, CarriesOutRest}
+use Rattle.mb_console.specs.Outputs.{writes, WritesAll, StopsWriting}
 use Rattle.mb_top.specs.Generated.{HasEvents, workload_outputs}
-use Rattle.mb_top.proofs.CommandLemmas.{goes_first, goes_second, finds, serve_goes, memory_unfound, lack_here}
-use Rattle.mb_top.proofs.OutputLemmas.{all_written, stops_carried}
+use Rattle.mb_console.proofs.CommandLemmas.{goes_first, goes_second, finds, serve_goes, memory_unfound, lack_here}
+use Rattle.mb_console.proofs.OutputLemmas.{all_written, stops_carried}
 
 -- ---- the script is read, and its noise is enough
 

@@ -1,16 +1,7 @@
-pub mod CommandLemmas
-pub mod Completing
-pub mod WordLemmas
-pub mod OutputLemmas
-pub mod KeygenLemmas
-pub mod ImageLemmas
-pub mod MigrateLemmas
+pub mod TableLemmas
 pub mod RunLemmas
 pub mod Requests
-pub mod SignLemmas
 pub mod CommandLineLemmas
-pub mod FactoryLemmas
 pub mod SummaryLemmas
 pub mod GenerateLemmas
-pub mod ChainLemmas
 pub mod EndCounterProofs

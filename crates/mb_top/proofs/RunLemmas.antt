@@ -23,11 +23,11 @@ use Rattle.mb_model_lemmas.proofs.LineLemmas.{cons_same}
 use Rattle.mb_model_lemmas.proofs.ValidStates.{kept_rightly}
 use Rattle.mb_model_runs.proofs.SoundLemmas.{run_is_sound}
 use Rattle.mb_model_runs.proofs.StatementLemmas.{statements_stay_accepted}
-use Rattle.mb_top.specs.declared.end.End.{End}
-use Rattle.mb_top.specs.Ending.{CarriesOutAfter, CarriesOutRest}
-use Rattle.mb_top.specs.Outputs.{writes}
-use Rattle.mb_top.proofs.CommandLemmas.{serve_goes}
-use Rattle.mb_top.proofs.ImageLemmas.{image_stored}
+use Rattle.mb_console.specs.declared.end.End.{End}
+use Rattle.mb_console.specs.Ending.{CarriesOutAfter, CarriesOutRest}
+use Rattle.mb_console.specs.Outputs.{writes}
+use Rattle.mb_console.proofs.CommandLemmas.{serve_goes}
+use Rattle.mb_tools.proofs.ImageLemmas.{image_stored}
 
 -- ---- the board after the load
 

@@ -1,11 +1,7 @@
 pub mod Top
-pub mod Words
-pub mod Ending
-pub mod Outputs
-pub mod Images
+pub mod Usage
+pub mod Names
 pub mod Generated
 pub mod Summaries
-pub mod Chains
 pub mod Program
-pub mod Signing
 pub mod EndCounterExamples

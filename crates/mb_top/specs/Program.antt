@@ -3,8 +3,8 @@
 use Rattle.std.specs.Prelude.{◌≡◌, ℕ, List, [], ◌∷◌, codes}
 use Rattle.mb_model.specs.Commands.{Ended, PrintEnds, at_first}
 use Rattle.mb_top.specs.Top.{Ends}
-use Rattle.mb_top.specs.declared.end.End.{End}
-use Rattle.mb_top.specs.declared.end.End.TheVariants as end
+use Rattle.mb_console.specs.declared.end.End.{End}
+use Rattle.mb_console.specs.declared.end.End.TheVariants as end
 use Rattle.mb_top.specs.declared.command_line.NoWords.{NoWords}
 use Rattle.mb_top.specs.declared.command_line.NoWords.TheVariants as no
 

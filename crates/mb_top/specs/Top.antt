@@ -1,91 +1,88 @@
--- What the program does, by its words: which command they are, and how it ends.
-use Rattle.std.specs.Prelude.{◌≡◌, ◌≢◌, ℕ, ◌≤◌, List, [], ◌∷◌, codes, IsTrue}
-use Rattle.std.specs.Fmt.{decimal}
-use Rattle.mb_model.specs.Layers.{is_upper}
-use Rattle.mb_model.specs.Lines.{number_limit}
-use Rattle.mb_model.specs.Commands.{Command, Ended, Stops, CommandEnds, at_first}
-use Rattle.mb_model.specs.RunCommand.{RunNames, run}
-use Rattle.mb_model.specs.Keygen.{KeygenNames, keygen}
-use Rattle.mb_model.specs.Sign.{SignNames, CountersignNames, sign, countersign}
-use Rattle.mb_model.specs.FactoryCommand.{FactoryNames, factory}
-use Rattle.mb_model.specs.MigrateCommand.{MigrateNames, migrate}
-use Rattle.mb_model.specs.VerifyCommand.{VerifyNames, verify}
-use Rattle.mb_model.specs.AuditCommand.{AuditNames, audit}
-use Rattle.mb_model.specs.ChainCommands.{ChainNames, AttachNames, chain, attach}
-use Rattle.mb_model.specs.GenerateCommand.{GenerateNames, generate}
+-- What the program does, by its words: which command they call, and how it ends.
+use Rattle.std.specs.Prelude.{◌≡◌, List, ℕ, map, codes, Result}
+use Rattle.mb_model.specs.declared.event.Answered.{Answered}
+use Rattle.mb_model.specs.Outside.{Outside}
+use Rattle.mb_model.specs.Board.{Held}
+use Rattle.mb_model.specs.Commands.{Command as Does, Ended, Stops, CommandEnds, at_first}
+use Rattle.mb_model.specs.RunCommand.{run}
+use Rattle.mb_model.specs.Keygen.{keygen}
+use Rattle.mb_model.specs.Sign.{sign, countersign}
+use Rattle.mb_model.specs.FactoryCommand.{factory}
+use Rattle.mb_model.specs.MigrateCommand.{migrate}
+use Rattle.mb_model.specs.VerifyCommand.{verify}
+use Rattle.mb_model.specs.AuditCommand.{audit}
+use Rattle.mb_model.specs.ChainCommands.{chain, attach}
+use Rattle.mb_model.specs.GenerateCommand.{generate}
+use Rattle.mb_board.specs.Calls.{Seen, held_in}
+use Rattle.mb_console.specs.declared.end.End.{End}
+use Rattle.mb_console.specs.Ending.{ended_at, EndsOncePrinted}
+use Rattle.mb_console.specs.Words.{Row, Argument, IsCall, file_given, number_given}
+use Rattle.mb_top.specs.declared.table.TheConstants.{COMMANDS}
+use Rattle.mb_top.specs.declared.table.Command.{Command}
+use Rattle.mb_top.specs.declared.table.Command.TheVariants as command
 
--- a command and what its words name
-pub data Request : Type 0 where
-  runs : RunNames → Request
-  makes_key : KeygenNames → Request
-  signs : SignNames → Request
-  countersigns : CountersignNames → Request
-  makes_device : FactoryNames → Request
-  migrates : MigrateNames → Request
-  verifies : VerifyNames → Request
-  audits : AuditNames → Request
-  shows_chain : ChainNames → Request
-  attaches : AttachNames → Request
-  generates : GenerateNames → Request
+-- the commands with their names and the kinds of the words after each
+unfoldable pub commands : List (Row Command)
+commands = map (λ row. (row.0, row.1.now, map (λ word. word.1) row.2.now)) COMMANDS
 
--- the words of a request, without the program's name
-abbrev pub words_of : Request → List (List ℕ)
-words_of (runs names) = codes "run" ∷ names.image ∷ names.script ∷ names.noise ∷ []
-words_of (makes_key names) = codes "keygen" ∷ names.noise ∷ names.key ∷ names.public ∷ []
-words_of (signs names) = codes "sign" ∷ names.key ∷ names.draft ∷ names.out ∷ []
-words_of (countersigns names) =
-    codes "countersign" ∷ names.key ∷ decimal names.layer ∷ names.order ∷ names.out ∷ []
-words_of (makes_device names) =
-    codes "factory" ∷ names.noise ∷ names.key ∷ names.owner ∷ names.code ∷ names.image ∷ []
-words_of (migrates names) = codes "migrate" ∷ names.image ∷ names.out ∷ []
-words_of (verifies names) = codes "verify" ∷ names.root ∷ names.chain ∷ decimal names.key ∷ []
-words_of (audits names) = codes "audit" ∷ names.image ∷ names.root ∷ names.chain ∷ decimal names.key ∷ []
-words_of (shows_chain names) = codes "chain" ∷ names.image ∷ names.out ∷ []
-words_of (attaches names) = codes "attach" ∷ names.chain ∷ names.statement ∷ names.out ∷ []
-words_of (generates names) =
-    codes "generate" ∷ decimal names.number ∷ decimal names.rounds ∷ names.image ∷ names.script ∷ names.noise ∷ []
-
--- no name is empty, the layer that countersigns is 2 or 3, the number of a key or of a workload is one of 32 bits, and
--- a workload has 1 to 24 rounds
-abbrev pub IsAllowed : Request → Type 0
-IsAllowed (runs names) = (names.image ≢ []) × (names.script ≢ []) × (names.noise ≢ [])
-IsAllowed (makes_key names) = (names.noise ≢ []) × (names.key ≢ []) × (names.public ≢ [])
-IsAllowed (signs names) = (names.key ≢ []) × (names.draft ≢ []) × (names.out ≢ [])
-IsAllowed (countersigns names) =
-    (names.key ≢ []) × (names.order ≢ []) × (names.out ≢ []) × IsTrue (is_upper names.layer)
-IsAllowed (makes_device names) =
-    (names.noise ≢ []) × (names.key ≢ []) × (names.owner ≢ []) × (names.code ≢ []) × (names.image ≢ [])
-IsAllowed (migrates names) = (names.image ≢ []) × (names.out ≢ [])
-IsAllowed (verifies names) = (names.root ≢ []) × (names.chain ≢ []) × (names.key ≤ number_limit)
-IsAllowed (audits names) = (names.image ≢ []) × (names.root ≢ []) × (names.chain ≢ []) × (names.key ≤ number_limit)
-IsAllowed (shows_chain names) = (names.image ≢ []) × (names.out ≢ [])
-IsAllowed (attaches names) = (names.chain ≢ []) × (names.statement ≢ []) × (names.out ≢ [])
-IsAllowed (generates names) =
-    (names.image ≢ []) × (names.script ≢ []) × (names.noise ≢ [])
-    × (names.number ≤ number_limit) × (1 ≤ names.rounds) × (names.rounds ≤ 24)
-
--- the words are those of an allowed request
-pub record IsRequest (words : List (List ℕ)) (request : Request) : Type 0 where
-  pub spelled : words ≡ words_of request
-  pub allowed : IsAllowed request
-
--- what is done at a request
-abbrev pub command_of : Request → Command
-command_of (runs names) = run names
-command_of (makes_key names) = keygen names
-command_of (signs names) = sign names
-command_of (countersigns names) = countersign names
-command_of (makes_device names) = factory names
-command_of (migrates names) = migrate names
-command_of (verifies names) = verify names
-command_of (audits names) = audit names
-command_of (shows_chain names) = chain names
-command_of (attaches names) = attach names
-command_of (generates names) = generate names
+-- what is done at a command, with the arguments in the order of its words
+abbrev pub command_of : Command → List Argument → Does
+command_of command.Run given =
+    run (record { image = file_given 0 given; script = file_given 1 given; noise = file_given 2 given })
+command_of command.Verify given =
+    verify (record { root = file_given 0 given; chain = file_given 1 given; key = number_given 2 given })
+command_of command.Audit given = audit (record {
+  image = file_given 0 given;
+  root = file_given 1 given;
+  chain = file_given 2 given;
+  key = number_given 3 given;
+})
+command_of command.Chain given = chain (record { image = file_given 0 given; out = file_given 1 given })
+command_of command.Attach given =
+    attach (record { chain = file_given 0 given; statement = file_given 1 given; out = file_given 2 given })
+command_of command.Factory given = factory (record {
+  noise = file_given 0 given;
+  key = file_given 1 given;
+  owner = file_given 2 given;
+  code = file_given 3 given;
+  image = file_given 4 given;
+})
+command_of command.Keygen given =
+    keygen (record { noise = file_given 0 given; key = file_given 1 given; public = file_given 2 given })
+command_of command.Sign given =
+    sign (record { key = file_given 0 given; draft = file_given 1 given; out = file_given 2 given })
+command_of command.Countersign given = countersign (record {
+  key = file_given 0 given;
+  layer = number_given 1 given;
+  order = file_given 2 given;
+  out = file_given 3 given;
+})
+command_of command.Migrate given = migrate (record { image = file_given 0 given; out = file_given 1 given })
+command_of command.Generate given = generate (record {
+  number = number_given 0 given;
+  rounds = number_given 1 given;
+  image = file_given 2 given;
+  script = file_given 3 given;
+  noise = file_given 4 given;
+})
 
 -- How the program ends.
 pub data Ends (words : List (List ℕ)) (e : Ended) : Type 0 where
-  -- 2: the words are no request
-  no_command : ((request : Request) → IsRequest words request → ⊥) → Stops (codes "words") 2 at_first e → Ends words e
-  -- they are one, and its command has ended so
-  did : (request : Request) → IsRequest words request → CommandEnds (command_of request) at_first e → Ends words e
+  -- 2: the words call no command
+  no_command : ((called : Command) (given : List Argument) → IsCall commands words called given → ⊥)
+      → Stops (codes "words") 2 at_first e → Ends words e
+  -- they call one, and it has ended so
+  did : (called : Command) (given : List Argument) → IsCall commands words called given
+      → CommandEnds (command_of called given) at_first e → Ends words e
+
+-- ---- what carries out a command
+
+-- what the words call is carried out, up to the line of its status
+abbrev pub CarriesOutWords :
+    List (List ℕ) → List Answered → Held → Outside → Result (Unit {0}) End → Outside → Type 0
+CarriesOutWords words answered final before result now =
+    EndsOncePrinted (λ after status. Ends words (ended_at before answered final after status)) result now
+
+-- a board holds what it held at its last answer
+abbrev pub HoldsAnswered : Seen → Type 0
+HoldsAnswered seen = seen.ledger.standing ≡ held_in seen

@@ -1,26 +1,26 @@
 //! The commands by their words.
 
-ghost use Rattle.std.specs.Prelude.{◌≡◌, ◌<◌, ◌⊎◌, ℕ, List, Option, [], map, None, Some, false, string_bytes};
-ghost use Rattle.mb_model.specs.Commands.{HasInputsFor, ComesToRefusal, IsFaultless};
-ghost use Rattle.mb_top.specs.Top.{Request as Asked, IsRequest, command_of, Ends};
-ghost use Rattle.mb_top.specs.Ending.{HoldsAnswered, CarriesOutWords};
+ghost use Rattle.std.specs.Prelude.{◌≡◌, ◌<◌, ◌⊎◌, ℕ, MatchOption, List, Option, [], map, None, Some, false, string_bytes};
+ghost use Rattle.mb_model.specs.Commands.{HasInputsFor, ComesToRefusal, IsFaultless, at_first};
+ghost use Rattle.mb_console.specs.Ending.{CarriesOutRest};
+ghost use Rattle.mb_console.specs.Words.{Argument, IsCall, given_argument};
+ghost use Rattle.mb_top.specs.Top.{commands, command_of, Ends, HoldsAnswered, CarriesOutWords};
 
-use crate::attach::attach;
-use crate::audit::audit;
-use crate::chain::chain;
-use crate::end::End;
-use crate::factory::factory;
-use crate::generate::generate;
-use crate::keygen::keygen;
-use crate::migrate::migrate;
-use crate::output::stop;
-use crate::run::run;
-use crate::sign::{countersign, sign};
-use crate::verify::verify;
-use crate::words::{Request, request_in};
+use crate::generate::{GenerateNames, generate};
+use crate::run::{RunNames, run};
+use crate::table::{COMMANDS, Call, Command, call_in};
 use mb_board::Board;
+use mb_console::{End, file, number, stop};
 use mb_host::Host;
 use mb_lms::HashCount;
+use mb_tools::attach::{AttachNames, attach};
+use mb_tools::audit::{AuditNames, audit};
+use mb_tools::chain::{ChainNames, chain};
+use mb_tools::factory::{FactoryNames, factory};
+use mb_tools::keygen::{KeygenNames, keygen};
+use mb_tools::migrate::{MigrateNames, migrate};
+use mb_tools::sign::{CountersignNames, SignNames, countersign, sign};
+use mb_tools::verify::{VerifyNames, verify};
 use std::alloc::Global;
 use std::marker::Brand;
 use std::sync::ledger::{Blank, Ledger};
@@ -61,19 +61,131 @@ fn counted_command<H: Host, B: Board, L: Ledger>(
     ensures stays { HoldsAnswered (B.seen board.old) → HoldsAnswered (B.seen board.new) }
 {
     let mut hashes = HashCount::<L>::begin(alloc, blank);
-    match request_in(words) {
-        Some(Request::Run(names)) => run(alloc, &names, host, board, &mut hashes),
-        Some(Request::Verify(names)) => verify(alloc, &names, host),
-        Some(Request::Audit(names)) => audit(alloc, &names, host, &mut hashes),
-        Some(Request::Chain(names)) => chain(alloc, &names, host, &mut hashes),
-        Some(Request::Attach(names)) => attach(alloc, &names, host),
-        Some(Request::Factory(names)) => factory(alloc, &names, host, &mut hashes),
-        Some(Request::Migrate(names)) => migrate(alloc, &names, host, &mut hashes),
-        Some(Request::Keygen(names)) => keygen(alloc, &names, host, &mut hashes),
-        Some(Request::Sign(names)) => sign(alloc, &names, host, &mut hashes),
-        Some(Request::Countersign(names)) => countersign(alloc, &names, host, &mut hashes),
-        Some(Request::Generate(names)) => generate(alloc, &names, host, board, &mut hashes),
+    match called(words) {
+        Some(call) => carry_out(alloc, &call, host, board, &mut hashes),
         None => Err(End::Words),
+    }
+}
+
+/// The command that the words call; `None` if they call none.
+fn called(words: &[String]) -> Option<Call<'_>>
+    ensures { MatchOption result
+        ((called : Command) (given : List Argument) → IsCall commands (map string_bytes words.now) called given → ⊥)
+        (λ call. IsCall commands (map string_bytes words.now) call.command (map given_argument call.arguments.items)) }
+{
+    call_in(&COMMANDS, words)
+}
+
+/// Carries out a command, up to the line of its status.
+fn carry_out<H: Host, B: Board, L: Ledger>(
+    alloc: Global,
+    call: &Call<'_>,
+    host: &mut H,
+    board: &mut B,
+    hashes: &mut HashCount<L>,
+) -> Result<(), End>
+    requires called { (words : List (List ℕ)) × IsCall commands words call.now.command (map given_argument call.now.arguments.items) }
+    requires off { (B.seen board.old).power ≡ false }
+    requires none_out { (B.seen board.old).ledger.out ≡ None }
+    requires none_answered { (B.seen board.old).ledger.answered ≡ [] }
+    ensures carried { CarriesOutRest (command_of call.now.command (map given_argument call.now.arguments.items)) at_first
+        (B.seen board.new).ledger.answered (B.seen board.new).ledger.standing (H.outside host.old) result (H.outside host.new) }
+    ensures stays { HoldsAnswered (B.seen board.old) → HoldsAnswered (B.seen board.new) }
+{
+    let given = &call.arguments;
+    match call.command {
+        Command::Run => {
+            let names = RunNames {
+                image: file(given, 0),
+                script: file(given, 1),
+                noise: file(given, 2),
+            };
+            run(alloc, &names, host, board, hashes)
+        }
+        Command::Verify => {
+            let names = VerifyNames {
+                root: file(given, 0),
+                chain: file(given, 1),
+                key: number(given, 2),
+            };
+            verify(alloc, &names, host)
+        }
+        Command::Audit => {
+            let names = AuditNames {
+                image: file(given, 0),
+                root: file(given, 1),
+                chain: file(given, 2),
+                key: number(given, 3),
+            };
+            audit(alloc, &names, host, hashes)
+        }
+        Command::Chain => {
+            let names = ChainNames {
+                image: file(given, 0),
+                out: file(given, 1),
+            };
+            chain(alloc, &names, host, hashes)
+        }
+        Command::Attach => {
+            let names = AttachNames {
+                chain: file(given, 0),
+                statement: file(given, 1),
+                out: file(given, 2),
+            };
+            attach(alloc, &names, host)
+        }
+        Command::Factory => {
+            let names = FactoryNames {
+                noise: file(given, 0),
+                key: file(given, 1),
+                owner: file(given, 2),
+                code: file(given, 3),
+                image: file(given, 4),
+            };
+            factory(alloc, &names, host, hashes)
+        }
+        Command::Keygen => {
+            let names = KeygenNames {
+                noise: file(given, 0),
+                key: file(given, 1),
+                public: file(given, 2),
+            };
+            keygen(alloc, &names, host, hashes)
+        }
+        Command::Sign => {
+            let names = SignNames {
+                key: file(given, 0),
+                draft: file(given, 1),
+                out: file(given, 2),
+            };
+            sign(alloc, &names, host, hashes)
+        }
+        Command::Countersign => {
+            let names = CountersignNames {
+                key: file(given, 0),
+                layer: number(given, 1) as u8,
+                order: file(given, 2),
+                out: file(given, 3),
+            };
+            countersign(alloc, &names, host, hashes)
+        }
+        Command::Migrate => {
+            let names = MigrateNames {
+                image: file(given, 0),
+                out: file(given, 1),
+            };
+            migrate(alloc, &names, host, hashes)
+        }
+        Command::Generate => {
+            let names = GenerateNames {
+                number: number(given, 0),
+                rounds: number(given, 1),
+                image: file(given, 2),
+                script: file(given, 3),
+                noise: file(given, 4),
+            };
+            generate(alloc, &names, host, board, hashes)
+        }
     }
 }
 
@@ -90,10 +202,10 @@ pub fn top<H: Host, B: Board>(alloc: Global, words: &[String], host: &mut H, boa
       final = (B.seen board.new).ledger.standing;
       status = result;
     }) }
-    ensures complete { (asked : Asked) → IsRequest (map string_bytes words.now) asked
-        → (files : List ℕ → Option (List ℕ)) → (H.outside host.old).files ≡ Some files → HasInputsFor (command_of asked) files
+    ensures complete { (called : Command) (given : List Argument) → IsCall commands (map string_bytes words.now) called given
+        → (files : List ℕ → Option (List ℕ)) → (H.outside host.old).files ≡ Some files → HasInputsFor (command_of called given) files
         → IsFaultless (H.outside host.old) (H.outside host.new)
-        → (result ≡ 0) ⊎ (result ≡ 6) ⊎ ((result ≡ 7) × ComesToRefusal (command_of asked) files) }
+        → (result ≡ 0) ⊎ (result ≡ 6) ⊎ ((result ≡ 7) × ComesToRefusal (command_of called given) files) }
     ensures stays { HoldsAnswered (B.seen board.old) → HoldsAnswered (B.seen board.new) }
 {
     match command(alloc, words, host, board) {

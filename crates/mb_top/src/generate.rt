@@ -10,16 +10,15 @@ ghost use Rattle.mb_model.specs.Commands.{Past, at_first};
 ghost use Rattle.mb_model.specs.GenerateCommand.{generate, summarise};
 ghost use Rattle.mb_model.specs.Workload.{IsWorkload};
 ghost use Rattle.mb_generate.specs.Serving.{CanBeServed};
-ghost use Rattle.mb_top.specs.Words.{generate_files};
-ghost use Rattle.mb_top.specs.Ending.{HoldsAnswered, CarriesOutRest};
-ghost use Rattle.mb_top.specs.Outputs.{WritesAll, StopsWriting};
+ghost use Rattle.mb_top.specs.Names.{generate_files};
+ghost use Rattle.mb_console.specs.Ending.{CarriesOutRest};
+ghost use Rattle.mb_top.specs.Top.{HoldsAnswered};
+ghost use Rattle.mb_console.specs.Outputs.{WritesAll, StopsWriting};
 ghost use Rattle.mb_top.specs.Generated.{HasEvents, workload_outputs};
 
-use crate::end::End;
-use crate::output::{Output, print_text, write_all};
 use crate::summary::{summary_of, wants_memory};
-use crate::words::GenerateNames;
 use mb_board::Board;
+use mb_console::{End, Output, print_text, write_all};
 use mb_device::Device;
 use mb_generate::workload;
 use mb_host::Host;
@@ -30,6 +29,17 @@ use mb_script::{ScriptEnd, ShortNoise, place_draws, read_script};
 use sha2::{Digest, Sha256};
 use std::alloc::Global;
 use std::sync::ledger::Ledger;
+
+/// The number of a workload, how many rounds it has, and the names of its files.
+#[derive(Clone, Copy)]
+pub struct GenerateNames<'a> {
+    pub number: u32,
+    /// 1 to 24.
+    pub rounds: u32,
+    pub image: &'a str,
+    pub script: &'a str,
+    pub noise: &'a str,
+}
 
 /// Makes a workload, loads it on the board, writes its three files, serves it, and prints the summary.
 pub fn generate<H: Host, B: Board, L: Ledger>(

@@ -1,32 +1,24 @@
-//! The command line: from words, files and events to files, printed lines and a status.
+//! The program: its table of commands, and what serves a device.
 //!
-//! This crate owns the program over any host and board, the commands, and what they share: the words, the reading
-//! of inputs, the writing of outputs, and the lines of statuses.
+//! This crate owns the program over any host and board, the table of its commands, and the commands `run` and
+//! `generate`, which serve a device. The other commands are those of `mb_tools`, and what all commands share is in
+//! `mb_console`.
 //!
 //! Any call that takes memory may answer that an allocation failed. The tests of `mb_test_lives` show that commands are
 //! done.
 #![tactic(auto)]
 
-mod attach;
-mod audit;
-mod chain;
 mod command_line;
 mod commands;
 mod counter_examples;
-mod end;
-mod factory;
 mod generate;
-mod input;
-mod keygen;
-mod migrate;
-mod output;
 mod replies;
 mod run;
-mod sign;
+mod scripts;
 mod summary;
-mod verify;
-mod words;
+mod table;
 
-pub use command_line::{NoWords, USAGE, VERSION, program};
+pub use command_line::{NoWords, VERSION, program};
 pub use commands::top;
 pub use counter_examples::end_counter_examples;
+pub use table::{COMMANDS, Command};

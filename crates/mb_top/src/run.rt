@@ -8,22 +8,29 @@ ghost use Rattle.mb_model.specs.Commands.{at_first};
 ghost use Rattle.mb_model.specs.Meaning.{IsWellFormed};
 ghost use Rattle.mb_model.specs.RunCommand.{run, read_script, read_noise, serve_events, write_image};
 ghost use Rattle.mb_model.specs.Script.{IsScriptEvent};
-ghost use Rattle.mb_top.specs.Words.{run_files};
-ghost use Rattle.mb_top.specs.Ending.{HoldsAnswered, CarriesOutRest};
+ghost use Rattle.mb_top.specs.Names.{run_files};
+ghost use Rattle.mb_console.specs.Ending.{CarriesOutRest};
+ghost use Rattle.mb_top.specs.Top.{HoldsAnswered};
 
-use crate::end::End;
-use crate::input::devices::read_image;
-use crate::input::scripts::{read_draws, read_events};
-use crate::output::{Output, finish};
 use crate::replies::write_replies;
-use crate::words::RunNames;
+use crate::scripts::{ScriptForm, read_draws};
 use mb_board::Board;
+use mb_console::{End, Output, finish, read_as};
 use mb_device::Device;
 use mb_host::Host;
 use mb_lms::HashCount;
 use mb_model::{Events, Role};
+use mb_tools::read_image;
 use std::alloc::Global;
 use std::sync::ledger::Ledger;
+
+/// The names of the files of `run`.
+#[derive(Clone, Copy)]
+pub struct RunNames<'a> {
+    pub image: &'a str,
+    pub script: &'a str,
+    pub noise: &'a str,
+}
 
 /// Serves the script on the image, writes the new image and prints the replies.
 pub fn run<H: Host, B: Board, L: Ledger>(
@@ -62,7 +69,7 @@ fn run_image<H: Host, B: Board, L: Ledger>(
         (H.outside host.old) result (H.outside host.new) }
     ensures stays { HoldsAnswered (B.seen board.old) → HoldsAnswered (B.seen board.new) }
 {
-    let events = read_events(alloc, host, names.script)?;
+    let events = read_as(alloc, host, Role::Script, names.script, ScriptForm)?;
     run_events(alloc, names, image, events, host, board, hashes)
 }
 

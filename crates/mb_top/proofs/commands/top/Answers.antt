@@ -1,7 +1,7 @@
 use Rattle.std.proofs.Common.{map, string_bytes, sym, subst}
 use Rattle.mb_top.specs.Top.{Ends}
-use Rattle.mb_top.specs.Ending.{ended_at}
-use Rattle.mb_top.proofs.Requests.{request_completes}
+use Rattle.mb_console.specs.Ending.{ended_at}
+use Rattle.mb_top.proofs.Requests.{call_completes}
 use Rattle.mb_top.proofs.commands.top.Goals as goal
 
 pub returns-in-Err-clause-ends : goal.returns-in-Err-clause-ends
@@ -11,4 +11,4 @@ returns-in-Err-clause-ends g c =
     (sym c.stop.ensures.status) (c.in-Err.ensures.carried (g.H.Host.outside c.stop.new.host) c.stop.ensures.says)
 
 pub returns-in-Err-clause-complete : goal.returns-in-Err-clause-complete
-returns-in-Err-clause-complete g c = λ asked is files told has well. request_completes _ asked files _ is told has well (returns-in-Err-clause-ends g c)
+returns-in-Err-clause-complete g c = λ called given is files told has well. call_completes _ called given files _ is told has well (returns-in-Err-clause-ends g c)

@@ -1,4 +1,4 @@
-use Rattle.mb_top.specs.Words.{generate_files}
+use Rattle.mb_top.specs.Names.{generate_files}
 use Rattle.mb_top.proofs.GenerateLemmas.{none_made}
 use Rattle.mb_top.proofs.generate.generate.Goals as goal
 

@@ -2,7 +2,7 @@ use Rattle.std.proofs.Common.{Some, ◌∙◌, sym, ap, subst, length, length-ap
 use Rattle.std.proofs.lemmas.Result.{err_from_is_err_and}
 use Rattle.mb_model.specs.Acknowledged.{Shows}
 use Rattle.mb_model.specs.Machine.{opening}
-use Rattle.mb_top.specs.Words.{generate_files}
+use Rattle.mb_top.specs.Names.{generate_files}
 use Rattle.mb_top.proofs.RunLemmas.{loaded_shows, loaded_holds, unloaded_holds, served_whole}
 use Rattle.mb_top.proofs.GenerateLemmas.{new_state, new_image, none_made, files_not_written, workload_served}
 use Rattle.mb_top.proofs.generate.load_workload.Goals as goal

@@ -1,8 +1,8 @@
 use Rattle.std.proofs.Common.{refl, ◌∙◌, ap}
 use Rattle.mb_model.specs.Machine.{opening}
 use Rattle.mb_model.specs.Commands.{at_first}
-use Rattle.mb_top.specs.Words.{run_files}
-use Rattle.mb_top.proofs.CommandLemmas.{memory_unserved}
+use Rattle.mb_top.specs.Names.{run_files}
+use Rattle.mb_console.proofs.CommandLemmas.{memory_unserved}
 use Rattle.mb_top.proofs.RunLemmas.{loaded_shows, loaded_holds, unloaded_holds, served_whole, events_served}
 use Rattle.mb_top.proofs.run.run_drawn.Goals as goal
 

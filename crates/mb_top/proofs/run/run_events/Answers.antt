@@ -2,9 +2,9 @@ use Rattle.std.proofs.Common.{refl}
 use Rattle.std.proofs.lemmas.Result.{err_from_is_err_and}
 use Rattle.mb_model.specs.Commands.{at_first}
 use Rattle.mb_model.specs.RunCommand.{serve_events}
-use Rattle.mb_top.specs.Words.{run_files}
+use Rattle.mb_top.specs.Names.{run_files}
 use Rattle.mb_model.specs.Inputs.{draws_input}
-use Rattle.mb_top.proofs.CommandLemmas.{input_carried_out, read_on}
+use Rattle.mb_console.proofs.CommandLemmas.{input_carried_out, read_on}
 use Rattle.mb_top.proofs.run.run_events.Goals as goal
 
 pub returns-in_err-drawn-clause-carried : goal.returns-in_err-drawn-clause-carried

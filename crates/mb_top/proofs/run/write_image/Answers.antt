@@ -1,8 +1,8 @@
 use Rattle.std.proofs.Common.{◌≡◌, length, refl, sym, ◌∙◌, ap, arith, length-append}
 use Rattle.mb_model.specs.Board.{image_of}
 use Rattle.mb_model.specs.Replies.{replies_text}
-use Rattle.mb_top.specs.Words.{run_files}
-use Rattle.mb_top.proofs.CommandLemmas.{memory_here}
+use Rattle.mb_top.specs.Names.{run_files}
+use Rattle.mb_console.proofs.CommandLemmas.{memory_here}
 use Rattle.mb_top.proofs.RunLemmas.{filled_whole, image_written}
 use Rattle.mb_top.proofs.run.write_image.Goals as goal
 

@@ -1,0 +1,4 @@
+pub mod WordLemmas
+pub mod CommandLemmas
+pub mod Completing
+pub mod OutputLemmas

@@ -1,0 +1,168 @@
+-- What carries out `verify`, `audit`, `chain` and `attach`.
+use Rattle.std.proofs.Common.{◌≡◌, ◌≢◌, ℕ, List, [], ◌∷◌, codes, length, Bool, false, is_some, true≢false, take, min, Option, None, Some, Result, Ok, Err, refl, sym, ◌∙◌, ap, subst}
+use Rattle.std.proofs.lemmas.List.{take-map, take_min}
+use Rattle.std.specs.Prelude.{IfOk}
+use Rattle.mb_format.specs.Format.{IsBytes, Spells}
+use Rattle.mb_model.specs.declared.key.PublicKey.{PublicKey}
+use Rattle.mb_model.specs.declared.entry.Chain.{Chain}
+use Rattle.mb_model.specs.declared.entry.Entry.{Entry}
+use Rattle.mb_model.specs.declared.entry.SignedEntry.{SignedEntry}
+use Rattle.mb_model.specs.declared.entry.Statement.{Statement}
+use Rattle.mb_model.specs.declared.state.Configuration.{Configuration}
+use Rattle.mb_model.specs.declared.state.Report.{Report}
+use Rattle.mb_model.specs.declared.state.State.{State}
+use Rattle.mb_model.specs.declared.role.Role.TheVariants as role
+use Rattle.mb_model.specs.Log.{entries_of, RuledLog}
+use Rattle.mb_model.specs.Lives.{lives_of}
+use Rattle.mb_model.specs.Valid.{IsValidState}
+use Rattle.mb_model.specs.ChainFormat.{chain_format}
+use Rattle.mb_model.specs.Attach.{bare_chain, stated_chain}
+use Rattle.mb_model.specs.Texts.{ended}
+use Rattle.mb_model.specs.Lines.{text_of}
+use Rattle.mb_model.specs.Listing.{listing}
+use Rattle.mb_model.specs.Acceptance.{ChainRefusal, Accepts, IsRefused, accepting, refusing, IsVerdict}
+use Rattle.mb_model.specs.Outside.{Outside}
+use Rattle.mb_model.specs.Commands.{print, refuse, at_first}
+use Rattle.mb_model.specs.ChainCommands.{ChainNames, AttachNames, entries_text, write_entries, IsChainOf, chain_of, attach_statement}
+use Rattle.mb_model.specs.VerifyCommand.{VerifyNames, refused_line, tell_verdict, verify_chain}
+use Rattle.mb_model.specs.AuditCommand.{AuditNames, own_lives, IsAudited, compare, audit_chain}
+use Rattle.mb_model_lemmas.proofs.ValidStates.{valid_is_ruled}
+use Rattle.mb_model_lemmas.proofs.AuditLemmas.{audited}
+use Rattle.mb_model_runs.proofs.BirthLemmas.{chain_is_of}
+use Rattle.mb_log.proofs.Fronts.{first_ruled}
+use Rattle.mb_console.specs.declared.end.End.{End}
+use Rattle.mb_console.specs.declared.end.End.TheVariants as end
+use Rattle.mb_console.specs.Ending.{CarriesOutAfter, CarriesOut, RefusesWith}
+use Rattle.mb_tools.specs.Chains.{TellsRefusal}
+use Rattle.mb_console.specs.Outputs.{writes}
+use Rattle.mb_console.proofs.CommandLemmas.{goes_first, goes_second, finds, refuse_here, memory_unfound, memory_chosen, memory_unprinted}
+
+-- ---- a chain that is written
+
+pub entries_written : (out : List ℕ) (chain : Chain) (bytes text : List ℕ) (before now : Outside) (result : Result (Unit {0}) End) → chain_format.Allowed chain
+    → bytes ≡ chain_format.spelling chain → text ≡ entries_text (length chain.entries)
+    → CarriesOutAfter (writes (record { role = role.Out; name = out; bytes = bytes } ∷ []) (print text)) before result now
+    → CarriesOut (write_entries out chain) before result now
+unfolding writes write_entries
+entries_written out chain bytes text before now result allowed is_bytes is_text carried = λ final.
+    finds (λ spelled. Spells chain_format spelled chain) _ at_first [] final before now bytes result (record { allowed = allowed; whole = is_bytes })
+    ((subst (λ t. CarriesOutAfter (writes (record { role = role.Out; name = out; bytes = bytes } ∷ []) (print t)) before result now) is_text carried) at_first final)
+
+pub entries_lack : (out : List ℕ) (chain : Chain) (before : Outside) → CarriesOut (write_entries out chain) before (Err end.NoMemory) before
+unfolding write_entries
+entries_lack out chain before = λ final. memory_unfound (λ spelled. Spells chain_format spelled chain) _ at_first [] final before refl refl
+
+-- ---- the chain of a device
+
+pub log_carried_out : (names : ChainNames) (state : State) (before now : Outside) (result : Result (Unit {0}) End) → IsValidState state
+    → CarriesOut (write_entries names.out (bare_chain state.log)) before result now → CarriesOut (chain_of names (Some state)) before result now
+log_carried_out names state before now result valid carried = λ final.
+    finds (IsChainOf state) (write_entries names.out) at_first [] final before now (bare_chain state.log) result (chain_is_of state valid) (carried final)
+
+pub dead_has_none : (names : ChainNames) (before : Outside) (why : End) → RefusesWith (codes "zeroised") why → CarriesOut (chain_of names None) before (Err why) before
+dead_has_none names before why refuses = λ final. refuse_here (codes "zeroised") why at_first [] final before refuses refl
+
+-- ---- a statement that is attached
+
+-- nothing is there
+pub none_there : {X : Type 0} (found : Option X) (there : Bool) → there ≡ is_some found → there ≡ false → found ≡ None
+none_there None there is off = refl
+none_there (Some x) there is off = absurd (true≢false (sym is ∙ off))
+
+pub statement_attached : (names : AttachNames) (chain : Chain) (statement : Statement) (before now : Outside) (result : Result (Unit {0}) End) → chain.statement ≡ None
+    → CarriesOut (write_entries names.out (stated_chain chain.entries statement)) before result now → CarriesOut (attach_statement names chain statement) before result now
+unfolding attach_statement
+statement_attached names chain statement before now result none carried = λ final.
+    goes_second _ _ _ at_first [] final before now result (λ some. some none) (carried final)
+
+pub has_statement : (names : AttachNames) (chain : Chain) (statement : Statement) (before : Outside) (why : End) → chain.statement ≢ None → RefusesWith (codes "has statement") why
+    → CarriesOut (attach_statement names chain statement) before (Err why) before
+unfolding attach_statement
+has_statement names chain statement before why some refuses = λ final.
+    goes_first _ _ _ at_first [] final before before _ some (refuse_here (codes "has statement") why at_first [] final before refuses refl)
+
+-- ---- a chain that is judged
+
+reason_told : (reason : ChainRefusal) (why : End) (before : Outside) → RefusesWith (refused_line reason) why → CarriesOut (refuse (refused_line reason)) before (Err why) before
+reason_told reason why before refuses = λ final. refuse_here (refused_line reason) why at_first [] final before refuses refl
+
+-- what holds of a reason for which a chain may be refused
+abbrev pub IfReason : Option ChainRefusal → (ChainRefusal → Type 0) → Type 0
+IfReason found P = (reason : ChainRefusal) → found ≡ Some reason → P reason
+
+-- ---- verify
+
+pub report_told : (n : ℕ) (report : Report) (text : List ℕ) (before now : Outside) (result : Result (Unit {0}) End) → text ≡ text_of (listing n report)
+    → CarriesOutAfter (writes [] (print text)) before result now → CarriesOut (tell_verdict n (accepting report)) before result now
+unfolding writes
+report_told n report text before now result is carried = λ final.
+    (subst (λ t. CarriesOutAfter (print t) before result now) is carried) at_first final
+
+pub report_lacks : (n : ℕ) (report : Report) (before : Outside) → CarriesOut (tell_verdict n (accepting report)) before (Err end.NoMemory) before
+report_lacks n report before = λ final. memory_unprinted _ at_first [] final before refl refl
+
+pub chain_accepted : (names : VerifyNames) (maker : PublicKey) (bytes : List ℕ) (report : Report) (before now : Outside) (result : Result (Unit {0}) End) → Accepts maker bytes names.key report
+    → CarriesOut (tell_verdict names.key (accepting report)) before result now → CarriesOut (verify_chain names maker bytes) before result now
+chain_accepted names maker bytes report before now result accepts carried = λ final.
+    finds (IsVerdict maker bytes names.key) (tell_verdict names.key) at_first [] final before now (accepting report) result accepts (carried final)
+
+pub chain_refused : (names : VerifyNames) (maker : PublicKey) (bytes : List ℕ) (found : Option ChainRefusal) (why : End) (before : Outside) → IfReason found (IsRefused maker bytes names.key)
+    → TellsRefusal found why → CarriesOut (verify_chain names maker bytes) before (Err why) before
+chain_refused names maker bytes (Some reason) why before refused tells = λ final.
+    finds (IsVerdict maker bytes names.key) (tell_verdict names.key) at_first [] final before before (refusing reason) _ (refused reason refl) (reason_told reason why before tells final)
+chain_refused names maker bytes None why before refused tells =
+    subst (λ w. CarriesOut (verify_chain names maker bytes) before (Err w) before) (sym tells) (λ final.
+    memory_unfound (IsVerdict maker bytes names.key) (tell_verdict names.key) at_first [] final before refl refl)
+
+-- ---- audit
+
+pub dead_not_audited : (names : AuditNames) (maker : PublicKey) (bytes : List ℕ) (before : Outside) (why : End) → RefusesWith (codes "zeroised") why
+    → CarriesOut (audit_chain names None maker bytes) before (Err why) before
+dead_not_audited names maker bytes before why refuses = λ final. refuse_here (codes "zeroised") why at_first [] final before refuses refl
+
+pub audit_accepted : (names : AuditNames) (state : State) (maker : PublicKey) (bytes : List ℕ) (report : Report) (before now : Outside) (result : Result (Unit {0}) End)
+    → IsBytes bytes → IsValidState state → Accepts maker bytes names.key report
+    → CarriesOut (compare state names.key (accepting report)) before result now → CarriesOut (audit_chain names (Some state) maker bytes) before result now
+audit_accepted names state maker bytes report before now result are valid accepts carried = λ final.
+    finds (IsAudited state maker bytes names.key) (compare state names.key) at_first [] final before now (accepting report) result
+    (audited state maker bytes names.key (accepting report) are valid accepts) (carried final)
+
+pub audit_refused : (names : AuditNames) (state : State) (maker : PublicKey) (bytes : List ℕ) (found : Option ChainRefusal) (why : End) (before : Outside)
+    → IsBytes bytes → IsValidState state → IfReason found (IsRefused maker bytes names.key) → TellsRefusal found why
+    → CarriesOut (audit_chain names (Some state) maker bytes) before (Err why) before
+audit_refused names state maker bytes (Some reason) why before are valid refused tells = λ final.
+    finds (IsAudited state maker bytes names.key) (compare state names.key) at_first [] final before before (refusing reason) _
+    (audited state maker bytes names.key (refusing reason) are valid (refused reason refl)) (reason_told reason why before tells final)
+audit_refused names state maker bytes None why before are valid refused tells =
+    subst (λ w. CarriesOut (audit_chain names (Some state) maker bytes) before (Err w) before) (sym tells) (λ final.
+    memory_unfound (IsAudited state maker bytes names.key) (compare state names.key) at_first [] final before refl refl)
+
+-- the chain lists what the device held
+pub lists_agree : (state : State) (n : ℕ) (report : Report) (text : List ℕ) (before now : Outside) (result : Result (Unit {0}) End) → report.lives ≡ own_lives state report.entries n
+    → text ≡ ended (codes "agrees") → CarriesOutAfter (writes [] (print text)) before result now → CarriesOut (compare state n (accepting report)) before result now
+unfolding writes
+lists_agree state n report text before now result same is carried = λ final.
+    goes_first _ _ _ at_first [] final before now result same ((subst (λ t. CarriesOutAfter (print t) before result now) is carried) at_first final)
+
+pub lists_differ : (state : State) (n : ℕ) (report : Report) (before : Outside) (why : End) → report.lives ≢ own_lives state report.entries n → RefusesWith (codes "differs") why
+    → CarriesOut (compare state n (accepting report)) before (Err why) before
+lists_differ state n report before why other refuses = λ final.
+    goes_second _ _ _ at_first [] final before before _ other (refuse_here (codes "differs") why at_first [] final before refuses refl)
+
+pub lists_lack : (state : State) (n : ℕ) (report : Report) (before : Outside) → CarriesOut (compare state n (accepting report)) before (Err end.NoMemory) before
+lists_lack state n report before = λ final. memory_chosen _ _ _ at_first [] final before refl refl
+
+-- ---- the device's own list
+
+-- the first entries of a log, of which there may be fewer
+first_of_log : (log : List SignedEntry) (count : ℕ) → entries_of (take (min count (length log)) log) ≡ take count (entries_of log)
+first_of_log log count = ap entries_of (take_min count log) ∙ sym (take-map (λ (s : SignedEntry). s.entry) count log)
+
+-- they were followed
+pub own_list : {E : Type 0} (state : State) (count n : ℕ) (front : List SignedEntry) (result : Result (List Configuration) E) → IsValidState state
+    → front ≡ take (min count (length state.log)) state.log → (RuledLog (entries_of front) → IfOk result (λ list. list ≡ lives_of (entries_of front) n))
+    → IfOk result (λ list. list ≡ own_lives state count n)
+own_list state count n front (Ok list) valid is followed =
+    let ruled : RuledLog (entries_of front) = subst (λ f. RuledLog (entries_of f)) (sym is) (first_ruled state.log (min count (length state.log)) (valid_is_ruled state valid)) in
+    followed ruled ∙ ap (λ (es : List Entry). lives_of es n) (ap entries_of is ∙ first_of_log state.log count)
+own_list state count n front (Err why) valid is followed = tt

@@ -1,0 +1,6 @@
+pub mod KeygenLemmas
+pub mod ImageLemmas
+pub mod MigrateLemmas
+pub mod SignLemmas
+pub mod FactoryLemmas
+pub mod ChainLemmas

@@ -1,0 +1,20 @@
+use Rattle.std.proofs.Common.{refl}
+use Rattle.std.proofs.lemmas.Result.{err_from_is_err_and}
+use Rattle.mb_model.specs.Inputs.{owner_input}
+use Rattle.mb_model.specs.FactoryCommand.{factory_owned}
+use Rattle.mb_model.specs.Commands.{at_first}
+use Rattle.mb_tools.specs.Names.{factory_files}
+use Rattle.mb_console.proofs.CommandLemmas.{input_carried_out, read_on}
+use Rattle.mb_tools.proofs.factory.factory_keyed.Goals as goal
+
+pub returns-in_err-owner : goal.returns-in_err-owner
+returns-in_err-owner g c = λ final.
+    let p = err_from_is_err_and c.from_residual.result c.from_residual.ensures.1 in
+    let outside = g.H.Host.outside in
+    rw (p.1, p.2) (input_carried_out (owner_input c.args.names.now.owner.now) _ at_first _ final (outside c.args.host.now) (outside c.read_as.new.host) c.in_err-owner.field-0.0 refl refl c.in_err-owner.ensures.err)
+
+pub returns : goal.returns
+returns g c = λ final.
+    let outside = g.H.Host.outside in
+    read_on (owner_input c.args.names.now.owner.now) (factory_owned (factory_files c.args.names.now) c.args.noise.now c.args.key) at_first _ final (outside c.args.host.now) (outside c.read_as.new.host) (outside c.factory_owned.new.host) c.in_ok-owner.owner
+    c.factory_owned.result c.in_ok-owner.ensures.read (c.factory_owned.ensures final)

@@ -1,0 +1,12 @@
+-- How a command ends whose chain is not accepted, or that finds no memory to judge it. Is each reason told by its own
+-- number, and at its own place?
+use Rattle.std.specs.Prelude.{◌≡◌, Option, Some, None}
+use Rattle.mb_model.specs.Acceptance.{ChainRefusal}
+use Rattle.mb_model.specs.VerifyCommand.{refused_line}
+use Rattle.mb_console.specs.declared.end.End.{End}
+use Rattle.mb_console.specs.declared.end.End.TheVariants as end
+use Rattle.mb_console.specs.Ending.{RefusesWith}
+
+abbrev pub TellsRefusal : Option ChainRefusal → End → Type 0
+TellsRefusal (Some reason) why = RefusesWith (refused_line reason) why
+TellsRefusal None why = why ≡ end.NoMemory

@@ -1,0 +1,11 @@
+-- How a command ends that finds a fault in an image, or no memory to look for one. Is each fault told at its own place?
+use Rattle.std.specs.Prelude.{◌≡◌, Option, Some, None}
+use Rattle.mb_model.specs.declared.role.Role.TheVariants as role
+use Rattle.mb_model.specs.Faults.{Fault}
+use Rattle.mb_model.specs.Inputs.{fault_place}
+use Rattle.mb_console.specs.declared.end.End.{End}
+use Rattle.mb_console.specs.declared.end.End.TheVariants as end
+
+abbrev pub TellsFault : Option Fault → End → Type 0
+TellsFault (Some faulty) why = why ≡ end.Faulty role.Image (fault_place faulty)
+TellsFault None why = why ≡ end.NoMemory

@@ -1,0 +1,4 @@
+pub mod Names
+pub mod Images
+pub mod Chains
+pub mod Signing

@@ -1,0 +1,52 @@
+-- The names of files and the numbers in the words of the tools, as the definitions of the commands have them.
+use Rattle.mb_model.specs.Keygen.{KeygenNames as KeygenFiles}
+use Rattle.mb_model.specs.Sign.{SignNames as SignFiles, CountersignNames as CountersignFiles}
+use Rattle.mb_model.specs.FactoryCommand.{FactoryNames as FactoryFiles}
+use Rattle.mb_model.specs.MigrateCommand.{MigrateNames as MigrateFiles}
+use Rattle.mb_model.specs.VerifyCommand.{VerifyNames as VerifyFiles}
+use Rattle.mb_model.specs.AuditCommand.{AuditNames as AuditFiles}
+use Rattle.mb_model.specs.ChainCommands.{ChainNames as ChainFiles, AttachNames as AttachFiles}
+use Rattle.mb_tools.specs.declared.keygen.KeygenNames.{KeygenNames}
+use Rattle.mb_tools.specs.declared.sign.SignNames.{SignNames}
+use Rattle.mb_tools.specs.declared.sign.CountersignNames.{CountersignNames}
+use Rattle.mb_tools.specs.declared.factory.FactoryNames.{FactoryNames}
+use Rattle.mb_tools.specs.declared.migrate.MigrateNames.{MigrateNames}
+use Rattle.mb_tools.specs.declared.verify.VerifyNames.{VerifyNames}
+use Rattle.mb_tools.specs.declared.audit.AuditNames.{AuditNames}
+use Rattle.mb_tools.specs.declared.chain.ChainNames.{ChainNames}
+use Rattle.mb_tools.specs.declared.attach.AttachNames.{AttachNames}
+
+abbrev pub keygen_files : KeygenNames → KeygenFiles
+keygen_files names = record { noise = names.noise.now; key = names.key.now; public = names.public.now }
+
+abbrev pub sign_files : SignNames → SignFiles
+sign_files names = record { key = names.key.now; draft = names.draft.now; out = names.out.now }
+
+abbrev pub countersign_files : CountersignNames → CountersignFiles
+countersign_files names =
+    record { key = names.key.now; layer = names.layer; order = names.order.now; out = names.out.now }
+
+abbrev pub factory_files : FactoryNames → FactoryFiles
+factory_files names = record {
+  noise = names.noise.now;
+  key = names.key.now;
+  owner = names.owner.now;
+  code = names.code.now;
+  image = names.image.now;
+}
+
+abbrev pub migrate_files : MigrateNames → MigrateFiles
+migrate_files names = record { image = names.image.now; out = names.out.now }
+
+abbrev pub verify_files : VerifyNames → VerifyFiles
+verify_files names = record { root = names.root.now; chain = names.chain.now; key = names.key }
+
+abbrev pub audit_files : AuditNames → AuditFiles
+audit_files names =
+    record { image = names.image.now; root = names.root.now; chain = names.chain.now; key = names.key }
+
+abbrev pub chain_files : ChainNames → ChainFiles
+chain_files names = record { image = names.image.now; out = names.out.now }
+
+abbrev pub attach_files : AttachNames → AttachFiles
+attach_files names = record { chain = names.chain.now; statement = names.statement.now; out = names.out.now }

@@ -1,0 +1,140 @@
+//! The command `audit`.
+
+ghost use Rattle.std.specs.Prelude.{◌≡◌, ◌≤◌, ◌↔◌, length, IfOk, IsTrue, Some};
+ghost use Rattle.mb_model.specs.declared.limits.TheConstants.{FILE_LIMIT};
+ghost use Rattle.mb_model.specs.Valid.{Valid, IsValidState};
+ghost use Rattle.mb_model.specs.Acceptance.{accepting};
+ghost use Rattle.mb_model.specs.AuditCommand.{audit, audit_device, audit_under, audit_chain, compare, own_lives};
+ghost use Rattle.mb_model_memory.specs.Storable.{Storable, IsStorableState};
+ghost use Rattle.mb_tools.specs.Names.{audit_files};
+ghost use Rattle.mb_console.specs.Ending.{CarriesOut};
+
+use crate::input::chains::AnyBytes;
+use crate::input::devices::read_image;
+use crate::input::keys::PublicKeyForm;
+use crate::verify::end_of;
+use mb_console::{End, finish, read_as, refused};
+use mb_host::Host;
+use mb_lms::HashCount;
+use mb_log::lives;
+use mb_model::{Configuration, Lives, NoMemory, PublicKey, Role, State};
+use mb_verifier::{Report, verify as judge};
+use std::alloc::Global;
+use std::sync::ledger::Ledger;
+
+/// The names of the files of `audit`, and the number of the key that is asked for.
+#[derive(Clone, Copy)]
+pub struct AuditNames<'a> {
+    pub image: &'a str,
+    pub root: &'a str,
+    pub chain: &'a str,
+    pub key: u32,
+}
+
+/// Audits a chain under the maker's public key: prints that it lists exactly the configurations in which the device held
+/// the key, or refuses.
+pub fn audit<H: Host, L: Ledger>(
+    alloc: Global,
+    names: &AuditNames<'_>,
+    host: &mut H,
+    hashes: &mut HashCount<L>,
+) -> Result<(), End>
+    ensures { CarriesOut (audit (audit_files names.now)) (H.outside host.old) result (H.outside host.new) }
+{
+    let image = read_image(alloc, host, names.image, hashes)?;
+    audit_device(alloc, names, image.state, host)
+}
+
+/// Audits a chain of this device, or of a dead one.
+fn audit_device<H: Host>(
+    alloc: Global,
+    names: &AuditNames<'_>,
+    state: Option<State>,
+    host: &mut H,
+) -> Result<(), End>
+    requires valid { Valid state }
+    requires stored { Storable state }
+    ensures { CarriesOut (audit_device (audit_files names.now) state) (H.outside host.old) result (H.outside host.new) }
+{
+    let root = read_as(alloc, host, Role::Root, names.root, PublicKeyForm)?;
+    audit_under(alloc, names, state, &root, host)
+}
+
+/// Audits a chain of this device under this key.
+fn audit_under<H: Host>(
+    alloc: Global,
+    names: &AuditNames<'_>,
+    state: Option<State>,
+    root: &PublicKey,
+    host: &mut H,
+) -> Result<(), End>
+    requires valid { Valid state }
+    requires stored { Storable state }
+    ensures { CarriesOut (audit_under (audit_files names.now) state root.now) (H.outside host.old) result (H.outside host.new) }
+{
+    let chain = read_as(alloc, host, Role::Chain, names.chain, AnyBytes)?;
+    match state {
+        Some(state) => audit_chain(alloc, names, &state, root, &chain, host),
+        None => Err(refused("zeroised")),
+    }
+}
+
+/// Audits this chain of a live device.
+fn audit_chain<H: Host>(
+    alloc: Global,
+    names: &AuditNames<'_>,
+    state: &State,
+    root: &PublicKey,
+    chain: &[u8],
+    host: &mut H,
+) -> Result<(), End>
+    requires valid { IsValidState state.now }
+    requires stored { IsStorableState state.now }
+    requires short { length chain.now ≤ FILE_LIMIT }
+    ensures { CarriesOut (audit_chain (audit_files names.now) (Some state.now) root.now chain.now) (H.outside host.old) result (H.outside host.new) }
+{
+    match judge(alloc, root, chain, names.key) {
+        Ok(report) => compare(alloc, names.key, state, &report, host),
+        Err(why) => Err(end_of(why)),
+    }
+}
+
+/// Compares the configurations that a chain lists for the key with those of the device's own log.
+fn compare<H: Host>(
+    alloc: Global,
+    key: u32,
+    state: &State,
+    report: &Report,
+    host: &mut H,
+) -> Result<(), End>
+    requires valid { IsValidState state.now }
+    requires stored { IsStorableState state.now }
+    ensures { CarriesOut (compare state.now key (accepting report.now)) (H.outside host.old) result (H.outside host.new) }
+{
+    let Ok(own) = own_lives(alloc, state, report.entries, key) else {
+        return Err(End::NoMemory);
+    };
+    if are_same(report.lives.as_slice(), own.as_slice()) {
+        finish(host, &[], b"agrees\n")
+    } else {
+        Err(refused("differs"))
+    }
+}
+
+/// The configurations in which the device held the key, by as many of the first entries of its log.
+fn own_lives(alloc: Global, state: &State, count: u32, key: u32) -> Result<Lives, NoMemory>
+    requires valid { IsValidState state.now }
+    requires stored { IsStorableState state.now }
+    ensures { IfOk result (λ list. list ≡ own_lives state.now count key) }
+{
+    let log = state.log.as_slice();
+    let count = (count as usize).min(log.len());
+    lives(alloc, &log[..count], key)
+}
+
+/// Whether two lists have the same configurations in the same order.
+fn are_same(first: &[Configuration], second: &[Configuration]) -> bool
+    ensures { IsTrue result ↔ (first.now ≡ second.now) }
+{
+    first == second
+}

@@ -1,0 +1,131 @@
+//! The command `factory`.
+
+ghost use Rattle.std.specs.Prelude.{◌≡◌, IfOk, string_bytes};
+ghost use Rattle.mb_model.specs.declared.tools.Keyfile.{Keyfile};
+ghost use Rattle.mb_model.specs.SignedOrders.{used_once};
+ghost use Rattle.mb_model.specs.FactoryCommand.{factory, factory_drawn, factory_keyed, factory_owned, write_device, serial_text};
+ghost use Rattle.mb_tools.specs.Names.{factory_files};
+ghost use Rattle.mb_console.specs.Ending.{CarriesOut};
+
+use crate::input::devices::CodeForm;
+use crate::input::keys::{KeyForm, Leading, PublicKeyForm};
+use crate::sign::end_of;
+use mb_console::{End, Output, finish, read_as};
+use mb_host::Host;
+use mb_lms::HashCount;
+use mb_model::{Keyfile, NoMemory, PublicKey, Role};
+use mb_officer::{factory as make_image, write_keyfile};
+use std::alloc::Global;
+use std::sync::ledger::Ledger;
+
+/// The names of the files of `factory`.
+#[derive(Clone, Copy)]
+pub struct FactoryNames<'a> {
+    pub noise: &'a str,
+    pub key: &'a str,
+    pub owner: &'a str,
+    pub code: &'a str,
+    pub image: &'a str,
+}
+
+/// Makes a device from the noise with this owner and this code, and signs its birth by the maker's key: writes the key
+/// with its index advanced, then the image, and prints the serial.
+pub fn factory<H: Host, L: Ledger>(
+    alloc: Global,
+    names: &FactoryNames<'_>,
+    host: &mut H,
+    hashes: &mut HashCount<L>,
+) -> Result<(), End>
+    ensures { CarriesOut (factory (factory_files names.now)) (H.outside host.old) result (H.outside host.new) }
+{
+    let noise = read_as(alloc, host, Role::Noise, names.noise, Leading::<48>)?;
+    factory_drawn(alloc, names, &noise, host, hashes)
+}
+
+/// Makes a device from this noise.
+fn factory_drawn<H: Host, L: Ledger>(
+    alloc: Global,
+    names: &FactoryNames<'_>,
+    noise: &[u8; 48],
+    host: &mut H,
+    hashes: &mut HashCount<L>,
+) -> Result<(), End>
+    ensures { CarriesOut (factory_drawn (factory_files names.now) noise.now) (H.outside host.old) result (H.outside host.new) }
+{
+    let key = read_as(alloc, host, Role::Key, names.key, KeyForm)?;
+    factory_keyed(alloc, names, noise, key, host, hashes)
+}
+
+/// Makes a device, and signs its birth by this key.
+fn factory_keyed<H: Host, L: Ledger>(
+    alloc: Global,
+    names: &FactoryNames<'_>,
+    noise: &[u8; 48],
+    key: Keyfile,
+    host: &mut H,
+    hashes: &mut HashCount<L>,
+) -> Result<(), End>
+    ensures { CarriesOut (factory_keyed (factory_files names.now) noise.now key) (H.outside host.old) result (H.outside host.new) }
+{
+    let owner = read_as(alloc, host, Role::Owner, names.owner, PublicKeyForm)?;
+    factory_owned(alloc, names, noise, key, &owner, host, hashes)
+}
+
+/// Makes a device with this owner.
+fn factory_owned<H: Host, L: Ledger>(
+    alloc: Global,
+    names: &FactoryNames<'_>,
+    noise: &[u8; 48],
+    mut key: Keyfile,
+    owner: &PublicKey,
+    host: &mut H,
+    hashes: &mut HashCount<L>,
+) -> Result<(), End>
+    ensures { CarriesOut (factory_owned (factory_files names.now) noise.now key owner.now) (H.outside host.old) result (H.outside host.new) }
+{
+    let code = read_as(alloc, host, Role::Code, names.code, CodeForm)?;
+    match make_image(alloc, &mut key, owner, &code, noise, hashes) {
+        Ok(image) => write_device(alloc, names, noise, &key, image, host),
+        Err(end) => Err(end_of(end)),
+    }
+}
+
+/// Writes a key file with its index advanced, and the image of the device whose birth the key signed, and prints the
+/// device's serial.
+fn write_device<H: Host>(
+    alloc: Global,
+    names: &FactoryNames<'_>,
+    noise: &[u8; 48],
+    key: &Keyfile,
+    image: Vec<u8>,
+    host: &mut H,
+) -> Result<(), End>
+    ensures { (before : Keyfile) → key.now ≡ used_once before
+        → CarriesOut (write_device (factory_files names.now) noise.now before image.items) (H.outside host.old) result (H.outside host.new) }
+{
+    let Ok(text) = serial_text(alloc, noise) else {
+        return Err(End::NoMemory);
+    };
+    let file = write_keyfile(key);
+    let outputs = [
+        Output {
+            role: Role::Key,
+            name: names.key,
+            bytes: &file,
+        },
+        Output {
+            role: Role::Image,
+            name: names.image,
+            bytes: &image,
+        },
+    ];
+    finish(host, &outputs, text.as_bytes())
+}
+
+/// The line of the serial of a device that was made from this noise.
+fn serial_text(alloc: Global, noise: &[u8; 48]) -> Result<String, NoMemory>
+    ensures { IfOk result (λ text. string_bytes text ≡ serial_text noise.now) }
+{
+    let serial = hex::encode(alloc, &noise[32..48])?;
+    Ok(format!(in alloc; "serial {serial}\n")?)
+}

@@ -1,0 +1,84 @@
+//! The command `keygen`.
+
+ghost use Rattle.std.specs.Prelude.{◌≡◌, IfOk, string_bytes};
+ghost use Rattle.mb_model.specs.Key.{key_bytes};
+ghost use Rattle.mb_model.specs.Signing.{public_of};
+ghost use Rattle.mb_model.specs.Keygen.{keygen, owner_text, write_key};
+ghost use Rattle.mb_tools.specs.Names.{keygen_files};
+ghost use Rattle.mb_console.specs.Ending.{CarriesOut};
+
+use crate::input::keys::Leading;
+use mb_console::{End, Output, finish, read_as};
+use mb_host::Host;
+use mb_lms::{HashCount, key_bytes, key_hash};
+use mb_model::{DRAW_LENGTH, Keyfile, NoMemory, PublicKey, Role};
+use mb_officer::{make_key, write_keyfile};
+use mb_signer::public;
+use std::alloc::Global;
+use std::sync::ledger::Ledger;
+
+/// The names of the files of `keygen`.
+#[derive(Clone, Copy)]
+pub struct KeygenNames<'a> {
+    pub noise: &'a str,
+    pub key: &'a str,
+    pub public: &'a str,
+}
+
+/// Derives a key from the noise, writes its file and its public key, and prints the public key's hash.
+pub fn keygen<H: Host, L: Ledger>(
+    alloc: Global,
+    names: &KeygenNames<'_>,
+    host: &mut H,
+    hashes: &mut HashCount<L>,
+) -> Result<(), End>
+    ensures { CarriesOut (keygen (keygen_files names.now)) (H.outside host.old) result (H.outside host.new) }
+{
+    let noise = read_as(
+        alloc,
+        host,
+        Role::Noise,
+        names.noise,
+        Leading::<DRAW_LENGTH>,
+    )?;
+    write_key(alloc, names, &make_key(&noise), host, hashes)
+}
+
+/// Writes a new key's file and its public key, and prints the public key's hash.
+fn write_key<H: Host, L: Ledger>(
+    alloc: Global,
+    names: &KeygenNames<'_>,
+    key: &Keyfile,
+    host: &mut H,
+    hashes: &mut HashCount<L>,
+) -> Result<(), End>
+    ensures { CarriesOut (write_key (keygen_files names.now) key.now (key_bytes (public_of key.now.seed))) (H.outside host.old) result (H.outside host.new) }
+{
+    let owner = public(&key.seed, hashes);
+    let Ok(text) = owner_text(alloc, &owner) else {
+        return Err(End::NoMemory);
+    };
+    let file = write_keyfile(key);
+    let spelled = key_bytes(&owner);
+    let outputs = [
+        Output {
+            role: Role::Key,
+            name: names.key,
+            bytes: &file,
+        },
+        Output {
+            role: Role::Public,
+            name: names.public,
+            bytes: &spelled,
+        },
+    ];
+    finish(host, &outputs, text.as_bytes())
+}
+
+/// The line of a public key's hash.
+fn owner_text(alloc: Global, owner: &PublicKey) -> Result<String, NoMemory>
+    ensures { IfOk result (λ text. string_bytes text ≡ owner_text (key_bytes owner.now)) }
+{
+    let hash = hex::encode(alloc, key_hash(owner))?;
+    Ok(format!(in alloc; "owner {hash}\n")?)
+}

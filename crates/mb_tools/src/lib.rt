@@ -1,0 +1,18 @@
+//! The commands that need no device: those of makers, officers and relying parties.
+//!
+//! This crate owns what `keygen`, `sign`, `countersign`, `factory`, `migrate`, `verify`, `audit`, `chain` and `attach` do
+//! after the words are read, and the forms of their inputs. It stands on `mb_console`, on the readers and the signers of
+//! `mb_officer`, on the verifier, and on `mb_image` and `mb_migrate`.
+#![tactic(auto)]
+
+pub mod attach;
+pub mod audit;
+pub mod chain;
+pub mod factory;
+mod input;
+pub mod keygen;
+pub mod migrate;
+pub mod sign;
+pub mod verify;
+
+pub use input::devices::{Image, read_image};

@@ -1,0 +1,64 @@
+//! The command `migrate`.
+
+ghost use Rattle.std.specs.Prelude.{◌≡◌, IfOk, string_bytes};
+ghost use Rattle.mb_model.specs.MigrateCommand.{migrate, write_migrated, migrated_text};
+ghost use Rattle.mb_tools.specs.Names.{migrate_files};
+ghost use Rattle.mb_console.specs.Ending.{CarriesOut};
+
+use crate::input::devices::read_old_image;
+use mb_console::{End, Output, finish};
+use mb_host::Host;
+use mb_lms::HashCount;
+use mb_model::{NoMemory, Role};
+use sha2::{Digest, Sha256};
+use std::alloc::Global;
+use std::sync::ledger::Ledger;
+
+/// The names of the files of `migrate`.
+#[derive(Clone, Copy)]
+pub struct MigrateNames<'a> {
+    pub image: &'a str,
+    pub out: &'a str,
+}
+
+/// Writes an image of the present form for the state of an image, which may have the form before, and prints the hash of
+/// the new image.
+pub fn migrate<H: Host, L: Ledger>(
+    alloc: Global,
+    names: &MigrateNames<'_>,
+    host: &mut H,
+    hashes: &mut HashCount<L>,
+) -> Result<(), End>
+    ensures { CarriesOut (migrate (migrate_files names.now)) (H.outside host.old) result (H.outside host.new) }
+{
+    let image = read_old_image(alloc, host, names.image, hashes)?;
+    write_migrated(alloc, names, &image, host)
+}
+
+/// Writes an image, and prints its hash.
+fn write_migrated<H: Host>(
+    alloc: Global,
+    names: &MigrateNames<'_>,
+    image: &[u8],
+    host: &mut H,
+) -> Result<(), End>
+    ensures { CarriesOut (write_migrated (migrate_files names.now) image.now) (H.outside host.old) result (H.outside host.new) }
+{
+    let Ok(text) = migrated_text(alloc, image) else {
+        return Err(End::NoMemory);
+    };
+    let outputs = [Output {
+        role: Role::Out,
+        name: names.out,
+        bytes: image,
+    }];
+    finish(host, &outputs, text.as_bytes())
+}
+
+/// The line of the hash of an image.
+fn migrated_text(alloc: Global, image: &[u8]) -> Result<String, NoMemory>
+    ensures { IfOk result (λ text. string_bytes text ≡ migrated_text image.now) }
+{
+    let hash = hex::encode(alloc, Sha256::digest(image))?;
+    Ok(format!(in alloc; "migrated {hash}\n")?)
+}

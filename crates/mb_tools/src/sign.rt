@@ -1,0 +1,173 @@
+//! The commands `sign` and `countersign`.
+
+ghost use Rattle.std.specs.Prelude.{◌≡◌, IfOk, IsTrue, string_bytes};
+ghost use Rattle.mb_model.specs.declared.tools.Keyfile.{Keyfile};
+ghost use Rattle.mb_model.specs.Layers.{is_upper};
+ghost use Rattle.mb_model.specs.OrderFormat.{order_format};
+ghost use Rattle.mb_model.specs.SignedOrders.{used_once};
+ghost use Rattle.mb_model.specs.Sign.{sign, sign_draft, countersign, countersign_order, use_index, index_text};
+ghost use Rattle.mb_tools.specs.Names.{sign_files, countersign_files};
+ghost use Rattle.mb_console.specs.Ending.{CarriesOut};
+ghost use Rattle.mb_tools.specs.Signing.{TellsUnsigned};
+
+use crate::input::keys::KeyForm;
+use crate::input::orders::{DraftForm, OrderLine};
+use mb_console::{End, Output, finish, read_as, refused};
+use mb_host::Host;
+use mb_lms::HashCount;
+use mb_model::{Keyfile, NoMemory, Order, Role};
+use mb_officer::{
+    SignEnd, countersign as add_countersignature, sign_order, write_keyfile, write_order_line,
+};
+use std::alloc::Global;
+use std::sync::ledger::Ledger;
+
+/// The names of the files of `sign`.
+#[derive(Clone, Copy)]
+pub struct SignNames<'a> {
+    pub key: &'a str,
+    pub draft: &'a str,
+    pub out: &'a str,
+}
+
+/// The names of the files of `countersign`, and the layer whose owner countersigns.
+#[derive(Clone, Copy)]
+pub struct CountersignNames<'a> {
+    pub key: &'a str,
+    /// 2 or 3.
+    pub layer: u8,
+    pub order: &'a str,
+    pub out: &'a str,
+}
+
+/// The names of the files that are written.
+#[derive(Clone, Copy)]
+struct OutputNames<'a> {
+    key: &'a str,
+    out: &'a str,
+}
+
+/// Signs the order of a draft by an officer's key: writes the key with its index advanced, then the order's line, and
+/// prints the index.
+pub fn sign<H: Host, L: Ledger>(
+    alloc: Global,
+    names: &SignNames<'_>,
+    host: &mut H,
+    hashes: &mut HashCount<L>,
+) -> Result<(), End>
+    ensures { CarriesOut (sign (sign_files names.now)) (H.outside host.old) result (H.outside host.new) }
+{
+    let key = read_as(alloc, host, Role::Key, names.key, KeyForm)?;
+    sign_draft(alloc, names, key, host, hashes)
+}
+
+/// Signs the order of the draft by this key.
+fn sign_draft<H: Host, L: Ledger>(
+    alloc: Global,
+    names: &SignNames<'_>,
+    mut key: Keyfile,
+    host: &mut H,
+    hashes: &mut HashCount<L>,
+) -> Result<(), End>
+    ensures { CarriesOut (sign_draft (sign_files names.now) key) (H.outside host.old) result (H.outside host.new) }
+{
+    let mut order = read_as(alloc, host, Role::Draft, names.draft, DraftForm)?;
+    let outputs = OutputNames {
+        key: names.key,
+        out: names.out,
+    };
+    match sign_order(alloc, &mut key, &mut order, hashes) {
+        Ok(index) => write_signed(alloc, outputs, &key, &order, index, host),
+        Err(end) => Err(end_of(end)),
+    }
+}
+
+/// Countersigns the order of an order line by an officer's key, as the owner of a layer: writes the key with its index
+/// advanced, then the order's line, and prints the index.
+pub fn countersign<H: Host, L: Ledger>(
+    alloc: Global,
+    names: &CountersignNames<'_>,
+    host: &mut H,
+    hashes: &mut HashCount<L>,
+) -> Result<(), End>
+    requires { IsTrue (is_upper names.now.layer) }
+    ensures { CarriesOut (countersign (countersign_files names.now)) (H.outside host.old) result (H.outside host.new) }
+{
+    let key = read_as(alloc, host, Role::Key, names.key, KeyForm)?;
+    countersign_order(alloc, names, key, host, hashes)
+}
+
+/// Countersigns the order of the line by this key.
+fn countersign_order<H: Host, L: Ledger>(
+    alloc: Global,
+    names: &CountersignNames<'_>,
+    mut key: Keyfile,
+    host: &mut H,
+    hashes: &mut HashCount<L>,
+) -> Result<(), End>
+    requires layer { IsTrue (is_upper names.now.layer) }
+    ensures { CarriesOut (countersign_order (countersign_files names.now) key) (H.outside host.old) result (H.outside host.new) }
+{
+    let mut order = read_as(alloc, host, Role::Order, names.order, OrderLine)?;
+    let outputs = OutputNames {
+        key: names.key,
+        out: names.out,
+    };
+    match add_countersignature(alloc, &mut key, names.layer, &mut order, hashes) {
+        Ok(index) => write_signed(alloc, outputs, &key, &order, index, host),
+        Err(end) => Err(end_of(end)),
+    }
+}
+
+/// The end of a command whose key has not signed.
+pub(crate) fn end_of(end: SignEnd) -> End
+    ensures { TellsUnsigned end result }
+{
+    match end {
+        SignEnd::Spent => refused("spent"),
+        SignEnd::NotCountersignable => refused("not countersignable"),
+        SignEnd::NoMemory => End::NoMemory,
+    }
+}
+
+/// Writes a key file with its index advanced, and the line of the order that the key signed, and prints the index.
+fn write_signed<H: Host>(
+    alloc: Global,
+    names: OutputNames<'_>,
+    key: &Keyfile,
+    order: &Order,
+    index: u32,
+    host: &mut H,
+) -> Result<(), End>
+    requires spelled { order_format.Allowed order.now }
+    ensures { (before : Keyfile) → key.now ≡ used_once before → index ≡ before.next
+        → CarriesOut (use_index names.entry.key.now names.entry.out.now before order.now) (H.outside host.old) result (H.outside host.new) }
+{
+    let Ok(line) = write_order_line(alloc, order) else {
+        return Err(End::NoMemory);
+    };
+    let Ok(text) = index_text(alloc, index) else {
+        return Err(End::NoMemory);
+    };
+    let file = write_keyfile(key);
+    let outputs = [
+        Output {
+            role: Role::Key,
+            name: names.key,
+            bytes: &file,
+        },
+        Output {
+            role: Role::Out,
+            name: names.out,
+            bytes: &line,
+        },
+    ];
+    finish(host, &outputs, text.as_bytes())
+}
+
+/// The line of an index.
+fn index_text(alloc: Global, index: u32) -> Result<String, NoMemory>
+    ensures { IfOk result (λ text. string_bytes text ≡ index_text index) }
+{
+    Ok(format!(in alloc; "index {index}\n")?)
+}

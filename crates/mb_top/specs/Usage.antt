@@ -1,0 +1,20 @@
+-- What `--help` prints: for each command its name and words on a line, and then what it does. Is each command told,
+-- with the words by which it is called?
+use Rattle.std.specs.Prelude.{ℕ, ◌≤◌, List, [], ◌∷◌, ◌++◌, codes, flat_map}
+use Rattle.mb_console.specs.declared.words.TheConstants.{WORD_LIMIT}
+use Rattle.mb_top.specs.declared.table.TheConstants.{COMMANDS}
+use Rattle.mb_top.specs.declared.command_line.TheConstants.{HEAD, STATUSES}
+
+-- what is told of a command: its name, the words after it with a space before each, and what it does
+abbrev pub usage_line : List ℕ → List ℕ → List ℕ → List ℕ
+usage_line name words does = codes "  miniboot " ++ name ++ words ++ does ++ codes "\n"
+
+unfoldable pub usage : List ℕ
+usage = HEAD.now
+    ++ flat_map (λ row. usage_line row.1.now (flat_map (λ word. 32 ∷ word.0.now) row.2.now) row.3.now) COMMANDS
+    ++ STATUSES.now
+
+-- no row of a table has more words than a command may have
+abbrev pub AllFit : {R : Type 0} → (R → ℕ) → List R → Type 0
+AllFit count [] = Unit {0}
+AllFit count (row ∷ rows) = (count row ≤ WORD_LIMIT) × AllFit count rows

@@ -1,0 +1,66 @@
+//! The scripts among the inputs, and the noise of their commands.
+
+ghost use Rattle.std.specs.Prelude.{◌≤◌, length, All, IfOk, IfErr};
+ghost use Rattle.mb_model.specs.declared.limits.TheConstants.{EVENT_LIMIT};
+ghost use Rattle.mb_model.specs.Script.{IsScriptEvent};
+ghost use Rattle.mb_model.specs.Inputs.{draws_input};
+ghost use Rattle.mb_console.specs.Ending.{HasInput, StopsAt};
+
+use mb_console::{End, Form, Unread, read_input};
+use mb_host::Host;
+use mb_model::{Events, Place, Role};
+use mb_script::{ScriptEnd, ShortNoise, place_draws, read_script};
+use std::alloc::Global;
+
+/// A script. Its commands have no draws yet.
+#[derive(Clone, Copy)]
+pub struct ScriptForm;
+
+impl Form for ScriptForm {
+    ghost use Rattle.std.specs.Prelude.{◌≤◌, List, [], All, length};
+    ghost use Rattle.mb_model.specs.declared.event.Event.{Event};
+    ghost use Rattle.mb_model.specs.declared.limits.TheConstants.{EVENT_LIMIT};
+    ghost use Rattle.mb_model.specs.Inputs.{script_input};
+    ghost use Rattle.mb_model.specs.Script.{IsScriptEvent};
+
+    type Value = Events;
+
+    ghost Meaning = { List Event };
+
+    ghost meaning = { λ events. events };
+
+    ghost Is = { λ form. (script_input []).Is };
+
+    ghost FaultyAt = { λ form. (script_input []).FaultyAt };
+
+    ghost Keeps = { λ events. (length events ≤ EVENT_LIMIT) × All IsScriptEvent events };
+
+    fn read(self, alloc: Global, bytes: Vec<u8>) -> Result<Events, Unread> {
+        match read_script(alloc, &bytes) {
+            Ok(events) => Ok(events),
+            Err(ScriptEnd::BadLine { line }) => Err(Unread::At(Place::Line(line))),
+            Err(ScriptEnd::NoMemory) => Err(Unread::NoMemory),
+        }
+    }
+}
+
+/// Reads the noise of the events, and gives them with their draws.
+pub fn read_draws<H: Host>(
+    alloc: Global,
+    host: &mut H,
+    name: &str,
+    mut events: Events,
+) -> Result<Events, End>
+    requires count { length events ≤ EVENT_LIMIT }
+    requires events { All IsScriptEvent events }
+    ensures read { IfOk result (HasInput (draws_input events name.now) (H.outside host.old) (H.outside host.new)) }
+    ensures count { IfOk result (λ drawn. length drawn ≤ EVENT_LIMIT) }
+    ensures events { IfOk result (All IsScriptEvent) }
+    ensures err { IfErr result (StopsAt (draws_input events name.now) (H.outside host.old) (H.outside host.new)) }
+{
+    let noise = read_input(alloc, host, Role::Noise, name)?;
+    match place_draws(&mut events, &noise) {
+        Ok(()) => Ok(events),
+        Err(ShortNoise) => Err(End::Faulty(Role::Noise, Place::Length)),
+    }
+}

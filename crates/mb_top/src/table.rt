@@ -1,0 +1,242 @@
+//! The table of the commands: their names, the words after each name, and what `--help` says of them.
+
+ghost use Rattle.std.specs.Prelude.{◌≡◌, ◌+◌, ◌≤◌, ◌∷◌, ◌++◌, ℕ, List, MatchOption, flat_map, length, map, string_bytes};
+ghost use Rattle.arrayvec.specs.ArrayVec.{array_vec_len};
+ghost use Rattle.mb_console.specs.Words.{Argument, IsCall, given_argument};
+ghost use Rattle.mb_top.specs.Usage.{AllFit, usage_line};
+
+use arrayvec::ArrayVec;
+use mb_console::{Arguments, Kind, WORD_LIMIT, Word, arguments_of};
+
+/// The commands of the program.
+#[derive(Clone, Copy)]
+pub enum Command {
+    Run,
+    Verify,
+    Audit,
+    Chain,
+    Attach,
+    Factory,
+    Keygen,
+    Sign,
+    Countersign,
+    Migrate,
+    Generate,
+}
+
+const CHAIN: Word = ("CHAIN", Kind::File);
+
+const CODE: Word = ("CODE", Kind::File);
+
+const DRAFT: Word = ("DRAFT", Kind::File);
+
+const IMAGE: Word = ("IMAGE", Kind::File);
+
+const KEY: Word = ("KEY", Kind::File);
+
+const KEYNUMBER: Word = (
+    "KEYNUMBER",
+    Kind::Number {
+        least: 0,
+        most: u32::MAX,
+    },
+);
+
+const LAYER: Word = ("LAYER", Kind::Number { least: 2, most: 3 });
+
+const NOISE: Word = ("NOISE", Kind::File);
+
+const NUMBER: Word = (
+    "NUMBER",
+    Kind::Number {
+        least: 0,
+        most: u32::MAX,
+    },
+);
+
+const ORDER: Word = ("ORDER", Kind::File);
+
+const OUT: Word = ("OUT", Kind::File);
+
+const OWNER: Word = ("OWNER", Kind::File);
+
+const PUBLIC: Word = ("PUBLIC", Kind::File);
+
+const ROOT: Word = ("ROOT", Kind::File);
+
+const ROUNDS: Word = ("ROUNDS", Kind::Number { least: 1, most: 24 });
+
+const SCRIPT: Word = ("SCRIPT", Kind::File);
+
+const STATEMENT: Word = ("STATEMENT", Kind::File);
+
+/// A command, its name, the words after the name, and what it does.
+pub type Row = (Command, &'static str, &'static [Word], &'static str);
+
+/// The commands in the order in which `--help` lists them.
+pub const COMMANDS: [Row; 11] = [
+    (
+        Command::Run,
+        "run",
+        &[IMAGE, SCRIPT, NOISE],
+        "
+      gives the device of IMAGE the events of SCRIPT, writes the new image over IMAGE, and prints a line
+      for each reply",
+    ),
+    (
+        Command::Verify,
+        "verify",
+        &[ROOT, CHAIN, KEYNUMBER],
+        "
+      judges the chain under the maker's public key, and lists the configurations in which the key with
+      this number lived",
+    ),
+    (
+        Command::Audit,
+        "audit",
+        &[IMAGE, ROOT, CHAIN, KEYNUMBER],
+        "
+      judges the chain, and compares what it lists for the key with the log of the device of IMAGE",
+    ),
+    (
+        Command::Chain,
+        "chain",
+        &[IMAGE, OUT],
+        "
+      writes the chain of the device's log, and prints how many entries it has",
+    ),
+    (
+        Command::Attach,
+        "attach",
+        &[CHAIN, STATEMENT, OUT],
+        "
+      puts a statement on the chain, and prints how many entries are left beside it",
+    ),
+    (
+        Command::Factory,
+        "factory",
+        &[NOISE, KEY, OWNER, CODE, IMAGE],
+        "
+      makes a device of this owner and code from the noise, signs its birth by the maker's key, writes
+      that key with one more index used and the device's image, and prints the device's serial",
+    ),
+    (
+        Command::Keygen,
+        "keygen",
+        &[NOISE, KEY, PUBLIC],
+        "
+      makes an officer's key from the noise, writes its file and its public key, and prints the public
+      key's hash",
+    ),
+    (
+        Command::Sign,
+        "sign",
+        &[KEY, DRAFT, OUT],
+        "
+      signs the order of the draft, writes the key with one more index used and the order as a line, and
+      prints the index",
+    ),
+    (
+        Command::Countersign,
+        "countersign",
+        &[KEY, LAYER, ORDER, OUT],
+        "
+      adds the countersignature of the owner of layer 2 or 3 to an order line, writes the key with one
+      more index used and the order as a line, and prints the index",
+    ),
+    (
+        Command::Migrate,
+        "migrate",
+        &[IMAGE, OUT],
+        "
+      writes an image of the present form for the state of IMAGE, which may have the form before, and
+      prints the new image's hash",
+    ),
+    (
+        Command::Generate,
+        "generate",
+        &[NUMBER, ROUNDS, IMAGE, SCRIPT, NOISE],
+        "
+      makes the workload of a number with 1 to 24 rounds, writes its files, serves it, and prints a
+      summary",
+    ),
+];
+
+/// A command, and what the words after its name stand for.
+#[derive(Drop)]
+pub struct Call<'a> {
+    pub command: Command,
+    pub arguments: Arguments<'a>,
+}
+
+/// The command among these that the words call; `None` if they call none. A command has at most 8 words after its name.
+pub fn call_in<'a>(rows: &[Row], words: &'a [String]) -> Option<Call<'a>>
+    requires { AllFit (λ row. length row.2.now) rows.now }
+    ensures { MatchOption result
+        ((command : Command) (arguments : List Argument) → IsCall (map (λ row. (row.0, row.1.now, map (λ word. word.1) row.2.now)) rows.now) (map string_bytes words.now) command arguments → ⊥)
+        (λ call. IsCall (map (λ row. (row.0, row.1.now, map (λ word. word.1) row.2.now)) rows.now) (map string_bytes words.now) call.command (map given_argument call.arguments.items)) }
+{
+    let Some((row, rows)) = rows.split_first() else {
+        return None;
+    };
+    match arguments_of(row.1, row.2, words) {
+        Some(arguments) => Some(Call {
+            command: row.0,
+            arguments,
+        }),
+        None => call_in(rows, words),
+    }
+}
+
+/// The most bytes of the text of `--help`.
+pub const USAGE_LIMIT: usize = 8192;
+
+/// The text of `--help`, which takes no memory.
+pub type Usage = ArrayVec<u8, USAGE_LIMIT>;
+
+/// Appends what `--help` says of these commands, for which there is room.
+pub fn put_rows(text: &mut Usage, rows: &[Row])
+    requires { array_vec_len text.old + length (flat_map (λ row. usage_line row.1.now (flat_map (λ word. 32 ∷ word.0.now) row.2.now) row.3.now) rows.now) ≤ USAGE_LIMIT }
+    ensures { text.new.items ≡ text.old.items ++ flat_map (λ row. usage_line row.1.now (flat_map (λ word. 32 ∷ word.0.now) row.2.now) row.3.now) rows.now }
+{
+    let Some((row, rows)) = rows.split_first() else {
+        return;
+    };
+    put_row(text, row);
+    put_rows(text, rows);
+}
+
+/// Appends what `--help` says of a command, for which there is room.
+fn put_row(text: &mut Usage, row: &Row)
+    requires { array_vec_len text.old + length (usage_line row.now.1.now (flat_map (λ word. 32 ∷ word.0.now) row.now.2.now) row.now.3.now) ≤ USAGE_LIMIT }
+    ensures { text.new.items ≡ text.old.items ++ usage_line row.now.1.now (flat_map (λ word. 32 ∷ word.0.now) row.now.2.now) row.now.3.now }
+{
+    put(text, "  miniboot ");
+    put(text, row.1);
+    put_words(text, row.2);
+    put(text, row.3);
+    put(text, "\n");
+}
+
+/// Appends the words as they are shown, a space before each, for which there is room.
+fn put_words(text: &mut Usage, words: &[Word])
+    requires { array_vec_len text.old + length (flat_map (λ word. 32 ∷ word.0.now) words.now) ≤ USAGE_LIMIT }
+    ensures items { text.new.items ≡ text.old.items ++ flat_map (λ word. 32 ∷ word.0.now) words.now }
+    ensures length { array_vec_len text.new ≡ array_vec_len text.old + length (flat_map (λ word. 32 ∷ word.0.now) words.now) }
+{
+    let Some((word, words)) = words.split_first() else {
+        return;
+    };
+    put(text, " ");
+    put(text, word.0);
+    put_words(text, words);
+}
+
+/// Appends a text, for which there is room.
+pub fn put(text: &mut Usage, words: &str)
+    requires { array_vec_len text.old + length words.now ≤ USAGE_LIMIT }
+    ensures items { text.new.items ≡ text.old.items ++ words.now }
+    ensures length { array_vec_len text.new ≡ array_vec_len text.old + length words.now }
+{
+    let _fits = text.try_extend_from_slice(words.as_bytes());
+}
