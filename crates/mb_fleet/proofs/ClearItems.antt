@@ -9,7 +9,7 @@ use Rattle.mb_fleet.specs.declared.item.Item.{Item}
 use Rattle.mb_fleet.specs.ItemFormat.{item_format, AreItems}
 use Rattle.mb_fleet.specs.Laws.{ItemsAreClear, FleetInputsAreClear}
 use Rattle.mb_fleet.proofs.Reading.{item_exact, item_some}
-use Rattle.mb_fleet.proofs.Registers.{register_exact}
+use Rattle.mb_fleet.specs.ExactFormats.{register_exact}
 
 item_clear : IsClear item_format
 item_clear = IsClear-from_exact item_exact

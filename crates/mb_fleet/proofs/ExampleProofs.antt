@@ -30,7 +30,8 @@ use Rattle.mb_fleet.proofs.Ascending.{before_trans, not_before_itself, before_di
 use Rattle.mb_fleet.proofs.ClearItems.{items_are_clear}
 use Rattle.mb_fleet.proofs.Determined.{rows_have_one_answer, chains_have_one_answer}
 use Rattle.mb_fleet.proofs.Reading.{item_exact}
-use Rattle.mb_fleet.proofs.Registers.{register_exact, spelled_fits}
+use Rattle.mb_fleet.specs.ExactFormats.{register_exact}
+use Rattle.mb_fleet.proofs.Registers.{spelled_fits}
 
 -- ---- bytes
 

@@ -1,4 +1,4 @@
--- Rows of a register as bytes: they are read exactly, and what is spelled fits a register.
+-- Rows of a register as bytes: they are written one by one, and what is spelled fits a register.
 use Rattle.std.proofs.Common.{◌≡◌, ◌-◌, ℕ, zero, suc, List, [], ◌∷◌, length, Option, Some, None, refl, sym, ap, true≢false, arith}
 use Rattle.std.specs.Prelude.{IsTrue}
 use Rattle.std.specs.Global.{Vec}
@@ -8,43 +8,15 @@ use Rattle.std.specs.declared.cmp.Ordering.{Ordering}
 use Rattle.std.specs.declared.cmp.Ordering.TheVariants.{Less, Equal, Greater}
 use Rattle.std.specs.Ordering.{is_lt}
 use Rattle.std.proofs.lemmas.List.{take_all}
-use Rattle.mb_format.specs.Reading.{IsExact}
 use Rattle.mb_format.specs.Combinators.{items}
-use Rattle.mb_format.proofs.Rules.{exactly}
-use Rattle.mb_format.proofs.Compositions.{items_length}
 use Rattle.mb_bytes.proofs.Putting.{IsWriting, length_items}
 use Rattle.mb_fleet.specs.declared.row.Row.{Row}
 use Rattle.mb_fleet.specs.Order.{IsBefore}
 use Rattle.mb_fleet.specs.Rows.{AreOrdered}
-use Rattle.mb_fleet.specs.RegisterFormat.{code_hashes_format, hashes_format, row_format, last_serial, rows_format, register_format}
+use Rattle.mb_fleet.specs.RegisterFormat.{hashes_format, row_format, last_serial, rows_format, register_format}
 use Rattle.mb_fleet.specs.Places.{HasFewEntries, FitsRegister}
 use Rattle.mb_fleet.proofs.Each.{each_weaker}
 use Rattle.mb_fleet.proofs.Ascending.{before_trans}
-
--- ---- read exactly
-
-pub code_hashes_exact : IsExact code_hashes_format
-unfolding code_hashes_format
-code_hashes_exact = search exactly depth 20
-
-pub hashes_exact : IsExact hashes_format
-unfolding hashes_format
-hashes_exact = search exactly depth 20
-
-pub row_exact : (last : Option (List ℕ)) → IsExact (row_format last)
-unfolding row_format
-row_exact last = search (exactly, code_hashes_exact, hashes_exact) depth 20
-
-rows_length : (n : ℕ) (rows : List Row) → (items row_format last_serial n None).Allowed rows → length rows ≡ n
-rows_length n rows h = items_length row_format last_serial n None rows h
-
-pub rows_exact : IsExact rows_format
-unfolding rows_format
-rows_exact = search (exactly, row_exact, rows_length) depth 20
-
-pub register_exact : IsExact register_format
-unfolding register_format
-register_exact = search (exactly, rows_exact) depth 20
 
 -- ---- written
 

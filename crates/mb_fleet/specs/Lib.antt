@@ -1,6 +1,7 @@
 pub mod Order
 pub mod Rows
 pub mod RegisterFormat
+pub mod ExactFormats
 pub mod ItemFormat
 pub mod Showing
 pub mod Questions

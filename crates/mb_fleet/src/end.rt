@@ -2,7 +2,7 @@
 
 ghost use Rattle.std.specs.Prelude.{◌≡◌};
 
-use mb_bytes::Short;
+use mb_bytes::{ReadError, ReadMemoryError, Short};
 use mb_model::{BadRecord, NoMemory};
 use mb_verifier::ChainRefusal;
 
@@ -89,6 +89,29 @@ impl From<NoMemory> for FleetReadEnd {
     ghost from_gives = { λ _ e. e ≡ end.NoMemory };
 
     fn from(_error: NoMemory) -> FleetReadEnd {
+        FleetReadEnd::NoMemory
+    }
+}
+
+impl ReadError for FleetReadEnd {
+    ghost use Rattle.mb_fleet.specs.Ends.{fleet_at};
+
+    ghost points = { fleet_at };
+
+    fn bad(at: u32) -> FleetReadEnd {
+        FleetReadEnd::Bad(BadRecord { at })
+    }
+
+    fn offset(&self) -> Option<u32> {
+        match self {
+            FleetReadEnd::Bad(bad) => Some(bad.at),
+            FleetReadEnd::NoMemory => None,
+        }
+    }
+}
+
+impl ReadMemoryError for FleetReadEnd {
+    fn no_memory() -> FleetReadEnd {
         FleetReadEnd::NoMemory
     }
 }

@@ -19,8 +19,8 @@ use crate::place::{Place, place_of_serial};
 use crate::question::{Counts, Serials};
 use crate::register::{put_register, register_at};
 use crate::row::{CodeHashes, Row, row_of};
-use mb_bytes::Cursor;
-use mb_model::{BadRecord, NoMemory, PublicKey};
+use mb_bytes::{Cursor, Field, WriteField, read_whole, write_field};
+use mb_model::{NoMemory, PublicKey};
 use mb_verifier::{ChainRefusal, verify_entries};
 use std::alloc::Global;
 use std::marker::Model;
@@ -64,18 +64,7 @@ impl Fleet {
         requires { length bytes.now ≤ FILE_LIMIT }
         ensures { ReadsWhole fleet_at register_format bytes.now result }
     {
-        let mut cursor = Cursor::new(bytes);
-        let rows = register_at(alloc, &mut cursor)?;
-        if cursor.left() > 0 {
-            return Err(FleetReadEnd::Bad(BadRecord {
-                at: cursor.offset(),
-            }));
-        }
-        let indexes = CodeIndexes::of_rows(alloc, rows.as_slice())?;
-        Ok(Fleet {
-            rows: rows.into_vec(),
-            indexes,
-        })
+        read_whole::<RegisterField>(alloc, bytes)
     }
 
     /// Appends the spelling of the register, or leaves `out` as it was. It does not fail if the capacity of `out` holds
@@ -83,14 +72,7 @@ impl Fleet {
     pub fn write(&self, out: &mut Vec<u8>) -> Result<(), NoMemory>
         ensures { Writes (register_format.spelling self.now) out.old result out.new }
     {
-        let length = out.len();
-        match put_register(out, self.rows.as_slice()) {
-            Ok(()) => Ok(()),
-            Err(error) => {
-                out.truncate(length);
-                Err(error)
-            }
-        }
+        write_field::<RegisterField>(self, out)
     }
 
     /// Shows the register a chain of at most 4,194,304 bytes, whose entries have to be good under the maker's key
@@ -175,6 +157,40 @@ impl Fleet {
                 Ok(Added::Extended { serial, length })
             }
         }
+    }
+}
+
+/// A register as bytes.
+struct RegisterField;
+
+impl Field for RegisterField {
+    ghost use Rattle.mb_fleet.specs.ExactFormats.{register_exact};
+
+    type Value = Fleet;
+
+    type Needs = Global;
+
+    type End = FleetReadEnd;
+
+    ghost format = { register_format };
+
+    fn read_at(alloc: Global, cursor: &mut Cursor<'_>) -> Result<Fleet, FleetReadEnd> {
+        let rows = register_at(alloc, cursor)?;
+        let indexes = CodeIndexes::of_rows(alloc, rows.as_slice())?;
+        Ok(Fleet {
+            rows: rows.into_vec(),
+            indexes,
+        })
+    }
+
+    ghost exact = { register_exact };
+}
+
+impl WriteField for RegisterField {
+    ghost Fits = { λ _. Unit {0} };
+
+    fn put(fleet: &Fleet, out: &mut Vec<u8>) -> Result<(), NoMemory> {
+        put_register(out, fleet.rows.as_slice())
     }
 }
 

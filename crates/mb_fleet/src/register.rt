@@ -2,7 +2,7 @@
 
 ghost use Rattle.std.specs.Prelude.{◌≡◌, ◌≤◌, length, None};
 ghost use Rattle.std.specs.List.{All};
-ghost use Rattle.mb_format.specs.Combinators.{raw, raw_that, optional};
+ghost use Rattle.mb_format.specs.Combinators.{raw_that};
 ghost use Rattle.mb_model.specs.declared.limits.TheConstants.{ENTRY_LIMIT};
 ghost use Rattle.mb_bytes.specs.Reads.{bad_at, Reads};
 ghost use Rattle.mb_bytes.specs.Puts.{Puts};
@@ -13,7 +13,10 @@ ghost use Rattle.mb_fleet.specs.RegisterFormat.{may_follow, code_hashes_format, 
 use crate::end::FleetReadEnd;
 use crate::limits::DEVICE_LIMIT;
 use crate::row::{CodeHashes, Row};
-use mb_bytes::{Cursor, flag_at, put_flag, put_slice, put_u16, put_u32, u16_between, word_at};
+use mb_bytes::{
+    Cursor, items_at, optional_at, put_items, put_optional, put_slice, put_u16, put_u32,
+    u16_between, word_at,
+};
 use mb_model::{BadRecord, ENTRY_LIMIT, Items, NoMemory};
 use std::alloc::Global;
 use std::cmp::Ordering;
@@ -98,21 +101,10 @@ fn may_follow(last: &Option<[u8; 16]>, serial: &[u8; 16]) -> bool
 fn code_hashes_at(cursor: &mut Cursor<'_>) -> Result<CodeHashes, BadRecord>
     ensures { Reads bad_at code_hashes_format cursor.old result cursor.new }
 {
-    let one = code_hash_at(cursor)?;
-    let two = code_hash_at(cursor)?;
-    let three = code_hash_at(cursor)?;
+    let one = optional_at::<[u8; 32]>((), cursor)?;
+    let two = optional_at::<[u8; 32]>((), cursor)?;
+    let three = optional_at::<[u8; 32]>((), cursor)?;
     Ok(CodeHashes { one, two, three })
-}
-
-/// The hash of a code after its flag, if there is one.
-fn code_hash_at(cursor: &mut Cursor<'_>) -> Result<Option<[u8; 32]>, BadRecord>
-    ensures { Reads bad_at (optional (raw 32)) cursor.old result cursor.new }
-{
-    if flag_at(cursor)? {
-        Ok(Some(cursor.take_array::<32>()?))
-    } else {
-        Ok(None)
-    }
 }
 
 /// The hashes of entries, after their number.
@@ -121,11 +113,7 @@ fn hashes_at(alloc: Global, cursor: &mut Cursor<'_>) -> Result<Items<[u8; 32]>, 
     ensures { Reads fleet_at hashes_format cursor.old result cursor.new }
 {
     let count = u16_between(cursor, 1, ENTRY_LIMIT)?;
-    let mut hashes = Items::new(alloc);
-    for _i in 0..count {
-        hashes.push(cursor.take_array::<32>()?)?;
-    }
-    Ok(hashes)
+    items_at::<[u8; 32], FleetReadEnd>(alloc, (), cursor, count as u32)
 }
 
 /// Appends the register, or a prefix of it if an allocation fails.
@@ -170,22 +158,9 @@ fn put_row(out: &mut Vec<u8>, row: &Row) -> Result<(), NoMemory>
 fn put_code_hashes(out: &mut Vec<u8>, code: &CodeHashes) -> Result<(), NoMemory>
     ensures { Puts (code_hashes_format.spelling code.now) out.old result out.new }
 {
-    put_code_hash(out, &code.one)?;
-    put_code_hash(out, &code.two)?;
-    put_code_hash(out, &code.three)
-}
-
-/// Appends a flag, and the hash if there is one.
-fn put_code_hash(out: &mut Vec<u8>, hash: &Option<[u8; 32]>) -> Result<(), NoMemory>
-    ensures { Puts ((optional (raw 32)).spelling hash.now) out.old result out.new }
-{
-    match hash {
-        Some(hash) => {
-            put_flag(out, true)?;
-            put_slice(out, hash)
-        }
-        None => put_flag(out, false),
-    }
+    put_optional::<[u8; 32]>(out, &code.one)?;
+    put_optional::<[u8; 32]>(out, &code.two)?;
+    put_optional::<[u8; 32]>(out, &code.three)
 }
 
 /// Appends the number of the hashes, and the hashes.
@@ -195,8 +170,5 @@ fn put_hashes(out: &mut Vec<u8>, hashes: &[[u8; 32]]) -> Result<(), NoMemory>
     ensures { Puts (hashes_format.spelling hashes.now) out.old result out.new }
 {
     put_u16(out, hashes.len() as u16)?;
-    for hash in hashes {
-        put_slice(out, hash)?;
-    }
-    Ok(())
+    put_items::<[u8; 32]>(out, hashes)
 }

@@ -1,5 +1,5 @@
 use Rattle.mb_format.proofs.Whole.{IsClearWhole-from_exact}
-use Rattle.mb_fleet.proofs.Registers.{register_exact}
+use Rattle.mb_fleet.specs.ExactFormats.{register_exact}
 use Rattle.mb_fleet.proofs.laws.registers_are_clear.Goals as goal
 
 pub returns : goal.returns

@@ -5,5 +5,5 @@ use Rattle.mb_fleet.proofs.register.put_code_hashes.Goals as goal
 pub returns : goal.returns
 unfolding code_hashes_format
 returns c =
-    let r = c.put_code_hash-3.result in
-    puts_both _ _ r c.in_ok-put_code_hash.ensures (puts_both _ _ r c.in_ok-put_code_hash-2.ensures c.put_code_hash-3.ensures)
+    let r = c.put_optional-3.result in
+    puts_both _ _ r c.in_ok-put_optional.ensures (puts_both _ _ r c.in_ok-put_optional-2.ensures c.put_optional-3.ensures)
