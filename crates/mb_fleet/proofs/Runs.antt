@@ -81,6 +81,10 @@ serving_ends maker rows listed i text after over served = subst (λ (ls : List I
 
 -- ---- a chain that is shown
 
+pub on_ok_weaker : {E P Q : Type 0} (r : Result (Unit {0}) E) → (P → Q) → OnOk r P → OnOk r Q
+on_ok_weaker (Ok u) weaker holds = weaker holds
+on_ok_weaker (Err e) weaker holds = tt
+
 module _ (maker : PublicKey) (rows : List Row) (bytes old new : List ℕ) (after : List Row) where
   pub answer_step : (answer : Answer) → IsChainAnswered maker rows bytes answer after → new ≡ old ++ ended (answer_line answer) → AppendsStep maker rows (Show bytes) old new after
   answer_step answer answered put = record {
@@ -89,26 +93,24 @@ module _ (maker : PublicKey) (rows : List Row) (bytes old new : List ℕ) (after
     appended = put ∙ ap (λ (t : List ℕ). old ++ t) (sym (text_of_one (answer_line answer)));
   }
 
-  told : (P : ChainRefusal → Type 0) (o : Option ChainRefusal) (why : ChainRefusal) → o ≡ Some why → IfSome o P → P why
-  told P o why is holds = subst (λ (p : Option ChainRefusal). IfSome p P) is holds
+told : (P : ChainRefusal → Type 0) (o : Option ChainRefusal) (why : ChainRefusal) → o ≡ Some why → IfSome o P → P why
+told P o why is holds = subst (λ (p : Option ChainRefusal). IfSome p P) is holds
 
-  pub end_step : (e : FleetEnd) (text : List ℕ) → AnswersChain maker rows bytes (Err e) after → TellsEnd e text → new ≡ old ++ text → AppendsStep maker rows (Show bytes) old new after
-  end_step (end.Chain refusal) text answers tells put = answer_step (chain_refused answers.0) answers.2
-      (put ∙ ap (λ (t : List ℕ). old ++ t) (told (λ why. text ≡ ended (refused_line why)) (chain_refusal_of refusal) answers.0 answers.1 tells))
-  end_step (end.Older serial have) text answers tells put = answer_step (older serial have) answers (put ∙ ap (λ (t : List ℕ). old ++ t) tells)
-  end_step (end.Fork serial place) text answers tells put = answer_step (forked serial place) answers (put ∙ ap (λ (t : List ℕ). old ++ t) tells)
-  end_step end.Full text answers tells put = answer_step full answers (put ∙ ap (λ (t : List ℕ). old ++ t) tells)
-  end_step end.NoMemory text answers tells put = absurd tells
+pub answer_put : (maker : PublicKey) (rows : List Row) (bytes : List ℕ) (old new : Vec ℕ) (after : List Row) (answer : Answer) (r : Result (Unit {0}) NoMemory)
+    → IsChainAnswered maker rows bytes answer after → Puts (ended (answer_line answer)) old r new → OnOk r (AppendsStep maker rows (Show bytes) old.items new.items after)
+answer_put maker rows bytes old new after answer (Ok u) answered puts = answer_step maker rows bytes old.items new.items after answer answered puts.items
+answer_put maker rows bytes old new after answer (Err e) answered puts = tt
 
-pub on_ok_put : (P : Type 0) (r : Result (Unit {0}) NoMemory) (text : List ℕ) (old new : Vec ℕ) → Puts text old r new → (new.items ≡ old.items ++ text → P) → OnOk r P
-on_ok_put P (Ok u) text old new puts then = then puts.items
-on_ok_put P (Err e) text old new puts then = tt
+module _ (maker : PublicKey) (rows : List Row) (bytes : List ℕ) (old new : Vec ℕ) (after : List Row) (r : Result (Unit {0}) NoMemory) where
+  pub end_put : (e : FleetEnd) → AnswersChain maker rows bytes (Err e) after → TellsEnd e old r new → OnOk r (AppendsStep maker rows (Show bytes) old.items new.items after)
+  end_put (end.Chain refusal) answers tells = answer_put maker rows bytes old new after (chain_refused answers.0) r answers.2
+      (told (λ why. Puts (ended (refused_line why)) old r new) (chain_refusal_of refusal) answers.0 answers.1 tells)
+  end_put (end.Older serial have) answers tells = answer_put maker rows bytes old new after (older serial have) r answers tells
+  end_put (end.Fork serial place) answers tells = answer_put maker rows bytes old new after (forked serial place) r answers tells
+  end_put end.Full answers tells = answer_put maker rows bytes old new after full r answers tells
+  end_put end.NoMemory answers tells = on_ok_weaker r (λ never. absurd never) tells
 
 -- ---- questions
-
-pub on_ok_weaker : {E P Q : Type 0} (r : Result (Unit {0}) E) → (P → Q) → OnOk r P → OnOk r Q
-on_ok_weaker (Ok u) weaker holds = weaker holds
-on_ok_weaker (Err e) weaker holds = tt
 
 pub find_step : (maker : PublicKey) (rows : List Row) (layer : ℕ) (hash : List ℕ) (serials : List (List ℕ)) (old new : List ℕ) → serials ≡ serials_with layer hash rows
     → new ≡ old ++ text_of (found_lines serials) → AppendsStep maker rows (Find layer hash) old new rows

@@ -1,12 +1,16 @@
 -- Which answer the result of a call names. What does `add` answer for the register?
-use Rattle.std.specs.Prelude.{◌≡◌, ℕ, ◌≤◌, List, [], ◌++◌, length, codes, Option, None, Some, IfSome, Result, Ok, Err}
+use Rattle.std.specs.Prelude.{◌≡◌, ℕ, ◌≤◌, List, [], ◌++◌, length, codes, Option, None, Some, IfSome, OnOk}
+use Rattle.std.specs.Prelude.{Result, Ok, Err}
+use Rattle.std.specs.Global.{Vec}
 use Rattle.std.specs.Fmt.{decimal}
 use Rattle.mb_model.specs.declared.key.PublicKey.{PublicKey}
 use Rattle.mb_model.specs.declared.limits.TheConstants.{FILE_LIMIT}
+use Rattle.mb_model.specs.declared.memory.NoMemory.{NoMemory}
 use Rattle.mb_model.specs.Texts.{ended}
 use Rattle.mb_model.specs.Lines.{text_of}
 use Rattle.mb_model.specs.VerifyCommand.{refused_line}
 use Rattle.mb_model.specs.Acceptance.{ChainRefusal}
+use Rattle.mb_bytes.specs.Puts.{Puts}
 use Rattle.mb_verifier.specs.declared.refusal.ChainRefusal as verifier
 use Rattle.mb_verifier.specs.declared.refusal.ChainRefusal.TheVariants as why
 use Rattle.mb_verifier.specs.Ends.{chain_refusal_of}
@@ -76,13 +80,14 @@ abbrev pub refused_place_words : Option ℕ → List ℕ
 refused_place_words None = []
 refused_place_words (Some place) = codes " " ++ decimal place
 
--- a text is the line that tells of this end, which is not want of memory
-abbrev pub TellsEnd : FleetEnd → List ℕ → Type 0
-TellsEnd (end.Chain refusal) text = IfSome (chain_refusal_of refusal) (λ reason. text ≡ ended (refused_line reason))
-TellsEnd (end.Older serial have) text = text ≡ ended (answer_line (older serial have))
-TellsEnd (end.Fork serial place) text = text ≡ ended (answer_line (forked serial place))
-TellsEnd end.Full text = text ≡ ended (answer_line full)
-TellsEnd end.NoMemory text = ⊥
+-- the line that tells of this end is appended; want of memory has no line
+abbrev pub TellsEnd : FleetEnd → Vec ℕ → Result (Unit {0}) NoMemory → Vec ℕ → Type 0
+TellsEnd (end.Chain refusal) old result new =
+    IfSome (chain_refusal_of refusal) (λ reason. Puts (ended (refused_line reason)) old result new)
+TellsEnd (end.Older serial have) old result new = Puts (ended (answer_line (older serial have))) old result new
+TellsEnd (end.Fork serial place) old result new = Puts (ended (answer_line (forked serial place))) old result new
+TellsEnd end.Full old result new = Puts (ended (answer_line full)) old result new
+TellsEnd end.NoMemory old result new = OnOk result ⊥
 
 -- an item is served, and the lines of its answer are appended to a text
 pub record AppendsStep (maker : PublicKey) (rows : List Row) (item : Item) (old new : List ℕ)

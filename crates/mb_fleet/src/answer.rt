@@ -1,137 +1,212 @@
-//! The lines of answers, each with its LF.
+//! The lines of answers, each with its LF, appended to a text. Each call appends its line or lines, or a prefix of them
+//! if an allocation fails.
 
-ghost use Rattle.std.specs.Prelude.{◌≡◌, ◌++◌, IfOk, IfSome, OnOk, codes};
+ghost use Rattle.std.specs.Prelude.{◌≡◌, ◌<◌, ◌*◌, ◌++◌, ◌∷◌, [], IfSome, OnOk, codes};
 ghost use Rattle.std.specs.Fmt.{decimal};
-ghost use Rattle.std.specs.String.{string_bytes};
 ghost use Rattle.mb_model.specs.Texts.{ended};
-ghost use Rattle.mb_model.specs.Lines.{text_of};
+ghost use Rattle.mb_model.specs.Lines.{hex_word, spaced, text_of};
 ghost use Rattle.mb_model.specs.VerifyCommand.{refused_line};
+ghost use Rattle.mb_bytes.specs.Puts.{Puts};
 ghost use Rattle.mb_verifier.specs.Ends.{chain_refusal_of};
 ghost use Rattle.mb_fleet.specs.Ends.{answer_of, refused_place_words, TellsEnd};
 ghost use Rattle.mb_fleet.specs.Serving.{device_line, answer_line, serial_line, count_line, found_lines, count_lines};
 
 use crate::end::{Added, FleetEnd};
 use crate::question::CodeCount;
+use mb_bytes::put_slice;
 use mb_model::NoMemory;
 use mb_verifier::ChainRefusal;
-use mb_words::hex_word;
-use std::alloc::Global;
 
-/// Words, the serial of a device, and a number.
-fn device_line(
-    alloc: Global,
-    words: &str,
-    serial: &[u8; 16],
-    number: u32,
-) -> Result<String, NoMemory>
-    ensures { IfOk result (λ line. string_bytes line ≡ ended (device_line words.now serial.now number)) }
-{
-    let serial = hex_word(alloc, serial)?;
-    Ok(format!(in alloc; "{words} {serial} {number}\n")?)
-}
-
-/// The line of a chain that was taken.
-pub(crate) fn added_line(alloc: Global, added: &Added) -> Result<String, NoMemory>
-    ensures { IfOk result (λ line. string_bytes line ≡ ended (answer_line (answer_of added.now))) }
+/// Appends the line of a chain that was taken.
+pub(crate) fn put_added(out: &mut Vec<u8>, added: &Added) -> Result<(), NoMemory>
+    ensures { Puts (ended (answer_line (answer_of added.now))) out.old result out.new }
 {
     match added {
-        Added::Added { serial, length } => device_line(alloc, "added", serial, *length),
-        Added::Same { serial, length } => device_line(alloc, "same", serial, *length),
-        Added::Extended { serial, length } => device_line(alloc, "extended", serial, *length),
+        Added::Added { serial, length } => put_device(out, b"added", serial, *length),
+        Added::Same { serial, length } => put_device(out, b"same", serial, *length),
+        Added::Extended { serial, length } => put_device(out, b"extended", serial, *length),
     }
 }
 
-/// The line of a chain that was not taken.
-pub(crate) fn end_line(alloc: Global, end: &FleetEnd) -> Result<String, NoMemory>
-    ensures { IfOk result (λ line. TellsEnd end.now (string_bytes line)) }
+/// Appends the line of a chain that was not taken.
+pub(crate) fn put_end(out: &mut Vec<u8>, end: &FleetEnd) -> Result<(), NoMemory>
+    ensures { TellsEnd end.now out.old result out.new }
 {
     match end {
-        FleetEnd::Chain(refusal) => refused_line(alloc, refusal),
-        FleetEnd::Older { serial, have } => device_line(alloc, "refused 31 older", serial, *have),
-        FleetEnd::Fork { serial, place } => device_line(alloc, "refused 30 fork", serial, *place),
-        FleetEnd::Full => Ok(String::from_str(alloc, "refused 32 full\n")?),
+        FleetEnd::Chain(refusal) => put_refused(out, refusal),
+        FleetEnd::Older { serial, have } => put_device(out, b"refused 31 older", serial, *have),
+        FleetEnd::Fork { serial, place } => put_device(out, b"refused 30 fork", serial, *place),
+        FleetEnd::Full => put_slice(out, b"refused 32 full\n"),
         FleetEnd::NoMemory => Err(NoMemory),
     }
 }
 
-/// The line of a chain that the verifier refuses.
-fn refused_line(alloc: Global, refusal: &ChainRefusal) -> Result<String, NoMemory>
-    ensures { IfOk result (λ line. IfSome (chain_refusal_of refusal.now) (λ why. string_bytes line ≡ ended (refused_line why))) }
-{
-    match *refusal {
-        ChainRefusal::Form { at } => code_line(alloc, 20, Some(at)),
-        ChainRefusal::Signature { entry } => code_line(alloc, 21, Some(entry)),
-        ChainRefusal::Order { entry } => code_line(alloc, 22, Some(entry)),
-        ChainRefusal::Rules { entry } => code_line(alloc, 23, Some(entry)),
-        ChainRefusal::KeyUnknown => code_line(alloc, 24, None),
-        ChainRefusal::StatementSignature => code_line(alloc, 25, None),
-        ChainRefusal::StatementNumber { .. } => code_line(alloc, 26, None),
-        ChainRefusal::NotAlive => code_line(alloc, 27, None),
-        ChainRefusal::NoMemory => Err(NoMemory),
-    }
-}
-
-/// The line of a refusal with this number, and where the chain is wrong, if it is in one place.
-fn code_line(alloc: Global, code: u8, place: Option<u32>) -> Result<String, NoMemory>
-    ensures { IfOk result (λ line. string_bytes line ≡ ended (codes "refused " ++ decimal code ++ refused_place_words place)) }
-{
-    match place {
-        Some(place) => Ok(format!(in alloc; "refused {code} {place}\n")?),
-        None => Ok(format!(in alloc; "refused {code}\n")?),
-    }
-}
-
 /// Appends how many devices were found, and the serial of each.
-pub(crate) fn put_found(
-    alloc: Global,
-    serials: &[[u8; 16]],
-    out: &mut Vec<u8>,
-) -> Result<(), NoMemory>
+pub(crate) fn put_found(out: &mut Vec<u8>, serials: &[[u8; 16]]) -> Result<(), NoMemory>
     ensures { OnOk result (out.new.items ≡ out.old.items ++ text_of (found_lines serials.now)) }
 {
-    let count = serials.len();
-    let line = format!(in alloc; "found {count}\n")?;
-    out.extend_from_slice(line.as_bytes())?;
+    put_counted(out, b"found", serials.len())?;
     for serial in serials {
-        put_serial(alloc, serial, out)?;
+        put_serial(out, serial)?;
     }
-    Ok(())
-}
-
-/// Appends the line of a serial.
-fn put_serial(alloc: Global, serial: &[u8; 16], out: &mut Vec<u8>) -> Result<(), NoMemory>
-    ensures { OnOk result (out.new.items ≡ out.old.items ++ ended (serial_line serial.now)) }
-{
-    let word = hex_word(alloc, serial)?;
-    let line = format!(in alloc; "serial {word}\n")?;
-    out.extend_from_slice(line.as_bytes())?;
     Ok(())
 }
 
 /// Appends how many codes there are, and each with its number.
-pub(crate) fn put_codes(
-    alloc: Global,
-    counts: &[CodeCount],
-    out: &mut Vec<u8>,
-) -> Result<(), NoMemory>
+pub(crate) fn put_codes(out: &mut Vec<u8>, counts: &[CodeCount]) -> Result<(), NoMemory>
     ensures { OnOk result (out.new.items ≡ out.old.items ++ text_of (count_lines counts.now)) }
 {
-    let count = counts.len();
-    let line = format!(in alloc; "codes {count}\n")?;
-    out.extend_from_slice(line.as_bytes())?;
+    put_counted(out, b"codes", counts.len())?;
     for count in counts {
-        put_count(alloc, count, out)?;
+        put_count(out, count)?;
     }
     Ok(())
 }
 
-/// Appends the line of a code.
-fn put_count(alloc: Global, count: &CodeCount, out: &mut Vec<u8>) -> Result<(), NoMemory>
-    ensures { OnOk result (out.new.items ≡ out.old.items ++ ended (count_line count.now)) }
+/// Appends the line of words, the serial of a device, and a number.
+fn put_device(
+    out: &mut Vec<u8>,
+    words: &[u8],
+    serial: &[u8; 16],
+    number: u32,
+) -> Result<(), NoMemory>
+    ensures { Puts (ended (device_line words.now serial.now number)) out.old result out.new }
 {
-    let word = hex_word(alloc, &count.hash)?;
-    let number = count.count;
-    let line = format!(in alloc; "code {word} {number}\n")?;
-    out.extend_from_slice(line.as_bytes())?;
-    Ok(())
+    put_device_words(out, words, serial, number)?;
+    put_slice(out, b"\n")
+}
+
+/// Appends words, the serial of a device, and a number.
+fn put_device_words(
+    out: &mut Vec<u8>,
+    words: &[u8],
+    serial: &[u8; 16],
+    number: u32,
+) -> Result<(), NoMemory>
+    ensures { Puts (device_line words.now serial.now number) out.old result out.new }
+{
+    put_slice(out, words)?;
+    put_word(out, &hex_digits::<16, 32>(serial))?;
+    put_number(out, number as usize)
+}
+
+/// Appends the line of a chain that the verifier refuses.
+fn put_refused(out: &mut Vec<u8>, refusal: &ChainRefusal) -> Result<(), NoMemory>
+    ensures { IfSome (chain_refusal_of refusal.now) (λ why. Puts (ended (refused_line why)) out.old result out.new) }
+{
+    match *refusal {
+        ChainRefusal::Form { at } => put_code(out, 20, Some(at)),
+        ChainRefusal::Signature { entry } => put_code(out, 21, Some(entry)),
+        ChainRefusal::Order { entry } => put_code(out, 22, Some(entry)),
+        ChainRefusal::Rules { entry } => put_code(out, 23, Some(entry)),
+        ChainRefusal::KeyUnknown => put_code(out, 24, None),
+        ChainRefusal::StatementSignature => put_code(out, 25, None),
+        ChainRefusal::StatementNumber { .. } => put_code(out, 26, None),
+        ChainRefusal::NotAlive => put_code(out, 27, None),
+        ChainRefusal::NoMemory => Err(NoMemory),
+    }
+}
+
+/// Appends the line of a refusal with this number, and where the chain is wrong, if it is in one place.
+fn put_code(out: &mut Vec<u8>, code: u8, place: Option<u32>) -> Result<(), NoMemory>
+    ensures { Puts (ended (codes "refused " ++ decimal code ++ refused_place_words place)) out.old result out.new }
+{
+    put_code_words(out, code, place)?;
+    put_slice(out, b"\n")
+}
+
+/// Appends the words of a refusal.
+fn put_code_words(out: &mut Vec<u8>, code: u8, place: Option<u32>) -> Result<(), NoMemory>
+    ensures { Puts (codes "refused " ++ decimal code ++ refused_place_words place) out.old result out.new }
+{
+    put_slice(out, b"refused")?;
+    put_number(out, code as usize)?;
+    put_refused_place(out, place)
+}
+
+/// Appends where a chain is wrong, if it is in one place.
+fn put_refused_place(out: &mut Vec<u8>, place: Option<u32>) -> Result<(), NoMemory>
+    ensures { Puts (refused_place_words place) out.old result out.new }
+{
+    match place {
+        Some(place) => put_number(out, place as usize),
+        None => Ok(()),
+    }
+}
+
+/// Appends the line of a word and a count.
+fn put_counted(out: &mut Vec<u8>, word: &[u8], count: usize) -> Result<(), NoMemory>
+    ensures { Puts (ended (spaced (word.now ∷ decimal count ∷ []))) out.old result out.new }
+{
+    put_counted_words(out, word, count)?;
+    put_slice(out, b"\n")
+}
+
+/// Appends a word and a count.
+fn put_counted_words(out: &mut Vec<u8>, word: &[u8], count: usize) -> Result<(), NoMemory>
+    ensures { Puts (spaced (word.now ∷ decimal count ∷ [])) out.old result out.new }
+{
+    put_slice(out, word)?;
+    put_number(out, count)
+}
+
+/// Appends the line of a serial.
+fn put_serial(out: &mut Vec<u8>, serial: &[u8; 16]) -> Result<(), NoMemory>
+    ensures { Puts (ended (serial_line serial.now)) out.old result out.new }
+{
+    put_serial_words(out, serial)?;
+    put_slice(out, b"\n")
+}
+
+/// Appends the words of a serial.
+fn put_serial_words(out: &mut Vec<u8>, serial: &[u8; 16]) -> Result<(), NoMemory>
+    ensures { Puts (serial_line serial.now) out.old result out.new }
+{
+    put_slice(out, b"serial")?;
+    put_word(out, &hex_digits::<16, 32>(serial))
+}
+
+/// Appends the line of a code.
+fn put_count(out: &mut Vec<u8>, count: &CodeCount) -> Result<(), NoMemory>
+    ensures { Puts (ended (count_line count.now)) out.old result out.new }
+{
+    put_count_words(out, count)?;
+    put_slice(out, b"\n")
+}
+
+/// Appends the words of a code.
+fn put_count_words(out: &mut Vec<u8>, count: &CodeCount) -> Result<(), NoMemory>
+    ensures { Puts (count_line count.now) out.old result out.new }
+{
+    put_slice(out, b"code")?;
+    put_word(out, &hex_digits::<32, 64>(&count.hash))?;
+    put_number(out, count.count as usize)
+}
+
+/// The bytes in hexadecimal, two digits for each.
+fn hex_digits<const N: usize, const DIGITS: usize>(bytes: &[u8; N]) -> [u8; DIGITS]
+    requires some { 0 < N }
+    requires digits { DIGITS ≡ 2 * N }
+    ensures { result ≡ hex_word bytes.now }
+{
+    let mut digits = [0; DIGITS];
+    // there are as many digits as the bytes need, so the call does not fail
+    let _ = hex::encode_to_slice(bytes.as_slice(), &mut digits);
+    digits
+}
+
+/// Appends a space and a number in decimal.
+fn put_number(out: &mut Vec<u8>, number: usize) -> Result<(), NoMemory>
+    ensures { Puts (32 ∷ decimal number) out.old result out.new }
+{
+    let mut digits = itoa::Buffer::new();
+    put_word(out, digits.format(number).as_bytes())
+}
+
+/// Appends a space and a word.
+fn put_word(out: &mut Vec<u8>, word: &[u8]) -> Result<(), NoMemory>
+    ensures { Puts (32 ∷ word.now) out.old result out.new }
+{
+    put_slice(out, b" ")?;
+    put_slice(out, word)
 }

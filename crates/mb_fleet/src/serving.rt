@@ -6,12 +6,11 @@ ghost use Rattle.mb_model.specs.declared.limits.TheConstants.{FILE_LIMIT};
 ghost use Rattle.mb_fleet.specs.Ends.{HasShortChain, ServesItems, AppendsStep};
 ghost use Rattle.mb_fleet.specs.declared.item.Item.TheVariants.{Show};
 
-use crate::answer::{added_line, end_line, put_codes, put_found};
+use crate::answer::{put_added, put_codes, put_end, put_found};
 use crate::end::ServeEnd;
 use crate::fleet::Fleet;
 use crate::item::Item;
 use crate::limits::TEXT_LIMIT;
-use mb_bytes::put_slice;
 use mb_model::{Bytes, NoMemory, PublicKey};
 use std::alloc::Global;
 
@@ -53,11 +52,11 @@ fn serve_item(
         Item::Show(chain) => show_chain(alloc, fleet, root, chain.as_slice(), out),
         Item::Find { layer, hash } => {
             let serials = fleet.find(alloc, *layer, hash)?;
-            put_found(alloc, serials.as_slice(), out)
+            put_found(out, serials.as_slice())
         }
         Item::Codes { layer } => {
             let counts = fleet.codes(alloc, *layer)?;
-            put_codes(alloc, counts.as_slice(), out)
+            put_codes(out, counts.as_slice())
         }
     }
 }
@@ -74,13 +73,7 @@ fn show_chain(
     ensures { OnOk result (AppendsStep root.now fleet.old (Show chain.now) out.old.items out.new.items fleet.new) }
 {
     match fleet.add(alloc, root, chain) {
-        Ok(added) => {
-            let line = added_line(alloc, &added)?;
-            put_slice(out, line.as_bytes())
-        }
-        Err(end) => {
-            let line = end_line(alloc, &end)?;
-            put_slice(out, line.as_bytes())
-        }
+        Ok(added) => put_added(out, &added),
+        Err(end) => put_end(out, &end),
     }
 }

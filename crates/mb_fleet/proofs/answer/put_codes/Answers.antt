@@ -1,4 +1,4 @@
-use Rattle.std.proofs.Common.{ap, ◌∙◌, ◌++◌, ◌∷◌, [], List, ℕ, length, codes}
+use Rattle.std.proofs.Common.{◌∷◌, [], length, codes}
 use Rattle.std.specs.Fmt.{decimal}
 use Rattle.mb_model.specs.Lines.{spaced}
 use Rattle.mb_fleet.specs.Serving.{count_line}
@@ -7,10 +7,10 @@ use Rattle.mb_fleet.proofs.answer.put_codes.Goals as goal
 
 pub loop-count-preserved : goal.loop-count-preserved
 loop-count-preserved c =
-    lines_more count_line c.args.counts.now c.loop-count.count-index _ c.extend_from_slice.new.self.items c.loop-count.out.items _
-    c.loop-count-test.true c.loop-count.invariant c.in_ok-put_count.ensures
+    lines_more count_line c.args.counts.now c.loop-count.count-index _ c.put_counted.new.out.items c.loop-count.out.items _
+    c.loop-count-test.true c.loop-count.invariant c.in_ok-put_count.ensures.items
 
 pub returns : goal.returns
 returns c =
-    lines_ended count_line c.args.counts.now c.loop-count.count-index (spaced (codes "codes" ∷ decimal (length c.args.counts.now) ∷ [])) c.args.out.now.items c.extend_from_slice.new.self.items c.loop-count.out.items
-    c.loop-count-test.false (c.in_ok-extend_from_slice.ensures.items ∙ ap (λ (t : List ℕ). c.args.out.now.items ++ t) (c.as_bytes.ensures.value ∙ c.in_ok-line.ensures.ok)) c.loop-count.invariant
+    lines_ended count_line c.args.counts.now c.loop-count.count-index (spaced (codes "codes" ∷ decimal (length c.args.counts.now) ∷ [])) c.args.out.now.items c.put_counted.new.out.items c.loop-count.out.items
+    c.loop-count-test.false c.in_ok-put_counted.ensures.items c.loop-count.invariant

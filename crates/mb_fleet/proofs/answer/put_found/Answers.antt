@@ -1,4 +1,4 @@
-use Rattle.std.proofs.Common.{ap, ◌∙◌, ◌++◌, ◌∷◌, [], List, ℕ, length, codes}
+use Rattle.std.proofs.Common.{◌∷◌, [], length, codes}
 use Rattle.std.specs.Fmt.{decimal}
 use Rattle.mb_model.specs.Lines.{spaced}
 use Rattle.mb_fleet.specs.Serving.{serial_line}
@@ -7,10 +7,10 @@ use Rattle.mb_fleet.proofs.answer.put_found.Goals as goal
 
 pub loop-serial-preserved : goal.loop-serial-preserved
 loop-serial-preserved c =
-    lines_more serial_line c.args.serials.now c.loop-serial.serial-index _ c.extend_from_slice.new.self.items c.loop-serial.out.items _
-    c.loop-serial-test.true c.loop-serial.invariant c.in_ok-put_serial.ensures
+    lines_more serial_line c.args.serials.now c.loop-serial.serial-index _ c.put_counted.new.out.items c.loop-serial.out.items _
+    c.loop-serial-test.true c.loop-serial.invariant c.in_ok-put_serial.ensures.items
 
 pub returns : goal.returns
 returns c =
-    lines_ended serial_line c.args.serials.now c.loop-serial.serial-index (spaced (codes "found" ∷ decimal (length c.args.serials.now) ∷ [])) c.args.out.now.items c.extend_from_slice.new.self.items c.loop-serial.out.items
-    c.loop-serial-test.false (c.in_ok-extend_from_slice.ensures.items ∙ ap (λ (t : List ℕ). c.args.out.now.items ++ t) (c.as_bytes.ensures.value ∙ c.in_ok-line.ensures.ok)) c.loop-serial.invariant
+    lines_ended serial_line c.args.serials.now c.loop-serial.serial-index (spaced (codes "found" ∷ decimal (length c.args.serials.now) ∷ [])) c.args.out.now.items c.put_counted.new.out.items c.loop-serial.out.items
+    c.loop-serial-test.false c.in_ok-put_counted.ensures.items c.loop-serial.invariant
