@@ -1,11 +1,11 @@
-//! A full register.
+//! A full register, and the longest text of answers.
 
 ghost use Rattle.std.specs.Prelude.{◌≤◌, length};
 ghost use Rattle.mb_model.specs.declared.limits.TheConstants.{FILE_LIMIT};
 
 use super::entries::{FIRST, FIRST_OF_OTHER, NEXT_TWO};
 use super::runs::{ROOT, chain_of, show};
-use crate::{DEVICE_LIMIT, Fleet, read_items, serve_items};
+use crate::{DEVICE_LIMIT, Fleet, ServeEnd, TEXT_LIMIT, read_items, serve_items};
 use hex::FromHex;
 use mb_bytes::{put_slice, put_u16, put_u32, read_public_key};
 use mb_model::Bytes;
@@ -57,13 +57,13 @@ fn full_fleet(alloc: Global) -> Result<Fleet, Fail> {
 }
 
 /// What a full register answers to items.
-fn serve_full(alloc: Global, items: &[u8]) -> Result<Bytes, Fail>
+fn serve_full(alloc: Global, items: &[u8]) -> Result<Result<Bytes, ServeEnd>, Fail>
     requires { length items.now ≤ FILE_LIMIT }
 {
     let root = read_public_key(&<[u8; 56] as FromHex>::from_hex(ROOT)?)?;
     let mut fleet = full_fleet(alloc)?;
     let items = read_items(alloc, items)?;
-    Ok(serve_items(alloc, &mut fleet, &root, items.as_slice())?)
+    Ok(serve_items(alloc, &mut fleet, &root, items.as_slice()))
 }
 
 #[test]
@@ -80,7 +80,7 @@ fn a_full_register_takes_no_new_device(rt: HostRuntime) -> Result<(), Fail> {
         chain_of(alloc, 3, &[FIRST, NEXT_TWO])?.as_slice(),
     )?;
     items.truncate(100_000);
-    let text = serve_full(alloc, items.as_slice())?;
+    let text = serve_full(alloc, items.as_slice())??;
     assert!(rt; text.as_slice() == ANSWERS.as_bytes());
     Ok(())
 }
@@ -88,7 +88,41 @@ fn a_full_register_takes_no_new_device(rt: HostRuntime) -> Result<(), Fail> {
 /// 512 codes make 36,874 bytes of text.
 #[test]
 fn a_full_register_tells_all_codes(rt: HostRuntime) -> Result<(), Fail> {
-    let text = serve_full(rt.alloc(), &[3, 1, 3, 2])?;
+    let text = serve_full(rt.alloc(), &[3, 1, 3, 2])??;
     assert!(rt; text.as_slice().len() == 36_874 + 80);
+    Ok(())
+}
+
+/// Appends a question for the codes of a layer, so many times.
+fn ask(out: &mut Vec<u8>, layer: u8, times: u32) -> Result<(), Fail> {
+    for _i in 0..times {
+        put_slice(out, &[3, layer])?;
+    }
+    Ok(())
+}
+
+/// What a full register answers to 7,276 questions for its codes of layer 1, which make 268,295,224 bytes of text, and
+/// to so many for those of layer 3, where it has none: 8 bytes each.
+fn serve_long(alloc: Global, empty: u32) -> Result<Result<Bytes, ServeEnd>, Fail> {
+    let mut items = Vec::new(alloc);
+    ask(&mut items, 1, 7_276)?;
+    ask(&mut items, 3, empty)?;
+    items.truncate(100_000);
+    serve_full(alloc, items.as_slice())
+}
+
+#[test]
+fn the_longest_text_is_given(rt: HostRuntime) -> Result<(), Fail> {
+    let text = serve_long(rt.alloc(), 17_529)??;
+    assert!(rt; text.as_slice().len() == TEXT_LIMIT);
+    Ok(())
+}
+
+#[test]
+fn a_longer_text_is_too_long(rt: HostRuntime) -> Result<(), Fail> {
+    match serve_long(rt.alloc(), 17_530)? {
+        Ok(_) => assert!(rt; false),
+        Err(end) => assert_eq!(rt; end, ServeEnd::TooLong),
+    }
     Ok(())
 }
