@@ -6,7 +6,7 @@ use Rattle.mb_model.specs.Board.{Held}
 use Rattle.mb_model.specs.Commands.{Input, Output, Command, read, find, either_command, serve, write, print, refuse, lack, Past, SaysLine, Stops, WantsMemory, too_long, faulty, not_read, no_room, printed, not_printed, CommandEnds, input_line, role_word, place_words}
 use Rattle.mb_console.specs.declared.end.End.{End}
 use Rattle.mb_console.specs.declared.end.End.TheVariants as end
-use Rattle.mb_console.specs.Ending.{end_line, end_status, RefusesWith, ended_at, CarriesOutRest, HasInput, StopsAt}
+use Rattle.mb_console.specs.Ending.{end_status, RefusesWith, ended_at, CarriesOutRest, HasInput, StopsAt}
 
 -- a command that has ended so far on, and stops with a line
 stopped : (line : List ℕ) (status : ℕ) (past : Past) (answered : List Answered) (final : Held) (before after : Outside)

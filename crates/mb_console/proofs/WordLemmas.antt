@@ -1,11 +1,10 @@
 -- What words stand for, and that they call one command at most.
-use Rattle.std.proofs.Common.{◌≡◌, ◌≢◌, ℕ, ◌<◌, ◌≤◌, ◌^◌, Bool, true, false, if◌then◌else◌, List, [], ◌∷◌, Option, Some, refl, sym, ◌∙◌, ap, subst, inl, inr, arith, true≢false}
-use Rattle.std.specs.Prelude.{slice_get}
+use Rattle.std.proofs.Common.{◌≡◌, ℕ, ◌<◌, ◌≤◌, ◌^◌, Bool, true, false, if◌then◌else◌, List, [], ◌∷◌, refl, sym, ◌∙◌, ap, subst, inl, inr, arith, true≢false}
+use Rattle.std.specs.Prelude.{zero, suc, ◌==◌}
 use Rattle.std.proofs.lemmas.Fmt.{decimal_injective}
 use Rattle.std.specs.Fmt.{decimal}
 use Rattle.mb_format.specs.Combinators.{same_bytes}
 use Rattle.mb_format.proofs.Fields.{same_bytes-refl}
-use Rattle.mb_model.specs.Lines.{number_limit}
 use Rattle.mb_console.specs.declared.words.Kind.{Kind}
 use Rattle.mb_console.specs.declared.words.Kind.TheVariants as kind
 use Rattle.mb_console.specs.Words.{Argument, file, numeral, IsWordFor, AreWordsFor, Row, IsCalled, IsCall, number_given}
@@ -117,19 +116,41 @@ row_of_call test (row ∷ rows) words command arguments all (inl is) =
 row_of_call test (row ∷ rows) words command arguments all (inr is) =
     row_of_call test rows words command arguments (both_true (test row) (all_rows test rows) all).1 is
 
--- a number is within the bounds of its kind
-pub first_within : (least most : ℕ) (kinds : List Kind) (words : List (List ℕ)) (arguments : List Argument)
-    → AreWordsFor (kind.Number least most ∷ kinds) words arguments → (least ≤ number_given 0 arguments) × (number_given 0 arguments ≤ most)
-first_within least most kinds [] arguments is = absurd is
-first_within least most kinds (word ∷ words) [] is = absurd is
-first_within least most kinds (word ∷ words) (file name ∷ rest) is = absurd is.0.1
-first_within least most kinds (word ∷ words) (numeral n ∷ rest) is = (is.0.1.0, is.0.1.1)
+-- ---- a number by its place
 
-pub second_within : (k : Kind) (least most : ℕ) (kinds : List Kind) (words : List (List ℕ)) (arguments : List Argument)
-    → AreWordsFor (k ∷ kind.Number least most ∷ kinds) words arguments → (least ≤ number_given 1 arguments) × (number_given 1 arguments ≤ most)
-second_within k least most kinds [] arguments is = absurd is
-second_within k least most kinds (word ∷ words) [] is = absurd is
-second_within k least most kinds (word ∷ []) (argument ∷ arguments) is = absurd is.1
-second_within k least most kinds (word ∷ other ∷ words) (argument ∷ []) is = absurd is.1
-second_within k least most kinds (word ∷ other ∷ words) (argument ∷ file name ∷ rest) is = absurd is.1.0.1
-second_within k least most kinds (word ∷ other ∷ words) (argument ∷ numeral n ∷ rest) is = (is.1.0.1.0, is.1.0.1.1)
+-- whether the word at this place, from 0, is a number between these bounds
+abbrev pub is_bounded_at : ℕ → ℕ → ℕ → List Kind → Bool
+is_bounded_at place least most [] = false
+is_bounded_at zero least most (kind.File ∷ kinds) = false
+is_bounded_at zero least most (kind.Number low high ∷ kinds) = if low == least then high == most else false
+is_bounded_at (suc place) least most (first ∷ kinds) = is_bounded_at place least most kinds
+
+both_bounds : (low high least most : ℕ) → (if low == least then high == most else false) ≡ true → (low ≡ least) × (high ≡ most)
+both_bounds low high least most is = (grind (arith, is), grind (arith, is))
+
+within_bounds : (place least most : ℕ) (kinds : List Kind) (words : List (List ℕ)) (given : List Argument)
+    → is_bounded_at place least most kinds ≡ true → AreWordsFor kinds words given → (least ≤ number_given place given) × (number_given place given ≤ most)
+within_bounds place least most [] words given bounded are = absurd (true≢false (sym bounded))
+within_bounds place least most (first ∷ kinds) [] given bounded are = absurd are
+within_bounds place least most (first ∷ kinds) (word ∷ words) [] bounded are = absurd are
+within_bounds zero least most (kind.File ∷ kinds) (word ∷ words) (argument ∷ given) bounded are = absurd (true≢false (sym bounded))
+within_bounds zero least most (kind.Number low high ∷ kinds) (word ∷ words) (file name ∷ given) bounded are = absurd are.0.1
+within_bounds zero least most (kind.Number low high ∷ kinds) (word ∷ words) (numeral n ∷ given) bounded are =
+    let same = both_bounds low high least most bounded in
+    (omega (arith, same.0, are.0.1.0), omega (arith, same.1, are.0.1.1))
+within_bounds (suc place) least most (first ∷ kinds) (word ∷ words) (argument ∷ given) bounded are =
+    within_bounds place least most kinds words given bounded are.1
+
+-- Where the rows of some commands have a number between these bounds at a place, so have their calls.
+pub number_of_call : {C : Type 0} (some : C → Bool) (place least most : ℕ) (rows : List (Row C)) (words : List (List ℕ)) (command : C) (given : List Argument)
+    → all_rows (λ row. if some row.0 then is_bounded_at place least most row.2 else true) rows ≡ true → some command ≡ true → IsCall rows words command given
+    → (least ≤ number_given place given) × (number_given place given ≤ most)
+number_of_call some place least most [] words command given all is call = absurd call
+number_of_call some place least most (row ∷ rows) [] command given all is (inl called) = absurd called.1
+number_of_call some place least most (row ∷ rows) (first ∷ words) command given all is (inl called) =
+    let passes = (both_true (if some row.0 then is_bounded_at place least most row.2 else true) _ all).0 in
+    let bounded : is_bounded_at place least most row.2 ≡ true = subst (λ (b : Bool). (if b then is_bounded_at place least most row.2 else true) ≡ true) (ap some called.0 ∙ is) passes in
+    within_bounds place least most row.2 words given bounded called.1.1
+number_of_call some place least most (row ∷ rows) words command given all is (inr called) =
+    let later = (both_true (if some row.0 then is_bounded_at place least most row.2 else true) _ all).1 in
+    number_of_call some place least most rows words command given later is called

@@ -1,14 +1,16 @@
 //! The command `attach`.
 
+ghost use Rattle.std.specs.Prelude.{◌≡◌, map};
 ghost use Rattle.mb_model.specs.ChainFormat.{statement_format, chain_format};
 ghost use Rattle.mb_model.specs.ChainCommands.{attach, attach_to, attach_statement};
-ghost use Rattle.mb_tools.specs.Names.{attach_files};
+ghost use Rattle.mb_tools.specs.Names.{attach_files, attach_given};
+ghost use Rattle.mb_console.specs.Words.{given_argument};
 ghost use Rattle.mb_console.specs.Ending.{CarriesOut};
 
 use crate::chain::write_entries;
 use crate::input::chains::{ChainForm, StatementLine};
 use mb_cert::attach as attached;
-use mb_console::{End, read_as, refused};
+use mb_console::{Arguments, End, file, read_as, refused};
 use mb_host::Host;
 use mb_model::{Chain, Role, Statement};
 use std::alloc::Global;
@@ -19,6 +21,19 @@ pub struct AttachNames<'a> {
     pub chain: &'a str,
     pub statement: &'a str,
     pub out: &'a str,
+}
+
+impl<'a> AttachNames<'a> {
+    /// The names by their places among the arguments of `attach`.
+    pub fn of(given: &Arguments<'a>) -> AttachNames<'a>
+        ensures { attach_files result ≡ attach_given (map given_argument given.now.items) }
+    {
+        AttachNames {
+            chain: file(given, 0),
+            statement: file(given, 1),
+            out: file(given, 2),
+        }
+    }
 }
 
 /// Attaches a statement to a chain that has none: writes the entries up to the statement's configuration with it, and

@@ -1,19 +1,20 @@
 //! The command `audit`.
 
-ghost use Rattle.std.specs.Prelude.{◌≡◌, ◌≤◌, ◌↔◌, length, IfOk, IsTrue, Some};
+ghost use Rattle.std.specs.Prelude.{◌≡◌, ◌≤◌, ◌↔◌, length, IfOk, IsTrue, Some, map};
 ghost use Rattle.mb_model.specs.declared.limits.TheConstants.{FILE_LIMIT};
 ghost use Rattle.mb_model.specs.Valid.{Valid, IsValidState};
 ghost use Rattle.mb_model.specs.Acceptance.{accepting};
 ghost use Rattle.mb_model.specs.AuditCommand.{audit, audit_device, audit_under, audit_chain, compare, own_lives};
 ghost use Rattle.mb_model_memory.specs.Storable.{Storable, IsStorableState};
-ghost use Rattle.mb_tools.specs.Names.{audit_files};
+ghost use Rattle.mb_tools.specs.Names.{audit_files, audit_given};
+ghost use Rattle.mb_console.specs.Words.{given_argument};
 ghost use Rattle.mb_console.specs.Ending.{CarriesOut};
 
 use crate::input::chains::AnyBytes;
 use crate::input::devices::read_image;
 use crate::input::keys::PublicKeyForm;
 use crate::verify::end_of;
-use mb_console::{End, finish, read_as, refused};
+use mb_console::{Arguments, End, file, finish, number, read_as, refused};
 use mb_host::Host;
 use mb_lms::HashCount;
 use mb_log::lives;
@@ -29,6 +30,20 @@ pub struct AuditNames<'a> {
     pub root: &'a str,
     pub chain: &'a str,
     pub key: u32,
+}
+
+impl<'a> AuditNames<'a> {
+    /// The names by their places among the arguments of `audit`.
+    pub fn of(given: &Arguments<'a>) -> AuditNames<'a>
+        ensures { audit_files result ≡ audit_given (map given_argument given.now.items) }
+    {
+        AuditNames {
+            image: file(given, 0),
+            root: file(given, 1),
+            chain: file(given, 2),
+            key: number(given, 3),
+        }
+    }
 }
 
 /// Audits a chain under the maker's public key: prints that it lists exactly the configurations in which the device held

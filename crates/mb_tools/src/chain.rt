@@ -1,16 +1,17 @@
 //! The command `chain`, and the writing of a chain.
 
-ghost use Rattle.std.specs.Prelude.{◌≡◌, Some, IfOk, string_bytes};
+ghost use Rattle.std.specs.Prelude.{◌≡◌, Some, IfOk, string_bytes, map};
 ghost use Rattle.mb_model.specs.Valid.{Valid, IsValidState};
 ghost use Rattle.mb_model.specs.ChainFormat.{chain_format};
 ghost use Rattle.mb_model.specs.ChainCommands.{chain, chain_of, write_entries, entries_text};
 ghost use Rattle.mb_model_memory.specs.Storable.{Storable, IsStorableState};
-ghost use Rattle.mb_tools.specs.Names.{chain_files};
+ghost use Rattle.mb_tools.specs.Names.{chain_files, chain_given};
+ghost use Rattle.mb_console.specs.Words.{given_argument};
 ghost use Rattle.mb_console.specs.Ending.{CarriesOut};
 
 use crate::input::devices::read_image;
 use mb_cert::write_chain;
-use mb_console::{End, Output, finish, refused};
+use mb_console::{Arguments, End, Output, file, finish, refused};
 use mb_host::Host;
 use mb_lms::HashCount;
 use mb_model::{Chain, NoMemory, Role, State};
@@ -22,6 +23,18 @@ use std::sync::ledger::Ledger;
 pub struct ChainNames<'a> {
     pub image: &'a str,
     pub out: &'a str,
+}
+
+impl<'a> ChainNames<'a> {
+    /// The names by their places among the arguments of `chain`.
+    pub fn of(given: &Arguments<'a>) -> ChainNames<'a>
+        ensures { chain_files result ≡ chain_given (map given_argument given.now.items) }
+    {
+        ChainNames {
+            image: file(given, 0),
+            out: file(given, 1),
+        }
+    }
 }
 
 /// Writes the chain of a device's whole log, and prints how many entries it has.

@@ -1,16 +1,17 @@
 //! The command `factory`.
 
-ghost use Rattle.std.specs.Prelude.{◌≡◌, IfOk, string_bytes};
+ghost use Rattle.std.specs.Prelude.{◌≡◌, IfOk, string_bytes, map};
 ghost use Rattle.mb_model.specs.declared.tools.Keyfile.{Keyfile};
 ghost use Rattle.mb_model.specs.SignedOrders.{used_once};
 ghost use Rattle.mb_model.specs.FactoryCommand.{factory, factory_drawn, factory_keyed, factory_owned, write_device, serial_text};
-ghost use Rattle.mb_tools.specs.Names.{factory_files};
+ghost use Rattle.mb_tools.specs.Names.{factory_files, factory_given};
+ghost use Rattle.mb_console.specs.Words.{given_argument};
 ghost use Rattle.mb_console.specs.Ending.{CarriesOut};
 
 use crate::input::devices::CodeForm;
 use crate::input::keys::{KeyForm, Leading, PublicKeyForm};
 use crate::sign::end_of;
-use mb_console::{End, Output, finish, read_as};
+use mb_console::{Arguments, End, Output, file, finish, read_as};
 use mb_host::Host;
 use mb_lms::HashCount;
 use mb_model::{Keyfile, NoMemory, PublicKey, Role};
@@ -26,6 +27,21 @@ pub struct FactoryNames<'a> {
     pub owner: &'a str,
     pub code: &'a str,
     pub image: &'a str,
+}
+
+impl<'a> FactoryNames<'a> {
+    /// The names by their places among the arguments of `factory`.
+    pub fn of(given: &Arguments<'a>) -> FactoryNames<'a>
+        ensures { factory_files result ≡ factory_given (map given_argument given.now.items) }
+    {
+        FactoryNames {
+            noise: file(given, 0),
+            key: file(given, 1),
+            owner: file(given, 2),
+            code: file(given, 3),
+            image: file(given, 4),
+        }
+    }
 }
 
 /// Makes a device from the noise with this owner and this code, and signs its birth by the maker's key: writes the key

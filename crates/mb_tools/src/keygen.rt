@@ -1,14 +1,15 @@
 //! The command `keygen`.
 
-ghost use Rattle.std.specs.Prelude.{◌≡◌, IfOk, string_bytes};
+ghost use Rattle.std.specs.Prelude.{◌≡◌, IfOk, string_bytes, map};
 ghost use Rattle.mb_model.specs.Key.{key_bytes};
 ghost use Rattle.mb_model.specs.Signing.{public_of};
 ghost use Rattle.mb_model.specs.Keygen.{keygen, owner_text, write_key};
-ghost use Rattle.mb_tools.specs.Names.{keygen_files};
+ghost use Rattle.mb_tools.specs.Names.{keygen_files, keygen_given};
+ghost use Rattle.mb_console.specs.Words.{given_argument};
 ghost use Rattle.mb_console.specs.Ending.{CarriesOut};
 
 use crate::input::keys::Leading;
-use mb_console::{End, Output, finish, read_as};
+use mb_console::{Arguments, End, Output, file, finish, read_as};
 use mb_host::Host;
 use mb_lms::{HashCount, key_bytes, key_hash};
 use mb_model::{DRAW_LENGTH, Keyfile, NoMemory, PublicKey, Role};
@@ -23,6 +24,19 @@ pub struct KeygenNames<'a> {
     pub noise: &'a str,
     pub key: &'a str,
     pub public: &'a str,
+}
+
+impl<'a> KeygenNames<'a> {
+    /// The names by their places among the arguments of `keygen`.
+    pub fn of(given: &Arguments<'a>) -> KeygenNames<'a>
+        ensures { keygen_files result ≡ keygen_given (map given_argument given.now.items) }
+    {
+        KeygenNames {
+            noise: file(given, 0),
+            key: file(given, 1),
+            public: file(given, 2),
+        }
+    }
 }
 
 /// Derives a key from the noise, writes its file and its public key, and prints the public key's hash.

@@ -1,12 +1,13 @@
 //! The command `migrate`.
 
-ghost use Rattle.std.specs.Prelude.{◌≡◌, IfOk, string_bytes};
+ghost use Rattle.std.specs.Prelude.{◌≡◌, IfOk, string_bytes, map};
 ghost use Rattle.mb_model.specs.MigrateCommand.{migrate, write_migrated, migrated_text};
-ghost use Rattle.mb_tools.specs.Names.{migrate_files};
+ghost use Rattle.mb_tools.specs.Names.{migrate_files, migrate_given};
+ghost use Rattle.mb_console.specs.Words.{given_argument};
 ghost use Rattle.mb_console.specs.Ending.{CarriesOut};
 
 use crate::input::devices::read_old_image;
-use mb_console::{End, Output, finish};
+use mb_console::{Arguments, End, Output, file, finish};
 use mb_host::Host;
 use mb_lms::HashCount;
 use mb_model::{NoMemory, Role};
@@ -19,6 +20,18 @@ use std::sync::ledger::Ledger;
 pub struct MigrateNames<'a> {
     pub image: &'a str,
     pub out: &'a str,
+}
+
+impl<'a> MigrateNames<'a> {
+    /// The names by their places among the arguments of `migrate`.
+    pub fn of(given: &Arguments<'a>) -> MigrateNames<'a>
+        ensures { migrate_files result ≡ migrate_given (map given_argument given.now.items) }
+    {
+        MigrateNames {
+            image: file(given, 0),
+            out: file(given, 1),
+        }
+    }
 }
 
 /// Writes an image of the present form for the state of an image, which may have the form before, and prints the hash of

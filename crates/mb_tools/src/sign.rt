@@ -1,18 +1,19 @@
 //! The commands `sign` and `countersign`.
 
-ghost use Rattle.std.specs.Prelude.{◌≡◌, IfOk, IsTrue, string_bytes};
+ghost use Rattle.std.specs.Prelude.{◌≡◌, IfOk, IsTrue, string_bytes, map};
 ghost use Rattle.mb_model.specs.declared.tools.Keyfile.{Keyfile};
 ghost use Rattle.mb_model.specs.Layers.{is_upper};
 ghost use Rattle.mb_model.specs.OrderFormat.{order_format};
 ghost use Rattle.mb_model.specs.SignedOrders.{used_once};
 ghost use Rattle.mb_model.specs.Sign.{sign, sign_draft, countersign, countersign_order, use_index, index_text};
-ghost use Rattle.mb_tools.specs.Names.{sign_files, countersign_files};
+ghost use Rattle.mb_tools.specs.Names.{sign_files, sign_given, countersign_files, countersign_given};
+ghost use Rattle.mb_console.specs.Words.{given_argument};
 ghost use Rattle.mb_console.specs.Ending.{CarriesOut};
 ghost use Rattle.mb_tools.specs.Signing.{TellsUnsigned};
 
 use crate::input::keys::KeyForm;
 use crate::input::orders::{DraftForm, OrderLine};
-use mb_console::{End, Output, finish, read_as, refused};
+use mb_console::{Arguments, End, Output, file, finish, number, read_as, refused};
 use mb_host::Host;
 use mb_lms::HashCount;
 use mb_model::{Keyfile, NoMemory, Order, Role};
@@ -30,14 +31,41 @@ pub struct SignNames<'a> {
     pub out: &'a str,
 }
 
+impl<'a> SignNames<'a> {
+    /// The names by their places among the arguments of `sign`.
+    pub fn of(given: &Arguments<'a>) -> SignNames<'a>
+        ensures { sign_files result ≡ sign_given (map given_argument given.now.items) }
+    {
+        SignNames {
+            key: file(given, 0),
+            draft: file(given, 1),
+            out: file(given, 2),
+        }
+    }
+}
+
 /// The names of the files of `countersign`, and the layer whose owner countersigns.
 #[derive(Clone, Copy)]
 pub struct CountersignNames<'a> {
     pub key: &'a str,
     /// 2 or 3.
-    pub layer: u8,
+    pub layer: u32,
     pub order: &'a str,
     pub out: &'a str,
+}
+
+impl<'a> CountersignNames<'a> {
+    /// The names by their places among the arguments of `countersign`.
+    pub fn of(given: &Arguments<'a>) -> CountersignNames<'a>
+        ensures { countersign_files result ≡ countersign_given (map given_argument given.now.items) }
+    {
+        CountersignNames {
+            key: file(given, 0),
+            layer: number(given, 1),
+            order: file(given, 2),
+            out: file(given, 3),
+        }
+    }
 }
 
 /// The names of the files that are written.
@@ -113,7 +141,7 @@ fn countersign_order<H: Host, L: Ledger>(
         key: names.key,
         out: names.out,
     };
-    match add_countersignature(alloc, &mut key, names.layer, &mut order, hashes) {
+    match add_countersignature(alloc, &mut key, names.layer as u8, &mut order, hashes) {
         Ok(index) => write_signed(alloc, outputs, &key, &order, index, host),
         Err(end) => Err(end_of(end)),
     }

@@ -1,15 +1,17 @@
 //! The command `verify`, and the end of a command whose chain is not accepted.
 
+ghost use Rattle.std.specs.Prelude.{◌≡◌, map};
 ghost use Rattle.mb_model.specs.Acceptance.{accepting};
 ghost use Rattle.mb_model.specs.VerifyCommand.{verify, verify_under, tell_verdict};
 ghost use Rattle.mb_verifier.specs.Ends.{chain_refusal_of};
-ghost use Rattle.mb_tools.specs.Names.{verify_files};
+ghost use Rattle.mb_tools.specs.Names.{verify_files, verify_given};
+ghost use Rattle.mb_console.specs.Words.{given_argument};
 ghost use Rattle.mb_console.specs.Ending.{CarriesOut};
 ghost use Rattle.mb_tools.specs.Chains.{TellsRefusal};
 
 use crate::input::chains::AnyBytes;
 use crate::input::keys::PublicKeyForm;
-use mb_console::{End, finish, read_as, refused_by_number};
+use mb_console::{Arguments, End, file, finish, number, read_as, refused_by_number};
 use mb_host::Host;
 use mb_model::{PublicKey, Role};
 use mb_verifier::{ChainRefusal, Report, verify as judge, write_listing};
@@ -21,6 +23,19 @@ pub struct VerifyNames<'a> {
     pub root: &'a str,
     pub chain: &'a str,
     pub key: u32,
+}
+
+impl<'a> VerifyNames<'a> {
+    /// The names by their places among the arguments of `verify`.
+    pub fn of(given: &Arguments<'a>) -> VerifyNames<'a>
+        ensures { verify_files result ≡ verify_given (map given_argument given.now.items) }
+    {
+        VerifyNames {
+            root: file(given, 0),
+            chain: file(given, 1),
+            key: number(given, 2),
+        }
+    }
 }
 
 /// Verifies a chain under the maker's public key, and prints what it says of a key.

@@ -16,7 +16,10 @@ use Rattle.mb_model.specs.GenerateCommand.{generate}
 use Rattle.mb_board.specs.Calls.{Seen, held_in}
 use Rattle.mb_console.specs.declared.end.End.{End}
 use Rattle.mb_console.specs.Ending.{ended_at, EndsOncePrinted}
-use Rattle.mb_console.specs.Words.{Row, Argument, IsCall, file_given, number_given}
+use Rattle.mb_console.specs.Words.{Row, Argument, IsCall}
+use Rattle.mb_tools.specs.Names.{keygen_given, sign_given, countersign_given, factory_given, migrate_given, verify_given}
+use Rattle.mb_tools.specs.Names.{audit_given, chain_given, attach_given}
+use Rattle.mb_top.specs.Names.{run_given, generate_given}
 use Rattle.mb_top.specs.declared.table.TheConstants.{COMMANDS}
 use Rattle.mb_top.specs.declared.table.Command.{Command}
 use Rattle.mb_top.specs.declared.table.Command.TheVariants as command
@@ -25,46 +28,19 @@ use Rattle.mb_top.specs.declared.table.Command.TheVariants as command
 unfoldable pub commands : List (Row Command)
 commands = map (λ row. (row.0, row.1.now, map (λ word. word.1) row.2.now)) COMMANDS
 
--- what is done at a command, with the arguments in the order of its words
+-- what is done at a command with these arguments, each command's in the order of its words
 abbrev pub command_of : Command → List Argument → Does
-command_of command.Run given =
-    run (record { image = file_given 0 given; script = file_given 1 given; noise = file_given 2 given })
-command_of command.Verify given =
-    verify (record { root = file_given 0 given; chain = file_given 1 given; key = number_given 2 given })
-command_of command.Audit given = audit (record {
-  image = file_given 0 given;
-  root = file_given 1 given;
-  chain = file_given 2 given;
-  key = number_given 3 given;
-})
-command_of command.Chain given = chain (record { image = file_given 0 given; out = file_given 1 given })
-command_of command.Attach given =
-    attach (record { chain = file_given 0 given; statement = file_given 1 given; out = file_given 2 given })
-command_of command.Factory given = factory (record {
-  noise = file_given 0 given;
-  key = file_given 1 given;
-  owner = file_given 2 given;
-  code = file_given 3 given;
-  image = file_given 4 given;
-})
-command_of command.Keygen given =
-    keygen (record { noise = file_given 0 given; key = file_given 1 given; public = file_given 2 given })
-command_of command.Sign given =
-    sign (record { key = file_given 0 given; draft = file_given 1 given; out = file_given 2 given })
-command_of command.Countersign given = countersign (record {
-  key = file_given 0 given;
-  layer = number_given 1 given;
-  order = file_given 2 given;
-  out = file_given 3 given;
-})
-command_of command.Migrate given = migrate (record { image = file_given 0 given; out = file_given 1 given })
-command_of command.Generate given = generate (record {
-  number = number_given 0 given;
-  rounds = number_given 1 given;
-  image = file_given 2 given;
-  script = file_given 3 given;
-  noise = file_given 4 given;
-})
+command_of command.Run given = run (run_given given)
+command_of command.Verify given = verify (verify_given given)
+command_of command.Audit given = audit (audit_given given)
+command_of command.Chain given = chain (chain_given given)
+command_of command.Attach given = attach (attach_given given)
+command_of command.Factory given = factory (factory_given given)
+command_of command.Keygen given = keygen (keygen_given given)
+command_of command.Sign given = sign (sign_given given)
+command_of command.Countersign given = countersign (countersign_given given)
+command_of command.Migrate given = migrate (migrate_given given)
+command_of command.Generate given = generate (generate_given given)
 
 -- How the program ends.
 pub data Ends (words : List (List ℕ)) (e : Ended) : Type 0 where

@@ -10,7 +10,7 @@ use crate::generate::{GenerateNames, generate};
 use crate::run::{RunNames, run};
 use crate::table::{COMMANDS, Call, Command, call_in};
 use mb_board::Board;
-use mb_console::{End, file, number, stop};
+use mb_console::{End, stop};
 use mb_host::Host;
 use mb_lms::HashCount;
 use mb_tools::attach::{AttachNames, attach};
@@ -94,98 +94,17 @@ fn carry_out<H: Host, B: Board, L: Ledger>(
 {
     let given = &call.arguments;
     match call.command {
-        Command::Run => {
-            let names = RunNames {
-                image: file(given, 0),
-                script: file(given, 1),
-                noise: file(given, 2),
-            };
-            run(alloc, &names, host, board, hashes)
-        }
-        Command::Verify => {
-            let names = VerifyNames {
-                root: file(given, 0),
-                chain: file(given, 1),
-                key: number(given, 2),
-            };
-            verify(alloc, &names, host)
-        }
-        Command::Audit => {
-            let names = AuditNames {
-                image: file(given, 0),
-                root: file(given, 1),
-                chain: file(given, 2),
-                key: number(given, 3),
-            };
-            audit(alloc, &names, host, hashes)
-        }
-        Command::Chain => {
-            let names = ChainNames {
-                image: file(given, 0),
-                out: file(given, 1),
-            };
-            chain(alloc, &names, host, hashes)
-        }
-        Command::Attach => {
-            let names = AttachNames {
-                chain: file(given, 0),
-                statement: file(given, 1),
-                out: file(given, 2),
-            };
-            attach(alloc, &names, host)
-        }
-        Command::Factory => {
-            let names = FactoryNames {
-                noise: file(given, 0),
-                key: file(given, 1),
-                owner: file(given, 2),
-                code: file(given, 3),
-                image: file(given, 4),
-            };
-            factory(alloc, &names, host, hashes)
-        }
-        Command::Keygen => {
-            let names = KeygenNames {
-                noise: file(given, 0),
-                key: file(given, 1),
-                public: file(given, 2),
-            };
-            keygen(alloc, &names, host, hashes)
-        }
-        Command::Sign => {
-            let names = SignNames {
-                key: file(given, 0),
-                draft: file(given, 1),
-                out: file(given, 2),
-            };
-            sign(alloc, &names, host, hashes)
-        }
-        Command::Countersign => {
-            let names = CountersignNames {
-                key: file(given, 0),
-                layer: number(given, 1) as u8,
-                order: file(given, 2),
-                out: file(given, 3),
-            };
-            countersign(alloc, &names, host, hashes)
-        }
-        Command::Migrate => {
-            let names = MigrateNames {
-                image: file(given, 0),
-                out: file(given, 1),
-            };
-            migrate(alloc, &names, host, hashes)
-        }
-        Command::Generate => {
-            let names = GenerateNames {
-                number: number(given, 0),
-                rounds: number(given, 1),
-                image: file(given, 2),
-                script: file(given, 3),
-                noise: file(given, 4),
-            };
-            generate(alloc, &names, host, board, hashes)
-        }
+        Command::Run => run(alloc, &RunNames::of(given), host, board, hashes),
+        Command::Verify => verify(alloc, &VerifyNames::of(given), host),
+        Command::Audit => audit(alloc, &AuditNames::of(given), host, hashes),
+        Command::Chain => chain(alloc, &ChainNames::of(given), host, hashes),
+        Command::Attach => attach(alloc, &AttachNames::of(given), host),
+        Command::Factory => factory(alloc, &FactoryNames::of(given), host, hashes),
+        Command::Keygen => keygen(alloc, &KeygenNames::of(given), host, hashes),
+        Command::Sign => sign(alloc, &SignNames::of(given), host, hashes),
+        Command::Countersign => countersign(alloc, &CountersignNames::of(given), host, hashes),
+        Command::Migrate => migrate(alloc, &MigrateNames::of(given), host, hashes),
+        Command::Generate => generate(alloc, &GenerateNames::of(given), host, board, hashes),
     }
 }
 

@@ -1,6 +1,6 @@
 //! The command `generate`.
 
-ghost use Rattle.std.specs.Prelude.{◌≡◌, ◌≤◌, [], length, All, IfOk, IfErr, OnOk, None, false};
+ghost use Rattle.std.specs.Prelude.{◌≡◌, ◌≤◌, [], length, All, IfOk, IfErr, OnOk, None, false, map};
 ghost use Rattle.mb_model.specs.declared.limits.TheConstants.{EVENT_LIMIT, IMAGE_LENGTH};
 ghost use Rattle.mb_model.specs.Board.{IsLoaded};
 ghost use Rattle.mb_model.specs.Machine.{World};
@@ -10,7 +10,8 @@ ghost use Rattle.mb_model.specs.Commands.{Past, at_first};
 ghost use Rattle.mb_model.specs.GenerateCommand.{generate, summarise};
 ghost use Rattle.mb_model.specs.Workload.{IsWorkload};
 ghost use Rattle.mb_generate.specs.Serving.{CanBeServed};
-ghost use Rattle.mb_top.specs.Names.{generate_files};
+ghost use Rattle.mb_top.specs.Names.{generate_files, generate_given};
+ghost use Rattle.mb_console.specs.Words.{given_argument};
 ghost use Rattle.mb_console.specs.Ending.{CarriesOutRest};
 ghost use Rattle.mb_top.specs.Top.{HoldsAnswered};
 ghost use Rattle.mb_console.specs.Outputs.{WritesAll, StopsWriting};
@@ -18,7 +19,7 @@ ghost use Rattle.mb_top.specs.Generated.{HasEvents, workload_outputs};
 
 use crate::summary::{summary_of, wants_memory};
 use mb_board::Board;
-use mb_console::{End, Output, print_text, write_all};
+use mb_console::{Arguments, End, Output, file, number, print_text, write_all};
 use mb_device::Device;
 use mb_generate::workload;
 use mb_host::Host;
@@ -39,6 +40,21 @@ pub struct GenerateNames<'a> {
     pub image: &'a str,
     pub script: &'a str,
     pub noise: &'a str,
+}
+
+impl<'a> GenerateNames<'a> {
+    /// The names by their places among the arguments of `generate`.
+    pub fn of(given: &Arguments<'a>) -> GenerateNames<'a>
+        ensures { generate_files result ≡ generate_given (map given_argument given.now.items) }
+    {
+        GenerateNames {
+            number: number(given, 0),
+            rounds: number(given, 1),
+            image: file(given, 2),
+            script: file(given, 3),
+            noise: file(given, 4),
+        }
+    }
 }
 
 /// Makes a workload, loads it on the board, writes its three files, serves it, and prints the summary.

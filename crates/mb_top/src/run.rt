@@ -1,6 +1,6 @@
 //! The command `run`.
 
-ghost use Rattle.std.specs.Prelude.{◌≡◌, ◌≤◌, [], length, All, None, Option, false};
+ghost use Rattle.std.specs.Prelude.{◌≡◌, ◌≤◌, [], length, All, None, Option, false, map};
 ghost use Rattle.mb_model.specs.declared.limits.TheConstants.{EVENT_LIMIT, IMAGE_LENGTH};
 ghost use Rattle.mb_model.specs.declared.state.State.{State};
 ghost use Rattle.mb_model.specs.Board.{IsLoaded};
@@ -8,14 +8,15 @@ ghost use Rattle.mb_model.specs.Commands.{at_first};
 ghost use Rattle.mb_model.specs.Meaning.{IsWellFormed};
 ghost use Rattle.mb_model.specs.RunCommand.{run, read_script, read_noise, serve_events, write_image};
 ghost use Rattle.mb_model.specs.Script.{IsScriptEvent};
-ghost use Rattle.mb_top.specs.Names.{run_files};
+ghost use Rattle.mb_top.specs.Names.{run_files, run_given};
+ghost use Rattle.mb_console.specs.Words.{given_argument};
 ghost use Rattle.mb_console.specs.Ending.{CarriesOutRest};
 ghost use Rattle.mb_top.specs.Top.{HoldsAnswered};
 
 use crate::replies::write_replies;
 use crate::scripts::{ScriptForm, read_draws};
 use mb_board::Board;
-use mb_console::{End, Output, finish, read_as};
+use mb_console::{Arguments, End, Output, file, finish, read_as};
 use mb_device::Device;
 use mb_host::Host;
 use mb_lms::HashCount;
@@ -30,6 +31,19 @@ pub struct RunNames<'a> {
     pub image: &'a str,
     pub script: &'a str,
     pub noise: &'a str,
+}
+
+impl<'a> RunNames<'a> {
+    /// The names by their places among the arguments of `run`.
+    pub fn of(given: &Arguments<'a>) -> RunNames<'a>
+        ensures { run_files result ≡ run_given (map given_argument given.now.items) }
+    {
+        RunNames {
+            image: file(given, 0),
+            script: file(given, 1),
+            noise: file(given, 2),
+        }
+    }
 }
 
 /// Serves the script on the image, writes the new image and prints the replies.

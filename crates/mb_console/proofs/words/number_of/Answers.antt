@@ -1,4 +1,4 @@
-use Rattle.std.proofs.Common.{ℕ, ◌≡◌, ◌≤◌, subst}
+use Rattle.std.proofs.Common.{◌≡◌, ◌≤◌, subst}
 use Rattle.std.specs.Fmt.{decimal}
 use Rattle.mb_console.proofs.WordLemmas.{too_small}
 use Rattle.mb_console.proofs.words.number_of.Goals as goal

@@ -1,10 +1,8 @@
-use Rattle.std.proofs.Common.{Err, refl, sym, ap, subst}
+use Rattle.std.proofs.Common.{Err, refl, ap}
 use Rattle.std.proofs.lemmas.Result.{err_from_is_err_and}
 use Rattle.mb_model.specs.Inputs.{draft_input}
-use Rattle.mb_model.specs.Sign.{sign_draft}
 use Rattle.mb_model.specs.Commands.{at_first}
 use Rattle.mb_tools.specs.Names.{sign_files}
-use Rattle.mb_console.specs.Ending.{CarriesOut}
 use Rattle.mb_console.proofs.CommandLemmas.{input_carried_out}
 use Rattle.mb_tools.proofs.SignLemmas.{never_both, draft_signed, draft_not_signed}
 use Rattle.mb_tools.proofs.sign.sign_draft.Goals as goal

@@ -1,23 +1,18 @@
-use Rattle.std.proofs.Common.{◌≤◌, ℕ, sym, subst, arith}
+use Rattle.std.proofs.Common.{◌≤◌, ℕ, ◌∙◌, ap, sym, subst, arith}
 use Rattle.mb_top.proofs.Requests.{layer_of, rounds_of}
 use Rattle.mb_top.proofs.commands.carry_out.Goals as goal
-
-pub overflow_cast-names : goal.overflow_cast-names
-overflow_cast-names g c =
-    let within = layer_of c.requires.called.0 _ _ c.in-Countersign.is c.requires.called.1 in
-    omega (arith, within.1, c.number-in-Countersign.ensures)
 
 pub countersign-requires : goal.countersign-requires
 countersign-requires g c =
     let within = layer_of c.requires.called.0 _ _ c.in-Countersign.is c.requires.called.1 in
-    grind (arith, within, c.number-in-Countersign.ensures)
+    grind (arith, within, ap (λ names. names.layer) c.of-in-Countersign.ensures)
 
 pub generate-requires-clause-least : goal.generate-requires-clause-least
 generate-requires-clause-least g c =
     let within = rounds_of c.requires.called.0 _ _ c.in-Generate.is c.requires.called.1 in
-    subst (λ n. 1 ≤ n) (sym c.number-in-Generate-2.ensures) within.0
+    subst (λ n. 1 ≤ n) (sym (ap (λ names. names.rounds) c.of-in-Generate.ensures)) within.0
 
 pub generate-requires-clause-most : goal.generate-requires-clause-most
 generate-requires-clause-most g c =
     let within = rounds_of c.requires.called.0 _ _ c.in-Generate.is c.requires.called.1 in
-    subst (λ n. n ≤ 24) (sym c.number-in-Generate-2.ensures) within.1
+    subst (λ n. n ≤ 24) (sym (ap (λ names. names.rounds) c.of-in-Generate.ensures)) within.1
