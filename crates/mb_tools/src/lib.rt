@@ -15,4 +15,6 @@ pub mod migrate;
 pub mod sign;
 pub mod verify;
 
+pub use input::chains::AnyBytes;
 pub use input::devices::{Image, read_image};
+pub use input::keys::{Leading, PublicKeyForm};

@@ -73,7 +73,7 @@ fn print_report<H: Host>(alloc: Global, key: u32, report: &Report, host: &mut H)
 }
 
 /// The end of a command whose chain is not accepted.
-pub(crate) fn end_of(why: ChainRefusal) -> End
+pub fn end_of(why: ChainRefusal) -> End
     ensures { TellsRefusal (chain_refusal_of why) result }
 {
     match why {
