@@ -1,0 +1,3 @@
+pub mod HsskeygenLemmas
+pub mod EndorseLemmas
+pub mod EndorsedLemmas

@@ -1,0 +1,36 @@
+-- What the command `hsskeygen` does. Does a maker's HSS key come from the noise and the number of levels alone, and is
+-- its hash the one that is printed?
+use Rattle.std.specs.Prelude.{ℕ, List, ◌++◌, codes}
+use Rattle.sha2.specs.Sha256.{sha256}
+use Rattle.hex.specs.Hex.{encode_lower}
+use Rattle.mb_model.specs.declared.role.Role.TheVariants as role
+use Rattle.mb_model.specs.Texts.{ended}
+use Rattle.mb_model.specs.Commands.{Command, read, write, print}
+use Rattle.mb_hss.specs.declared.maker.Maker.{Maker}
+use Rattle.mb_hss.specs.HssKeyFormat.{hss_key_format}
+use Rattle.mb_hss.specs.MakerFormat.{maker_format}
+use Rattle.mb_hss.specs.MakerKeys.{new_maker, maker_key}
+use Rattle.mb_tools_hss.specs.MakerInputs.{maker_noise_input}
+
+-- the names of the files, and the number of levels
+pub record HsskeygenNames : Type 0 where
+  pub noise : List ℕ
+  pub levels : ℕ
+  pub key : List ℕ
+  pub public : List ℕ
+
+-- the line that tells the hash of a maker's public key
+abbrev pub maker_text : List ℕ → List ℕ
+maker_text public = ended (codes "maker " ++ encode_lower (sha256 public))
+
+-- the maker's file is written, then its public key, and the public key's hash is told
+unfoldable pub write_maker_key : HsskeygenNames → Maker → List ℕ → Command
+write_maker_key names maker public =
+    write (record { role = role.Key; name = names.key; bytes = maker_format.spelling maker })
+    (write (record { role = role.Public; name = names.public; bytes = public }) (print (maker_text public)))
+
+-- the maker has used none of its numbers
+unfoldable pub hsskeygen : HsskeygenNames → Command
+hsskeygen names = read (maker_noise_input names.noise) (λ noise.
+    write_maker_key names (new_maker noise names.levels)
+    (hss_key_format.spelling (maker_key (new_maker noise names.levels))))

@@ -1,0 +1,6 @@
+pub mod MakerInputs
+pub mod HssKeygen
+pub mod Endorse
+pub mod Endorsed
+pub mod Names
+pub mod Unendorsed

@@ -1,0 +1,104 @@
+//! The command `hsskeygen`.
+
+ghost use Rattle.std.specs.Prelude.{◌≡◌, ◌≤◌, IfOk, map, string_bytes};
+ghost use Rattle.mb_console.specs.Ending.{CarriesOut};
+ghost use Rattle.mb_console.specs.Words.{given_argument};
+ghost use Rattle.mb_hss.specs.HssKeyFormat.{hss_key_format};
+ghost use Rattle.mb_hss.specs.MakerKeys.{IsMaker, maker_key};
+ghost use Rattle.mb_tools_hss.specs.HssKeygen.{hsskeygen, maker_text, write_maker_key};
+ghost use Rattle.mb_tools_hss.specs.Names.{hsskeygen_files, hsskeygen_given};
+
+use mb_console::{Arguments, End, Output, file, finish, number, read_as};
+use mb_host::Host;
+use mb_hss::{Maker, hss_key_bytes, make_maker, public, write_maker};
+use mb_lms::HashCount;
+use mb_model::{DRAW_LENGTH, NoMemory, Role};
+use mb_tools::Leading;
+use sha2::{Digest, Sha256};
+use std::alloc::Global;
+use std::sync::ledger::Ledger;
+
+/// The names of the files of `hsskeygen`, and the number of levels.
+#[derive(Clone, Copy)]
+pub struct HsskeygenNames<'a> {
+    pub noise: &'a str,
+    /// 1 to 8.
+    pub levels: u32,
+    pub key: &'a str,
+    pub public: &'a str,
+}
+
+impl<'a> HsskeygenNames<'a> {
+    /// The names by the places of the arguments.
+    pub fn of(given: &Arguments<'a>) -> Self
+        ensures { hsskeygen_files result ≡ hsskeygen_given (map given_argument given.now.items) }
+    {
+        HsskeygenNames {
+            noise: file(given, 0),
+            levels: number(given, 1),
+            key: file(given, 2),
+            public: file(given, 3),
+        }
+    }
+}
+
+/// Derives a maker's key from the noise, writes its file and its public key, and prints the public key's hash.
+pub fn hsskeygen<H: Host, L: Ledger>(
+    alloc: Global,
+    names: &HsskeygenNames<'_>,
+    host: &mut H,
+    hashes: &mut HashCount<L>,
+) -> Result<(), End>
+    requires least { 1 ≤ names.now.levels }
+    requires most { names.now.levels ≤ 8 }
+    ensures { CarriesOut (hsskeygen (hsskeygen_files names.now)) (H.outside host.old) result (H.outside host.new) }
+{
+    let noise = read_as(
+        alloc,
+        host,
+        Role::Noise,
+        names.noise,
+        Leading::<DRAW_LENGTH>,
+    )?;
+    let maker = make_maker(&noise, names.levels as u8);
+    write_maker_key(alloc, names, &maker, host, hashes)
+}
+
+/// Writes a maker's file and its public key, and prints the public key's hash.
+fn write_maker_key<H: Host, L: Ledger>(
+    alloc: Global,
+    names: &HsskeygenNames<'_>,
+    maker: &Maker,
+    host: &mut H,
+    hashes: &mut HashCount<L>,
+) -> Result<(), End>
+    requires { IsMaker maker.now }
+    ensures { CarriesOut (write_maker_key (hsskeygen_files names.now) maker.now (hss_key_format.spelling (maker_key maker.now))) (H.outside host.old) result (H.outside host.new) }
+{
+    let spelled = hss_key_bytes(&public(maker, hashes));
+    let Ok(text) = maker_text(alloc, &spelled) else {
+        return Err(End::NoMemory);
+    };
+    let file = write_maker(maker);
+    let outputs = [
+        Output {
+            role: Role::Key,
+            name: names.key,
+            bytes: &file,
+        },
+        Output {
+            role: Role::Public,
+            name: names.public,
+            bytes: &spelled,
+        },
+    ];
+    finish(host, &outputs, text.as_bytes())
+}
+
+/// The line of the hash of a maker's public key.
+fn maker_text(alloc: Global, public: &[u8; 60]) -> Result<String, NoMemory>
+    ensures { IfOk result (λ text. string_bytes text ≡ maker_text public.now) }
+{
+    let hash = hex::encode(alloc, Sha256::digest(public))?;
+    Ok(format!(in alloc; "maker {hash}\n")?)
+}

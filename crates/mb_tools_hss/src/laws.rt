@@ -1,0 +1,13 @@
+//! A law of the inputs of the commands.
+
+ghost use Rattle.std.specs.Prelude.{ℕ, List};
+ghost use Rattle.mb_model.specs.Inputs.{IsClearInput};
+ghost use Rattle.mb_tools_hss.specs.MakerInputs.{maker_noise_input, maker_input, hss_key_input, endorsement_input};
+
+/// An input that is at fault stands for no value, whichever of the commands reads it.
+pub fn inputs_are_clear()
+    ensures noise { (name : List ℕ) → IsClearInput (maker_noise_input name) }
+    ensures key { (name : List ℕ) → IsClearInput (maker_input name) }
+    ensures public { (name : List ℕ) → IsClearInput (hss_key_input name) }
+    ensures endorsement { (name : List ℕ) → IsClearInput (endorsement_input name) }
+{}
