@@ -23,8 +23,8 @@ returns-in-Ok g c =
     root_endorsed names c.args.maker c.sign.new.maker c.in_ok-root.root c.sign.new.out.items (outside c.args.host.now) (outside c.read_as.new.host) (outside c.write_endorsement.new.host) c.write_endorsement.result
     c.in_ok-root.ensures.read signs (c.write_endorsement.ensures c.args.maker c.in_ok-root.root signs c.in-Ok.ensures.number)
 
-pub returns : goal.returns
-returns g c =
+pub returns-in-Err : goal.returns-in-Err
+returns-in-Err g c =
     let outside = g.H.Host.outside in
     root_not_endorsed (endorse_files c.args.names.now) c.args.maker c.in_ok-root.root (outside c.args.host.now) (outside c.read_as.new.host) c.in-Err.end c.end_of.result c.in_ok-root.ensures.read
     (λ is. c.in-Err.ensures.spent.0 (ap Err is)) c.end_of.ensures
