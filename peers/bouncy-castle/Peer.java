@@ -3,17 +3,24 @@ import java.lang.management.ManagementFactory;
 import java.lang.management.ThreadMXBean;
 import java.nio.file.Files;
 import java.nio.file.Path;
+import java.security.SecureRandom;
 import java.util.Arrays;
 import java.util.HexFormat;
 import java.util.List;
+import org.bouncycastle.crypto.AsymmetricCipherKeyPair;
+import org.bouncycastle.pqc.crypto.lms.HSSKeyGenerationParameters;
+import org.bouncycastle.pqc.crypto.lms.HSSKeyPairGenerator;
+import org.bouncycastle.pqc.crypto.lms.HSSPublicKeyParameters;
+import org.bouncycastle.pqc.crypto.lms.HSSSigner;
 import org.bouncycastle.pqc.crypto.lms.LMOtsParameters;
+import org.bouncycastle.pqc.crypto.lms.LMSParameters;
 import org.bouncycastle.pqc.crypto.lms.LMSPrivateKeyParameters;
 import org.bouncycastle.pqc.crypto.lms.LMSPublicKeyParameters;
 import org.bouncycastle.pqc.crypto.lms.LMSSigner;
 import org.bouncycastle.pqc.crypto.lms.LMSigParameters;
 
 /**
- * The keys and orders of miniboot, by the LMS of Bouncy Castle.
+ * The keys, orders and endorsements of miniboot, by the LMS and the HSS of Bouncy Castle.
  *
  * <pre>
  * Peer public KEY                       prints the public key of a key file
@@ -21,9 +28,12 @@ import org.bouncycastle.pqc.crypto.lms.LMSigParameters;
  * Peer sign KEY BODY                    prints the line of the order with this body, signed at the key's next index
  * Peer signatures FILE                  verifies lines KEY TEXT SIGNATURE, each also with a bit turned
  * Peer time FILE                        verifies such lines again and again, and prints how long that takes
+ * Peer endorsed PUBLIC ROOT ENDORSEMENT   whether the endorsement of the root key is of this HSS key
+ * Peer endorse ROOT LEVELS PUBLIC OUT     makes an HSS key, and with it the endorsement of the root key
  * </pre>
  *
- * KEY, PUBLIC and ORDER are files; BODY stands in hexadecimal; SPAN is the length of the order's body.
+ * KEY, PUBLIC, ORDER, ROOT, ENDORSEMENT and OUT are files; BODY stands in hexadecimal; SPAN is the length of the
+ * order's body.
  */
 public final class Peer {
     private static final HexFormat HEX = HexFormat.of();
@@ -47,6 +57,8 @@ public final class Peer {
             case "sign" -> printOrder(Path.of(words[1]), HEX.parseHex(words[2]));
             case "signatures" -> verifyAll(Path.of(words[1]));
             case "time" -> printTime(Path.of(words[1]));
+            case "endorsed" -> verifyEndorsement(words);
+            case "endorse" -> endorse(words);
             default -> throw new IllegalArgumentException(words[0]);
         };
         System.exit(right ? 0 : 1);
@@ -103,6 +115,44 @@ public final class Peer {
             at += 3 + number(order, at + 1);
         }
         return right && at == order.length;
+    }
+
+    /** What a maker signs of a root key: 5, and the key. */
+    private static byte[] endorsedText(Path root) throws IOException {
+        return join(new byte[] {5}, Files.readAllBytes(root));
+    }
+
+    private static boolean verifyEndorsement(String[] words) throws IOException {
+        HSSSigner verifier = new HSSSigner();
+        verifier.init(false, HSSPublicKeyParameters.getInstance(Files.readAllBytes(Path.of(words[1]))));
+        return verifier.verifySignature(endorsedText(Path.of(words[2])), Files.readAllBytes(Path.of(words[3])));
+    }
+
+    /**
+     * The levels have types 5 and 3, 5 and 4, and 6 and 4 from above. With one or two levels some numbers are skipped:
+     * of two, those of the last level's first key.
+     */
+    private static boolean endorse(String[] words) throws IOException {
+        int levels = Integer.parseInt(words[2]);
+        LMSParameters[] types = {
+            new LMSParameters(LMSigParameters.lms_sha256_n32_h5, LMOtsParameters.sha256_n32_w4),
+            new LMSParameters(LMSigParameters.lms_sha256_n32_h5, LMOtsParameters.sha256_n32_w8),
+            new LMSParameters(LMSigParameters.lms_sha256_n32_h10, LMOtsParameters.sha256_n32_w8),
+        };
+        HSSKeyPairGenerator generator = new HSSKeyPairGenerator();
+        generator.init(new HSSKeyGenerationParameters(Arrays.copyOf(types, levels), new SecureRandom()));
+        AsymmetricCipherKeyPair pair = generator.generateKeyPair();
+        HSSSigner signer = new HSSSigner();
+        signer.init(true, pair.getPrivate());
+        byte[] text = endorsedText(Path.of(words[1]));
+        int skipped = levels == 1 ? 31 : levels == 2 ? 32 : 0;
+        for (int number = 0; number < skipped; number += 1) {
+            signer.generateSignature(text);
+        }
+        byte[] signature = signer.generateSignature(text);
+        Files.write(Path.of(words[3]), ((HSSPublicKeyParameters) pair.getPublic()).getEncoded());
+        Files.write(Path.of(words[4]), signature);
+        return true;
     }
 
     private static boolean verifyAll(Path path) throws IOException {

@@ -1,6 +1,7 @@
 #!/usr/bin/env bash
 # Compares the built program's keys and signed orders with the LMS of Bouncy Castle, verifies each signature of a chain
-# with it, and has the program serve an order that Bouncy Castle signed: run.sh [PROGRAM]. With no PROGRAM it takes the
+# with it, and has the program serve an order that Bouncy Castle signed; and has each verify the endorsements that the
+# other makes by HSS keys: run.sh [PROGRAM]. With no PROGRAM it takes the
 # one that is built, and proves and builds it first where there is none. It skips with a message where Java or the
 # library (Debian's libbcprov-java) is missing; JAR may name the library. It is no part of the gate, and writes in a
 # temporary folder alone, which it removes.
@@ -191,6 +192,39 @@ word=$(cat foreign)
 printf '%s%x00\n' "${word:0:-3}" "$((16#${word: -3:1} ^ 1))" >turned
 compare 'a turned bit, by Bouncy Castle' "$(verified turned 60 first.public)" no
 compare 'a turned bit, by the program' "$(serve turned)" 'refused 13 signature'
+
+# Makers' HSS keys of one to three levels. Each endorses a root key 33 times, past the last level's first key, or 32
+# times with one level, and Bouncy Castle verifies the first and the last of these.
+endorsed() {
+    if peer endorsed "$@" 2>said; then echo yes; else echo no; fi
+}
+for levels in 1 2 3; do
+    # keys of one noise would have the same first key
+    head -c 32 /dev/zero | tr '\0' "\\$levels" >hss.noise
+    miniboot hsskeygen hss.noise "$levels" hss.key hss.public
+    miniboot endorse hss.key maker.public endorsement
+    compare "$levels levels, the first number" "$(cat printed)" 'index 0'
+    compare "$levels levels, the first endorsement" "$(endorsed hss.public maker.public endorsement)" yes
+    compare "$levels levels, of another root key" "$(endorsed hss.public first.public endorsement)" no
+    last=$([ "$levels" = 1 ] && echo 31 || echo 32)
+    for _ in $(seq "$last"); do
+        miniboot endorse hss.key maker.public endorsement
+    done
+    compare "$levels levels, a later number" "$(cat printed)" "index $last"
+    compare "$levels levels, a later endorsement" "$(endorsed hss.public maker.public endorsement)" yes
+done
+
+# What the program says of an endorsement of the maker's public key.
+judges() {
+    "$program" endorsed "$1" maker.public "$2" || true
+}
+for levels in 1 2 3; do
+    peer endorse maker.public "$levels" foreign.public foreign
+    compare "$levels levels of Bouncy Castle" "$(judges foreign.public foreign)" endorsed
+    compare "$levels levels, under another key" "$(judges hss.public foreign)" 'refused 28'
+    { cat foreign; printf '\0'; } >longer
+    compare "$levels levels, a byte more" "$(judges foreign.public longer)" 'refused 28'
+done
 
 echo "$passed agree, $failed differ"
 [ "$failed" -eq 0 ]
