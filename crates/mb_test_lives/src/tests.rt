@@ -4,6 +4,7 @@
 mod births;
 mod chains;
 mod devices;
+mod endorsements;
 mod keys;
 mod lives;
 mod migration;
