@@ -630,7 +630,7 @@ const REFUSED: &[Play] = &[
             Step::Ends("endorse spent missing out", 4, "read failed root\n"),
             Step::Ends("endorse root missing out", 3, "input key at 0\n"),
             Step::Ends("endorsed public2 root missing", 4, "read failed endorsement\n"),
-            Step::Ends("endorsed root missing long", 3, "input public at 0\n"),
+            Step::Ends("endorsed root missing long", 3, "input public at 4\n"),
             Step::Ends("endorse two public2 out", 3, "input root at 0\n"),
             Step::Holds("two", TWO),
             Step::IsMissing("key"),
