@@ -1,0 +1,57 @@
+-- What the command `fleet` does. Are the items served one after another over the register, and is the register kept
+-- before an answer is told?
+use Rattle.std.specs.Prelude.{◌≢◌, ℕ, List}
+use Rattle.mb_model.specs.declared.key.PublicKey.{PublicKey}
+use Rattle.mb_model.specs.declared.role.Role.TheVariants as role
+use Rattle.mb_model.specs.Commands.{Command, Ended, CommandEnds, ComesToRefusal, at_first, read, find, write, print, lack}
+use Rattle.mb_model.specs.Inputs.{root_input}
+use Rattle.std.specs.Prelude.{Option}
+use Rattle.mb_fleet.specs.declared.row.Row.{Row}
+use Rattle.mb_fleet.specs.declared.item.Item.{Item}
+use Rattle.mb_fleet.specs.RegisterFormat.{register_format}
+use Rattle.mb_fleet.specs.Serving.{AreServed, IsTooLong}
+use Rattle.mb_fleet.specs.Laws.{register_input, items_input}
+
+-- the names of the files
+pub record FleetNames : Type 0 where
+  pub root : List ℕ
+  pub register : List ℕ
+  pub items : List ℕ
+
+-- what items come to that are served
+pub data FleetOutcome : Type 0 where
+  -- the text of all answers, and the rows at the end
+  all_served : List ℕ → List Row → FleetOutcome
+  -- the text of all answers would be too long
+  text_too_long : FleetOutcome
+
+-- the items come to this over a register with these rows
+abbrev pub ServingComesTo : PublicKey → List Row → List Item → FleetOutcome → Type 0
+ServingComesTo maker rows listed (all_served text after) = AreServed maker rows listed text after
+ServingComesTo maker rows listed text_too_long = IsTooLong maker rows listed
+
+-- the register is written, changed or not, and then the answers are told; answers that are too long lack memory
+abbrev pub keep_register : List ℕ → FleetOutcome → Command
+keep_register name (all_served text after) =
+    write (record { role = role.Register; name = name; bytes = register_format.spelling after }) (print text)
+keep_register name text_too_long = lack
+
+abbrev pub answer_items : FleetNames → PublicKey → List Row → List Item → Command
+answer_items names maker rows listed = find (ServingComesTo maker rows listed) (keep_register names.register)
+
+abbrev pub fleet_with : FleetNames → PublicKey → List Row → Command
+fleet_with names maker rows = read (items_input names.items) (answer_items names maker rows)
+
+abbrev pub fleet_under : FleetNames → PublicKey → Command
+fleet_under names maker = read (register_input names.register) (fleet_with names maker)
+
+-- the maker's public key, the register and the items are read, and the items are served
+unfoldable pub fleet : FleetNames → Command
+fleet names = read (root_input names.root) (fleet_under names)
+
+-- ---- what follows
+
+-- whatever the items' answers are, the command is not refused: it never ends with status 7
+pub record FleetIsNotRefused : Type 0 where
+  pub ends : (names : FleetNames) (e : Ended) → CommandEnds (fleet names) at_first e → e.status ≢ 7
+  pub comes : (names : FleetNames) (files : List ℕ → Option (List ℕ)) → ComesToRefusal (fleet names) files → ⊥

@@ -1,0 +1,2 @@
+pub mod FleetCommand
+pub mod FleetWords

@@ -1,0 +1,8 @@
+//! What the definition of the command gives, as the contract of a function that does nothing.
+
+ghost use Rattle.mb_tools_fleet.specs.FleetCommand.{FleetIsNotRefused};
+
+/// The command is refused at nothing, whatever the answers to the items are.
+pub fn fleet_is_not_refused()
+    ensures { FleetIsNotRefused }
+{}
