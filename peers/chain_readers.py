@@ -10,6 +10,7 @@ import re
 import types
 
 import chains
+import fleet
 from life import Living
 from lms import sha256, u8, u16
 from officer import body, order, order_line, unhex
@@ -18,9 +19,12 @@ from top_readers import Host, private_key
 
 TOKEN = re.compile(r'"(?:[^"\\]|\\.)*"|[A-Za-z_][\w:]*|0x[0-9A-F]+|\d[\d_]*|[()\[\]{}]')
 BIRTHS = "crates/mb_test_lives/src/tests/births.rt"
+CHAINS = "crates/mb_test_lives/src/tests/chains.rt"
 # the tables that lead to a new device with its first orders, and to one whose layers have code
 A_NEW_DEVICE = "MADE", "FIRST_ORDERS"
 LAYERS_OWNED = *A_NEW_DEVICE, "ORDERS_OF_A_LIFE", "LAYERS_ARE_GIVEN"
+# what is answered by the formats alone
+COMMANDS = chains.COMMANDS | fleet.COMMANDS
 LENGTHS = {"FLASH_LENGTH": chains.FLASH, "IMAGE_LENGTH": chains.FLASH + chains.BBRAM}
 DEAD = b"\xff" * chains.FLASH + bytes(chains.BBRAM)
 
@@ -109,8 +113,8 @@ class World(Host):
     def answer(self, words):
         """The status of a command, and what it prints."""
         command, *names = words
-        if command in chains.COMMANDS:
-            status, printed, written = chains.answer(words, self.content)
+        if command in COMMANDS:
+            status, printed, written = chains.answer(words, self.content, COMMANDS)
             self.files.update(written)
             return status, printed
         if command == "factory":
@@ -269,6 +273,8 @@ def follow(source, world, step):
         world.files[words[0]] = world.statement
     elif kind == "Step::HasHash":
         source.compare(f"hash of {words[0]}", sha256(world.content(words[0])).hex(), words[1])
+    elif kind == "Step::Holds":
+        source.compare(f"file {words[0]}", world.content(words[0]).hex(), words[1])
     elif kind == "Step::IsMissing":
         source.compare(f"file {words[0]}", world.content(words[0]), None)
     elif kind == "Step::Ends":
@@ -313,12 +319,43 @@ def compare_turned(source, world):
             compare_end(source, world, "verify public0 turned 1", 7, line)
 
 
-def chains_tests(source):
+def fleet_tests(source):
+    """The tables that lead devices before registers, and the plays in which no call of the host fails."""
+    source.text, plays = source.text.split("/// A maker's key, a register of two devices")
+    steps = tables(type(source)(source.root, CHAINS), {}) | tables(source, {})
+    chains_tests(source, steps, plays)
+    source.text = plays
+    files = {"long": b"\7" * 4_194_305, "nothing": b""}
+    for name, content in source.rows(r'name: "(\w+)",\s*content: Content::Hex\(\s*("[^"]*"|[A-Z_]+),?\s*\)'):
+        word = source.argument(content)
+        source.seen.add(word)
+        files[name] = bytes.fromhex(word)
+    constants = {name: source.constant(name).replace("\\n", "\n") for name in ("REGISTER", "ANSWERS")}
+    ((table,),) = source.rows(r"const INPUTS: .*?steps: &\[(.*?)\],\s*}\];")
+    for constant, value in constants.items():
+        table = re.sub(rf"\b{constant}\b", lambda _, value=value: repr(value).replace("'", '"'), table)
+    world = World(files)
+    for step in values(table):
+        follow(source, world, step)
+    for field in ("register", "items"):
+        fields_are_missing(source, world, field)
+
+
+def fields_are_missing(source, world, name):
+    """A file is cut where its fields begin."""
+    ((offsets,),) = source.rows(rf"const {name.upper().removesuffix('S')}_FIELDS: &\[usize\] = &\[([\d,\s]*)\]")
+    for word in re.findall(r"\d+", offsets):
+        world.files["cut"] = world.files[name][: int(word)]
+        names = " ".join("cut" if each == name else each for each in ("root", "register", "items"))
+        compare_end(source, world, f"fleet {names}", 3, f"input {name} at {word}\n")
+
+
+def chains_tests(source, steps=None, tests=None):
     """The tables in the order of the tests, each test over a world of its own."""
     begins = A_NEW_DEVICE if "new_device_goes_through" in source.text else LAYERS_OWNED
-    steps, start = tables(source, {}), born(source, begins)
+    steps, start = steps or tables(source, {}), born(source, begins)
     lists = dict(re.findall(r"const (\w+): &\[&\[Step\]\] = &\[([\w\s,]*)\]", source.text))
-    for test in source.text.split("#[test]")[1:]:
+    for test in (tests or source.text).split("#[test]")[1:]:
         world = copy.deepcopy(start)
         for word in re.findall(r"[A-Z_]{3,}|entries_are_turned", test[: test.index("\n}")]):
             if word == "entries_are_turned":

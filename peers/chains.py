@@ -538,17 +538,17 @@ def is_change_above(number, entry):
 COMMANDS = {"verify": (verify, 3), "audit": (audit, 4), "chain": (chain_of, 2), "attach": (attach, 3)}
 
 
-def answer(words, content):
+def answer(words, content, commands=COMMANDS):
     """The status of a command, what it prints, and the files that it writes; `content` gives a file's bytes or None."""
     files = Files(content)
     try:
-        command, count = COMMANDS.get(words[0], (None, 0)) if words else (None, 0)
+        command, count = commands.get(words[0], (None, 0)) if words else (None, 0)
         if len(words) != count + 1 or "" in words:
             raise Ended(2, "words")
         lines = command(files, *words[1:])
     except Ended as ended:
         return ended.status, ended.line + "\n", {}
-    return 0, "\n".join(lines) + "\n", files.written
+    return 0, "".join(line + "\n" for line in lines), files.written
 
 
 def signatures(maker, chain):

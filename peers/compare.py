@@ -40,6 +40,7 @@ READERS = {
     "crates/mb_test_lives/src/tests/births.rt": top_readers.births,
     CHAINS: chain_readers.chains_tests,
     "crates/mb_test_lives/src/tests/trusts.rt": chain_readers.chains_tests,
+    "crates/mb_test_lives/src/tests/fleet.rt": chain_readers.fleet_tests,
     "crates/mb_test_lives/src/tests/devices.rt": top_readers.plays,
     "crates/mb_test_lives/src/tests/keys.rt": top_readers.plays,
     "crates/mb_test_lives/src/tests/sign.rt": top_readers.signed_orders,
@@ -47,6 +48,7 @@ READERS = {
     "crates/miniboot/stdout": readers.stored_run,
     "examples/device-life/expected.txt": examples.device_life,
     "examples/outbound/expected.txt": examples.outbound,
+    "examples/fleet/expected.txt": examples.fleet_of_devices,
 }
 
 

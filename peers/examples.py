@@ -1,9 +1,10 @@
 #!/usr/bin/env python3
-"""What examples/device-life and examples/outbound show: their scripts are followed line by line, over files that are all
-made here.
+"""What examples/device-life, examples/outbound and examples/fleet show: their scripts are followed line by line, over
+files that are all made here.
 
     examples.py device-life >examples/device-life/expected.txt
     examples.py outbound >examples/outbound/expected.txt
+    examples.py fleet >examples/fleet/expected.txt
 
 Each line of a script's steps has one of a few forms.
 """
@@ -14,6 +15,7 @@ import re
 import shlex
 import sys
 
+import fleet
 from chain_readers import Served, World
 from lms import sha256, verify
 from officer import signed_text
@@ -132,6 +134,16 @@ class Steps(World):
         for layer, other in zip(beside[::2], beside[1::2]):
             self.miniboot(f"countersign {other}.key {layer} {name} {name}")
 
+    def born(self, names):
+        for name in names.split():
+            self.files["noise"] = bytes.fromhex(name * 48)
+            self.miniboot(f"factory noise maker.key first.public code {name}")
+
+    def live(self, names, events):
+        self.files["script"], self.files["noise"] = self.script_of(events.split()).encode(), bytes(4_096)
+        for name in names.split():
+            self.miniboot(f"run {name} script noise")
+
     def draft(self, text):
         name, *lines = self.words(text)
         self.files[f"{name}.draft"] = "".join(f"{line}\n" for line in lines).encode()
@@ -191,6 +203,8 @@ class Steps(World):
             return bytes.fromhex(words[0])
         if command == "sevens":
             return b"\7" * int(words[0])
+        if command == "shows":
+            return b"".join(fleet.shows(self.devices[name].chain()) for name in words[0].split())
         name, first, end = words[0].split()
         return self.content(name)[int(first) : int(end)]
 
@@ -202,6 +216,8 @@ FORMS = [
     (r"echo(?: \"(.*)\")?", lambda steps, text: steps.shown.append(text or "")),
     (r"make_key (\w+) ([0-9a-f]+)", Steps.make_key),
     (r"order (.*)", Steps.order),
+    (r"born ([\d ]+)", Steps.born),
+    (r'live "([^"]*)" (.*)', Steps.live),
     (r"draft (.*)", Steps.draft),
     (r"signed (.*)", Steps.signed),
     (r"order_hash (\w+)", Steps.order_hash),
@@ -237,6 +253,10 @@ def compare_shown(source, steps):
 
 def outbound(source):
     compare_shown(source, followed(source.root, "outbound"))
+
+
+def fleet_of_devices(source):
+    compare_shown(source, followed(source.root, "fleet"))
 
 
 def device_life(source):
