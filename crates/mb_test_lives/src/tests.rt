@@ -5,6 +5,7 @@ mod births;
 mod chains;
 mod devices;
 mod endorsements;
+mod fleet;
 mod keys;
 mod lives;
 mod migration;

@@ -13,7 +13,7 @@ use std::test::Fail;
 pub const A_NEW_DEVICE: &[Step] = &[Step::Writes("image", &[Part::File("fresh")])];
 
 /// The life of a device whose layers are loaded again while they keep their secrets.
-const A_WHOLE_LIFE: &[Step] = &[
+pub const A_WHOLE_LIFE: &[Step] = &[
     Step::Serves(
         &[
             Part::Text("boot\n"),
