@@ -1,11 +1,11 @@
 -- What the command `fleet` does. Are the items served one after another over the register, and is the register kept
 -- before an answer is told?
-use Rattle.std.specs.Prelude.{◌≢◌, ℕ, List}
+use Rattle.std.specs.Prelude.{◌≢◌, ℕ, List, Option}
 use Rattle.mb_model.specs.declared.key.PublicKey.{PublicKey}
 use Rattle.mb_model.specs.declared.role.Role.TheVariants as role
-use Rattle.mb_model.specs.Commands.{Command, Ended, CommandEnds, ComesToRefusal, at_first, read, find, write, print, lack}
+use Rattle.mb_model.specs.Commands.{Command, read, find, write, print, lack, Ended, CommandEnds, ComesToRefusal}
+use Rattle.mb_model.specs.Commands.{at_first}
 use Rattle.mb_model.specs.Inputs.{root_input}
-use Rattle.std.specs.Prelude.{Option}
 use Rattle.mb_fleet.specs.declared.row.Row.{Row}
 use Rattle.mb_fleet.specs.declared.item.Item.{Item}
 use Rattle.mb_fleet.specs.RegisterFormat.{register_format}
