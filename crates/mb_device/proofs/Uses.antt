@@ -29,6 +29,7 @@ use Rattle.mb_board.specs.Calls.{held_by, held_in, IsMetered, IsUp, Seen}
 use Rattle.mb_model_lemmas.proofs.ValidSteps.{machine_valid}
 use Rattle.mb_model_memory.specs.Holding.{IsReady}
 use Rattle.mb_model_memory.specs.Answering.{IsAnswered, lacks, tells, IsCutShort}
+use Rattle.mb_outbound.proofs.Seeds.{KeepsSeeds, use_keeps_seeds, kept_stays}
 use Rattle.mb_device_orders.specs.Remembering.{Knows, IsRemembered}
 use Rattle.mb_device_orders.specs.declared.remembering.Known.{Known}
 use Rattle.mb_device.specs.declared.device.Device.{Device}
@@ -101,14 +102,25 @@ wants event.Go is = absurd is
 wants (event.Cut count tear) is = absurd is
 wants (event.Command text draw) is = absurd is
 
--- a use of a region leaves serial and log
+-- a use of a region leaves serial and log, and the seeds of keys
 pick : (P : State → Type 0) (b : Bool) (x y : Outcome) → P x.1 → P y.1 → P (if b then x else y).1
 pick P true x y first second = first
 pick P false x y first second = second
 
+-- a region that is edited, and leaves the seeds of its keys
+knows_edited : (known : Known) (L : ℕ) (region : Region) (state : State) → KeepsSeeds (region_of state L) region → Knows known state → Knows known (with_region state L region)
+knows_edited known L region state same knows = record {
+  serial = knows.serial;
+  figures = knows.figures;
+  trees = record { region = kept_stays known.trees.value.region L region state same knows.trees.region };
+}
+
 put_keeps : (known : Known) (L : ℕ) (name value : List ℕ) (state : State) → Knows known state → Knows known (put_event L name value state).1
 unfolding put_event
-put_keeps known L name value state knows = pick (Knows known) _ _ _ knows (record { serial = knows.serial; figures = knows.figures })
+put_keeps known L name value state knows =
+    let new : Secret = record { name = name; value = value; born = number_of (entries_of state.log) } in
+    let region : Region = record (region_of state L) { secrets = with_secret new (region_of state L).secrets } in
+    pick (Knows known) _ _ _ knows (knows_edited known L region state (λ number. refl) knows)
 
 get_keeps : (known : Known) (L : ℕ) (name : List ℕ) (state : State) → Knows known state → Knows known (get_event L name state).1
 unfolding get_event
@@ -116,11 +128,16 @@ get_keeps known L name state knows = knows
 
 drop_keeps : (known : Known) (L : ℕ) (name : List ℕ) (state : State) → Knows known state → Knows known (drop_event L name state).1
 unfolding drop_event
-drop_keeps known L name state knows = pick (Knows known) _ _ _ (record { serial = knows.serial; figures = knows.figures }) knows
+drop_keeps known L name state knows =
+    let others : List Secret = filter (λ (secret : Secret). not (has_name name secret)) (region_of state L).secrets in
+    let region : Region = record (region_of state L) { secrets = others } in
+    pick (Knows known) _ _ _ (knows_edited known L region state (λ number. refl) knows) knows
 
 sign_with_keeps : (known : Known) (L : ℕ) (key : Option RegionKey) (message : List ℕ) (state : State) → Knows known state → Knows known (sign_with L key message state).1
 sign_with_keeps known L None message state knows = knows
-sign_with_keeps known L (Some key) message state knows = pick (Knows known) _ _ _ knows (record { serial = knows.serial; figures = knows.figures })
+sign_with_keeps known L (Some key) message state knows =
+    let region : Region = record (region_of state L) { keys = with_use key.number (region_of state L).keys } in
+    pick (Knows known) _ _ _ knows (knows_edited known L region state (λ number. use_keeps_seeds key.number number (region_of state L).keys) knows)
 
 sign_keeps : (known : Known) (L number : ℕ) (message : List ℕ) (state : State) → Knows known state → Knows known (sign_event L number message state).1
 unfolding sign_event
@@ -166,16 +183,15 @@ module _ (r L : ℕ) (before : Device) (running : Running) (e : Event) (old : Me
 
   pub use_told : (after : Device) (running_new : Running) (answer : Reply) (new : Memory) (power_new : Bool) (level_new : ℕ) (meter_new : Meter)
       → IsAnswered (layer_outcome L e use_is.own.state) answer old new → power_new ≡ power → level_new ≡ level
-      → meter_new.armed ≡ meter.armed → power ≡ true → level ≡ r → ((w : World) → IsRunning r running_new w → Fits after w) → running_new.known ≡ running.known
+      → meter_new.armed ≡ meter.armed → power ≡ true → level ≡ r → ((w : World) → IsRunning r running_new w → Fits after w) → Knows running_new.known use_is.own.state
       → Steps world e answer after (held_by new power_new level_new meter_new)
   use_told after running_new answer new power_new level_new meter_new (lacks wanted same) same_power same_level same_armed on at fits known =
       let held_same : held_by new power_new level_new meter_new ≡ held_by old power level meter = same_parts old new power power_new level level_new meter meter_new same same_power same_level same_armed in
       steps.lacks before after (held_by old power level meter) (held_by new power_new level_new meter_new) world e answer wanted (wants e use_is.layer) held_same use_is.sound
-      (fits world (record { phase = use_is.own.phase; state = use_is.own.state; live = use_is.own.live; knows = subst (λ (k : Known). Knows k use_is.own.state) (sym known) use_is.own.knows }))
+      (fits world (record { phase = use_is.own.phase; state = use_is.own.state; live = use_is.own.live; knows = known }))
   use_told after running_new answer new power_new level_new meter_new (tells told ready) same_power same_level same_armed on at fits known =
       let next : State = (layer_outcome L e use_is.own.state).1 in
-      let knows : Knows running_new.known next =
-      subst (λ (k : Known). Knows k next) (sym known) (keeps_known running.known L e use_is.own.state use_is.layer use_is.own.knows) in
+      let knows : Knows running_new.known next = keeps_known running_new.known L e use_is.own.state use_is.layer known in
       let armed : world.armed ≡ meter_new.armed = use_is.sound.shown.armed ∙ sym same_armed in
       record {
         next = live_world r next meter_new.armed;

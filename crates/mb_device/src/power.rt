@@ -12,7 +12,7 @@ ghost use Rattle.mb_lms.specs.declared.hash_count.TheConstants.{SIGNING_HASHES};
 use crate::device::{Device, Running};
 use mb_board::Board;
 use mb_boot::{BootEnd, boot};
-use mb_device_orders::remember;
+use mb_device_orders::{Trees, remember};
 use mb_lms::HashCount;
 use mb_model::{Refusal, Reply};
 use mb_ratchet::Off;
@@ -37,10 +37,14 @@ fn come_up<B: Board, L: Ledger>(
     ensures events { KeepsEvents 15 (stop_told result.1) (B.seen b.old) (B.seen b.new) }
     ensures cost { hashes.new ≤ hashes.old + 2 * SIGNING_HASHES }
 {
+    let trees = match Box::new(alloc, Trees::none()) {
+        Ok(trees) => trees,
+        Err(_) => return (Device::Off(off), Reply::NoMemory),
+    };
     match boot(alloc, off, b, hashes) {
         Ok((up, room)) => {
             let mut room = room;
-            let known = remember(&up, b, &mut room);
+            let known = remember(&up, b, trees, &mut room);
             (Device::One(up, Running { known, room }), Reply::Booted)
         }
         Err(BootEnd::Stopped(off)) => (Device::Off(off), Reply::Stopped),

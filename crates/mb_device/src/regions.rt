@@ -46,12 +46,14 @@ fn ask<S: Reaches<L>, L: Named, B: Board, C: Ledger>(
         (B.seen b.new).memory result }
     ensures writes { TellsOfWrites result (B.seen b.old).memory (B.seen b.new).memory
         (B.seen b.old).meter (B.seen b.new).meter }
-    ensures known { running.new.known ≡ running.old.known }
+    ensures known { (state : State) → IsReady (B.seen b.old).memory state
+        → Knows running.old.known state → Knows running.new.known state }
     ensures ran { RanOnBbram 3 result (B.seen b.old) (B.seen b.new) }
     ensures cost { hashes.new ≤ hashes.old + SIGNING_HASHES }
 {
     let number = running.known.figures.number;
     let serial = running.known.serial;
+    let kept = &mut running.known.trees.region;
     let room = &mut running.room;
     match event {
         Event::Put { name, value, .. } => put_secret::<S, L, B>(
@@ -63,7 +65,9 @@ fn ask<S: Reaches<L>, L: Named, B: Board, C: Ledger>(
         }
         Event::Drop { name, .. } => drop_secret::<S, L, B>(alloc, s, b, name, room),
         Event::Sign { key, message, .. } => {
-            sign_message::<S, L, B, C>(alloc, s, b, *key, message, &serial, number, room, hashes)
+            sign_message::<S, L, B, C>(
+                alloc, s, b, *key, message, &serial, number, kept, room, hashes,
+            )
         }
         _ => unreachable!(),
     }

@@ -7,7 +7,7 @@ use Rattle.mb_model.specs.declared.reply.Reply.TheVariants as reply
 use Rattle.mb_model.specs.declared.state.State.{State}
 use Rattle.mb_model.specs.declared.stored.Root.{Root}
 use Rattle.mb_model.specs.Board.{Memory}
-use Rattle.mb_model.specs.Log.{entries_of, number_of}
+use Rattle.mb_model.specs.Log.{entries_of, figures_of, number_of}
 use Rattle.mb_model.specs.OrderEffects.{obeyed}
 use Rattle.mb_model.specs.OrderStep.{OrderStep, is_obeyed}
 use Rattle.mb_model.specs.declared.state.Figures.{Figures}
@@ -51,32 +51,32 @@ answered_same memory state text draw known answer ready knows (inl none) = answe
 answered_same memory state text draw known answer ready knows (inr step) = answer_tells state step ready knows
 
 -- the answer to an order that is obeyed
-done_is : (known : Known) (next : State) → Knows known next → reply.Done known.figures.number known.figures.length ≡ reply.Done (number_of (entries_of next.log)) (length next.log)
-done_is known next knows =
-    ap (λ (n : ℕ). reply.Done n known.figures.length) (ap (λ (f : Figures). f.number) knows.figures)
-    ∙ ap (λ (n : ℕ). reply.Done (number_of (entries_of next.log)) n) (ap (λ (f : Figures). f.length) knows.figures ∙ length-map next.log (λ (signed : SignedEntry). signed.entry))
+done_is : (figures : Figures) (next : State) → figures ≡ figures_of (entries_of next.log) → reply.Done figures.number figures.length ≡ reply.Done (number_of (entries_of next.log)) (length next.log)
+done_is figures next are =
+    ap (λ (n : ℕ). reply.Done n figures.length) (ap (λ (f : Figures). f.number) are)
+    ∙ ap (λ (n : ℕ). reply.Done (number_of (entries_of next.log)) n) (ap (λ (f : Figures). f.length) are ∙ length-map next.log (λ (signed : SignedEntry). signed.entry))
 
-obeyed_step : (state : State) (text draw : List ℕ) (judged : Judged) (known : Known) → PassesAs state text draw judged → Knows known (obeyed state judged.order draw)
-    → OrderStep state text draw (reply.Done known.figures.number known.figures.length) (obeyed state judged.order draw)
-obeyed_step state text draw judged known passed knows = is_obeyed (record {
+obeyed_step : (state : State) (text draw : List ℕ) (judged : Judged) (figures : Figures) → PassesAs state text draw judged → figures ≡ figures_of (entries_of (obeyed state judged.order draw).log)
+    → OrderStep state text draw (reply.Done figures.number figures.length) (obeyed state judged.order draw)
+obeyed_step state text draw judged figures passed are = is_obeyed (record {
   order = judged.order;
   spelled = passed.spelled;
   passes = passed.passes;
   follows = refl;
-  answered = done_is known (obeyed state judged.order draw) knows;
+  answered = done_is figures (obeyed state judged.order draw) are;
 })
 
 pub answered_done : (before after : Memory) (state : State) (text draw : List ℕ) (judged : Judged) (known : Known) → PassesAs state text draw judged → IsReady after (obeyed state judged.order draw) → Knows known (obeyed state judged.order draw)
     → IsOrderAnswered state text draw known (reply.Done known.figures.number known.figures.length) before after
 answered_done before after state text draw judged known passed ready knows =
-    answer_tells (obeyed state judged.order draw) (obeyed_step state text draw judged known passed knows) ready knows
+    answer_tells (obeyed state judged.order draw) (obeyed_step state text draw judged known.figures passed knows.figures) ready knows
 
-pub order_cut : (after : Memory) (state : State) (text draw : List ℕ) (judged : Judged) (known : Known) → PassesAs state text draw judged → Knows known (obeyed state judged.order draw) → Means after state ⊎ Means after (obeyed state judged.order draw)
-    → IsOrderCut state text draw after
-order_cut after state text draw judged known passed knows counts = record {
-  number = known.figures.number;
-  size = known.figures.length;
+pub order_cut : (after : Memory) (state : State) (text draw : List ℕ) (judged : Judged) (figures : Figures) → PassesAs state text draw judged → figures ≡ figures_of (entries_of (obeyed state judged.order draw).log)
+    → Means after state ⊎ Means after (obeyed state judged.order draw) → IsOrderCut state text draw after
+order_cut after state text draw judged figures passed are counts = record {
+  number = figures.number;
+  size = figures.length;
   next = obeyed state judged.order draw;
-  step = obeyed_step state text draw judged known passed knows;
+  step = obeyed_step state text draw judged figures passed are;
   counts = counts;
 }

@@ -49,6 +49,8 @@ use Rattle.mb_model_memory.proofs.StorableOrders.{obeyed_storable}
 use Rattle.mb_layout.specs.declared.room.Room.{Room}
 use Rattle.mb_boot.specs.Settling.{IsOnlyRoot}
 use Rattle.mb_device_orders.specs.declared.judging.Judged.{Judged}
+use Rattle.mb_outbound.specs.declared.kept.RegionTree.{RegionTree}
+use Rattle.mb_outbound.specs.KeptTrees.{IsKeptIn}
 use Rattle.mb_device_orders.specs.declared.remembering.Known.{Known}
 use Rattle.mb_device_orders.specs.Remembering.{Knows}
 use Rattle.mb_device_orders.specs.Planning.{BringsShortCode, CanTake, IsToWrite, PassesAs, HasPassed, IsCommit}
@@ -225,19 +227,25 @@ planned_few memory judged has =
 
 -- ---- what is remembered
 
-pub knows_next : (memory : Memory) (state : State) (text draw : List ℕ) (judged : Judged) (known next : Known) → IsReady memory state → Knows known state → PassesAs state text draw judged → next.serial ≡ known.serial
-    → (added : List Entry) → added ≡ judged.plan.bodies.entries → ((log : List Entry) → length log + length added ≤ 1000 → known.figures ≡ figures_of log → next.figures ≡ figures_of (log ++ added))
-    → Knows next (obeyed state judged.order draw)
-knows_next memory state text draw judged known next ready knows passed serial added same counts =
+pub figures_next : (memory : Memory) (state : State) (text draw : List ℕ) (judged : Judged) (known : Known) (next : Figures) → IsReady memory state → Knows known state → PassesAs state text draw judged
+    → (added : List Entry) → added ≡ judged.plan.bodies.entries → ((log : List Entry) → length log + length added ≤ 1000 → known.figures ≡ figures_of log → next ≡ figures_of (log ++ added))
+    → next ≡ figures_of (entries_of (obeyed state judged.order draw).log)
+figures_next memory state text draw judged known next ready knows passed added same counts =
     let entries : added ≡ new_entries state judged.order draw = same ∙ planned_entries state text draw judged passed in
     let storable : IsStorableState state = stands_storable memory.flash memory.bbram state ready.means ready.valid in
     let few : length (entries_of state.log) + length added ≤ 1000 =
     omega (arith, length-map state.log (λ (signed : SignedEntry). signed.entry), storable.few, ap length entries, new_few state judged.order draw) in
-    record {
-      serial = serial ∙ knows.serial ∙ sym (obeyed_serial state judged.order draw);
-      figures = counts (entries_of state.log) few knows.figures ∙ ap (λ (es : List Entry). figures_of (entries_of state.log ++ es)) entries
-          ∙ ap figures_of (sym (obeyed_entries state judged.order draw ready.valid));
-    }
+    counts (entries_of state.log) few knows.figures ∙ ap (λ (es : List Entry). figures_of (entries_of state.log ++ es)) entries
+    ∙ ap figures_of (sym (obeyed_entries state judged.order draw ready.valid))
+
+-- what is remembered once the order is done, where no tree is kept of a region's key
+pub knows_next : (state : State) (order : Order) (draw : List ℕ) (known next : Known) → Knows known state → next.serial ≡ known.serial → next.figures ≡ figures_of (entries_of (obeyed state order draw).log)
+    → next.trees.value.region ≡ None → Knows next (obeyed state order draw)
+knows_next state order draw known next knows serial figures none = record {
+  serial = serial ∙ knows.serial ∙ sym (obeyed_serial state order draw);
+  figures = figures;
+  trees = record { region = subst (λ (kept : Option RegionTree). IsKeptIn kept (obeyed state order draw)) (sym none) tt };
+}
 
 -- ---- the commit
 

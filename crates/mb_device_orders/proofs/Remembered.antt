@@ -1,5 +1,5 @@
 -- What the memory of a device that is ready tells of its state.
-use Rattle.std.proofs.Common.{◌≡◌, ◌≤◌, ◌*◌, ℕ, List, [], length, drop, Some, Result, Ok, Err, sym, ap, subst, ◌∙◌, arith}
+use Rattle.std.proofs.Common.{◌≡◌, ◌≤◌, ◌*◌, ℕ, List, [], length, drop, Option, None, Some, Result, Ok, Err, sym, ap, subst, ◌∙◌, arith}
 use Rattle.std.specs.Result.{result_ok}
 use Rattle.std.proofs.lemmas.List.{length-take, take_all}
 use Rattle.mb_format.specs.Format.{Format, IsBytes, SpelledAt, Spells}
@@ -33,6 +33,8 @@ use Rattle.mb_boot.specs.Settling.{IsOnlyRoot}
 use Rattle.mb_boot.proofs.Settled.{bounded}
 use Rattle.mb_device_orders.specs.declared.judging.Judged.{Judged}
 use Rattle.mb_device_orders.specs.Planning.{HasPassed}
+use Rattle.mb_outbound.specs.declared.kept.RegionTree.{RegionTree}
+use Rattle.mb_outbound.specs.KeptTrees.{IsKeptIn}
 use Rattle.mb_device_orders.specs.declared.remembering.Known.{Known}
 use Rattle.mb_device_orders.specs.Remembering.{Knows, IsRemembered}
 
@@ -63,15 +65,16 @@ pub public_in : (memory : Memory) (root : Root) (state : State) → IsReady memo
 public_in memory root state ready only =
     subst (λ (r : Root). HoldsPublic memory.flash r state.codes state.log []) (root_is memory root state ready only) (rests_in memory root state ready only).public
 
-pub knows_of : (memory : Memory) (root : Root) (signed : ℕ) (figures : Figures) (state : State) → IsReady memory state → ((any : Root) → RootIn memory.bbram any → any ≡ root)
+pub knows_of : (memory : Memory) (root : Root) (signed : ℕ) (known : Known) (state : State) → IsReady memory state → ((any : Root) → RootIn memory.bbram any → any ≡ root)
     → ((header : Header) → HoldsHeader memory.flash root.area header → signed ≡ header.signed)
-    → ((log : List SignedEntry) → HoldsLog memory.flash log → length log ≡ signed → figures ≡ figures_of (entries_of log))
-    → Knows (record { serial = root.serial; figures = figures }) state
-knows_of memory root signed figures state ready only counted counts =
+    → ((log : List SignedEntry) → HoldsLog memory.flash log → length log ≡ signed → known.figures ≡ figures_of (entries_of log))
+    → known.serial ≡ root.serial → known.trees.value.region ≡ None → Knows known state
+knows_of memory root signed known state ready only counted counts serial none =
     let public = public_in memory root state ready only in
     record {
-      serial = sym (ap (λ (r : Root). r.serial) (root_is memory root state ready only));
+      serial = serial ∙ sym (ap (λ (r : Root). r.serial) (root_is memory root state ready only));
       figures = counts state.log public.log (public.count ∙ sym (counted public.header public.begins));
+      trees = record { region = subst (λ (kept : Option RegionTree). IsKeptIn kept state) (sym none) tt };
     }
 
 -- ---- what bytes begin with

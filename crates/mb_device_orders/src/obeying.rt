@@ -27,7 +27,7 @@ use std::sync::ledger::Ledger;
 /// `draw`. A device that has answered is ready and remembers its state. If power fails, the memory stands for the state
 /// before the order or for the state after it. No signed entry of the log is written to. Nothing is written for an
 /// order that is refused, nor if an allocation fails, which is an answer of its own. There are at most 35 write calls
-/// and 139,744 hashes.
+/// and 139,744 hashes. Once an order is done, the tree of a region's key is kept no longer.
 #[tactic(auto, using(crate::proofs::Answered::has_passed))]
 pub fn obey<B: Board, L: Ledger>(
     alloc: Global,
@@ -60,7 +60,8 @@ pub fn obey<B: Board, L: Ledger>(
         Err(NoMemory) => return Ok((up, Reply::NoMemory)),
     };
     let up = commit(up, b, &planned.root, room, hashes)?;
-    *known = planned.known;
+    known.figures = planned.figures;
+    known.trees.region = None;
     let reply = Reply::Done {
         number: known.figures.number,
         length: known.figures.length,

@@ -8,7 +8,7 @@ ghost use Rattle.mb_model.specs.declared.state.State.{State};
 ghost use Rattle.mb_model.specs.Clean.{root_of};
 ghost use Rattle.mb_model.specs.OrderChecks.{view_of};
 ghost use Rattle.mb_model.specs.OrderEffects.{obeyed};
-ghost use Rattle.mb_model.specs.Log.{figures_of};
+ghost use Rattle.mb_model.specs.Log.{figures_of, entries_of};
 ghost use Rattle.mb_board.specs.Calls.{IsPowered};
 ghost use Rattle.mb_orders.specs.Judging.{plan_by};
 ghost use Rattle.mb_model_memory.specs.Commits.{root_for};
@@ -23,7 +23,7 @@ use mb_area::read_header;
 use mb_board::Board;
 use mb_layout::Room;
 use mb_log::add_entry;
-use mb_model::{Entry, NoMemory, Pending, Root};
+use mb_model::{Entry, Figures, NoMemory, Pending, Root};
 use mb_orders::Plan;
 use std::alloc::Global;
 
@@ -32,8 +32,8 @@ use std::alloc::Global;
 pub struct Planned {
     /// The root record that commits the order.
     pub root: Root,
-    /// What the device remembers once the order is done.
-    pub known: Known,
+    /// The figures of the log once the order is done.
+    pub figures: Figures,
 }
 
 /// The root record that commits the plan. It names the header area that is not current.
@@ -60,21 +60,17 @@ fn next_root(root: &Root, plan: &Plan) -> Root
     }
 }
 
-/// What the device remembers once these entries are appended.
-fn knows_more(known: &Known, entries: &[Entry]) -> Known
-    ensures serial { result.serial ≡ known.now.serial }
-    ensures figures { (log : List Entry) → length log + length entries.now ≤ 1000
-        → known.now.figures ≡ figures_of log
-        → result.figures ≡ figures_of (log ++ entries.now) }
+/// The figures of the log once these entries are appended.
+fn figures_with(known: &Figures, entries: &[Entry]) -> Figures
+    ensures { (log : List Entry) → length log + length entries.now ≤ 1000
+        → known.now ≡ figures_of log
+        → result ≡ figures_of (log ++ entries.now) }
 {
-    let mut figures = known.figures;
+    let mut figures = *known;
     for entry in entries {
         add_entry(&mut figures, entry);
     }
-    Known {
-        serial: known.serial,
-        figures,
-    }
+    figures
 }
 
 /// Plans the commit of the order, and leaves its header and its code in the room. Takes all memory that the order
@@ -94,10 +90,11 @@ pub fn plan_commit<B: Board>(
         → PassesAs state text draw judged
         → IfOk result (λ planned. IsCommit (B.seen b.now).memory planned.root room.new
         state judged.order draw) }
-    ensures knows { (state : State) (text : List ℕ) (draw : List ℕ)
+    ensures figures { (state : State) (text : List ℕ) (draw : List ℕ)
         → IsReady (B.seen b.now).memory state
         → Knows known.now state → PassesAs state text draw judged
-        → IfOk result (λ planned. Knows planned.known (obeyed state judged.order draw)) }
+        → IfOk result (λ planned. planned.figures
+        ≡ figures_of (entries_of (obeyed state judged.order draw).log)) }
 {
     let Judged { order, plan, root } = judged;
     read_header(b, root.area, room);
@@ -106,6 +103,6 @@ pub fn plan_commit<B: Board>(
     put_code(&order, room);
     Ok(Planned {
         root: next_root(&root, &plan),
-        known: knows_more(known, entries),
+        figures: figures_with(&known.figures, entries),
     })
 }

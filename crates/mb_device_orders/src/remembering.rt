@@ -1,6 +1,6 @@
 //! What a device remembers of its state.
 
-ghost use Rattle.std.specs.Prelude.{◌≡◌, ◌≤◌, ◌<◌, List, length, Some};
+ghost use Rattle.std.specs.Prelude.{◌≡◌, ◌≤◌, ◌<◌, List, length, None, Some};
 ghost use Rattle.mb_model.specs.declared.limits.TheConstants.{ENTRY_LIMIT, FILE_LIMIT};
 ghost use Rattle.mb_model.specs.declared.entry.SignedEntry.{SignedEntry};
 ghost use Rattle.mb_model.specs.declared.state.State.{State};
@@ -19,16 +19,36 @@ use mb_bytes::Cursor;
 use mb_layout::{Room, read_entry};
 use mb_log::{add_entry, no_figures};
 use mb_model::{Entry, Figures};
+use mb_outbound::RegionTree;
 use mb_ratchet::{R1, Up};
 use mb_segments::{header_at, log_at};
 
+/// The trees of keys that a device keeps while power is on, to sign by again. They are public nodes: no seed is among
+/// them.
+#[derive(Drop)]
+pub struct Trees {
+    /// The tree of the region's key that signed last.
+    pub region: Option<RegionTree>,
+}
+
+impl Trees {
+    /// No tree.
+    pub fn none() -> Trees
+        ensures { result.region ≡ None }
+    {
+        Trees { region: None }
+    }
+}
+
 /// What a device remembers of its state while power is on.
-#[derive(Clone, Copy)]
+#[derive(Drop)]
 pub struct Known {
     /// The device's serial.
     pub serial: [u8; 16],
     /// What the entries of its log say together.
     pub figures: Figures,
+    /// The trees that it keeps.
+    pub trees: Box<Trees>,
 }
 
 /// The number of signed entries by the header at the beginning of a sector; 0 if there is no header.
@@ -94,9 +114,10 @@ fn figures_in<B: Board>(b: &B, signed: u32, room: &mut Room) -> Figures
     figures
 }
 
-/// Reads what the device remembers from its memory, which is ready. Takes no memory.
+/// Reads what the device remembers from its memory, which is ready. It keeps no tree: what `trees` holds is dropped, and
+/// its memory serves for those to come. Takes no memory.
 #[tactic(auto, using(crate::proofs::Remembered::ready_root))]
-pub fn remember<B: Board>(_up: &Up<R1>, b: &B, room: &mut Room) -> Known
+pub fn remember<B: Board>(_up: &Up<R1>, b: &B, trees: Box<Trees>, room: &mut Room) -> Known
     requires up { IsUp 1 (B.seen b.now) }
     requires ready { HasReady (B.seen b.now).memory }
     ensures knows { (state : State) → IsReady (B.seen b.now).memory state → Knows result state }
@@ -105,5 +126,11 @@ pub fn remember<B: Board>(_up: &Up<R1>, b: &B, room: &mut Room) -> Known
     let signed = count_signed(b, root.area, room);
     let serial = root.serial;
     let figures = figures_in(b, signed, room);
-    Known { serial, figures }
+    let mut trees = trees;
+    *trees = Trees::none();
+    Known {
+        serial,
+        figures,
+        trees,
+    }
 }

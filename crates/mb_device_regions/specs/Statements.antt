@@ -1,10 +1,17 @@
 -- What is prepared for a statement, and its bytes. Does signing find the memory that it needs?
-use Rattle.std.specs.Prelude.{◌≡◌, ℕ, ◌≤◌, List, []}
+use Rattle.std.specs.Prelude.{◌≡◌, ℕ, ◌≤◌, List, [], Option, Result, Ok, Err}
 use Rattle.std.specs.Vec.{vec_len, vec_capacity}
 use Rattle.mb_model.specs.declared.key.KeySeed.{KeySeed}
 use Rattle.mb_model.specs.ChainFormat.{statement_format}
 use Rattle.mb_model.specs.Signing.{signature_of}
 use Rattle.mb_model.specs.SignedTexts.{statement_text}
+use Rattle.mb_model.specs.Board.{Memory}
+use Rattle.mb_model.specs.declared.reply.Reply.{Reply}
+use Rattle.mb_model.specs.declared.reply.Reply.TheVariants as reply
+use Rattle.mb_model.specs.declared.state.State.{State}
+use Rattle.mb_model_memory.specs.Holding.{IsReady}
+use Rattle.mb_outbound.specs.declared.kept.RegionTree.{RegionTree}
+use Rattle.mb_outbound.specs.KeptTrees.{IsKeptFor, IsKeptIn}
 use Rattle.mb_device_regions.specs.declared.signing.Prepared.{Prepared}
 use Rattle.mb_device_regions.specs.declared.signing.TheConstants.{STATEMENT_LENGTH}
 
@@ -22,3 +29,15 @@ signed_statement_bytes seed index key serial number message = statement_format.s
   message = message;
   signature = signature_of seed index (statement_text serial key number message);
 })
+
+-- the memory is ready with a state in which a tree that is kept is its key's
+pub record HasKeptTree (kept : Option RegionTree) (memory : Memory) : Type 0 where
+  pub state : State
+  pub ready : IsReady memory state
+  pub own : IsKeptIn kept state
+
+-- once a key has signed, its tree is kept
+abbrev pub KeepsTree : {S E : Type 0} → Result (S × Reply) E → Option RegionTree → ℕ → ℕ → Type 0
+KeepsTree (Ok told) kept L key =
+    (index : ℕ) (statement : List ℕ) → told.1 ≡ reply.Signed key index statement → IsKeptFor kept L key
+KeepsTree (Err stop) kept L key = Unit {0}

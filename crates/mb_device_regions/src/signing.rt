@@ -11,18 +11,20 @@ ghost use Rattle.mb_board.specs.Calls.{RanOnBbram};
 ghost use Rattle.mb_model_memory.specs.Holding.{IsReady};
 ghost use Rattle.mb_model_memory.specs.Answering.{ComesTo, TellsOfWrites};
 ghost use Rattle.mb_device_regions.specs.Uses.{CanAnswer};
-ghost use Rattle.mb_device_regions.specs.Statements.{IsPreparedMessage, signed_statement_bytes};
-ghost use Rattle.mb_lms.specs.declared.hash_count.TheConstants.{SIGNING_HASHES};
+ghost use Rattle.mb_signer.specs.Tree.{IsTreeOf};
+ghost use Rattle.mb_outbound.specs.KeptTrees.{IsKeptFor, IsKeptIn};
+ghost use Rattle.mb_device_regions.specs.Statements.{IsPreparedMessage, signed_statement_bytes, HasKeptTree, KeepsTree};
+ghost use Rattle.mb_lms.specs.declared.hash_count.TheConstants.{LEAF_HASHES, SIGNING_HASHES};
 
 use mb_board::Board;
 use mb_cert::{Statement, write_statement};
 use mb_layout::Room;
 use mb_lms::HashCount;
 use mb_model::{Bytes, KeySeed, MESSAGE_LIMIT, NoMemory, Refusal, Reply, SIGNATURE_LENGTH};
-use mb_outbound::{BindEnd, bind, state_text};
+use mb_outbound::{BindEnd, RegionTree, bind, region_tree, state_text};
 use mb_ratchet::{Off, Reaches};
 use mb_region::Named;
-use mb_signer::OneUse;
+use mb_signer::{KeptTree, OneUse};
 use std::alloc::Global;
 use std::sync::ledger::Ledger;
 
@@ -48,10 +50,12 @@ fn prepare(alloc: Global, message: &Bytes) -> Result<Prepared, NoMemory>
     })
 }
 
-/// Signs a statement with the key of this number, and spells it. The right is spent. Takes no memory.
+/// Signs a statement with the key of this number, and spells it. The seed and the tree are the key's. The right is
+/// spent. Takes no memory.
 fn make_statement<Lg: Ledger>(
     right: OneUse,
     seed: &KeySeed,
+    tree: &KeptTree,
     key: u32,
     serial: &[u8; 16],
     number: u32,
@@ -60,15 +64,17 @@ fn make_statement<Lg: Ledger>(
 ) -> Bytes
     requires short { length prepared.message ≤ MESSAGE_LIMIT }
     requires prepared { IsPreparedMessage prepared.message prepared }
+    requires tree { IsTreeOf seed.now tree.now }
     ensures statement { result ≡ signed_statement_bytes seed.now right key serial.now number
         prepared.message }
-    ensures cost { hashes.new ≤ hashes.old + SIGNING_HASHES }
+    ensures cost { hashes.new ≤ hashes.old + LEAF_HASHES }
 {
     let mut signature = [0; SIGNATURE_LENGTH];
     let Prepared { message, mut bytes } = prepared;
     state_text(
         right,
         seed,
+        tree,
         serial,
         key,
         number,
@@ -91,6 +97,9 @@ fn make_statement<Lg: Ledger>(
 /// refusal if the region has no such key or the key has no index left. The layer may run, and `serial` and `number` are
 /// the device's serial and configuration number. One more use of the key is stored before it signs, so that no index
 /// signs twice; if power fails, the use is stored or not. There are at most three write calls and 35,473 hashes.
+///
+/// The key signs by its tree, which is kept in place of the one before: so there are at most 1,074 hashes while the same
+/// key signs. The tree that is kept has to be that of the key for which it is kept.
 pub fn sign_message<S: Reaches<L>, L: Named, B: Board, Lg: Ledger>(
     alloc: Global,
     s: S,
@@ -99,11 +108,13 @@ pub fn sign_message<S: Reaches<L>, L: Named, B: Board, Lg: Ledger>(
     message: &Bytes,
     serial: &[u8; 16],
     number: u32,
+    kept: &mut Option<RegionTree>,
     room: &mut Room,
     hashes: &mut HashCount<Lg>,
 ) -> Result<(S, Reply), Off>
     requires can_answer { CanAnswer S.stage (B.seen b.old) }
     requires message { FitsMessage message.now }
+    requires kept { HasKeptTree kept.old (B.seen b.old).memory }
     ensures told { (state : State) → IsReady (B.seen b.old).memory state
         → Runnable state.layers L.place
         → serial.now ≡ state.serial → number ≡ number_of (entries_of state.log)
@@ -112,8 +123,12 @@ pub fn sign_message<S: Reaches<L>, L: Named, B: Board, Lg: Ledger>(
     ensures writes { TellsOfWrites result (B.seen b.old).memory (B.seen b.new).memory
         (B.seen b.old).meter (B.seen b.new).meter }
     ensures ran { RanOnBbram 3 result (B.seen b.old) (B.seen b.new) }
+    ensures kept { (state : State) → IsReady (B.seen b.old).memory state → IsKeptIn kept.old state
+        → IsKeptIn kept.new state }
+    ensures keeps { KeepsTree result kept.new L.place key }
     ensures plans { SamePlans room.old room.new }
     ensures cost { hashes.new ≤ hashes.old + SIGNING_HASHES }
+    ensures again { IsKeptFor kept.old L.place key → hashes.new ≤ hashes.old + LEAF_HASHES }
 {
     let prepared = match prepare(alloc, message) {
         Ok(prepared) => prepared,
@@ -122,7 +137,11 @@ pub fn sign_message<S: Reaches<L>, L: Named, B: Board, Lg: Ledger>(
     match bind::<S, L, B>(s, b, key, room) {
         Ok((s, right, seed)) => {
             let index = right.index();
-            let statement = make_statement(right, &seed, key, serial, number, prepared, hashes);
+            let own = region_tree(kept.take(), L::number(), key, &seed, hashes);
+            let statement = make_statement(
+                right, &seed, &own.tree, key, serial, number, prepared, hashes,
+            );
+            *kept = Some(own);
             Ok((
                 s,
                 Reply::Signed {

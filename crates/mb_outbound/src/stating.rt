@@ -5,13 +5,14 @@ ghost use Rattle.std.specs.Int.{w32, to_be_bytes};
 ghost use Rattle.mb_model.specs.declared.separators.TheConstants.{STATEMENT_TEXT};
 ghost use Rattle.mb_model.specs.Signing.{signature_of};
 ghost use Rattle.mb_model.specs.SignedTexts.{statement_text};
-ghost use Rattle.mb_lms.specs.declared.hash_count.TheConstants.{SIGNING_HASHES};
+ghost use Rattle.mb_signer.specs.Tree.{IsTreeOf};
+ghost use Rattle.mb_lms.specs.declared.hash_count.TheConstants.{LEAF_HASHES};
 
 use mb_bytes::put_at;
 use mb_lms::HashCount;
 use mb_model::separators::STATEMENT_TEXT;
 use mb_model::{KeySeed, SIGNATURE_LENGTH};
-use mb_signer::{OneUse, sign};
+use mb_signer::{KeptTree, OneUse, sign_kept};
 use std::sync::ledger::Ledger;
 
 /// The text of a statement before the message: the domain separator, the device's serial, the number of the key, and
@@ -29,10 +30,11 @@ fn statement_head(serial: &[u8; 16], key: u32, number: u32) -> [u8; 25]
 }
 
 /// Signs the statement of a message by the key with this number, in the device with this serial and at this
-/// configuration number. The seed is the key's. Takes the right, at most 35,473 hashes, and no memory.
+/// configuration number. The seed and the tree are the key's. Takes the right, at most 1,074 hashes, and no memory.
 pub fn state_text<L: Ledger>(
     right: OneUse,
     seed: &KeySeed,
+    tree: &KeptTree,
     serial: &[u8; 16],
     key: u32,
     number: u32,
@@ -40,10 +42,11 @@ pub fn state_text<L: Ledger>(
     out: &mut [u8; SIGNATURE_LENGTH],
     hashes: &mut HashCount<L>,
 )
+    requires { IsTreeOf seed.now tree.now }
     ensures signature { out.new
         ≡ signature_of seed.now right (statement_text serial.now key number message.now) }
-    ensures cost { hashes.new ≤ hashes.old + SIGNING_HASHES }
+    ensures cost { hashes.new ≤ hashes.old + LEAF_HASHES }
 {
     let head = statement_head(serial, key, number);
-    sign(right, seed, &head, message, out, hashes);
+    sign_kept(right, tree, seed, &head, message, out, hashes);
 }

@@ -20,3 +20,15 @@ pub returns-in-Sign-clause-told : goal.returns-in-Sign-clause-told
 returns-in-Sign-clause-told g c = λ state ready knows.
     subst (λ (e : Event). ComesTo state (layer_outcome g.L.Place.place e state) (g.B.Board.seen c.args.b.now).memory (g.B.Board.seen c.sign_message.new.b).memory c.sign_message.result) (sym c.in-Sign.is)
     (c.sign_message.ensures.told state ready (known_runs c.args.running.now.known state g.L.Place.place true knows ready.valid c.requires.runs) knows.serial (known_number c.args.running.now.known state knows))
+
+pub sign_message-requires-clause-kept : goal.sign_message-requires-clause-kept
+sign_message-requires-clause-kept g c =
+    let is = c.requires.remembered in
+    record { state = is.state; ready = is.ready; own = is.knows.trees.region }
+
+pub returns-in-Sign-clause-known : goal.returns-in-Sign-clause-known
+returns-in-Sign-clause-known g c = λ state ready knows. record {
+  serial = knows.serial;
+  figures = knows.figures;
+  trees = record { region = c.sign_message.ensures.kept state ready knows.trees.region };
+}

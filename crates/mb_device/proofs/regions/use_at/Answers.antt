@@ -46,7 +46,7 @@ returns-in-Ok-clause-steps g c = λ world sound.
     use_told g.S.Runs.level g.L.Place.place (g.S.Runs.holder c.args.s c.args.running) c.args.running c.args.event.now (g.B.Board.seen c.args.b.now).memory (g.B.Board.seen c.args.b.now).power (g.B.Board.seen c.args.b.now).level (g.B.Board.seen c.args.b.now).meter world used
     c.into_device-in-Ok.result c.ask.new.running c.in-Ok.reply (g.B.Board.seen c.ask.new.b).memory (g.B.Board.seen c.ask.new.b).power (g.B.Board.seen c.ask.new.b).level (g.B.Board.seen c.ask.new.b).meter
     (c.in-Ok.ensures.told own.state ready own.knows) (c.in-Ok.ensures.ran.ran.power ∙ sym up.on) c.in-Ok.ensures.ran.ran.level c.in-Ok.ensures.ran.ran.meter.armed up.on up.at_level
-    (λ w is. subst (λ (d : Device). Fits d w) (sym c.into_device-in-Ok.ensures) (g.met.S.Runs.fits c.in-Ok.s c.ask.new.running w is)) c.in-Ok.ensures.known
+    (λ w is. subst (λ (d : Device). Fits d w) (sym c.into_device-in-Ok.ensures) (g.met.S.Runs.fits c.in-Ok.s c.ask.new.running w is)) (c.in-Ok.ensures.known own.state ready own.knows)
 
 pub returns-in-Err-clause-steps : goal.returns-in-Err-clause-steps
 returns-in-Err-clause-steps g c = λ world sound.

@@ -1,4 +1,6 @@
 use Rattle.std.proofs.lemmas.Result.{err_from_is_err_and}
+use Rattle.std.proofs.Common.{refl}
+use Rattle.mb_device_orders.proofs.Planned.{knows_next}
 use Rattle.mb_device_orders.proofs.Answered.{has_commit, answered_same, answered_done, order_cut}
 use Rattle.mb_device_orders.proofs.obeying.obey.Goals as goal
 
@@ -16,13 +18,13 @@ returns-in_err-up-clause-told g c = λ state ready knows.
     let p = err_from_is_err_and c.from_residual.result c.from_residual.ensures.1 in
     let passed = c.in-Ok.ensures.judged state ready knows in
     let commit = c.in-Ok-plan_commit.ensures.commit state c.args.text.now c.args.draw.now ready passed in
-    rw p.1 (order_cut (g.B.Board.seen c.commit.new.b).memory state c.args.text.now c.args.draw.now c.in-Ok.judged c.in-Ok-plan_commit.planned.known passed
-    (c.in-Ok-plan_commit.ensures.knows state c.args.text.now c.args.draw.now ready knows passed) (c.commit.ensures.counts state c.in-Ok.judged.order c.args.draw.now commit))
+    rw p.1 (order_cut (g.B.Board.seen c.commit.new.b).memory state c.args.text.now c.args.draw.now c.in-Ok.judged c.in-Ok-plan_commit.planned.figures passed
+    (c.in-Ok-plan_commit.ensures.figures state c.args.text.now c.args.draw.now ready knows passed) (c.commit.ensures.counts state c.in-Ok.judged.order c.args.draw.now commit))
 
 pub returns-clause-told : goal.returns-clause-told
 returns-clause-told g c = λ state ready knows.
     let passed = c.in-Ok.ensures.judged state ready knows in
     let commit = c.in-Ok-plan_commit.ensures.commit state c.args.text.now c.args.draw.now ready passed in
-    answered_done (g.B.Board.seen c.args.b.now).memory (g.B.Board.seen c.commit.new.b).memory state c.args.text.now c.args.draw.now c.in-Ok.judged c.in-Ok-plan_commit.planned.known passed
+    answered_done (g.B.Board.seen c.args.b.now).memory (g.B.Board.seen c.commit.new.b).memory state c.args.text.now c.args.draw.now c.in-Ok.judged c.known passed
     (c.in_ok-up.ensures.done state c.in-Ok.judged.order c.args.draw.now commit)
-    (c.in-Ok-plan_commit.ensures.knows state c.args.text.now c.args.draw.now ready knows passed)
+    (knows_next state c.in-Ok.judged.order c.args.draw.now c.args.known.now c.known knows refl (c.in-Ok-plan_commit.ensures.figures state c.args.text.now c.args.draw.now ready knows passed) refl)

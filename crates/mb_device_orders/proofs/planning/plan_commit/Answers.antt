@@ -1,5 +1,5 @@
 use Rattle.mb_device_orders.proofs.Remembered.{small_area}
-use Rattle.mb_device_orders.proofs.Planned.{read_short, planned_takes, planned_short, planned_few, commit_is, knows_next}
+use Rattle.mb_device_orders.proofs.Planned.{read_short, planned_takes, planned_short, planned_few, commit_is, figures_next}
 use Rattle.mb_device_orders.proofs.planning.plan_commit.Goals as goal
 
 pub read_header-requires-clause-area : goal.read_header-requires-clause-area
@@ -26,7 +26,7 @@ returns-clause-commit g c = λ state text draw ready passed.
     commit_is (g.B.Board.seen c.args.b.now).memory state text draw c.args.judged c.next_root.result c.read_header.new.room.header.items c.put_header.new.room.header c.put_code.new.room ready c.requires.bytes passed c.requires.passed.root c.next_root.ensures
     c.as_slice-entries.result.now c.as_slice-entries.ensures c.read_header.ensures.read c.put_header.ensures.one c.in_ok-put_header.ensures.spelled c.put_code.ensures.header c.put_code.ensures.code
 
-pub returns-clause-knows : goal.returns-clause-knows
-returns-clause-knows g c = λ state text draw ready knows passed.
-    knows_next (g.B.Board.seen c.args.b.now).memory state text draw c.args.judged c.args.known.now c.knows_more.result ready knows passed c.knows_more.ensures.serial
-    c.as_slice-entries.result.now c.as_slice-entries.ensures c.knows_more.ensures.figures
+pub returns-clause-figures : goal.returns-clause-figures
+returns-clause-figures g c = λ state text draw ready knows passed.
+    figures_next (g.B.Board.seen c.args.b.now).memory state text draw c.args.judged c.args.known.now c.figures_with.result ready knows passed
+    c.as_slice-entries.result.now c.as_slice-entries.ensures c.figures_with.ensures

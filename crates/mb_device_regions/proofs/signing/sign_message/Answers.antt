@@ -1,4 +1,9 @@
+use Rattle.std.proofs.Common.{ℕ, Option, sym, subst, ◌∙◌}
 use Rattle.mb_model.specs.Regions.{region_of}
+use Rattle.mb_signer.specs.Tree.{IsTreeOf}
+use Rattle.mb_outbound.specs.declared.kept.RegionTree.{RegionTree}
+use Rattle.mb_outbound.specs.KeptTrees.{IfKeptFor}
+use Rattle.mb_outbound.proofs.Seeds.{kept_is_bound, bound_is_keys}
 use Rattle.mb_device_regions.proofs.Readied.{region_held}
 use Rattle.mb_device_regions.proofs.Signed.{held_ordered, no_key_told, spent_told, signed_told, signed_cut}
 use Rattle.mb_device_regions.proofs.signing.sign_message.Goals as goal
@@ -38,3 +43,16 @@ returns-clause-told g c = λ state ready runs serial_is number_is. (
     let held = region_held g.L.Place.place _ state g.met.L.Named.named ready in
     let has = rw c.in-Err-Stopped.field-0-is at (c.in-Err-Stopped.ensures.bound (region_of state g.L.Place.place) held) in
     signed_cut g.L.Place.place c.args.key c.args.message.now state _ _ has.0 g.met.L.Named.named has.1 c.requires.can_answer.bytes c.in-Err-Stopped.ensures.ran.ran.sized c.in-Err-Stopped.ensures.either ready)
+
+pub region_tree-own-requires : goal.region_tree-own-requires
+region_tree-own-requires g c =
+    let has = c.requires.kept in
+    let bound = c.in-Ok-bind.ensures.bound (region_of has.state g.L.Place.place) (region_held g.L.Place.place (g.B.Board.seen c.args.b.now).memory has.state g.met.L.Named.named has.ready) in
+    let kept = kept_is_bound c.args.kept.now g.L.Place.place c.args.key c.in-Ok-bind.right c.in-Ok-bind.seed has.state bound has.own in
+    subst (λ (place : ℕ). IfKeptFor c.take.result place c.args.key (λ own. IsTreeOf c.in-Ok-bind.seed own.tree)) (sym c.number.ensures)
+    (subst (λ (tree : Option RegionTree). IfKeptFor tree g.L.Place.place c.args.key (λ own. IsTreeOf c.in-Ok-bind.seed own.tree)) (sym c.take.ensures.value) kept)
+
+pub returns-in-Ok-bind-clause-kept : goal.returns-in-Ok-bind-clause-kept
+returns-in-Ok-bind-clause-kept g c = λ state ready is.
+    let bound = c.in-Ok-bind.ensures.bound (region_of state g.L.Place.place) (region_held g.L.Place.place (g.B.Board.seen c.args.b.now).memory state g.met.L.Named.named ready) in
+    bound_is_keys c.region_tree-own.result g.L.Place.place c.args.key c.in-Ok-bind.right c.in-Ok-bind.seed state (c.region_tree-own.ensures.place ∙ c.number.ensures) c.region_tree-own.ensures.number c.region_tree-own.ensures.tree bound
