@@ -1,6 +1,7 @@
 #!/usr/bin/env python3
 """Measures the device of the built program. See bench/device.sh, which runs it."""
 
+import itertools
 import pathlib
 import resource
 import shutil
@@ -11,7 +12,7 @@ HERE = pathlib.Path(__file__).resolve().parents[2]
 sys.path[:0] = [str(HERE / "checks" / "cuts"), str(HERE / "peers")]
 
 import device  # noqa: E402
-from lives import first_life, late_life, opening  # noqa: E402
+from lives import Event, first_life, late_life, opening  # noqa: E402
 from program import Program, Script, Wrong  # noqa: E402
 
 EVENTS = 65_536
@@ -125,9 +126,23 @@ def measure_many(table, bench, image):
     puts = ["put 2 pin 31323334", "put 2 pin 35363738"] * 1000
     table.row("put of a known name", bench.more(image, ["boot"], puts, "kept"), len(puts), "of 2000")
     table.row("put of what stands there", bench.more(image, ["boot"], puts[1:2] * 2000, "kept"), 2000, "of 2000")
-    table.row("sign", bench.more(image, ["boot"], ["sign 3 2 68656c6c6f"] * 30, "signed "), 30, "of 30")
     boots = ["boot", "off"] * 2000
     table.row("boot of a clean memory, and off", bench.more(image, [], boots, ("booted", "off")), 2000, "of 2000")
+
+
+def measure_one_boot(table, bench, life, image):
+    """Statements and orders of one boot: the first, each later one, and statements by two keys in turn."""
+    sign, other = "sign 3 2 68656c6c6f", "sign 2 1 68656c6c6f"
+    table.row("sign, the first of a boot", bench.more(image, ["boot"], [sign], "signed "))
+    later = [sign] * 29
+    table.row("  each later one", bench.more(image, ["boot", sign], later, "signed "), len(later), "of 29")
+    turns = [sign, other] * 15
+    table.row("  by two keys in turn", bench.more(image, ["boot"], turns, "signed "), len(turns), "of 30")
+    first, *rest = (event.line for event in itertools.takewhile(Event.is_order, life.events))
+    begun = life.events[0].image
+    table.row("an order, the first of a boot", bench.more(begun, ["boot"], [first], "done "))
+    names = ", ".join(event.name for event in life.events[1 : len(rest) + 1])
+    table.row("  each later one", bench.more(begun, ["boot", first], rest, "done "), len(rest), f"of {len(rest)}: {names}")
 
 
 def turned(line):
@@ -174,7 +189,9 @@ def main():
         late, other = late_life(program, str(HERE / "peers"))
         table = Table(bench)
         measure_loads(table, bench, life, device.full()[1])
-        measure_many(table, bench, next(event for event in life.events if event.name == "status").image)
+        used = next(event for event in life.events if event.name == "status").image
+        measure_many(table, bench, used)
+        measure_one_boot(table, bench, life, used)
         measure_refused(table, bench, life.events[0])
         measure_orders(table, bench, [*orders(life), *orders(late), *orders(other)])
     except Wrong as wrong:
