@@ -1,5 +1,8 @@
 use Rattle.std.proofs.lemmas.Result.{err_from_is_err_and}
-use Rattle.std.proofs.Common.{refl}
+use Rattle.std.proofs.Common.{None, refl}
+use Rattle.std.specs.Box.{with_value}
+use Rattle.mb_device_orders.specs.declared.remembering.Known.{Known}
+use Rattle.mb_device_orders.specs.declared.remembering.Trees.{Trees}
 use Rattle.mb_device_orders.proofs.Planned.{knows_next}
 use Rattle.mb_device_orders.proofs.Answered.{has_commit, answered_same, answered_done, order_cut}
 use Rattle.mb_device_orders.proofs.obeying.obey.Goals as goal
@@ -25,6 +28,9 @@ pub returns-clause-told : goal.returns-clause-told
 returns-clause-told g c = λ state ready knows.
     let passed = c.in-Ok.ensures.judged state ready knows in
     let commit = c.in-Ok-plan_commit.ensures.commit state c.args.text.now c.args.draw.now ready passed in
-    answered_done (g.B.Board.seen c.args.b.now).memory (g.B.Board.seen c.commit.new.b).memory state c.args.text.now c.args.draw.now c.in-Ok.judged c.known passed
+    let figures = c.in-Ok-plan_commit.ensures.figures state c.args.text.now c.args.draw.now ready knows passed in
+    let trees : Trees = record { region = None } in
+    let known : Known = record { serial = c.args.known.now.serial; figures = c.in-Ok-plan_commit.planned.figures; trees = with_value c.args.known.now.trees trees } in
+    answered_done (g.B.Board.seen c.args.b.now).memory (g.B.Board.seen c.commit.new.b).memory state c.args.text.now c.args.draw.now c.in-Ok.judged known passed
     (c.in_ok-up.ensures.done state c.in-Ok.judged.order c.args.draw.now commit)
-    (knows_next state c.in-Ok.judged.order c.args.draw.now c.args.known.now c.known knows refl (c.in-Ok-plan_commit.ensures.figures state c.args.text.now c.args.draw.now ready knows passed) refl)
+    (knows_next state c.in-Ok.judged.order c.args.draw.now c.args.known.now known knows refl figures refl)
