@@ -1,0 +1,22 @@
+use Rattle.std.proofs.Common.{refl}
+use Rattle.std.proofs.lemmas.Result.{err_from_is_err_and}
+use Rattle.mb_model.specs.Inputs.{root_input}
+use Rattle.mb_model.specs.Commands.{at_first}
+use Rattle.mb_console.proofs.CommandLemmas.{input_carried_out, read_on}
+use Rattle.mb_tools_policy.specs.TrustCommand.{trust, trust_under}
+use Rattle.mb_tools_policy.specs.Names.{trust_files}
+use Rattle.mb_tools_policy.proofs.trust.trust.Goals as goal
+
+pub returns-in_err-root : goal.returns-in_err-root
+unfolding trust
+returns-in_err-root g c = λ final.
+    let p = err_from_is_err_and c.from_residual.result c.from_residual.ensures.1 in
+    let outside = g.H.Host.outside in
+    rw (p.1, p.2) (input_carried_out (root_input c.args.names.now.root.now) _ at_first _ final (outside c.args.host.now) (outside c.read_as.new.host) c.in_err-root.field-0.0 refl refl c.in_err-root.ensures.err)
+
+pub returns : goal.returns
+unfolding trust
+returns g c = λ final.
+    let outside = g.H.Host.outside in
+    read_on (root_input c.args.names.now.root.now) (trust_under (trust_files c.args.names.now)) at_first _ final (outside c.args.host.now) (outside c.read_as.new.host) (outside c.trust_under.new.host) c.in_ok-root.root
+    c.trust_under.result c.in_ok-root.ensures.read (c.trust_under.ensures final)

@@ -1,0 +1,4 @@
+pub mod Inputs
+pub mod TrustCommand
+pub mod Names
+pub mod Denials

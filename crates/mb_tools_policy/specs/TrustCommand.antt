@@ -1,0 +1,49 @@
+-- What the command `trust` does. Does it allow a key exactly if the policy allows each configuration that an accepted
+-- chain lists for it?
+use Rattle.std.specs.Prelude.{ℕ, List, ◌++◌, codes}
+use Rattle.std.specs.Fmt.{decimal}
+use Rattle.mb_model.specs.declared.key.PublicKey.{PublicKey}
+use Rattle.mb_model.specs.Texts.{ended}
+use Rattle.mb_model.specs.Acceptance.{Verdict, accepting, refusing, IsVerdict}
+use Rattle.mb_model.specs.Commands.{Command, read, find, print, refuse}
+use Rattle.mb_model.specs.Inputs.{root_input, chain_bytes_input}
+use Rattle.mb_model.specs.VerifyCommand.{refused_line}
+use Rattle.mb_policy.specs.declared.judging.Judgement.{Judgement}
+use Rattle.mb_policy.specs.declared.judging.Judgement.TheVariants as judgement
+use Rattle.mb_policy.specs.Policies.{PolicyItem}
+use Rattle.mb_policy.specs.Judging.{IsJudged}
+use Rattle.mb_tools_policy.specs.Inputs.{policy_input}
+
+-- the names of the files, and the number of the key that is asked for
+pub record TrustNames : Type 0 where
+  pub root : List ℕ
+  pub chain : List ℕ
+  pub key : ℕ
+  pub policy : List ℕ
+
+-- the line that tells which configuration is denied, and the name of the rule that denies it
+abbrev pub denied_line : ℕ → List ℕ → List ℕ
+denied_line number rule = codes "denied " ++ decimal number ++ codes " " ++ rule
+
+-- what the policy comes to: the key is allowed, or a configuration is denied
+abbrev pub tell_judgement : Judgement → Command
+tell_judgement judgement.Allowed = print (ended (codes "allowed"))
+tell_judgement (judgement.Denied number rule) = refuse (denied_line number rule)
+
+-- the report of an accepted chain is judged by the policy, or the chain is refused
+abbrev pub judge_verdict : List PolicyItem → Verdict → Command
+judge_verdict items (accepting report) = find (IsJudged items report) tell_judgement
+judge_verdict items (refusing why) = refuse (refused_line why)
+
+abbrev pub trust_by_policy : TrustNames → PublicKey → List ℕ → List PolicyItem → Command
+trust_by_policy names maker bytes items = find (IsVerdict maker bytes names.key) (judge_verdict items)
+
+abbrev pub trust_chain : TrustNames → PublicKey → List ℕ → Command
+trust_chain names maker bytes = read (policy_input names.policy) (trust_by_policy names maker bytes)
+
+abbrev pub trust_under : TrustNames → PublicKey → Command
+trust_under names maker = read (chain_bytes_input names.chain) (trust_chain names maker)
+
+-- the maker's public key, the chain and the policy are read; then the chain is judged, and then its report
+unfoldable pub trust : TrustNames → Command
+trust names = read (root_input names.root) (trust_under names)
