@@ -1,7 +1,7 @@
 """What is computed anew of chains: the tests of the commands on them.
 
 The steps of the tests are followed over files that are all made here: keys and orders by `officer.py`, devices by
-`life.py`, and what the commands on chains do by `chains.py`.
+`life.py`, and what the commands on chains do by `chains.py` and `policies.py`.
 """
 
 import copy
@@ -11,6 +11,7 @@ import types
 
 import chains
 import fleet
+import policies  # noqa: F401, among the commands of chains.py from here on
 from life import Living
 from lms import sha256, u8, u16
 from officer import body, order, order_line, unhex
@@ -393,6 +394,22 @@ def chain_versions(source):
         bytes_ = b"MBC1" + u16(len(log)) + b"".join(text + signature for text, signature in log) + u8(0)
         found = chains.answer(["verify", "root", "chain", "9"], {"root": maker.public(), "chain": bytes_}.get)
         source.compare(f"a chain of versions {versions}", found[1], f"{reasons[why]}{entry or ''}\n")
+
+
+def policies_tests(source):
+    """The policies that are judged for the key of the whole life of chains.rt, and the other ends after them."""
+    chains_rt = type(source)(source.root, CHAINS)
+    world, steps = born(source), tables(chains_rt, {})
+    for name in ("A_NEW_DEVICE", "A_WHOLE_LIFE"):
+        for step in steps[name]:
+            follow(chains_rt, world, step)
+    table = source.text[source.text.index("const JUDGED") : source.text.index("const OTHER_ENDS")]
+    for policy, status, lines in re.findall(r'\(\s*"([^"]*)",\s*(\d),\s*"([^"]*)",?\s*\)', table):
+        world.files["policy"] = unescaped(policy).encode()
+        source.seen.add(policy)
+        compare_end(source, world, "trust public0 chain 1 policy", int(status), unescaped(lines))
+    for step in tables(source, {})["OTHER_ENDS"]:
+        follow(source, world, step)
 
 
 def sample_signatures(source):

@@ -39,6 +39,7 @@ READERS = {
     "crates/mb_test_rules/src/tests/versions.rt": chain_readers.chain_versions,
     "crates/mb_test_lives/src/tests/births.rt": top_readers.births,
     CHAINS: chain_readers.chains_tests,
+    "crates/mb_test_lives/src/tests/policies.rt": chain_readers.policies_tests,
     "crates/mb_test_lives/src/tests/trusts.rt": chain_readers.chains_tests,
     "crates/mb_test_lives/src/tests/fleet.rt": chain_readers.fleet_tests,
     "crates/mb_test_lives/src/tests/devices.rt": top_readers.plays,
@@ -49,6 +50,7 @@ READERS = {
     "examples/device-life/expected.txt": examples.device_life,
     "examples/outbound/expected.txt": examples.outbound,
     "examples/fleet/expected.txt": examples.fleet_of_devices,
+    "examples/policy/expected.txt": examples.policy,
 }
 
 

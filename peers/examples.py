@@ -1,10 +1,11 @@
 #!/usr/bin/env python3
-"""What examples/device-life, examples/outbound and examples/fleet show: their scripts are followed line by line, over
-files that are all made here.
+"""What examples/device-life, examples/outbound, examples/policy and examples/fleet show: their scripts are followed
+line by line, over files that are all made here.
 
     examples.py device-life >examples/device-life/expected.txt
     examples.py outbound >examples/outbound/expected.txt
     examples.py fleet >examples/fleet/expected.txt
+    examples.py policy >examples/policy/expected.txt
 
 Each line of a script's steps has one of a few forms.
 """
@@ -115,7 +116,9 @@ class Steps(World):
 
     def words(self, text):
         """The words of a statement, with the files that stand in them in hexadecimal."""
-        return shlex.split(re.sub(r"\$\(hex <([\w.]+)\)", lambda found: self.files[found[1]].hex(), text))
+        text = re.sub(r"\$\(hex <([\w.]+)\)", lambda found: self.files[found[1]].hex(), text)
+        text = re.sub(r"\$\(sum <([\w.]+)\)", lambda found: sha256(self.files[found[1]]).hex(), text)
+        return shlex.split(text)
 
     def miniboot(self, words):
         status, self.printed = self.answer(words.split(" "))
@@ -148,6 +151,11 @@ class Steps(World):
         name, *lines = self.words(text)
         self.files[f"{name}.draft"] = "".join(f"{line}\n" for line in lines).encode()
         self.show("  ", f"{name}.draft: {'; '.join(lines)}")
+
+    def policy(self, text):
+        name, *lines = self.words(text)
+        self.files[name] = "".join(f"{line}\n" for line in lines).encode()
+        self.show("    ", self.files[name].decode())
 
     def signed(self, text):
         name, officer, *beside = text.split(" ")
@@ -219,6 +227,7 @@ FORMS = [
     (r"born ([\d ]+)", Steps.born),
     (r'live "([^"]*)" (.*)', Steps.live),
     (r"draft (.*)", Steps.draft),
+    (r"policy (.*)", Steps.policy),
     (r"signed (.*)", Steps.signed),
     (r"order_hash (\w+)", Steps.order_hash),
     (r"serve (.*)", Steps.serve),
@@ -257,6 +266,10 @@ def outbound(source):
 
 def fleet_of_devices(source):
     compare_shown(source, followed(source.root, "fleet"))
+
+
+def policy(source):
+    compare_shown(source, followed(source.root, "policy"))
 
 
 def device_life(source):
