@@ -9,6 +9,7 @@ mod fleet;
 mod keys;
 mod lives;
 mod migration;
+mod policies;
 mod rows;
 mod runs;
 mod segments;
