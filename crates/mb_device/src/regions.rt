@@ -53,7 +53,6 @@ fn ask<S: Reaches<L>, L: Named, B: Board, C: Ledger>(
 {
     let number = running.known.figures.number;
     let serial = running.known.serial;
-    let kept = &mut running.known.trees.region;
     let room = &mut running.room;
     match event {
         Event::Put { name, value, .. } => put_secret::<S, L, B>(
@@ -65,6 +64,7 @@ fn ask<S: Reaches<L>, L: Named, B: Board, C: Ledger>(
         }
         Event::Drop { name, .. } => drop_secret::<S, L, B>(alloc, s, b, name, room),
         Event::Sign { key, message, .. } => {
+            let kept = &mut running.known.trees.region;
             sign_message::<S, L, B, C>(
                 alloc, s, b, *key, message, &serial, number, kept, room, hashes,
             )

@@ -5,23 +5,23 @@ pub remember-known-requires-clause-up : goal.remember-known-requires-clause-up
 remember-known-requires-clause-up g c =
     let has = c.requires.sound in
     record {
-      on = c.in-Ok.ensures.power;
-      at_level = c.in-Ok.ensures.level;
-      loaded = (is_booted c.args.off (g.B.Board.seen c.args.b.now).memory (g.B.Board.seen c.args.b.now).power (g.B.Board.seen c.args.b.now).level (g.B.Board.seen c.args.b.now).meter has.world has.sound (g.B.Board.seen c.boot.new.b).memory c.in-Ok.ensures.clean c.boot.ensures.meaning c.in-Ok.ensures.zeroised).ready.means.sized;
+      on = c.in-Ok-boot.ensures.power;
+      at_level = c.in-Ok-boot.ensures.level;
+      loaded = (is_booted c.args.off (g.B.Board.seen c.args.b.now).memory (g.B.Board.seen c.args.b.now).power (g.B.Board.seen c.args.b.now).level (g.B.Board.seen c.args.b.now).meter has.world has.sound (g.B.Board.seen c.boot.new.b).memory c.in-Ok-boot.ensures.clean c.boot.ensures.meaning c.in-Ok-boot.ensures.zeroised).ready.means.sized;
     }
 
 pub remember-known-requires-clause-ready : goal.remember-known-requires-clause-ready
 remember-known-requires-clause-ready g c =
     let has = c.requires.sound in
-    let booted = is_booted c.args.off (g.B.Board.seen c.args.b.now).memory (g.B.Board.seen c.args.b.now).power (g.B.Board.seen c.args.b.now).level (g.B.Board.seen c.args.b.now).meter has.world has.sound (g.B.Board.seen c.boot.new.b).memory c.in-Ok.ensures.clean c.boot.ensures.meaning c.in-Ok.ensures.zeroised in
+    let booted = is_booted c.args.off (g.B.Board.seen c.args.b.now).memory (g.B.Board.seen c.args.b.now).power (g.B.Board.seen c.args.b.now).level (g.B.Board.seen c.args.b.now).meter has.world has.sound (g.B.Board.seen c.boot.new.b).memory c.in-Ok-boot.ensures.clean c.boot.ensures.meaning c.in-Ok-boot.ensures.zeroised in
     record { state = booted.state; ready = booted.ready }
 
-pub returns-in-Ok-clause-steps : goal.returns-in-Ok-clause-steps
-returns-in-Ok-clause-steps g c = λ world sound.
-    let booted = is_booted c.args.off (g.B.Board.seen c.args.b.now).memory (g.B.Board.seen c.args.b.now).power (g.B.Board.seen c.args.b.now).level (g.B.Board.seen c.args.b.now).meter world sound (g.B.Board.seen c.boot.new.b).memory c.in-Ok.ensures.clean c.boot.ensures.meaning c.in-Ok.ensures.zeroised in
-    boots c.args.off (g.B.Board.seen c.args.b.now).memory (g.B.Board.seen c.args.b.now).power (g.B.Board.seen c.args.b.now).level (g.B.Board.seen c.args.b.now).meter world sound c.in-Ok.up (record { known = c.remember-known.result; room = c.remember-known.new.room })
+pub returns-in-Ok-boot-clause-steps : goal.returns-in-Ok-boot-clause-steps
+returns-in-Ok-boot-clause-steps g c = λ world sound.
+    let booted = is_booted c.args.off (g.B.Board.seen c.args.b.now).memory (g.B.Board.seen c.args.b.now).power (g.B.Board.seen c.args.b.now).level (g.B.Board.seen c.args.b.now).meter world sound (g.B.Board.seen c.boot.new.b).memory c.in-Ok-boot.ensures.clean c.boot.ensures.meaning c.in-Ok-boot.ensures.zeroised in
+    boots c.args.off (g.B.Board.seen c.args.b.now).memory (g.B.Board.seen c.args.b.now).power (g.B.Board.seen c.args.b.now).level (g.B.Board.seen c.args.b.now).meter world sound c.in-Ok-boot.up (record { known = c.remember-known.result; room = c.remember-known.new.room })
     (g.B.Board.seen c.boot.new.b).memory (g.B.Board.seen c.boot.new.b).power (g.B.Board.seen c.boot.new.b).level (g.B.Board.seen c.boot.new.b).meter booted c.remember-known.ensures.knows
-    c.in-Ok.ensures.power c.in-Ok.ensures.level c.in-Ok.ensures.events.meter.armed
+    c.in-Ok-boot.ensures.power c.in-Ok-boot.ensures.level c.in-Ok-boot.ensures.events.meter.armed
 
 pub returns-in-Err-Stopped-clause-steps : goal.returns-in-Err-Stopped-clause-steps
 returns-in-Err-Stopped-clause-steps g c = λ world sound.
@@ -42,8 +42,8 @@ returns-in-Err-Zeroised-clause-steps g c = λ world sound.
     (g.B.Board.seen c.boot.new.b).memory (g.B.Board.seen c.boot.new.b).power (g.B.Board.seen c.boot.new.b).level (g.B.Board.seen c.boot.new.b).meter c.reply.ensures unwritten_here.0
     zeroised_here power_here level_here unwritten_here.1
 
-pub returns-in-Err-NoMemory-clause-steps : goal.returns-in-Err-NoMemory-clause-steps
-returns-in-Err-NoMemory-clause-steps g c = λ world sound.
+pub returns-clause-steps : goal.returns-clause-steps
+returns-clause-steps g c = λ world sound.
     let power_here = rw c.in-Err-NoMemory.field-0-is at c.in-Err-NoMemory.ensures.power in
     let unwritten_here = rw c.in-Err-NoMemory.field-0-is at c.in-Err-NoMemory.ensures.unwritten in
     boot_lacks c.args.off (g.B.Board.seen c.args.b.now).memory (g.B.Board.seen c.args.b.now).power (g.B.Board.seen c.args.b.now).level (g.B.Board.seen c.args.b.now).meter world sound c.in-Err-NoMemory.off

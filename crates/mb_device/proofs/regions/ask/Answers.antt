@@ -1,6 +1,8 @@
 use Rattle.std.proofs.Common.{sym, subst, true}
 use Rattle.mb_model.specs.declared.event.Event.{Event}
 use Rattle.mb_model_memory.specs.Answering.{ComesTo}
+use Rattle.mb_outbound.specs.KeptTrees.{IsKeptIn}
+use Rattle.mb_device_orders.specs.declared.remembering.Trees.{Trees}
 use Rattle.mb_device.specs.Regions.{layer_outcome}
 use Rattle.mb_device.proofs.Uses.{known_runs}
 use Rattle.mb_device.proofs.Told.{known_number}
@@ -24,11 +26,11 @@ returns-in-Sign-clause-told g c = λ state ready knows.
 pub sign_message-requires-clause-kept : goal.sign_message-requires-clause-kept
 sign_message-requires-clause-kept g c =
     let is = c.requires.remembered in
-    record { state = is.state; ready = is.ready; own = is.knows.trees.region }
+    record { state = is.state; ready = is.ready; own = subst (λ (trees : Trees). IsKeptIn trees.region is.state) (sym c.deref_mut.ensures.value) is.knows.trees.region }
 
 pub returns-in-Sign-clause-known : goal.returns-in-Sign-clause-known
 returns-in-Sign-clause-known g c = λ state ready knows. record {
   serial = knows.serial;
   figures = knows.figures;
-  trees = record { region = c.sign_message.ensures.kept state ready knows.trees.region };
+  trees = record { region = c.sign_message.ensures.kept state ready (subst (λ (trees : Trees). IsKeptIn trees.region state) (sym c.deref_mut.ensures.value) knows.trees.region) };
 }
