@@ -51,6 +51,14 @@ is_generate : Command → Bool
 is_generate command.Generate = true
 is_generate _ = false
 
+is_hsskeygen : Command → Bool
+is_hsskeygen command.Hsskeygen = true
+is_hsskeygen _ = false
+
+is_app : Command → Bool
+is_app command.App = true
+is_app _ = false
+
 -- the layer that countersigns is 2 or 3
 pub layer_of : (words : List (List ℕ)) (called : Command) (given : List Argument) → called ≡ command.Countersign → IsCall commands words called given → (2 ≤ number_given 1 given) × (number_given 1 given ≤ 3)
 unfolding commands is_countersign
@@ -60,3 +68,13 @@ layer_of words called given is call = number_of_call is_countersign 1 2 3 comman
 pub rounds_of : (words : List (List ℕ)) (called : Command) (given : List Argument) → called ≡ command.Generate → IsCall commands words called given → (1 ≤ number_given 1 given) × (number_given 1 given ≤ 24)
 unfolding commands is_generate
 rounds_of words called given is call = number_of_call is_generate 1 1 24 commands words called given refl (ap is_generate is) call
+
+-- a maker's HSS key has 1 to 8 levels
+pub levels_of : (words : List (List ℕ)) (called : Command) (given : List Argument) → called ≡ command.Hsskeygen → IsCall commands words called given → (1 ≤ number_given 1 given) × (number_given 1 given ≤ 8)
+unfolding commands is_hsskeygen
+levels_of words called given is call = number_of_call is_hsskeygen 1 1 8 commands words called given refl (ap is_hsskeygen is) call
+
+-- the layer whose code runs is 2 or 3
+pub app_layer_of : (words : List (List ℕ)) (called : Command) (given : List Argument) → called ≡ command.App → IsCall commands words called given → (2 ≤ number_given 1 given) × (number_given 1 given ≤ 3)
+unfolding commands is_app
+app_layer_of words called given is call = number_of_call is_app 1 2 3 commands words called given refl (ap is_app is) call

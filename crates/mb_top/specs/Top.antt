@@ -19,6 +19,17 @@ use Rattle.mb_console.specs.Ending.{ended_at, EndsOncePrinted}
 use Rattle.mb_console.specs.Words.{Row, Argument, IsCall}
 use Rattle.mb_tools.specs.Names.{keygen_given, sign_given, countersign_given, factory_given, migrate_given, verify_given}
 use Rattle.mb_tools.specs.Names.{audit_given, chain_given, attach_given}
+use Rattle.mb_tools_hss.specs.HssKeygen.{hsskeygen}
+use Rattle.mb_tools_hss.specs.Endorse.{endorse}
+use Rattle.mb_tools_hss.specs.Endorsed.{endorsed}
+use Rattle.mb_tools_hss.specs.Names.{hsskeygen_given, endorse_given, endorsed_given}
+use Rattle.mb_tools_policy.specs.TrustCommand.{trust}
+use Rattle.mb_tools_policy.specs.Names.{trust_given}
+use Rattle.mb_tools_app.specs.AppCommand.{app}
+use Rattle.mb_tools_app.specs.AssemblyCommands.{asm, disasm}
+use Rattle.mb_tools_app.specs.Names.{app_given, asm_given, disasm_given}
+use Rattle.mb_tools_fleet.specs.FleetCommand.{fleet}
+use Rattle.mb_tools_fleet.specs.FleetWords.{fleet_given}
 use Rattle.mb_top.specs.Names.{run_given, generate_given}
 use Rattle.mb_top.specs.declared.table.TheConstants.{COMMANDS}
 use Rattle.mb_top.specs.declared.table.Command.{Command}
@@ -33,13 +44,21 @@ abbrev pub command_of : Command → List Argument → Does
 command_of command.Run given = run (run_given given)
 command_of command.Verify given = verify (verify_given given)
 command_of command.Audit given = audit (audit_given given)
+command_of command.Trust given = trust (trust_given given)
 command_of command.Chain given = chain (chain_given given)
 command_of command.Attach given = attach (attach_given given)
+command_of command.Fleet given = fleet (fleet_given given)
 command_of command.Factory given = factory (factory_given given)
 command_of command.Keygen given = keygen (keygen_given given)
 command_of command.Sign given = sign (sign_given given)
 command_of command.Countersign given = countersign (countersign_given given)
+command_of command.Hsskeygen given = hsskeygen (hsskeygen_given given)
+command_of command.Endorse given = endorse (endorse_given given)
+command_of command.Endorsed given = endorsed (endorsed_given given)
 command_of command.Migrate given = migrate (migrate_given given)
+command_of command.App given = app (app_given given)
+command_of command.Asm given = asm (asm_given given)
+command_of command.Disasm given = disasm (disasm_given given)
 command_of command.Generate given = generate (generate_given given)
 
 -- How the program ends.

@@ -21,6 +21,14 @@ use mb_tools::keygen::{KeygenNames, keygen};
 use mb_tools::migrate::{MigrateNames, migrate};
 use mb_tools::sign::{CountersignNames, SignNames, countersign, sign};
 use mb_tools::verify::{VerifyNames, verify};
+use mb_tools_app::app::{AppNames, app};
+use mb_tools_app::asm::{AsmNames, asm};
+use mb_tools_app::disasm::{DisasmNames, disasm};
+use mb_tools_fleet::fleet::{FleetNames, fleet};
+use mb_tools_hss::endorse::{EndorseNames, endorse};
+use mb_tools_hss::endorsed::{EndorsedNames, endorsed};
+use mb_tools_hss::hsskeygen::{HsskeygenNames, hsskeygen};
+use mb_tools_policy::trust::{TrustNames, trust};
 use std::alloc::Global;
 use std::marker::Brand;
 use std::sync::ledger::{Blank, Ledger};
@@ -97,13 +105,21 @@ fn carry_out<H: Host, B: Board, L: Ledger>(
         Command::Run => run(alloc, &RunNames::of(given), host, board, hashes),
         Command::Verify => verify(alloc, &VerifyNames::of(given), host),
         Command::Audit => audit(alloc, &AuditNames::of(given), host, hashes),
+        Command::Trust => trust(alloc, &TrustNames::of(given), host),
         Command::Chain => chain(alloc, &ChainNames::of(given), host, hashes),
         Command::Attach => attach(alloc, &AttachNames::of(given), host),
+        Command::Fleet => fleet(alloc, &FleetNames::of(given), host),
         Command::Factory => factory(alloc, &FactoryNames::of(given), host, hashes),
         Command::Keygen => keygen(alloc, &KeygenNames::of(given), host, hashes),
         Command::Sign => sign(alloc, &SignNames::of(given), host, hashes),
         Command::Countersign => countersign(alloc, &CountersignNames::of(given), host, hashes),
+        Command::Hsskeygen => hsskeygen(alloc, &HsskeygenNames::of(given), host, hashes),
+        Command::Endorse => endorse(alloc, &EndorseNames::of(given), host, hashes),
+        Command::Endorsed => endorsed(alloc, &EndorsedNames::of(given), host),
         Command::Migrate => migrate(alloc, &MigrateNames::of(given), host, hashes),
+        Command::App => app(alloc, &AppNames::of(given), host, hashes),
+        Command::Asm => asm(alloc, &AsmNames::of(given), host),
+        Command::Disasm => disasm(alloc, &DisasmNames::of(given), host),
         Command::Generate => generate(alloc, &GenerateNames::of(given), host, board, hashes),
     }
 }

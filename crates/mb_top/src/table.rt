@@ -14,13 +14,21 @@ pub enum Command {
     Run,
     Verify,
     Audit,
+    Trust,
     Chain,
     Attach,
+    Fleet,
     Factory,
     Keygen,
     Sign,
     Countersign,
+    Hsskeygen,
+    Endorse,
+    Endorsed,
     Migrate,
+    App,
+    Asm,
+    Disasm,
     Generate,
 }
 
@@ -30,7 +38,13 @@ const CODE: Word = ("CODE", Kind::File);
 
 const DRAFT: Word = ("DRAFT", Kind::File);
 
+const ENDORSEMENT: Word = ("ENDORSEMENT", Kind::File);
+
 const IMAGE: Word = ("IMAGE", Kind::File);
+
+const INPUT: Word = ("INPUT", Kind::File);
+
+const ITEMS: Word = ("ITEMS", Kind::File);
 
 const KEY: Word = ("KEY", Kind::File);
 
@@ -43,6 +57,8 @@ const KEYNUMBER: Word = (
 );
 
 const LAYER: Word = ("LAYER", Kind::Number { least: 2, most: 3 });
+
+const LEVELS: Word = ("LEVELS", Kind::Number { least: 1, most: 8 });
 
 const NOISE: Word = ("NOISE", Kind::File);
 
@@ -60,7 +76,11 @@ const OUT: Word = ("OUT", Kind::File);
 
 const OWNER: Word = ("OWNER", Kind::File);
 
+const POLICY: Word = ("POLICY", Kind::File);
+
 const PUBLIC: Word = ("PUBLIC", Kind::File);
+
+const REGISTER: Word = ("REGISTER", Kind::File);
 
 const ROOT: Word = ("ROOT", Kind::File);
 
@@ -70,11 +90,21 @@ const SCRIPT: Word = ("SCRIPT", Kind::File);
 
 const STATEMENT: Word = ("STATEMENT", Kind::File);
 
+const STEPS: Word = (
+    "STEPS",
+    Kind::Number {
+        least: 1,
+        most: 10_000_000,
+    },
+);
+
+const TEXT: Word = ("TEXT", Kind::File);
+
 /// A command, its name, the words after the name, and what it does.
 pub type Row = (Command, &'static str, &'static [Word], &'static str);
 
 /// The commands in the order in which `--help` lists them.
-pub const COMMANDS: [Row; 11] = [
+pub const COMMANDS: [Row; 19] = [
     (
         Command::Run,
         "run",
@@ -99,6 +129,13 @@ pub const COMMANDS: [Row; 11] = [
       judges the chain, and compares what it lists for the key with the log of the device of IMAGE",
     ),
     (
+        Command::Trust,
+        "trust",
+        &[ROOT, CHAIN, KEYNUMBER, POLICY],
+        "
+      judges the chain as verify does, and then by the policy the configurations in which the key lived",
+    ),
+    (
         Command::Chain,
         "chain",
         &[IMAGE, OUT],
@@ -111,6 +148,14 @@ pub const COMMANDS: [Row; 11] = [
         &[CHAIN, STATEMENT, OUT],
         "
       puts a statement on the chain, and prints how many entries are left beside it",
+    ),
+    (
+        Command::Fleet,
+        "fleet",
+        &[ROOT, REGISTER, ITEMS],
+        "
+      shows a register of devices the chains among the items under the maker's public key, asks it the
+      questions among them, writes the register, and prints the answers",
     ),
     (
         Command::Factory,
@@ -145,12 +190,57 @@ pub const COMMANDS: [Row; 11] = [
       more index used and the order as a line, and prints the index",
     ),
     (
+        Command::Hsskeygen,
+        "hsskeygen",
+        &[NOISE, LEVELS, KEY, PUBLIC],
+        "
+      makes a maker's HSS key of 1 to 8 levels from the noise, writes its file and its public key, and
+      prints the public key's hash",
+    ),
+    (
+        Command::Endorse,
+        "endorse",
+        &[KEY, ROOT, OUT],
+        "
+      endorses the public key in ROOT by a maker's HSS key, writes that key with one more of its numbers
+      used and the endorsement, and prints the number",
+    ),
+    (
+        Command::Endorsed,
+        "endorsed",
+        &[PUBLIC, ROOT, ENDORSEMENT],
+        "
+      judges the endorsement of the public key in ROOT under the public key of a maker's HSS key",
+    ),
+    (
         Command::Migrate,
         "migrate",
         &[IMAGE, OUT],
         "
       writes an image of the present form for the state of IMAGE, which may have the form before, and
       prints the new image's hash",
+    ),
+    (
+        Command::App,
+        "app",
+        &[IMAGE, LAYER, INPUT, STEPS],
+        "
+      runs the code of layer 2 or 3 of the device of IMAGE on the bytes of INPUT for 1 to 10,000,000
+      steps, and prints how it ends",
+    ),
+    (
+        Command::Asm,
+        "asm",
+        &[TEXT, OUT],
+        "
+      assembles the text, writes its code, and prints how many bytes that has",
+    ),
+    (
+        Command::Disasm,
+        "disasm",
+        &[CODE, OUT],
+        "
+      lists the code, writes its text, and prints how many lines that has",
     ),
     (
         Command::Generate,
