@@ -15,7 +15,7 @@ import policies  # noqa: F401, among the commands of chains.py from here on
 from life import Living
 from lms import sha256, u8, u16
 from officer import body, order, order_line, unhex
-from sources import HEX
+from sources import HEX, Source
 from top_readers import Host, private_key
 
 TOKEN = re.compile(r'"(?:[^"\\]|\\.)*"|[A-Za-z_][\w:]*|0x[0-9A-F]+|\d[\d_]*|[()\[\]{}]')
@@ -69,11 +69,14 @@ def values(text):
 def tables(source, constants):
     """The tables of steps of a source by their names, with the texts for the constants' names."""
     own = {name: source.constant(name) for name in re.findall(r'const ([A-Z_]+): &str =\s*"', source.text)}
+    lists = dict(re.findall(r"const ([A-Z_]+): &\[usize\] = (&\[.*?\]);", source.text, re.DOTALL))
     found = {}
     for name, text in re.findall(r"const ([A-Z_]+): &\[Step\] = &\[(.*?)\];\n", source.text, re.DOTALL):
         source.seen.update(re.findall(HEX, text))
         for constant, value in (own | constants).items():
             text = re.sub(rf"\b{constant}\b", lambda _, value=value: f'"{value}"', text)
+        for constant, value in lists.items():
+            text = re.sub(rf"\boffsets: {constant}\b", lambda _, value=value: value, text)
         for constant, value in LENGTHS.items():
             more = rf"\b{constant}\b(?: ([+-]) (\d[\d_]*))?"
             text = re.sub(more, lambda found, value=value: str(value + int("".join(found.groups("")) or "0")), text)
@@ -82,8 +85,11 @@ def tables(source, constants):
 
 
 def fits(printed, wanted):
-    """The lines are those that are wanted, of which one that ends in `*` stands for all that begin so."""
+    """The lines are those that are wanted, of which one that ends in `*` stands for all that begin so, and one that is `**`
+    for all that follow."""
     found, lines = printed.splitlines(), wanted.splitlines()
+    if lines[-1:] == ["**"]:
+        found, lines = found[: len(lines) - 1], lines[:-1]
     ends = [line.removesuffix("*") for line in lines]
     return len(found) == len(lines) and all(
         here.startswith(end) if end != line else here == line for here, end, line in zip(found, ends, lines)
@@ -280,6 +286,9 @@ def follow(source, world, step):
         source.compare(f"file {words[0]}", world.content(words[0]), None)
     elif kind == "Step::Ends":
         compare_end(source, world, *words)
+    elif kind == "Step::EndsEarly":
+        ((_, *short),) = words
+        compare_short(source, world, *short)
     elif kind == "Step::Serves":
         script, noise, lines = words
         world.writes("script", script)
@@ -291,6 +300,17 @@ def compare_end(source, world, words, status, lines):
     if printed is not None:
         right = (found, fits(printed, lines)) == (status, True)
         source.compare(words, (status, lines) if right else (found, printed), (status, lines))
+
+
+def compare_short(source, world, words, name, status, line, offsets):
+    """The file ends at each of the offsets, for the commands on chains."""
+    if words.split(" ")[0] not in chains.COMMANDS or name not in world.files:
+        return
+    whole = world.files[name]
+    for offset in offsets:
+        world.files[name] = whole[:offset]
+        compare_end(source, world, words, status, line.replace("@", str(offset)) + "\n")
+    world.files[name] = whole
 
 
 def born(source, first=LAYERS_OWNED):
@@ -364,6 +384,22 @@ def chains_tests(source, steps=None, tests=None):
             for name in re.findall(r"\w+", lists.get(word, word)):
                 for step in steps.get(name, ()):
                     follow(source, world, step)
+
+
+def short_inputs(source):
+    """Chains and the keys that they are judged by, which end where their fields begin."""
+    world, steps = born(source), tables(source, {})
+    life = tables(Source(source.root, CHAINS), {})
+    for step in [*life["A_NEW_DEVICE"], *life["A_WHOLE_LIFE"], *steps["FILES_ARE_MADE"], *steps["DEVICES_ARE_SHORT"]]:
+        follow(source, world, step)
+
+
+def last_entries(source):
+    """A log of the most entries, and what is wrong with the last."""
+    world, steps = born(source, A_NEW_DEVICE), tables(source, {})
+    for name in ("THE_LOG_IS_FULL", "ITS_END_IS_SHORT", "ITS_END_IS_WRONG", "ITS_END_IS_FORGED"):
+        for step in steps[name]:
+            follow(source, world, step)
 
 
 def chain_versions(source):

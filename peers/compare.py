@@ -21,7 +21,6 @@ from sources import Source
 
 HERE = pathlib.Path(__file__).resolve().parent
 
-CHAINS = "crates/mb_test_lives/src/tests/chains.rt"
 READERS = {
     "peers/rfc8554.txt": readers.standard,
     "crates/mb_lms/src/tests.rt": readers.lms_keys,
@@ -38,10 +37,12 @@ READERS = {
     "crates/mb_test_rules/src/tests/signed.rt": readers.judged_orders,
     "crates/mb_test_rules/src/tests/versions.rt": chain_readers.chain_versions,
     "crates/mb_test_lives/src/tests/births.rt": top_readers.births,
-    CHAINS: chain_readers.chains_tests,
+    chain_readers.CHAINS: chain_readers.chains_tests,
     "crates/mb_test_lives/src/tests/policies.rt": chain_readers.policies_tests,
     "crates/mb_test_lives/src/tests/trusts.rt": chain_readers.chains_tests,
     "crates/mb_test_lives/src/tests/fleet.rt": chain_readers.fleet_tests,
+    "crates/mb_test_lives/src/tests/failures.rt": chain_readers.short_inputs,
+    "crates/mb_test_lives/src/tests/limits.rt": chain_readers.last_entries,
     "crates/mb_test_lives/src/tests/devices.rt": top_readers.plays,
     "crates/mb_test_lives/src/tests/keys.rt": top_readers.plays,
     "crates/mb_test_lives/src/tests/sign.rt": top_readers.signed_orders,
@@ -82,7 +83,7 @@ def main(words):
     asked = words[0] if words[:1] in (["--signatures"], ["--chain"]) else None
     root = pathlib.Path(words[-1]) if len(words) > (asked is not None) else HERE.parent
     if asked:
-        chain = chain_readers.sample_signatures(Source(root, CHAINS))
+        chain = chain_readers.sample_signatures(Source(root, chain_readers.CHAINS))
         for row in signatures(root) if asked == "--signatures" else chain:
             print(*(part.hex() or "-" for part in row))
         return 0

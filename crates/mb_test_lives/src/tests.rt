@@ -6,7 +6,10 @@ mod chains;
 mod devices;
 mod endorsements;
 mod fleet;
+mod failures;
+mod hostile;
 mod keys;
+mod limits;
 mod lives;
 mod migration;
 mod policies;
@@ -19,6 +22,7 @@ mod succession;
 mod trusts;
 mod workloads;
 
+use hostile::{Access, ShortFile};
 use mb_board::SimBoard;
 use mb_host::{Host, MemoryHost};
 use mb_model::{Bytes, Calls, File, Files, NoMemory, SECTOR_LENGTH};
@@ -51,6 +55,8 @@ enum Content {
     Sevens(usize),
     /// So many digits, all of them 7.
     Digits(usize),
+    /// A text, so many times.
+    Repeats(&'static str, usize),
 }
 
 /// HashCount over one host.
@@ -94,6 +100,12 @@ enum Step {
     KeepsStatement(&'static str),
     /// Summaries were printed, and each tells the hash of the file of this name.
     IsSummarised(&'static str),
+    /// Each call of the host fails in turn.
+    FailsInTurn(&'static Access),
+    /// Each file that is read is too long in turn.
+    IsTooLong(&'static Access),
+    /// A file ends early at each of these offsets.
+    EndsEarly(&'static ShortFile),
 }
 
 /// A script on an image, in which power is lost at each write in turn of what comes after these lines.
@@ -170,6 +182,9 @@ fn take(rt: &(impl Abort + AllocGlobal), host: &mut MemoryHost, step: &Step) -> 
         Step::IsCut(cut) => is_cut(rt, host, cut),
         Step::KeepsStatement(name) => keep_statement(rt.alloc(), host, name),
         Step::IsSummarised(name) => is_summarised(rt, host, name),
+        Step::FailsInTurn(access) => hostile::fails_in_turn(rt, host, access),
+        Step::IsTooLong(access) => hostile::is_too_long(rt, host, access),
+        Step::EndsEarly(file) => hostile::ends_early(rt, host, file),
     }
 }
 
@@ -194,6 +209,7 @@ fn bytes_of(alloc: Global, content: &Content) -> Result<Vec<u8>, Fail> {
         Content::Laid(pieces) => laid(alloc, pieces),
         Content::Sevens(length) => filled(Vec::new(alloc), *length, 7),
         Content::Digits(length) => filled(Vec::new(alloc), *length, b'7'),
+        Content::Repeats(text, count) => repeated(alloc, text, *count),
     }
 }
 
@@ -212,6 +228,15 @@ fn laid(alloc: Global, pieces: &[(&str, usize, u8)]) -> Result<Vec<u8>, Fail> {
     for (text, end, byte) in pieces {
         bytes.extend_from_slice(&hex::decode(alloc, text)?)?;
         bytes.resize(*end, *byte)?;
+    }
+    Ok(bytes)
+}
+
+/// The text so many times.
+fn repeated(alloc: Global, text: &str, count: usize) -> Result<Vec<u8>, Fail> {
+    let mut bytes = Vec::new(alloc);
+    for _ in 0..count {
+        bytes.extend_from_slice(text.as_bytes())?;
     }
     Ok(bytes)
 }

@@ -1,0 +1,629 @@
+//! Each command over a hostile world: each of its calls of the host fails in turn, each of its inputs has one byte more
+//! than an input may have, and each of its inputs ends where a field or a word begins. The lines are those that the
+//! rules of the commands and the formats of the inputs give.
+
+use super::births::owned_device_goes_through;
+use super::chains::{A_NEW_DEVICE, A_WHOLE_LIFE};
+use super::hostile::{Access, ShortFile};
+use super::{Part, Step};
+use mb_model::{FLASH_LENGTH, IMAGE_LENGTH};
+use std::test::Fail;
+
+/// The files of the tables, of a device whose key 1 made a statement before layers 1 and 3 were loaded.
+const FILES_ARE_MADE: &[Step] = &[
+    Step::Writes("draw", &[Part::Slice("noise", 0, 32)]),
+    Step::Writes(
+        "events",
+        &[Part::Text("boot\nput 2 pin 35363738\ncommand 00\noff\n")],
+    ),
+    Step::Writes(
+        "every",
+        &[Part::Text(
+            "go\nput 2 pin 35\nget 2 pin\ndrop 2 pin\nsign 3 1 68\ncut 1 keep 2 fill 00\ncommand 00\n",
+        )],
+    ),
+    Step::Writes(
+        "full",
+        &[Part::Text(
+            "order load 1\n\
+                target serial 000102030405060708090a0b0c0d0e0f\n\
+                target length 5\n\
+                target owner 1 1111111111111111111111111111111111111111111111111111111111111111\n\
+                target code 3 2222222222222222222222222222222222222222222222222222222222222222\n\
+                version 2\ntrust always never\ncode 616263\n",
+        )],
+    ),
+    Step::Ends("sign officer1 full targets", 0, "index 3\n"),
+    Step::Ends("attach chain statement attached", 0, "entries 6\n"),
+];
+
+const RUN: Access = Access {
+    words: "run image events draw",
+    reads: &[("image", "image"), ("script", "events"), ("noise", "draw")],
+    writes: &[("image", "image")],
+};
+
+const VERIFY: Access = Access {
+    words: "verify public0 chain 1",
+    reads: &[("root", "public0"), ("chain", "chain")],
+    writes: &[],
+};
+
+const AUDIT: Access = Access {
+    words: "audit image public0 chain 1",
+    reads: &[("image", "image"), ("root", "public0"), ("chain", "chain")],
+    writes: &[],
+};
+
+const CHAIN: Access = Access {
+    words: "chain image out",
+    reads: &[("image", "image")],
+    writes: &[("out", "out")],
+};
+
+const ATTACH: Access = Access {
+    words: "attach chain statement out",
+    reads: &[("chain", "chain"), ("statement", "statement")],
+    writes: &[("out", "out")],
+};
+
+const FACTORY: Access = Access {
+    words: "factory birth maker public1 code made",
+    reads: &[
+        ("noise", "birth"),
+        ("key", "maker"),
+        ("owner", "public1"),
+        ("code", "code"),
+    ],
+    writes: &[("key", "maker"), ("image", "made")],
+};
+
+const KEYGEN: Access = Access {
+    words: "keygen noise0 key public",
+    reads: &[("noise", "noise0")],
+    writes: &[("key", "key"), ("public", "public")],
+};
+
+const SIGN: Access = Access {
+    words: "sign officer2 draft7 out",
+    reads: &[("key", "officer2"), ("draft", "draft7")],
+    writes: &[("key", "officer2"), ("out", "out")],
+};
+
+const COUNTERSIGN: Access = Access {
+    words: "countersign officer2 2 load out",
+    reads: &[("key", "officer2"), ("order", "load")],
+    writes: &[("key", "officer2"), ("out", "out")],
+};
+
+const MIGRATE: Access = Access {
+    words: "migrate image out",
+    reads: &[("image", "image")],
+    writes: &[("out", "out")],
+};
+
+const GENERATE: Access = Access {
+    words: "generate 1 1 image script noise",
+    reads: &[],
+    writes: &[("image", "image"), ("script", "script"), ("noise", "noise")],
+};
+
+/// Each call of each command fails in turn. Of a command that writes two files or more, the failing write of a later one
+/// leaves those before it.
+const CALLS_FAIL: &[Step] = &[
+    Step::FailsInTurn(&RUN),
+    Step::FailsInTurn(&VERIFY),
+    Step::FailsInTurn(&AUDIT),
+    Step::FailsInTurn(&CHAIN),
+    Step::FailsInTurn(&ATTACH),
+    Step::FailsInTurn(&FACTORY),
+    Step::FailsInTurn(&KEYGEN),
+    Step::FailsInTurn(&SIGN),
+    Step::FailsInTurn(&COUNTERSIGN),
+    Step::FailsInTurn(&MIGRATE),
+    Step::FailsInTurn(&GENERATE),
+];
+
+/// Each input of each command is too long in turn.
+const INPUTS_ARE_LONG: &[Step] = &[
+    Step::IsTooLong(&RUN),
+    Step::IsTooLong(&VERIFY),
+    Step::IsTooLong(&AUDIT),
+    Step::IsTooLong(&CHAIN),
+    Step::IsTooLong(&ATTACH),
+    Step::IsTooLong(&FACTORY),
+    Step::IsTooLong(&KEYGEN),
+    Step::IsTooLong(&SIGN),
+    Step::IsTooLong(&COUNTERSIGN),
+    Step::IsTooLong(&MIGRATE),
+];
+
+/// Where the fields of a key file begin.
+const KEY: &[usize] = &[0, 4, 20, 52];
+
+/// Where the fields of a public key begin.
+const PUBLIC: &[usize] = &[0, 4, 8, 24];
+
+/// Where areas of an image begin, and its last byte.
+const IMAGE: &[usize] = &[
+    0,
+    4_096,
+    8_192,
+    262_144,
+    FLASH_LENGTH,
+    FLASH_LENGTH + 4_096,
+    FLASH_LENGTH + 12_288,
+    FLASH_LENGTH + 20_480,
+    IMAGE_LENGTH - 1,
+];
+
+/// Where the fields of the chain begin, entry by entry, and its end without a statement.
+const CHAIN_FIELDS: &[usize] = &[
+    0, 4, 6, 7, 23, 27, 31, 47, 79, 80, 81, 82, 86, 90, 106, 138, 170, 174, 175, 176, 177, 178,
+    179, 180, 2_528, 2_529, 2_533, 2_537, 2_538, 2_539, 2_540, 2_541, 2_542, 2_543, 2_544, 2_548,
+    2_552, 2_568, 2_600, 2_632, 2_636, 2_637, 2_638, 2_639, 2_643, 2_647, 2_663, 2_695, 2_696,
+    2_697, 2_698, 2_699, 5_047, 5_048, 5_052, 5_056, 5_057, 5_058, 5_059, 5_060, 5_061, 5_062,
+    5_063, 5_067, 5_071, 5_087, 5_119, 5_151, 5_155, 5_156, 5_157, 5_158, 5_162, 5_166, 5_182,
+    5_214, 5_215, 5_216, 5_217, 5_221, 5_225, 5_241, 5_273, 5_274, 7_622, 7_623, 7_627, 7_631,
+    7_632, 7_633, 7_634, 7_635, 7_636, 7_637, 7_638, 7_642, 7_646, 7_662, 7_694, 7_726, 7_730,
+    7_731, 7_732, 7_733, 7_737, 7_741, 7_757, 7_789, 7_821, 7_825, 7_826, 7_827, 7_828, 7_832,
+    7_836, 7_852, 7_884, 7_885, 10_233, 10_234, 10_238, 10_242, 10_243, 10_244, 10_245, 10_246,
+    10_247, 10_248, 10_249, 10_253, 10_257, 10_273, 10_305, 10_337, 10_341, 10_342, 10_343, 10_344,
+    10_348, 10_352, 10_368, 10_400, 10_432, 10_436, 10_437, 10_438, 10_439, 10_443, 10_447, 10_463,
+    10_495, 10_527, 10_531, 10_532, 12_880, 12_881, 12_885, 12_889, 12_893, 12_894, 12_895, 12_899,
+    12_903, 12_919, 12_951, 15_299, 15_300, 15_304, 15_308, 15_309, 15_310, 15_311, 15_312, 15_313,
+    15_314, 15_315, 15_319, 15_323, 15_339, 15_371, 15_403, 15_407, 15_408, 15_409, 15_410, 15_414,
+    15_418, 15_434, 15_466, 15_498, 15_502, 15_503, 15_504, 15_505, 15_509, 15_513, 15_529, 15_561,
+    15_593, 15_597, 15_598, 15_602, 15_606, 15_622, 15_654, 18_002, 18_003, 18_007, 18_011, 18_012,
+    18_013, 18_014, 18_015, 18_016, 18_017, 18_018, 18_022, 18_026, 18_042, 18_074, 18_106, 18_110,
+    18_111, 18_112, 18_113, 18_117, 18_121, 18_137, 18_169, 18_201, 18_205, 18_206, 18_207, 18_208,
+    18_212, 18_216, 18_232, 18_264, 18_296, 18_300, 18_301, 20_649,
+];
+
+/// Where the mark of a statement and the fields of the statement begin on its chain.
+const STATEMENT: &[usize] = &[15_299, 15_300, 15_304, 15_305, 15_310];
+
+/// Where the words of the line of a countersigned load begin, and the fields of its order.
+const LOAD: &[usize] = &[
+    0, 8, 10, 12, 14, 22, 24, 32, 38, 42, 4_738, 4_740, 4_742, 4_746, 9_442, 9_444, 9_448,
+];
+
+/// Where the words of the line of a load with targets begin, and the fields of its order.
+const TARGETS: &[usize] = &[
+    0, 8, 10, 12, 14, 16, 48, 50, 58, 60, 62, 126, 128, 130, 194, 202, 204, 206, 214, 220, 224,
+    4_920,
+];
+
+/// Inputs of the commands on devices, chains and statements end early.
+const DEVICES_ARE_SHORT: &[Step] = &[
+    Step::EndsEarly(&ShortFile {
+        words: "run image events draw",
+        name: "image",
+        status: 3,
+        line: "input image length",
+        offsets: IMAGE,
+    }),
+    Step::EndsEarly(&ShortFile {
+        words: "run image every draw",
+        name: "every",
+        status: 3,
+        line: "input script line 2",
+        offsets: &[7, 9, 13],
+    }),
+    Step::EndsEarly(&ShortFile {
+        words: "run image every draw",
+        name: "every",
+        status: 3,
+        line: "input script line 3",
+        offsets: &[20, 22],
+    }),
+    Step::EndsEarly(&ShortFile {
+        words: "run image every draw",
+        name: "every",
+        status: 3,
+        line: "input script line 4",
+        offsets: &[31, 33],
+    }),
+    Step::EndsEarly(&ShortFile {
+        words: "run image every draw",
+        name: "every",
+        status: 3,
+        line: "input script line 5",
+        offsets: &[42, 44, 46],
+    }),
+    Step::EndsEarly(&ShortFile {
+        words: "run image every draw",
+        name: "every",
+        status: 3,
+        line: "input script line 6",
+        offsets: &[53, 55, 60, 62, 67],
+    }),
+    Step::EndsEarly(&ShortFile {
+        words: "run image every draw",
+        name: "every",
+        status: 3,
+        line: "input script line 7",
+        offsets: &[78],
+    }),
+    Step::EndsEarly(&ShortFile {
+        words: "run image events draw",
+        name: "draw",
+        status: 3,
+        line: "input noise length",
+        offsets: &[0, 31],
+    }),
+    Step::EndsEarly(&ShortFile {
+        words: "verify public0 chain 1",
+        name: "public0",
+        status: 3,
+        line: "input root at @",
+        offsets: PUBLIC,
+    }),
+    Step::EndsEarly(&ShortFile {
+        words: "verify public0 chain 1",
+        name: "chain",
+        status: 7,
+        line: "refused 20 @",
+        offsets: CHAIN_FIELDS,
+    }),
+    Step::EndsEarly(&ShortFile {
+        words: "verify public0 attached 1",
+        name: "attached",
+        status: 7,
+        line: "refused 20 @",
+        offsets: STATEMENT,
+    }),
+    Step::EndsEarly(&ShortFile {
+        words: "audit image public0 chain 1",
+        name: "image",
+        status: 3,
+        line: "input image length",
+        offsets: IMAGE,
+    }),
+    Step::EndsEarly(&ShortFile {
+        words: "audit image public0 chain 1",
+        name: "public0",
+        status: 3,
+        line: "input root at @",
+        offsets: PUBLIC,
+    }),
+    Step::EndsEarly(&ShortFile {
+        words: "audit image public0 chain 1",
+        name: "chain",
+        status: 7,
+        line: "refused 20 @",
+        offsets: CHAIN_FIELDS,
+    }),
+    Step::EndsEarly(&ShortFile {
+        words: "audit image public0 attached 1",
+        name: "attached",
+        status: 7,
+        line: "refused 20 @",
+        offsets: STATEMENT,
+    }),
+    Step::EndsEarly(&ShortFile {
+        words: "chain image out",
+        name: "image",
+        status: 3,
+        line: "input image length",
+        offsets: IMAGE,
+    }),
+    Step::EndsEarly(&ShortFile {
+        words: "attach chain statement out",
+        name: "chain",
+        status: 3,
+        line: "input chain at @",
+        offsets: CHAIN_FIELDS,
+    }),
+    Step::EndsEarly(&ShortFile {
+        words: "attach attached statement out",
+        name: "attached",
+        status: 3,
+        line: "input chain at @",
+        offsets: STATEMENT,
+    }),
+    Step::EndsEarly(&ShortFile {
+        words: "attach chain statement out",
+        name: "statement",
+        status: 3,
+        line: "input statement line 1",
+        offsets: &[0, 8, 10, 20],
+    }),
+    Step::EndsEarly(&ShortFile {
+        words: "migrate image out",
+        name: "image",
+        status: 3,
+        line: "input image length",
+        offsets: IMAGE,
+    }),
+];
+
+/// Inputs of the commands on keys and orders end early.
+const ORDERS_ARE_SHORT: &[Step] = &[
+    Step::EndsEarly(&ShortFile {
+        words: "factory birth maker public1 code out",
+        name: "birth",
+        status: 3,
+        line: "input noise length",
+        offsets: &[0, 32, 47],
+    }),
+    Step::EndsEarly(&ShortFile {
+        words: "factory birth maker public1 code out",
+        name: "maker",
+        status: 3,
+        line: "input key at @",
+        offsets: KEY,
+    }),
+    Step::EndsEarly(&ShortFile {
+        words: "factory birth maker public1 code out",
+        name: "public1",
+        status: 3,
+        line: "input owner at @",
+        offsets: PUBLIC,
+    }),
+    Step::EndsEarly(&ShortFile {
+        words: "keygen noise0 out out",
+        name: "noise0",
+        status: 3,
+        line: "input noise length",
+        offsets: &[0, 31],
+    }),
+    Step::EndsEarly(&ShortFile {
+        words: "sign officer2 full out",
+        name: "officer2",
+        status: 3,
+        line: "input key at @",
+        offsets: KEY,
+    }),
+    Step::EndsEarly(&ShortFile {
+        words: "sign officer2 full out",
+        name: "full",
+        status: 3,
+        line: "input draft line 1",
+        offsets: &[0, 6, 11],
+    }),
+    Step::EndsEarly(&ShortFile {
+        words: "sign officer2 full out",
+        name: "full",
+        status: 3,
+        line: "input draft line 2",
+        offsets: &[13, 20, 27],
+    }),
+    Step::EndsEarly(&ShortFile {
+        words: "sign officer2 full out",
+        name: "full",
+        status: 3,
+        line: "input draft line 3",
+        offsets: &[60, 67, 74],
+    }),
+    Step::EndsEarly(&ShortFile {
+        words: "sign officer2 full out",
+        name: "full",
+        status: 3,
+        line: "input draft line 4",
+        offsets: &[76, 83, 89, 91],
+    }),
+    Step::EndsEarly(&ShortFile {
+        words: "sign officer2 full out",
+        name: "full",
+        status: 3,
+        line: "input draft line 5",
+        offsets: &[156, 163, 168, 170],
+    }),
+    Step::EndsEarly(&ShortFile {
+        words: "sign officer2 full out",
+        name: "full",
+        status: 3,
+        line: "input draft line 6",
+        offsets: &[235, 243],
+    }),
+    Step::EndsEarly(&ShortFile {
+        words: "sign officer2 full out",
+        name: "full",
+        status: 3,
+        line: "input draft line 7",
+        offsets: &[245, 251, 258],
+    }),
+    Step::EndsEarly(&ShortFile {
+        words: "sign officer2 full out",
+        name: "full",
+        status: 3,
+        line: "input draft line 8",
+        offsets: &[264, 269],
+    }),
+    Step::EndsEarly(&ShortFile {
+        words: "sign officer2 draft1 out",
+        name: "draft1",
+        status: 3,
+        line: "input draft line 1",
+        offsets: &[0, 6, 16],
+    }),
+    Step::EndsEarly(&ShortFile {
+        words: "sign officer2 draft1 out",
+        name: "draft1",
+        status: 3,
+        line: "input draft line 2",
+        offsets: &[18, 24, 32, 40, 72],
+    }),
+    Step::EndsEarly(&ShortFile {
+        words: "sign officer2 draft1 out",
+        name: "draft1",
+        status: 3,
+        line: "input draft line 3",
+        offsets: &[137, 143],
+    }),
+    Step::EndsEarly(&ShortFile {
+        words: "sign officer2 draft5 out",
+        name: "draft5",
+        status: 3,
+        line: "input draft line 1",
+        offsets: &[0, 6, 13, 15],
+    }),
+    Step::EndsEarly(&ShortFile {
+        words: "countersign officer2 2 load out",
+        name: "officer2",
+        status: 3,
+        line: "input key at @",
+        offsets: KEY,
+    }),
+    Step::EndsEarly(&ShortFile {
+        words: "countersign officer2 2 order6 out",
+        name: "order6",
+        status: 3,
+        line: "input order line 1",
+        offsets: LOAD,
+    }),
+    Step::EndsEarly(&ShortFile {
+        words: "countersign officer2 2 targets out",
+        name: "targets",
+        status: 3,
+        line: "input order line 1",
+        offsets: TARGETS,
+    }),
+];
+
+/// Orders that end where a field begins are no orders, for the device.
+const SHORT_ORDERS_ARE_REFUSED: &[Step] = &[Step::Serves(
+    &[
+        Part::Text("boot\ncommand -\n"),
+        Part::Slice("order1", 0, 10),
+        Part::Text("\n"),
+        Part::Slice("order1", 0, 12),
+        Part::Text("\n"),
+        Part::Slice("order1", 0, 14),
+        Part::Text("\n"),
+        Part::Slice("order1", 0, 22),
+        Part::Text("\n"),
+        Part::Slice("order1", 0, 30),
+        Part::Text("\n"),
+        Part::Slice("order1", 0, 62),
+        Part::Text("\n"),
+        Part::Slice("order1", 0, 126),
+        Part::Text("\n"),
+        Part::Slice("order1", 0, 128),
+        Part::Text("\n"),
+        Part::Slice("order1", 0, 132),
+        Part::Text("\n"),
+        Part::Slice("order1", 0, 4_828),
+        Part::Text("\n"),
+        Part::Slice("order5", 0, 10),
+        Part::Text("\n"),
+        Part::Slice("order5", 0, 12),
+        Part::Text("\n"),
+        Part::Slice("order5", 0, 14),
+        Part::Text("\n"),
+        Part::Slice("order5", 0, 16),
+        Part::Text("\n"),
+        Part::Slice("order5", 0, 20),
+        Part::Text("\n"),
+        Part::Slice("order5", 0, 4_716),
+        Part::Text("\n"),
+        Part::Slice("order6", 0, 10),
+        Part::Text("\n"),
+        Part::Slice("order6", 0, 12),
+        Part::Text("\n"),
+        Part::Slice("order6", 0, 14),
+        Part::Text("\n"),
+        Part::Slice("order6", 0, 22),
+        Part::Text("\n"),
+        Part::Slice("order6", 0, 24),
+        Part::Text("\n"),
+        Part::Slice("order6", 0, 32),
+        Part::Text("\n"),
+        Part::Slice("order6", 0, 38),
+        Part::Text("\n"),
+        Part::Slice("order6", 0, 42),
+        Part::Text("\n"),
+        Part::Slice("order6", 0, 4_738),
+        Part::Text("\n"),
+        Part::Slice("order6", 0, 4_740),
+        Part::Text("\n"),
+        Part::Slice("order6", 0, 4_742),
+        Part::Text("\n"),
+        Part::Slice("order6", 0, 4_746),
+        Part::Text("\n"),
+        Part::Slice("order6", 0, 9_442),
+        Part::Text("\n"),
+        Part::Slice("order6", 0, 9_444),
+        Part::Text("\n"),
+        Part::Slice("order6", 0, 9_448),
+        Part::Text("\n"),
+        Part::Slice("targets", 0, 10),
+        Part::Text("\n"),
+        Part::Slice("targets", 0, 12),
+        Part::Text("\n"),
+        Part::Slice("targets", 0, 14),
+        Part::Text("\n"),
+        Part::Slice("targets", 0, 16),
+        Part::Text("\n"),
+        Part::Slice("targets", 0, 48),
+        Part::Text("\n"),
+        Part::Slice("targets", 0, 50),
+        Part::Text("\n"),
+        Part::Slice("targets", 0, 58),
+        Part::Text("\n"),
+        Part::Slice("targets", 0, 60),
+        Part::Text("\n"),
+        Part::Slice("targets", 0, 62),
+        Part::Text("\n"),
+        Part::Slice("targets", 0, 126),
+        Part::Text("\n"),
+        Part::Slice("targets", 0, 128),
+        Part::Text("\n"),
+        Part::Slice("targets", 0, 130),
+        Part::Text("\n"),
+        Part::Slice("targets", 0, 194),
+        Part::Text("\n"),
+        Part::Slice("targets", 0, 202),
+        Part::Text("\n"),
+        Part::Slice("targets", 0, 204),
+        Part::Text("\n"),
+        Part::Slice("targets", 0, 206),
+        Part::Text("\n"),
+        Part::Slice("targets", 0, 214),
+        Part::Text("\n"),
+        Part::Slice("targets", 0, 220),
+        Part::Text("\n"),
+        Part::Slice("targets", 0, 224),
+        Part::Text("\n"),
+        Part::Slice("targets", 0, 4_920),
+        Part::Text("\n"),
+    ],
+    "noise",
+    "booted\n\
+        refused 10 text\nrefused 10 text\nrefused 10 text\nrefused 10 text\nrefused 10 text\n\
+        refused 10 text\nrefused 10 text\nrefused 10 text\nrefused 10 text\nrefused 10 text\n\
+        refused 10 text\nrefused 10 text\nrefused 10 text\nrefused 10 text\nrefused 10 text\n\
+        refused 10 text\nrefused 10 text\nrefused 10 text\nrefused 10 text\nrefused 10 text\n\
+        refused 10 text\nrefused 10 text\nrefused 10 text\nrefused 10 text\nrefused 10 text\n\
+        refused 10 text\nrefused 10 text\nrefused 10 text\nrefused 10 text\nrefused 10 text\n\
+        refused 10 text\nrefused 10 text\nrefused 10 text\nrefused 10 text\nrefused 10 text\n\
+        refused 10 text\nrefused 10 text\nrefused 10 text\nrefused 10 text\nrefused 10 text\n\
+        refused 10 text\nrefused 10 text\nrefused 10 text\nrefused 10 text\nrefused 10 text\n\
+        refused 10 text\nrefused 10 text\nrefused 10 text\nrefused 10 text\nrefused 10 text\n\
+        refused 10 text\nrefused 10 text\n",
+)];
+
+#[test]
+fn calls_fail_in_turn(rt: HostRuntime) -> Result<(), Fail> {
+    owned_device_goes_through(
+        &rt,
+        &[A_NEW_DEVICE, A_WHOLE_LIFE, FILES_ARE_MADE, CALLS_FAIL],
+    )
+}
+
+#[test]
+fn inputs_are_long_or_short(rt: HostRuntime) -> Result<(), Fail> {
+    owned_device_goes_through(
+        &rt,
+        &[
+            A_NEW_DEVICE,
+            A_WHOLE_LIFE,
+            FILES_ARE_MADE,
+            INPUTS_ARE_LONG,
+            DEVICES_ARE_SHORT,
+            ORDERS_ARE_SHORT,
+            SHORT_ORDERS_ARE_REFUSED,
+        ],
+    )
+}
