@@ -1,4 +1,4 @@
-//! The command `factory`, by a device that an independent program made, and over a host whose calls fail.
+//! The command `factory`, by a device that an independent program made.
 
 use super::{Content, Given, Play, Step, perform};
 use std::test::Fail;
@@ -109,98 +109,6 @@ const A_DEVICE_IS_MADE: &[Play] = &[Play {
 #[test]
 fn a_device_is_made(rt: HostRuntime) -> Result<(), Fail> {
     perform(&rt, FILES, A_DEVICE_IS_MADE)
-}
-
-/// The image is there where printing alone fails.
-const CALLS_FAIL: &[Play] = &[
-    Play {
-        failing: &[0],
-        steps: &[
-            Step::Ends(
-                "factory noise3 first other none image",
-                4,
-                "read failed noise\n",
-            ),
-            Step::Holds("first", KEY),
-            Step::IsMissing("image"),
-        ],
-    },
-    Play {
-        failing: &[1],
-        steps: &[
-            Step::Ends(
-                "factory noise3 first other none image",
-                4,
-                "read failed key\n",
-            ),
-            Step::Holds("first", KEY),
-            Step::IsMissing("image"),
-        ],
-    },
-    Play {
-        failing: &[2],
-        steps: &[
-            Step::Ends(
-                "factory noise3 first other none image",
-                4,
-                "read failed owner\n",
-            ),
-            Step::Holds("first", KEY),
-            Step::IsMissing("image"),
-        ],
-    },
-    Play {
-        failing: &[3],
-        steps: &[
-            Step::Ends(
-                "factory noise3 first other none image",
-                4,
-                "read failed code\n",
-            ),
-            Step::Holds("first", KEY),
-            Step::IsMissing("image"),
-        ],
-    },
-    Play {
-        failing: &[4],
-        steps: &[
-            Step::Ends(
-                "factory noise3 first other none image",
-                5,
-                "write failed key\n",
-            ),
-            Step::Holds("first", KEY),
-            Step::IsMissing("image"),
-        ],
-    },
-    Play {
-        failing: &[5],
-        steps: &[
-            Step::Ends(
-                "factory noise3 first other none image",
-                5,
-                "write failed image\n",
-            ),
-            Step::Holds("first", USED_KEY),
-            Step::IsMissing("image"),
-        ],
-    },
-    Play {
-        failing: &[6],
-        steps: &[
-            Step::Ends(
-                "factory noise3 first other none image",
-                5,
-                "write failed output\n",
-            ),
-            Step::Holds("first", USED_KEY),
-        ],
-    },
-];
-
-#[test]
-fn calls_fail_in_turn(rt: HostRuntime) -> Result<(), Fail> {
-    perform(&rt, FILES, CALLS_FAIL)
 }
 
 /// What is refused writes nothing.

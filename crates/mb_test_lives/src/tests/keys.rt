@@ -1,4 +1,4 @@
-//! The command `keygen`, by keys that an independent program made, and over a host whose calls fail.
+//! The command `keygen`, by keys that an independent program made.
 
 use super::{Content, Given, Play, Step, perform};
 use std::test::Fail;
@@ -114,7 +114,7 @@ fn keys_are_made(rt: HostRuntime) -> Result<(), Fail> {
     perform(&rt, FILES, KEYS_ARE_MADE)
 }
 
-/// Noise that is too short, one name for both outputs, and a write that fails.
+/// Noise that is too short, and one name for both outputs.
 const OTHER_ENDS: &[Play] = &[
     Play {
         failing: &[],
@@ -128,13 +128,6 @@ const OTHER_ENDS: &[Play] = &[
         steps: &[
             Step::Ends("keygen zeros file file", 0, ZEROS_LINE),
             Step::Holds("file", ZEROS_PUBLIC),
-        ],
-    },
-    Play {
-        failing: &[2],
-        steps: &[
-            Step::Ends("keygen zeros key public", 5, "write failed public\n"),
-            Step::Holds("key", ZEROS_KEY),
         ],
     },
 ];

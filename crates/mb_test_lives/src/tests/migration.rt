@@ -128,12 +128,6 @@ const PENDING_WORK_IS_DONE: &[Step] = &[
     Step::Matches("migrated", "booted"),
 ];
 
-/// The output can't be written.
-const NOT_WRITTEN: &[Step] = &[
-    Step::Ends("migrate dead out", 5, "write failed out\n"),
-    Step::IsMissing("out"),
-];
-
 #[test]
 fn images_are_migrated_or_refused(rt: HostRuntime) -> Result<(), Fail> {
     perform(
@@ -147,10 +141,6 @@ fn images_are_migrated_or_refused(rt: HostRuntime) -> Result<(), Fail> {
             Play {
                 failing: &[],
                 steps: NEITHER_IS_REFUSED,
-            },
-            Play {
-                failing: &[1],
-                steps: NOT_WRITTEN,
             },
         ],
     )

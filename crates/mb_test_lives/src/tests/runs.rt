@@ -1,4 +1,4 @@
-//! The command `run` over a host whose calls fail.
+//! The command `run` over a host that prints nothing.
 
 use super::devices::{KEY, OTHER_OWNER, SERIAL};
 use super::{Content, Given, Play, Step, perform};
@@ -37,42 +37,17 @@ const FILES: &[Given] = &[
     },
 ];
 
-/// Where printing alone fails, the image is the new one. In the last, the line of the failure is not printed either.
-const CALLS_FAIL: &[Play] = &[
-    Play {
-        failing: &[8],
-        steps: &[
-            Step::Ends("factory noise3 first other code image", 0, SERIAL),
-            Step::Ends("run image tampered noise", 4, "read failed script\n"),
-        ],
-    },
-    Play {
-        failing: &[10],
-        steps: &[
-            Step::Ends("factory noise3 first other code image", 0, SERIAL),
-            Step::Ends("run image tampered noise", 5, "write failed image\n"),
-            Step::Ends("run image boot noise", 0, "booted\n"),
-        ],
-    },
-    Play {
-        failing: &[11],
-        steps: &[
-            Step::Ends("factory noise3 first other code image", 0, SERIAL),
-            Step::Ends("run image tampered noise", 5, "write failed output\n"),
-            Step::Ends("run image boot noise", 0, "refused 3 zeroised\n"),
-        ],
-    },
-    Play {
-        failing: &[11, 12],
-        steps: &[
-            Step::Ends("factory noise3 first other code image", 0, SERIAL),
-            Step::Ends("run image tampered noise", 5, ""),
-            Step::Ends("run image boot noise", 0, "refused 3 zeroised\n"),
-        ],
-    },
-];
+/// Neither the replies nor the line that tells of it can be printed: the image is the new one.
+const NOTHING_IS_PRINTED: &[Play] = &[Play {
+    failing: &[11, 12],
+    steps: &[
+        Step::Ends("factory noise3 first other code image", 0, SERIAL),
+        Step::Ends("run image tampered noise", 5, ""),
+        Step::Ends("run image boot noise", 0, "refused 3 zeroised\n"),
+    ],
+}];
 
 #[test]
-fn calls_fail_in_turn(rt: HostRuntime) -> Result<(), Fail> {
-    perform(&rt, FILES, CALLS_FAIL)
+fn nothing_is_printed(rt: HostRuntime) -> Result<(), Fail> {
+    perform(&rt, FILES, NOTHING_IS_PRINTED)
 }

@@ -1,5 +1,4 @@
-//! The commands `sign` and `countersign`, by orders that an independent program signed, and over a host whose calls
-//! fail.
+//! The commands `sign` and `countersign`, by orders that an independent program signed.
 
 use super::{Content, Given, Play, Step, perform};
 use std::test::Fail;
@@ -190,54 +189,6 @@ const ORDERS_ARE_SIGNED: &[Play] = &[
 #[test]
 fn orders_are_signed(rt: HostRuntime) -> Result<(), Fail> {
     perform(&rt, FILES, ORDERS_ARE_SIGNED)
-}
-
-/// The order is there where printing alone fails.
-const CALLS_FAIL: &[Play] = &[
-    Play {
-        failing: &[0],
-        steps: &[
-            Step::Ends("sign key draft order", 4, "read failed key\n"),
-            Step::Holds("key", KEY),
-            Step::IsMissing("order"),
-        ],
-    },
-    Play {
-        failing: &[1],
-        steps: &[
-            Step::Ends("sign key draft order", 4, "read failed draft\n"),
-            Step::Holds("key", KEY),
-            Step::IsMissing("order"),
-        ],
-    },
-    Play {
-        failing: &[2],
-        steps: &[
-            Step::Ends("sign key draft order", 5, "write failed key\n"),
-            Step::Holds("key", KEY),
-            Step::IsMissing("order"),
-        ],
-    },
-    Play {
-        failing: &[3],
-        steps: &[
-            Step::Ends("sign key draft order", 5, "write failed out\n"),
-            Step::Holds("key", USED_KEY),
-            Step::IsMissing("order"),
-        ],
-    },
-    Play {
-        failing: &[4],
-        steps: &[
-            Step::Ends("sign key draft order", 5, "write failed output\n"),
-            Step::Holds("key", USED_KEY),
-        ],
-    },
-];
-
-#[test]
-fn calls_fail_in_turn(rt: HostRuntime) -> Result<(), Fail> {
-    perform(&rt, FILES, CALLS_FAIL)
 }
 
 /// What is refused writes nothing.

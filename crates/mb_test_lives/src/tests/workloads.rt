@@ -67,48 +67,12 @@ const NO_WORDS: Play = Play {
     ],
 };
 
-/// The first write fails, and nothing else is written.
-const NO_IMAGE: Play = Play {
-    failing: &[0],
-    steps: &[
-        Step::Ends("generate 2 1 image script noise", 5, "write failed image\n"),
-        Step::WasCalled(0, 1, 1),
-        Step::IsMissing("script"),
-        Step::IsMissing("noise"),
-    ],
-};
-
-/// The second write fails, after the first.
-const NO_SCRIPT: Play = Play {
-    failing: &[1],
-    steps: &[
-        Step::Ends(
-            "generate 1 1 image script noise",
-            5,
-            "write failed script\n",
-        ),
-        Step::WasCalled(0, 2, 1),
-        Step::HasHash("image", NEW),
-        Step::IsMissing("noise"),
-    ],
-};
-
-/// The third write fails, after the others, and nothing is served.
-const NO_NOISE: Play = Play {
-    failing: &[2],
-    steps: &[
-        Step::Ends("generate 1 1 image script noise", 5, "write failed noise\n"),
-        Step::WasCalled(0, 3, 1),
-        Step::HasHash("image", NEW),
-    ],
-};
-
 #[test]
 fn workloads_are_served(rt: HostRuntime) -> Result<(), Fail> {
     perform(&rt, &[], &[SMALL, LARGE])
 }
 
 #[test]
-fn workloads_are_refused_or_not_written(rt: HostRuntime) -> Result<(), Fail> {
-    perform(&rt, &[], &[NO_WORDS, NO_IMAGE, NO_SCRIPT, NO_NOISE])
+fn other_words_make_no_workload(rt: HostRuntime) -> Result<(), Fail> {
+    perform(&rt, &[], &[NO_WORDS])
 }
