@@ -266,17 +266,6 @@ class Worker:
         return tried, longest, wrong
 
 
-def is_predicted(files):
-    """Whether each chain that a device signs against the rules is refused for what it breaks, by peers/chains.py."""
-    right = True
-    for name, line, bytes_ in forged.all_chains():
-        status, printed, _ = chains.answer(["verify", "root", "bad", "1"], (files | {"bad": bytes_}).get)
-        if (status, printed) != (7, f"{line}\n") if line else status != 0:
-            print(f"{name}: {printed} by peers/chains.py, and not {line or 'accepted'}")
-            right = False
-    return right
-
-
 def begin(*words):
     """Makes the worker of a process."""
     global worker
@@ -309,7 +298,7 @@ def main():
     reader.add_argument("--every", type=int, default=1, help="of each kind each so many alone")
     words = reader.parse_args()
     began, files = time.monotonic(), sample()
-    if not is_predicted(files):
+    if not forged.are_predicted(forged.all_chains(), files):
         return 1
     folder = tempfile.mkdtemp()
     try:

@@ -1,11 +1,14 @@
 """Chains that a device signs against the rules, and what each is refused for."""
 
+import chains
 from device import ALWAYS, BIRTH, CHANGE, CONFIGURATION, COUNTERSIGNED, EMERGENCY, EPOCH, ESTABLISH, LOAD, NEVER
 from device import SURRENDER, UNOWNED, Device, optional, owned, pair
 from lms import sha256, u8, u16, u32
 from officer import Officer
 
 LAST_INDEX = 31
+# the most entries of a log
+MOST = 128
 
 
 def spelled(layers, version):
@@ -37,12 +40,12 @@ def chain(log, statement=b""):
 
 class Forger:
     """A device whose three layers run, with one key of layer 3, which has the number 1, and whose device key signs one
-    entry more."""
+    entry more. Its log has at least so many entries, and its key has signed so many or more."""
 
-    def __init__(self, used=None, version=2):
+    def __init__(self, used=0, version=2, length=0):
         self.device = owned(version=version)
         self.device.make_key(3)
-        while used is not None and self.device.key.uses < used:
+        while self.device.key.uses < used or len(self.device.log) < length:
             self.device.load(3)
         self.other = Officer(sha256(b"another key"))
 
@@ -96,9 +99,8 @@ class Forger:
         return chain(device.log, statement)
 
 
-def loads():
+def loads(f):
     """One load more: names, what is refused, and the chain."""
-    f = Forger()
     n = len(f.device.log)
     two, three = f.device.layers[2], f.device.layers[3]
     yield "a load of layer 3", None, f.load()
@@ -144,20 +146,22 @@ def loads():
     yield "a load of layer 2 that layer 3 countersigns", None, f.load(layer=2, cosigned=(3,))
 
 
-def keys():
-    """One new key more, or the next device key."""
-    f = Forger()
+def keys(f):
+    """One new key more, or the next device key too early."""
     n = len(f.device.log)
     yield "a new key", None, f.key()
     yield "a new key in the wrong position", f"refused 22 {n}", f.key(position=n - 1)
-    yield "a new key at another index", f"refused 22 {n}", f.key(index=30)
+    yield "a new key at another index", f"refused 22 {n}", f.key(index=31)
     yield "a new key of another configuration", f"refused 23 {n}", f.key(number=f.device.number + 1)
     yield "a number of a key used again", f"refused 23 {n}", f.key(key_number=1)
     yield "a number of a key left out", f"refused 23 {n}", f.key(key_number=f.device.made + 1)
     yield "a succession too early", f"refused 23 {n}", f.succeeded()
     yield "a second birth", f"refused 23 {n}", f.again()
-    yield "a second birth at another index", f"refused 22 {n}", f.again(index=20)
-    f = Forger(LAST_INDEX)
+    yield "a second birth at another index", f"refused 22 {n}", f.again(index=29)
+
+
+def last_indices(f):
+    """One entry more by a device key of which the last index is left."""
     n = len(f.device.log)
     yield "a succession by the last index", None, f.succeeded()
     yield "a succession in the wrong position", f"refused 22 {n}", f.succeeded(position=0)
@@ -239,22 +243,29 @@ def loaded_beneath(f, layer, cosigned, kept, goes_along):
     return f"{name}, region 3 {'kept' if kept else 'lost'}", line, bytes_
 
 
-def statements():
-    """Statements on a chain whose last configuration has another number, and of keys that have ended."""
-    f = Forger()
+def statements(f):
+    """Statements on a chain whose last configuration has another number, or that another key made."""
     yield "a statement", None, f.stated()
     yield "a statement of before", "refused 26", f.stated(number=f.device.number - 1)
     yield "a statement of later", "refused 26", f.stated(number=f.device.number + 1)
     yield "a statement of another number of a key", "refused 25", f.stated(key_number=2)
     yield "a statement of another device", "refused 25", f.stated(serial=bytes(16))
     yield "a statement by another key", "refused 25", f.stated(key=f.device.key)
-    f.device.load(2, EMERGENCY)
-    yield "an epoch key after an emergency beneath", None, f.stated()
-    f = Forger()
+
+
+def ended(f):
+    """A statement of a key that ended with the last entry."""
     key = f.device.regions[3]["keys"][0][1]
     f.device.load(3, EMERGENCY)
     f.device.log[-1] = emergency(f)
     yield "an epoch key after an emergency of its layer", "refused 27", f.stated(key=key)
+
+
+def living():
+    """Statements of an epoch key after an emergency beneath, and of keys of a configuration."""
+    f = Forger()
+    f.device.load(2, EMERGENCY)
+    yield "an epoch key after an emergency beneath", None, f.stated()
     f = Forger()
     f.device.regions[3]["keys"].clear()
     f.device.log.pop()
@@ -275,5 +286,30 @@ def emergency(f):
 
 
 def all_chains():
-    for some in (loads, keys, births, versions, trusts, statements):
+    yield from loads(Forger())
+    yield from keys(Forger())
+    yield from last_indices(Forger(LAST_INDEX))
+    for some in (births, versions, trusts):
         yield from some()
+    yield from statements(Forger())
+    yield from ended(Forger())
+    yield from living()
+
+
+def last_chains():
+    """Chains whose last entry has the last possible place."""
+    yield from loads(Forger(length=MOST - 1))
+    yield from keys(Forger(length=MOST - 1))
+    yield from statements(Forger(length=MOST))
+    yield from ended(Forger(length=MOST - 1))
+
+
+def are_predicted(some, files):
+    """Whether each of these chains is refused for what it breaks, by peers/chains.py."""
+    right = True
+    for name, line, bytes_ in some:
+        status, printed, _ = chains.answer(["verify", "root", "bad", "1"], (files | {"bad": bytes_}).get)
+        if (status, printed) != (7, f"{line}\n") if line else status != 0:
+            print(f"{name}: {printed} by peers/chains.py, and not {line or 'accepted'}")
+            right = False
+    return right

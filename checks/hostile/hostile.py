@@ -1,0 +1,423 @@
+#!/usr/bin/env python3
+"""Gives each command of the program a hostile world. See checks/hostile.sh, which runs it."""
+
+import argparse
+import concurrent.futures
+import dataclasses
+import functools
+import pathlib
+import resource
+import shutil
+import signal
+import subprocess
+import sys
+import tempfile
+import time
+
+HERE = pathlib.Path(__file__).resolve().parent
+sys.path[:0] = [str(HERE.parents[1] / "peers"), str(HERE.parent / "chains")]
+
+import chains  # noqa: E402
+import forged  # noqa: E402
+from device import owned  # noqa: E402
+from lms import sha256  # noqa: E402
+from officer import Officer, body, order, order_line, signed_text  # noqa: E402
+
+LONGEST = chains.LONGEST_FILE
+MOST_LINES, MOST_CODE = 65_536, 32_768
+SECTOR, IMAGE = chains.SECTOR, chains.FLASH + chains.BBRAM
+KEY_FIELDS, PUBLIC_FIELDS = (0, 4, 20, 52), (0, 4, 8, 24)
+# so many trials are given to a process at a time, and a call is given up after so many seconds
+CHUNK, GIVEN_UP = 100, 600
+
+
+@dataclasses.dataclass(frozen=True)
+class Command:
+    """The words of a call, and the role and the name of each file that it reads and then writes, in this order."""
+
+    words: str
+    reads: tuple = ()
+    writes: tuple = ()
+
+
+@dataclasses.dataclass(frozen=True)
+class Trial:
+    """A call over changed files. It ends with one of these statuses and lines, or as peers/chains.py predicts. So many of
+    its outputs are written as ever, and where a write fails the one after them may be anything."""
+
+    command: Command
+    changes: tuple = ()
+    ends: tuple | None = None
+    done: int = 0
+    is_torn: bool = False
+    # the most bytes that a file takes, and whether nothing can be printed
+    limit: int | None = None
+    is_full: bool = False
+
+
+RUN = Command(
+    "run image script noise", (("image", "image"), ("script", "script"), ("noise", "noise")), (("image", "image"),)
+)
+VERIFY = Command("verify root chain 1", (("root", "root"), ("chain", "chain")))
+AUDIT = Command("audit image root chain 1", (("image", "image"), ("root", "root"), ("chain", "chain")))
+CHAIN = Command("chain image out", (("image", "image"),), (("out", "out"),))
+ATTACH = Command("attach chain statement out", (("chain", "chain"), ("statement", "statement")), (("out", "out"),))
+FACTORY = Command(
+    "factory noise key owner code new",
+    (("noise", "noise"), ("key", "key"), ("owner", "owner"), ("code", "code")),
+    (("key", "key"), ("image", "new")),
+)
+KEYGEN = Command("keygen noise made public", (("noise", "noise"),), (("key", "made"), ("public", "public")))
+SIGN = Command("sign key draft out", (("key", "key"), ("draft", "draft")), (("key", "key"), ("out", "out")))
+COUNTERSIGN = Command(
+    "countersign key 3 order out", (("key", "key"), ("order", "order")), (("key", "key"), ("out", "out"))
+)
+MIGRATE = Command("migrate image out", (("image", "image"),), (("out", "out"),))
+GENERATE = Command("generate 1 1 new events draws", (), (("image", "new"), ("script", "events"), ("noise", "draws")))
+LEAST_NOISE = {RUN: 32, FACTORY: 48, KEYGEN: 32}
+COMMANDS = RUN, VERIFY, AUDIT, CHAIN, ATTACH, FACTORY, KEYGEN, SIGN, COUNTERSIGN, MIGRATE, GENERATE
+# chains that peers/chains.py judges, of other files
+STATED, LAST, NO_KEY = Command("verify root attached 1"), Command("verify root full 1"), Command("verify root full 9")
+BAD, BAD_AUDIT = Command("verify root bad 1"), Command("audit image root bad 1")
+
+
+# ---- the files of each trial
+
+
+def sample():
+    """The files that each trial has: of a device whose key 1 made a statement, and then layers 1 and 3 were loaded."""
+    device, officer = owned(), Officer(sha256(b"officer"))
+    device.make_key(3)
+    _, statement = device.sign(3, 1, b"a message")
+    device.load(1)
+    device.load(3)
+    draft = f"order load 2\ntarget serial {device.serial.hex()}\ntarget length 9\nversion 7\ntrust always never\ncode 00ff\n"
+    text = body(draft)
+    files = {
+        "image": device.image(),
+        "script": b"boot\nput 2 pin 35363738\nget 2 pin\ncommand 00\nsign 3 1 6869\noff\n",
+        "noise": bytes(range(48)),
+        "root": device.maker.public(),
+        "chain": device.chain(),
+        "statement": statement.hex().encode() + b"\n",
+        "key": officer.key_file(),
+        "owner": officer.public(),
+        "code": b"code of layer 1",
+        "draft": draft.encode(),
+        "order": order_line(order(text, officer.key.sign(0, signed_text(text)))).encode(),
+        "full": forged.chain(longest().log),
+    }
+    _, _, written = chains.answer(["attach", "chain", "statement", "attached"], files.get)
+    return files | written
+
+
+@functools.lru_cache(None)
+def longest():
+    """A device with a log of the most entries."""
+    return forged.Forger(length=forged.MOST).device
+
+
+def changed(bytes_, change):
+    """The bytes of a file after a change, None for no file, or `folder`."""
+    what, *how = change
+    if what == "cut":
+        return bytes_[: how[0]]
+    if what == "turn":
+        return bytes_[: how[0]] + bytes([bytes_[how[0]] ^ 1 << how[1]]) + bytes_[how[0] + 1 :]
+    if what == "fill":
+        return bytes_[: how[0]].ljust(how[0], b"\7")
+    return {"gone": None, "folder": "folder", "is": how[0] if how else None}[what]
+
+
+# ---- kinds of trials
+
+
+def calls_fail(files):
+    """Each read fails for want of the file and at a folder of its name; each write for want of room, or at a folder of
+    the file's name, and printing for want of room."""
+    for command in COMMANDS:
+        for role, name in command.reads:
+            for what in "gone", "folder":
+                yield Trial(command, ((name, what),), ((4, f"read failed {role}\n"),))
+        # before the shortest of these outputs, no more room
+        room = {"key": 10, "image": 1_000, "out": 100}
+        for number, (role, name) in enumerate(command.writes):
+            wanted = ((5, f"write failed {role}\n"),)
+            if (role, name) not in command.reads:
+                yield Trial(command, ((name, "folder"),), wanted, number, True)
+            if role in room:
+                yield Trial(command, (), wanted, number, True, room[role])
+        yield Trial(command, (), ((5, ""),), len(command.writes), is_full=True)
+
+
+def long_inputs(files):
+    """Each input is one byte too long, which its line tells, or as long as it may be."""
+    for command in COMMANDS:
+        for role, name in command.reads:
+            yield Trial(command, ((name, "fill", LONGEST + 1),), ((3, f"input {role} too long\n"),))
+            # noise may go on, and is not used there
+            done = len(command.writes) if role == "noise" else 0
+            yield Trial(command, ((name, "fill", LONGEST),), ends_of_longest(role), done)
+
+
+def ends_of_longest(role):
+    """The end of a command whose input goes on to the most bytes, where peers/chains.py does not predict it."""
+    if role in ("key", "root", "owner"):
+        return ((3, f"input {role} at 56\n"),)
+    if role in ("image", "code"):
+        return ((3, f"input {role} length\n"),)
+    lines = {"script": 7, "draft": 7, "order": 2, "statement": 2}
+    return ((3, f"input {role} line {lines[role]}\n"),) if role in lines else None
+
+
+def short_inputs(files):
+    """Each input ends at each of its bytes, and an image where its sectors begin."""
+    for command in COMMANDS:
+        for role, name in command.reads:
+            if role == "code":
+                continue
+            for at in range(0, len(files[name]), step_of(command, role)):
+                yield from short_input(command, role, name, files[name], at)
+    for at in range(len(files["attached"]) - chains.SIGNATURE - 20, len(files["attached"])):
+        yield Trial(STATED, (("attached", "cut", at),))
+
+
+def step_of(command, role):
+    """An input of so many bytes ends at each so many of them."""
+    if role == "image":
+        return SECTOR
+    return 7 if role == "chain" and command is not VERIFY else 1
+
+
+def short_input(command, role, name, bytes_, at):
+    """The trial in which an input ends here, if its end is known to be told."""
+    change = ((name, "cut", at),)
+    fields = {"key": KEY_FIELDS, "owner": PUBLIC_FIELDS, "root": PUBLIC_FIELDS}
+    if role in fields:
+        begins = max(field for field in fields[role] if field <= at)
+        yield Trial(command, change, ((3, f"input {role} at {begins}\n"),))
+    elif role == "image":
+        yield Trial(command, change, ((3, "input image length\n"),))
+    elif role == "chain":
+        yield Trial(command, change)
+    elif role == "noise":
+        if at < LEAST_NOISE[command]:
+            yield Trial(command, change, ((3, "input noise length\n"),))
+    elif is_told(role, bytes_, at):
+        line = bytes_[:at].count(b"\n") + 1
+        yield Trial(command, change, ((3, f"input {role} line {line}\n"),))
+
+
+def is_told(role, text, at):
+    """Whether a text cannot end here: before a word; in a draft also before a line; in one long word anywhere."""
+    if role in ("order", "statement"):
+        return at < len(text) - 1
+    before = text[at - 1 : at]
+    return before == b" " or (role == "draft" and before in (b"", b"\n"))
+
+
+def last_entries(files):
+    """The last of 128 entries ends at each of its bytes, and each byte has a bit turned. peers/chains.py predicts."""
+    begins = len(forged.chain(longest().log[:-1])) - 1
+    for at in range(begins, len(files["full"])):
+        yield Trial(LAST, (("full", "cut", at),))
+        yield Trial(LAST, (("full", "turn", at, at % 8),))
+    yield Trial(NO_KEY)
+
+
+def forged_entries(files):
+    """In the place of the last of 128 entries stands one that a device signed against the rules."""
+    for _, _, bytes_ in forged.last_chains():
+        yield Trial(BAD, (("bad", "is", bytes_),))
+        yield Trial(BAD_AUDIT, (("bad", "is", bytes_),))
+
+
+def limits(files):
+    """The longest script and one line more; the largest code and one byte more, through a draft, an order and a device."""
+    off = b"off\n"
+    yield Trial(RUN, (("script", "is", off * MOST_LINES),), ((0, "off\n" * MOST_LINES),), 1)
+    yield Trial(RUN, (("script", "is", off * (MOST_LINES + 1)),), ((3, f"input script line {MOST_LINES + 1}\n"),))
+    yield Trial(FACTORY, (("code", "is", bytes(MOST_CODE + 1)),), ((3, "input code length\n"),))
+    yield Trial(FACTORY, (("code", "is", bytes(MOST_CODE)),), ((0, f"serial {files['noise'][32:48].hex()}\n"),), 2)
+    head = b"order load 2\nversion 7\ntrust always\ncode "
+    yield Trial(SIGN, (("draft", "is", head + b"07" * MOST_CODE + b"\n"),), ((0, "index 0\n"),), 2)
+    yield Trial(SIGN, (("draft", "is", head + b"07" * (MOST_CODE + 1) + b"\n"),), ((3, "input draft line 4\n"),))
+    for more, reply in (0, "done 7 9"), (1, "refused 10 text"):
+        script = f"boot\n{largest(MOST_CODE + more)}off\n".encode()
+        yield Trial(RUN, (("script", "is", script),), ((0, f"booted\n{reply}\noff\n"),), 1)
+
+
+def largest(length):
+    """The line of a load of layer 2 with so much code, signed by its owner."""
+    text = body(f"order load 2\nversion 7\ntrust always\ncode {'07' * length}\n")
+    signature = Officer(sha256(b"owner", b"\2")).key.sign(0, signed_text(text))
+    return order_line(order(text, signature))
+
+
+KINDS = {
+    "calls that fail": calls_fail,
+    "long inputs": long_inputs,
+    "short inputs": short_inputs,
+    "the last of 128 entries": last_entries,
+    "the last of 128 entries, forged": forged_entries,
+    "the longest script, the largest code": limits,
+}
+
+
+# ---- trials
+
+
+class Worker:
+    """A folder with the files, in which the program runs."""
+
+    def __init__(self, program, folder, files):
+        self.program, self.files = program, files
+        self.folder = pathlib.Path(tempfile.mkdtemp(dir=folder))
+        for name, bytes_ in files.items():
+            (self.folder / name).write_bytes(bytes_)
+        self.known = {}
+
+    def lay(self, name, content):
+        """Makes this the content of a name."""
+        path = self.folder / name
+        if path.is_dir():
+            path.rmdir()
+        if content is None:
+            path.unlink(missing_ok=True)
+        elif content == "folder":
+            path.unlink(missing_ok=True)
+            path.mkdir()
+        else:
+            path.write_bytes(content)
+
+    def seen(self):
+        """What each name in the folder holds."""
+        return {path.name: "folder" if path.is_dir() else path.read_bytes() for path in self.folder.iterdir()}
+
+    def run(self, trial):
+        def begin():
+            if trial.limit is not None:
+                signal.signal(signal.SIGXFSZ, signal.SIG_IGN)
+                resource.setrlimit(resource.RLIMIT_FSIZE, (trial.limit, trial.limit))
+
+        with open("/dev/full", "wb") as full:
+            done = subprocess.run(
+                [self.program, *trial.command.words.split(" ")],
+                cwd=self.folder,
+                stdin=subprocess.DEVNULL,
+                stdout=full if trial.is_full else subprocess.PIPE,
+                stderr=subprocess.PIPE,
+                timeout=GIVEN_UP,
+                preexec_fn=begin,
+            )
+        return done.returncode, ((done.stdout or b"") + done.stderr).decode(errors="replace")
+
+    def usual(self, trial):
+        """The files that the command of a trial writes where no call fails."""
+        is_like_others = trial.is_torn or trial.is_full or trial.ends is None
+        key = trial.command, () if is_like_others else trial.changes
+        if key not in self.known:
+            before = self.before(key[1])
+            self.run(dataclasses.replace(trial, limit=None, is_full=False))
+            seen = self.seen()
+            self.known[key] = {name: seen.get(name) for _, name in trial.command.writes}
+            self.restore(before)
+        return self.known[key]
+
+    def before(self, changes):
+        """Changes the files, and gives what there is then."""
+        for name, *change in changes:
+            self.lay(name, changed(self.files.get(name), change))
+        return self.seen()
+
+    def restore(self, before):
+        """All files are those of every trial again."""
+        seen = self.seen()
+        for name in seen | before:
+            if seen.get(name) != self.files.get(name):
+                self.lay(name, self.files.get(name))
+
+    def wrong_in(self, trial):
+        """What is wrong with a call, or None."""
+        usual = self.usual(trial) if trial.done else {}
+        before = self.before(trial.changes)
+        try:
+            found = self.run(trial)
+            after = self.seen()
+        except subprocess.TimeoutExpired:
+            return f"{trial.command.words}: no end after {GIVEN_UP} s"
+        finally:
+            self.restore(before)
+        wanted, free = dict(before), set()
+        ends = trial.ends
+        outputs = [name for _, name in trial.command.writes]
+        for name in outputs[: trial.done]:
+            wanted[name] = usual[name]
+        if trial.is_torn:
+            free = set(outputs[trial.done : trial.done + 1])
+        if ends is None and trial.command.words.split(" ")[0] in chains.COMMANDS:
+            contents = {name: bytes_ for name, bytes_ in before.items() if bytes_ != "folder"}
+            status, line, written = chains.answer(trial.command.words.split(" "), contents.get)
+            ends, wanted = ((status, line),), wanted | written
+        if ends is not None and found not in ends:
+            return f"{self.told(trial)}: {found[0]}, {found[1][:100]!r}, and not {ends[0][0]}, {ends[0][1][:100]!r}"
+        if ends is None and found[0] != 0:
+            return f"{self.told(trial)}: {found[0]}, {found[1][:100]!r}, and not 0"
+        other = {name for name in after | wanted if name not in free and after.get(name) != wanted.get(name)}
+        return f"{self.told(trial)}: {sorted(other)} are not what they should be" if other else None
+
+    @staticmethod
+    def told(trial):
+        changes = ", ".join(" ".join(str(part)[:40] for part in change) for change in trial.changes)
+        return f"{trial.command.words} ({changes}, room {trial.limit}, nothing printed {trial.is_full})"
+
+
+def begin(*words):
+    """Makes the worker of a process."""
+    global worker
+    worker = Worker(*words)
+
+
+def wrong_among(trials):
+    return [wrong for wrong in map(worker.wrong_in, trials) if wrong]
+
+
+def try_kind(pool, name, files, every):
+    """Tries a kind, and prints a line: how many calls were made, and how many of them were wrong."""
+    began, trials = time.monotonic(), list(KINDS[name](files))[::every]
+    chunks = [trials[first : first + CHUNK] for first in range(0, len(trials), CHUNK)]
+    wrong = 0
+    for found in pool.map(wrong_among, chunks):
+        wrong += len(found)
+        for line in found[:3]:
+            print(line, flush=True)
+    took = f"{time.monotonic() - began:6.1f} s"
+    print(f"{name:38} {len(trials):6} calls {took}{f', {wrong} WRONG' if wrong else ''}", flush=True)
+    return len(trials), wrong
+
+
+def main():
+    reader = argparse.ArgumentParser()
+    reader.add_argument("program", type=pathlib.Path)
+    reader.add_argument("-j", type=int, default=1)
+    reader.add_argument("--kinds", nargs="*", default=list(KINDS), help="some of the kinds alone")
+    reader.add_argument("--every", type=int, default=1, help="of each kind each so many alone")
+    words = reader.parse_args()
+    began, files = time.monotonic(), sample()
+    if not forged.are_predicted(forged.last_chains(), files):
+        return 1
+    folder = tempfile.mkdtemp()
+    try:
+        with concurrent.futures.ProcessPoolExecutor(
+            words.j, initializer=begin, initargs=(words.program.resolve(), folder, files)
+        ) as pool:
+            counts = [try_kind(pool, name, files, words.every) for name in words.kinds]
+    finally:
+        shutil.rmtree(folder)
+    tried, wrong = map(sum, zip(*counts))
+    print(f"{tried} calls in {time.monotonic() - began:.0f} s: {wrong or 'none'} wrong")
+    return 1 if wrong else 0
+
+
+if __name__ == "__main__":
+    sys.exit(main())
