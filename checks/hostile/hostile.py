@@ -42,8 +42,8 @@ class Command:
 
 @dataclasses.dataclass(frozen=True)
 class Trial:
-    """A call over changed files. It ends with one of these statuses and lines, or as peers/chains.py predicts. So many of
-    its outputs are written as ever, and where a write fails the one after them may be anything."""
+    """A call over changed files. It ends with this status and line, or as peers/chains.py predicts. So many of its outputs
+    are written as ever, and where a write fails the one after them may be anything."""
 
     command: Command
     changes: tuple = ()
@@ -91,7 +91,8 @@ def sample():
     _, statement = device.sign(3, 1, b"a message")
     device.load(1)
     device.load(3)
-    draft = f"order load 2\ntarget serial {device.serial.hex()}\ntarget length 9\nversion 7\ntrust always never\ncode 00ff\n"
+    targets = f"target serial {device.serial.hex()}\ntarget length 9\n"
+    draft = f"order load 2\n{targets}version 7\ntrust always never\ncode 00ff\n"
     text = body(draft)
     files = {
         "image": device.image(),
@@ -138,23 +139,23 @@ def calls_fail(files):
     for command in COMMANDS:
         for role, name in command.reads:
             for what in "gone", "folder":
-                yield Trial(command, ((name, what),), ((4, f"read failed {role}\n"),))
+                yield Trial(command, ((name, what),), (4, f"read failed {role}\n"))
         # before the shortest of these outputs, no more room
         room = {"key": 10, "image": 1_000, "out": 100}
         for number, (role, name) in enumerate(command.writes):
-            wanted = ((5, f"write failed {role}\n"),)
+            wanted = 5, f"write failed {role}\n"
             if (role, name) not in command.reads:
                 yield Trial(command, ((name, "folder"),), wanted, number, True)
             if role in room:
                 yield Trial(command, (), wanted, number, True, room[role])
-        yield Trial(command, (), ((5, ""),), len(command.writes), is_full=True)
+        yield Trial(command, (), (5, ""), len(command.writes), is_full=True)
 
 
 def long_inputs(files):
     """Each input is one byte too long, which its line tells, or as long as it may be."""
     for command in COMMANDS:
         for role, name in command.reads:
-            yield Trial(command, ((name, "fill", LONGEST + 1),), ((3, f"input {role} too long\n"),))
+            yield Trial(command, ((name, "fill", LONGEST + 1),), (3, f"input {role} too long\n"))
             # noise may go on, and is not used there
             done = len(command.writes) if role == "noise" else 0
             yield Trial(command, ((name, "fill", LONGEST),), ends_of_longest(role), done)
@@ -163,11 +164,11 @@ def long_inputs(files):
 def ends_of_longest(role):
     """The end of a command whose input goes on to the most bytes, where peers/chains.py does not predict it."""
     if role in ("key", "root", "owner"):
-        return ((3, f"input {role} at 56\n"),)
+        return (3, f"input {role} at 56\n")
     if role in ("image", "code"):
-        return ((3, f"input {role} length\n"),)
+        return (3, f"input {role} length\n")
     lines = {"script": 7, "draft": 7, "order": 2, "statement": 2}
-    return ((3, f"input {role} line {lines[role]}\n"),) if role in lines else None
+    return (3, f"input {role} line {lines[role]}\n") if role in lines else None
 
 
 def short_inputs(files):
@@ -195,17 +196,17 @@ def short_input(command, role, name, bytes_, at):
     fields = {"key": KEY_FIELDS, "owner": PUBLIC_FIELDS, "root": PUBLIC_FIELDS}
     if role in fields:
         begins = max(field for field in fields[role] if field <= at)
-        yield Trial(command, change, ((3, f"input {role} at {begins}\n"),))
+        yield Trial(command, change, (3, f"input {role} at {begins}\n"))
     elif role == "image":
-        yield Trial(command, change, ((3, "input image length\n"),))
+        yield Trial(command, change, (3, "input image length\n"))
     elif role == "chain":
         yield Trial(command, change)
     elif role == "noise":
         if at < LEAST_NOISE[command]:
-            yield Trial(command, change, ((3, "input noise length\n"),))
+            yield Trial(command, change, (3, "input noise length\n"))
     elif is_told(role, bytes_, at):
         line = bytes_[:at].count(b"\n") + 1
-        yield Trial(command, change, ((3, f"input {role} line {line}\n"),))
+        yield Trial(command, change, (3, f"input {role} line {line}\n"))
 
 
 def is_told(role, text, at):
@@ -233,18 +234,18 @@ def forged_entries(files):
 
 
 def limits(files):
-    """The longest script and one line more; the largest code and one byte more, through a draft, an order and a device."""
+    """The longest script and one line more; the largest code and one byte more, by a draft, an order and a device."""
     off = b"off\n"
-    yield Trial(RUN, (("script", "is", off * MOST_LINES),), ((0, "off\n" * MOST_LINES),), 1)
-    yield Trial(RUN, (("script", "is", off * (MOST_LINES + 1)),), ((3, f"input script line {MOST_LINES + 1}\n"),))
-    yield Trial(FACTORY, (("code", "is", bytes(MOST_CODE + 1)),), ((3, "input code length\n"),))
-    yield Trial(FACTORY, (("code", "is", bytes(MOST_CODE)),), ((0, f"serial {files['noise'][32:48].hex()}\n"),), 2)
+    yield Trial(RUN, (("script", "is", off * MOST_LINES),), (0, "off\n" * MOST_LINES), 1)
+    yield Trial(RUN, (("script", "is", off * (MOST_LINES + 1)),), (3, f"input script line {MOST_LINES + 1}\n"))
+    yield Trial(FACTORY, (("code", "is", bytes(MOST_CODE + 1)),), (3, "input code length\n"))
+    yield Trial(FACTORY, (("code", "is", bytes(MOST_CODE)),), (0, f"serial {files['noise'][32:48].hex()}\n"), 2)
     head = b"order load 2\nversion 7\ntrust always\ncode "
-    yield Trial(SIGN, (("draft", "is", head + b"07" * MOST_CODE + b"\n"),), ((0, "index 0\n"),), 2)
-    yield Trial(SIGN, (("draft", "is", head + b"07" * (MOST_CODE + 1) + b"\n"),), ((3, "input draft line 4\n"),))
+    yield Trial(SIGN, (("draft", "is", head + b"07" * MOST_CODE + b"\n"),), (0, "index 0\n"), 2)
+    yield Trial(SIGN, (("draft", "is", head + b"07" * (MOST_CODE + 1) + b"\n"),), (3, "input draft line 4\n"))
     for more, reply in (0, "done 7 9"), (1, "refused 10 text"):
         script = f"boot\n{largest(MOST_CODE + more)}off\n".encode()
-        yield Trial(RUN, (("script", "is", script),), ((0, f"booted\n{reply}\noff\n"),), 1)
+        yield Trial(RUN, (("script", "is", script),), (0, f"booted\n{reply}\noff\n"), 1)
 
 
 def largest(length):
@@ -358,11 +359,9 @@ class Worker:
         if ends is None and trial.command.words.split(" ")[0] in chains.COMMANDS:
             contents = {name: bytes_ for name, bytes_ in before.items() if bytes_ != "folder"}
             status, line, written = chains.answer(trial.command.words.split(" "), contents.get)
-            ends, wanted = ((status, line),), wanted | written
-        if ends is not None and found not in ends:
-            return f"{self.told(trial)}: {found[0]}, {found[1][:100]!r}, and not {ends[0][0]}, {ends[0][1][:100]!r}"
-        if ends is None and found[0] != 0:
-            return f"{self.told(trial)}: {found[0]}, {found[1][:100]!r}, and not 0"
+            ends, wanted = (status, line), wanted | written
+        if found != ends and (ends or found[0] != 0):
+            return f"{self.told(trial)}: {found[0]}, {found[1][:100]!r}, and not {ends or 0}"
         other = {name for name in after | wanted if name not in free and after.get(name) != wanted.get(name)}
         return f"{self.told(trial)}: {sorted(other)} are not what they should be" if other else None
 

@@ -37,6 +37,8 @@ const FILES_ARE_MADE: &[Step] = &[
     Step::Ends("attach chain statement attached", 0, "entries 6\n"),
 ];
 
+// What each command reads and writes.
+
 const RUN: Access = Access {
     words: "run image events draw",
     reads: &[("image", "image"), ("script", "events"), ("noise", "draw")],
@@ -108,8 +110,8 @@ const GENERATE: Access = Access {
     writes: &[("image", "image"), ("script", "script"), ("noise", "noise")],
 };
 
-/// Each call of each command fails in turn. Of a command that writes two files or more, the failing write of a later one
-/// leaves those before it.
+/// Each call of each command fails in turn. Where a command writes several files, the failing write of a later one leaves
+/// those before it.
 const CALLS_FAIL: &[Step] = &[
     Step::FailsInTurn(&RUN),
     Step::FailsInTurn(&VERIFY),

@@ -1,6 +1,6 @@
-//! What is as long as the rules allow, and one more: a script, the code of an order, and the log of a device, whose last
-//! entry is spoilt in each way that a chain can be refused for. The chains are those of an independent program, which
-//! also signed what no device signs.
+//! What is as long as the rules allow, and one more: a script and the code of an order. And the longest log of a device,
+//! whose last entry is spoilt in each way that a chain can be refused for. The chains are those of an independent
+//! program, which also signed what no device signs.
 
 use super::births::new_device_goes_through;
 use super::hostile::ShortFile;
@@ -83,8 +83,8 @@ const THE_LARGEST_CODE: &[Step] = &[
     ),
 ];
 
-/// A device's log has as many entries as a log may have, the last of them a load of layer 1. The key of layer 2 signed a
-/// message before it, and another one after it.
+/// A device's log has as many entries as a log may have, the last of them a load of layer 1. The key of layer 2 signed
+/// a message before it, and another one after it.
 const THE_LOG_IS_FULL: &[Step] = &[
     Step::Writes("draft", &[Part::Text("order newkey 2 epoch\n")]),
     Step::Ends("sign officer2 draft key", 0, "index 0\n"),
