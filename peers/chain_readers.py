@@ -71,7 +71,7 @@ def tables(source, constants):
     own = {name: source.constant(name) for name in re.findall(r'const ([A-Z_]+): &str =\s*"', source.text)}
     lists = dict(re.findall(r"const ([A-Z_]+): &\[usize\] = (&\[.*?\]);", source.text, re.DOTALL))
     found = {}
-    for name, text in re.findall(r"const ([A-Z_]+): &\[Step\] = &\[(.*?)\];\n", source.text, re.DOTALL):
+    for name, text in re.findall(r"const ([A-Z_]+): &\[(?:Step|ShortFile)\] = &\[(.*?)\];\n", source.text, re.DOTALL):
         source.seen.update(re.findall(HEX, text))
         for constant, value in (own | constants).items():
             text = re.sub(rf"\b{constant}\b", lambda _, value=value: f'"{value}"', text)
@@ -286,9 +286,6 @@ def follow(source, world, step):
         source.compare(f"file {words[0]}", world.content(words[0]), None)
     elif kind == "Step::Ends":
         compare_end(source, world, *words)
-    elif kind == "Step::EndsEarly":
-        ((_, *short),) = words
-        compare_short(source, world, *short)
     elif kind == "Step::Serves":
         script, noise, lines = words
         world.writes("script", script)
@@ -302,14 +299,14 @@ def compare_end(source, world, words, status, lines):
         source.compare(words, (status, lines) if right else (found, printed), (status, lines))
 
 
-def compare_short(source, world, words, name, status, line, offsets):
+def compare_short(source, world, words, name, status, told, offsets):
     """The file ends at each of the offsets, for the commands on chains."""
     if words.split(" ")[0] not in chains.COMMANDS or name not in world.files:
         return
-    whole = world.files[name]
+    whole, (kind, line) = world.files[name], told
     for offset in offsets:
         world.files[name] = whole[:offset]
-        compare_end(source, world, words, status, line.replace("@", str(offset)) + "\n")
+        compare_end(source, world, words, status, f"{line} {offset}\n" if kind == "Told::Offset" else line)
     world.files[name] = whole
 
 
@@ -390,16 +387,20 @@ def short_inputs(source):
     """Chains and the keys that they are judged by, which end where their fields begin."""
     world, steps = born(source), tables(source, {})
     life = tables(Source(source.root, CHAINS), {})
-    for step in [*life["A_NEW_DEVICE"], *life["A_WHOLE_LIFE"], *steps["FILES_ARE_MADE"], *steps["DEVICES_ARE_SHORT"]]:
+    for step in [*life["A_NEW_DEVICE"], *life["A_WHOLE_LIFE"], *steps["FILES_ARE_MADE"]]:
         follow(source, world, step)
+    for _, *short in steps["DEVICES_ARE_SHORT"]:
+        compare_short(source, world, *short)
 
 
 def last_entries(source):
     """A log of the most entries, and what is wrong with the last."""
     world, steps = born(source, A_NEW_DEVICE), tables(source, {})
-    for name in ("THE_LOG_IS_FULL", "ITS_END_IS_SHORT", "ITS_END_IS_WRONG", "ITS_END_IS_FORGED"):
+    for name in ("THE_LOG_IS_FULL", "ITS_END_IS_WRONG", "ITS_END_IS_FORGED"):
         for step in steps[name]:
             follow(source, world, step)
+    for _, *short in steps["SHORT_ENDS"]:
+        compare_short(source, world, *short)
 
 
 def chain_versions(source):

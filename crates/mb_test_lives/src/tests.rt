@@ -100,12 +100,12 @@ enum Step {
     KeepsStatement(&'static str),
     /// Summaries were printed, and each tells the hash of the file of this name.
     IsSummarised(&'static str),
-    /// Each call of the host fails in turn.
-    FailsInTurn(&'static Access),
-    /// Each file that is read is too long in turn.
-    IsTooLong(&'static Access),
-    /// A file ends early at each of these offsets.
-    EndsEarly(&'static ShortFile),
+    /// Each call of the host by each of these commands fails in turn.
+    CallsFail(&'static [Access]),
+    /// Each input of each of these commands is too long in turn.
+    InputsAreLong(&'static [Access]),
+    /// Each of these files ends early at each of its offsets.
+    InputsAreShort(&'static [ShortFile]),
 }
 
 /// A script on an image, in which power is lost at each write in turn of what comes after these lines.
@@ -182,9 +182,9 @@ fn take(rt: &(impl Abort + AllocGlobal), host: &mut MemoryHost, step: &Step) -> 
         Step::IsCut(cut) => is_cut(rt, host, cut),
         Step::KeepsStatement(name) => keep_statement(rt.alloc(), host, name),
         Step::IsSummarised(name) => is_summarised(rt, host, name),
-        Step::FailsInTurn(access) => hostile::fails_in_turn(rt, host, access),
-        Step::IsTooLong(access) => hostile::is_too_long(rt, host, access),
-        Step::EndsEarly(file) => hostile::ends_early(rt, host, file),
+        Step::CallsFail(table) => hostile::calls_fail(rt, host, table),
+        Step::InputsAreLong(table) => hostile::inputs_are_long(rt, host, table),
+        Step::InputsAreShort(table) => hostile::inputs_are_short(rt, host, table),
     }
 }
 

@@ -4,7 +4,7 @@
 
 use super::births::owned_device_goes_through;
 use super::chains::{A_NEW_DEVICE, A_WHOLE_LIFE};
-use super::hostile::{Access, ShortFile};
+use super::hostile::{Access, ShortFile, Told};
 use super::{Part, Step};
 use mb_model::{FLASH_LENGTH, IMAGE_LENGTH};
 use std::test::Fail;
@@ -37,107 +37,68 @@ const FILES_ARE_MADE: &[Step] = &[
     Step::Ends("attach chain statement attached", 0, "entries 6\n"),
 ];
 
-// What each command reads and writes.
-
-const RUN: Access = Access {
-    words: "run image events draw",
-    reads: &[("image", "image"), ("script", "events"), ("noise", "draw")],
-    writes: &[("image", "image")],
-};
-
-const VERIFY: Access = Access {
-    words: "verify public0 chain 1",
-    reads: &[("root", "public0"), ("chain", "chain")],
-    writes: &[],
-};
-
-const AUDIT: Access = Access {
-    words: "audit image public0 chain 1",
-    reads: &[("image", "image"), ("root", "public0"), ("chain", "chain")],
-    writes: &[],
-};
-
-const CHAIN: Access = Access {
-    words: "chain image out",
-    reads: &[("image", "image")],
-    writes: &[("out", "out")],
-};
-
-const ATTACH: Access = Access {
-    words: "attach chain statement out",
-    reads: &[("chain", "chain"), ("statement", "statement")],
-    writes: &[("out", "out")],
-};
-
-const FACTORY: Access = Access {
-    words: "factory birth maker public1 code made",
-    reads: &[
-        ("noise", "birth"),
-        ("key", "maker"),
-        ("owner", "public1"),
-        ("code", "code"),
-    ],
-    writes: &[("key", "maker"), ("image", "made")],
-};
-
-const KEYGEN: Access = Access {
-    words: "keygen noise0 key public",
-    reads: &[("noise", "noise0")],
-    writes: &[("key", "key"), ("public", "public")],
-};
-
-const SIGN: Access = Access {
-    words: "sign officer2 draft7 out",
-    reads: &[("key", "officer2"), ("draft", "draft7")],
-    writes: &[("key", "officer2"), ("out", "out")],
-};
-
-const COUNTERSIGN: Access = Access {
-    words: "countersign officer2 2 load out",
-    reads: &[("key", "officer2"), ("order", "load")],
-    writes: &[("key", "officer2"), ("out", "out")],
-};
-
-const MIGRATE: Access = Access {
-    words: "migrate image out",
-    reads: &[("image", "image")],
-    writes: &[("out", "out")],
-};
-
-const GENERATE: Access = Access {
-    words: "generate 1 1 image script noise",
-    reads: &[],
-    writes: &[("image", "image"), ("script", "script"), ("noise", "noise")],
-};
-
-/// Each call of each command fails in turn. Where a command writes several files, the failing write of a later one leaves
-/// those before it.
-const CALLS_FAIL: &[Step] = &[
-    Step::FailsInTurn(&RUN),
-    Step::FailsInTurn(&VERIFY),
-    Step::FailsInTurn(&AUDIT),
-    Step::FailsInTurn(&CHAIN),
-    Step::FailsInTurn(&ATTACH),
-    Step::FailsInTurn(&FACTORY),
-    Step::FailsInTurn(&KEYGEN),
-    Step::FailsInTurn(&SIGN),
-    Step::FailsInTurn(&COUNTERSIGN),
-    Step::FailsInTurn(&MIGRATE),
-    Step::FailsInTurn(&GENERATE),
-];
-
-/// Each input of each command is too long in turn.
-const INPUTS_ARE_LONG: &[Step] = &[
-    Step::IsTooLong(&RUN),
-    Step::IsTooLong(&VERIFY),
-    Step::IsTooLong(&AUDIT),
-    Step::IsTooLong(&CHAIN),
-    Step::IsTooLong(&ATTACH),
-    Step::IsTooLong(&FACTORY),
-    Step::IsTooLong(&KEYGEN),
-    Step::IsTooLong(&SIGN),
-    Step::IsTooLong(&COUNTERSIGN),
-    Step::IsTooLong(&MIGRATE),
+/// What each command reads and writes.
+const COMMANDS: &[Access] = &[
+    Access {
+        words: "run image events draw",
+        reads: &[("image", "image"), ("script", "events"), ("noise", "draw")],
+        writes: &[("image", "image")],
+    },
+    Access {
+        words: "verify public0 chain 1",
+        reads: &[("root", "public0"), ("chain", "chain")],
+        writes: &[],
+    },
+    Access {
+        words: "audit image public0 chain 1",
+        reads: &[("image", "image"), ("root", "public0"), ("chain", "chain")],
+        writes: &[],
+    },
+    Access {
+        words: "chain image out",
+        reads: &[("image", "image")],
+        writes: &[("out", "out")],
+    },
+    Access {
+        words: "attach chain statement out",
+        reads: &[("chain", "chain"), ("statement", "statement")],
+        writes: &[("out", "out")],
+    },
+    Access {
+        words: "factory birth maker public1 code made",
+        reads: &[
+            ("noise", "birth"),
+            ("key", "maker"),
+            ("owner", "public1"),
+            ("code", "code"),
+        ],
+        writes: &[("key", "maker"), ("image", "made")],
+    },
+    Access {
+        words: "keygen noise0 key public",
+        reads: &[("noise", "noise0")],
+        writes: &[("key", "key"), ("public", "public")],
+    },
+    Access {
+        words: "sign officer2 draft7 out",
+        reads: &[("key", "officer2"), ("draft", "draft7")],
+        writes: &[("key", "officer2"), ("out", "out")],
+    },
+    Access {
+        words: "countersign officer2 2 load out",
+        reads: &[("key", "officer2"), ("order", "load")],
+        writes: &[("key", "officer2"), ("out", "out")],
+    },
+    Access {
+        words: "migrate image out",
+        reads: &[("image", "image")],
+        writes: &[("out", "out")],
+    },
+    Access {
+        words: "generate 1 1 image script noise",
+        reads: &[],
+        writes: &[("image", "image"), ("script", "script"), ("noise", "noise")],
+    },
 ];
 
 /// Where the fields of a key file begin.
@@ -197,291 +158,301 @@ const TARGETS: &[usize] = &[
 ];
 
 /// Inputs of the commands on devices, chains and statements end early.
-const DEVICES_ARE_SHORT: &[Step] = &[
-    Step::EndsEarly(&ShortFile {
+const DEVICES_ARE_SHORT: &[ShortFile] = &[
+    ShortFile {
         words: "run image events draw",
         name: "image",
         status: 3,
-        line: "input image length",
+        told: Told::Line("input image length\n"),
         offsets: IMAGE,
-    }),
-    Step::EndsEarly(&ShortFile {
+    },
+    ShortFile {
         words: "run image every draw",
         name: "every",
         status: 3,
-        line: "input script line 2",
+        told: Told::Line("input script line 2\n"),
         offsets: &[7, 9, 13],
-    }),
-    Step::EndsEarly(&ShortFile {
+    },
+    ShortFile {
         words: "run image every draw",
         name: "every",
         status: 3,
-        line: "input script line 3",
+        told: Told::Line("input script line 3\n"),
         offsets: &[20, 22],
-    }),
-    Step::EndsEarly(&ShortFile {
+    },
+    ShortFile {
         words: "run image every draw",
         name: "every",
         status: 3,
-        line: "input script line 4",
+        told: Told::Line("input script line 4\n"),
         offsets: &[31, 33],
-    }),
-    Step::EndsEarly(&ShortFile {
+    },
+    ShortFile {
         words: "run image every draw",
         name: "every",
         status: 3,
-        line: "input script line 5",
+        told: Told::Line("input script line 5\n"),
         offsets: &[42, 44, 46],
-    }),
-    Step::EndsEarly(&ShortFile {
+    },
+    ShortFile {
         words: "run image every draw",
         name: "every",
         status: 3,
-        line: "input script line 6",
+        told: Told::Line("input script line 6\n"),
         offsets: &[53, 55, 60, 62, 67],
-    }),
-    Step::EndsEarly(&ShortFile {
+    },
+    ShortFile {
         words: "run image every draw",
         name: "every",
         status: 3,
-        line: "input script line 7",
+        told: Told::Line("input script line 7\n"),
         offsets: &[78],
-    }),
-    Step::EndsEarly(&ShortFile {
+    },
+    ShortFile {
         words: "run image events draw",
         name: "draw",
         status: 3,
-        line: "input noise length",
+        told: Told::Line("input noise length\n"),
         offsets: &[0, 31],
-    }),
-    Step::EndsEarly(&ShortFile {
+    },
+    ShortFile {
         words: "verify public0 chain 1",
         name: "public0",
         status: 3,
-        line: "input root at @",
+        told: Told::Offset("input root at"),
         offsets: PUBLIC,
-    }),
-    Step::EndsEarly(&ShortFile {
+    },
+    ShortFile {
         words: "verify public0 chain 1",
         name: "chain",
         status: 7,
-        line: "refused 20 @",
+        told: Told::Offset("refused 20"),
         offsets: CHAIN_FIELDS,
-    }),
-    Step::EndsEarly(&ShortFile {
+    },
+    ShortFile {
         words: "verify public0 attached 1",
         name: "attached",
         status: 7,
-        line: "refused 20 @",
+        told: Told::Offset("refused 20"),
         offsets: STATEMENT,
-    }),
-    Step::EndsEarly(&ShortFile {
+    },
+    ShortFile {
         words: "audit image public0 chain 1",
         name: "image",
         status: 3,
-        line: "input image length",
+        told: Told::Line("input image length\n"),
         offsets: IMAGE,
-    }),
-    Step::EndsEarly(&ShortFile {
+    },
+    ShortFile {
         words: "audit image public0 chain 1",
         name: "public0",
         status: 3,
-        line: "input root at @",
+        told: Told::Offset("input root at"),
         offsets: PUBLIC,
-    }),
-    Step::EndsEarly(&ShortFile {
+    },
+    ShortFile {
         words: "audit image public0 chain 1",
         name: "chain",
         status: 7,
-        line: "refused 20 @",
+        told: Told::Offset("refused 20"),
         offsets: CHAIN_FIELDS,
-    }),
-    Step::EndsEarly(&ShortFile {
+    },
+    ShortFile {
         words: "audit image public0 attached 1",
         name: "attached",
         status: 7,
-        line: "refused 20 @",
+        told: Told::Offset("refused 20"),
         offsets: STATEMENT,
-    }),
-    Step::EndsEarly(&ShortFile {
+    },
+    ShortFile {
         words: "chain image out",
         name: "image",
         status: 3,
-        line: "input image length",
+        told: Told::Line("input image length\n"),
         offsets: IMAGE,
-    }),
-    Step::EndsEarly(&ShortFile {
+    },
+    ShortFile {
         words: "attach chain statement out",
         name: "chain",
         status: 3,
-        line: "input chain at @",
+        told: Told::Offset("input chain at"),
         offsets: CHAIN_FIELDS,
-    }),
-    Step::EndsEarly(&ShortFile {
+    },
+    ShortFile {
         words: "attach attached statement out",
         name: "attached",
         status: 3,
-        line: "input chain at @",
+        told: Told::Offset("input chain at"),
         offsets: STATEMENT,
-    }),
-    Step::EndsEarly(&ShortFile {
+    },
+    ShortFile {
         words: "attach chain statement out",
         name: "statement",
         status: 3,
-        line: "input statement line 1",
+        told: Told::Line("input statement line 1\n"),
         offsets: &[0, 8, 10, 20],
-    }),
-    Step::EndsEarly(&ShortFile {
+    },
+    ShortFile {
         words: "migrate image out",
         name: "image",
         status: 3,
-        line: "input image length",
+        told: Told::Line("input image length\n"),
         offsets: IMAGE,
-    }),
+    },
 ];
 
 /// Inputs of the commands on keys and orders end early.
-const ORDERS_ARE_SHORT: &[Step] = &[
-    Step::EndsEarly(&ShortFile {
+const ORDERS_ARE_SHORT: &[ShortFile] = &[
+    ShortFile {
         words: "factory birth maker public1 code out",
         name: "birth",
         status: 3,
-        line: "input noise length",
+        told: Told::Line("input noise length\n"),
         offsets: &[0, 32, 47],
-    }),
-    Step::EndsEarly(&ShortFile {
+    },
+    ShortFile {
         words: "factory birth maker public1 code out",
         name: "maker",
         status: 3,
-        line: "input key at @",
+        told: Told::Offset("input key at"),
         offsets: KEY,
-    }),
-    Step::EndsEarly(&ShortFile {
+    },
+    ShortFile {
         words: "factory birth maker public1 code out",
         name: "public1",
         status: 3,
-        line: "input owner at @",
+        told: Told::Offset("input owner at"),
         offsets: PUBLIC,
-    }),
-    Step::EndsEarly(&ShortFile {
+    },
+    ShortFile {
         words: "keygen noise0 out out",
         name: "noise0",
         status: 3,
-        line: "input noise length",
+        told: Told::Line("input noise length\n"),
         offsets: &[0, 31],
-    }),
-    Step::EndsEarly(&ShortFile {
+    },
+    ShortFile {
         words: "sign officer2 full out",
         name: "officer2",
         status: 3,
-        line: "input key at @",
+        told: Told::Offset("input key at"),
         offsets: KEY,
-    }),
-    Step::EndsEarly(&ShortFile {
+    },
+    ShortFile {
         words: "sign officer2 full out",
         name: "full",
         status: 3,
-        line: "input draft line 1",
+        told: Told::Line("input draft line 1\n"),
         offsets: &[0, 6, 11],
-    }),
-    Step::EndsEarly(&ShortFile {
+    },
+    ShortFile {
         words: "sign officer2 full out",
         name: "full",
         status: 3,
-        line: "input draft line 2",
+        told: Told::Line("input draft line 2\n"),
         offsets: &[13, 20, 27],
-    }),
-    Step::EndsEarly(&ShortFile {
+    },
+    ShortFile {
         words: "sign officer2 full out",
         name: "full",
         status: 3,
-        line: "input draft line 3",
+        told: Told::Line("input draft line 3\n"),
         offsets: &[60, 67, 74],
-    }),
-    Step::EndsEarly(&ShortFile {
+    },
+    ShortFile {
         words: "sign officer2 full out",
         name: "full",
         status: 3,
-        line: "input draft line 4",
+        told: Told::Line("input draft line 4\n"),
         offsets: &[76, 83, 89, 91],
-    }),
-    Step::EndsEarly(&ShortFile {
+    },
+    ShortFile {
         words: "sign officer2 full out",
         name: "full",
         status: 3,
-        line: "input draft line 5",
+        told: Told::Line("input draft line 5\n"),
         offsets: &[156, 163, 168, 170],
-    }),
-    Step::EndsEarly(&ShortFile {
+    },
+    ShortFile {
         words: "sign officer2 full out",
         name: "full",
         status: 3,
-        line: "input draft line 6",
+        told: Told::Line("input draft line 6\n"),
         offsets: &[235, 243],
-    }),
-    Step::EndsEarly(&ShortFile {
+    },
+    ShortFile {
         words: "sign officer2 full out",
         name: "full",
         status: 3,
-        line: "input draft line 7",
+        told: Told::Line("input draft line 7\n"),
         offsets: &[245, 251, 258],
-    }),
-    Step::EndsEarly(&ShortFile {
+    },
+    ShortFile {
         words: "sign officer2 full out",
         name: "full",
         status: 3,
-        line: "input draft line 8",
+        told: Told::Line("input draft line 8\n"),
         offsets: &[264, 269],
-    }),
-    Step::EndsEarly(&ShortFile {
+    },
+    ShortFile {
         words: "sign officer2 draft1 out",
         name: "draft1",
         status: 3,
-        line: "input draft line 1",
+        told: Told::Line("input draft line 1\n"),
         offsets: &[0, 6, 16],
-    }),
-    Step::EndsEarly(&ShortFile {
+    },
+    ShortFile {
         words: "sign officer2 draft1 out",
         name: "draft1",
         status: 3,
-        line: "input draft line 2",
+        told: Told::Line("input draft line 2\n"),
         offsets: &[18, 24, 32, 40, 72],
-    }),
-    Step::EndsEarly(&ShortFile {
+    },
+    ShortFile {
         words: "sign officer2 draft1 out",
         name: "draft1",
         status: 3,
-        line: "input draft line 3",
+        told: Told::Line("input draft line 3\n"),
         offsets: &[137, 143],
-    }),
-    Step::EndsEarly(&ShortFile {
+    },
+    ShortFile {
         words: "sign officer2 draft5 out",
         name: "draft5",
         status: 3,
-        line: "input draft line 1",
+        told: Told::Line("input draft line 1\n"),
         offsets: &[0, 6, 13, 15],
-    }),
-    Step::EndsEarly(&ShortFile {
+    },
+    ShortFile {
         words: "countersign officer2 2 load out",
         name: "officer2",
         status: 3,
-        line: "input key at @",
+        told: Told::Offset("input key at"),
         offsets: KEY,
-    }),
-    Step::EndsEarly(&ShortFile {
+    },
+    ShortFile {
         words: "countersign officer2 2 order6 out",
         name: "order6",
         status: 3,
-        line: "input order line 1",
+        told: Told::Line("input order line 1\n"),
         offsets: LOAD,
-    }),
-    Step::EndsEarly(&ShortFile {
+    },
+    ShortFile {
         words: "countersign officer2 2 targets out",
         name: "targets",
         status: 3,
-        line: "input order line 1",
+        told: Told::Line("input order line 1\n"),
         offsets: TARGETS,
-    }),
+    },
+];
+
+/// Calls fail, of a command that writes several files also after the first was written; and inputs are too long or end
+/// early.
+const CALLS_FAIL: &[Step] = &[Step::CallsFail(COMMANDS)];
+
+const INPUTS_FAIL: &[Step] = &[
+    Step::InputsAreLong(COMMANDS),
+    Step::InputsAreShort(DEVICES_ARE_SHORT),
+    Step::InputsAreShort(ORDERS_ARE_SHORT),
 ];
 
 /// Orders that end where a field begins are no orders, for the device.
@@ -622,9 +593,7 @@ fn inputs_are_long_or_short(rt: HostRuntime) -> Result<(), Fail> {
             A_NEW_DEVICE,
             A_WHOLE_LIFE,
             FILES_ARE_MADE,
-            INPUTS_ARE_LONG,
-            DEVICES_ARE_SHORT,
-            ORDERS_ARE_SHORT,
+            INPUTS_FAIL,
             SHORT_ORDERS_ARE_REFUSED,
         ],
     )

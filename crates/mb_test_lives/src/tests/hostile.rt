@@ -16,14 +16,21 @@ pub struct Access {
     pub writes: &'static [(&'static str, &'static str)],
 }
 
-/// A file that ends early at each of these offsets, which the words then tell by this status and line. An `@` at the
-/// line's end stands for the offset.
+/// A file that ends early at each of these offsets, and how the words then end.
 pub struct ShortFile {
     pub words: &'static str,
     pub name: &'static str,
     pub status: u8,
-    pub line: &'static str,
+    pub told: Told,
     pub offsets: &'static [usize],
+}
+
+/// The line of a file that ends early.
+pub enum Told {
+    /// This line.
+    Line(&'static str),
+    /// These words, and then the offset.
+    Offset(&'static str),
 }
 
 /// A host before the words, and one after them.
@@ -32,20 +39,28 @@ struct Times<'a> {
     after: &'a MemoryHost,
 }
 
-/// Each call of the host fails in turn. The line tells which, each file that was written before is what it is where no
-/// call fails, and nothing is written after it.
-pub fn fails_in_turn(
+/// Each call of the host by each command fails in turn. The line tells which, each file that was written before is what
+/// it is where no call fails, and nothing is written after it.
+pub fn calls_fail(
+    rt: &(impl Abort + AllocGlobal),
+    host: &MemoryHost,
+    table: &[Access],
+) -> Result<(), Fail> {
+    for access in table {
+        fails_in_turn(rt, host, access)?;
+    }
+    Ok(())
+}
+
+/// Each call of the host by a command fails in turn.
+fn fails_in_turn(
     rt: &(impl Abort + AllocGlobal),
     host: &MemoryHost,
     access: &Access,
 ) -> Result<(), Fail> {
     let mut after = host_like(rt.alloc(), host, access.words, &[])?;
-    assert_eq!(rt;
-        status_of(rt.alloc(), &mut after, access.words)?,
-        0,
-        "{}",
-        access.words
-    );
+    let ended = status_of(rt.alloc(), &mut after, access.words)?;
+    assert_eq!(rt; ended, 0, "{}", access.words);
     calls_are(rt, &after, access, usize::MAX, 1)?;
     let times = Times {
         before: host,
@@ -63,8 +78,8 @@ fn reads_fail(
     times: &Times<'_>,
     access: &Access,
 ) -> Result<(), Fail> {
-    for (call, (role, _)) in access.reads.iter().enumerate() {
-        let line = format!(in rt.alloc(); "read failed {role}\n")?;
+    for (call, file) in access.reads.iter().enumerate() {
+        let line = format!(in rt.alloc(); "read failed {}\n", file.0)?;
         call_fails(rt, times, access, call, 4, &line)?;
     }
     Ok(())
@@ -76,8 +91,8 @@ fn writes_fail(
     times: &Times<'_>,
     access: &Access,
 ) -> Result<(), Fail> {
-    for (number, (role, _)) in access.writes.iter().enumerate() {
-        let line = format!(in rt.alloc(); "write failed {role}\n")?;
+    for (number, file) in access.writes.iter().enumerate() {
+        let line = format!(in rt.alloc(); "write failed {}\n", file.0)?;
         let call = access.reads.len().saturating_add(number);
         call_fails(rt, times, access, call, 5, &line)?;
     }
@@ -113,7 +128,7 @@ fn files_are(
     written: &[(&str, &str)],
 ) -> Result<(), Fail> {
     for name in words.split(' ') {
-        let wanted = if written.iter().any(|(_, it)| *it == name) {
+        let wanted = if written.iter().any(|file| file.1 == name) {
             times.after
         } else {
             times.before
@@ -157,25 +172,50 @@ fn host_like(
     Ok(MemoryHost::new(alloc, files, failing)?)
 }
 
-/// Each file that is read has one byte more than a file may have, in turn, and nothing is written.
-pub fn is_too_long(
+/// Each input of each command has one byte more than a file may have, in turn, and nothing is written.
+pub fn inputs_are_long(
     rt: &(impl Abort + AllocGlobal),
     host: &mut MemoryHost,
-    access: &Access,
+    table: &[Access],
 ) -> Result<(), Fail> {
     let long = filled(Vec::new(rt.alloc()), FILE_LIMIT + 1, 7)?;
-    for (role, name) in access.reads {
-        let whole = Vec::from_slice(rt.alloc(), file_of(host, name)?)?;
-        let line = format!(in rt.alloc(); "input {role} too long\n")?;
-        store(host, name, &long)?;
-        is_refused(rt, host, access.words, 3, &line)?;
-        store(host, name, &whole)?;
+    for access in table {
+        are_long(rt, host, access, &long)?;
     }
     Ok(())
 }
 
-/// The file ends early at each of the offsets, and nothing is written.
-pub fn ends_early(
+/// Each input of the command is this long file in turn.
+fn are_long(
+    rt: &(impl Abort + AllocGlobal),
+    host: &mut MemoryHost,
+    access: &Access,
+    long: &[u8],
+) -> Result<(), Fail> {
+    for file in access.reads {
+        let whole = Vec::from_slice(rt.alloc(), file_of(host, file.1)?)?;
+        let line = format!(in rt.alloc(); "input {} too long\n", file.0)?;
+        store(host, file.1, long)?;
+        is_refused(rt, host, access.words, 3, &line)?;
+        store(host, file.1, &whole)?;
+    }
+    Ok(())
+}
+
+/// Each file ends early at each of its offsets, and nothing is written.
+pub fn inputs_are_short(
+    rt: &(impl Abort + AllocGlobal),
+    host: &mut MemoryHost,
+    table: &[ShortFile],
+) -> Result<(), Fail> {
+    for file in table {
+        ends_early(rt, host, file)?;
+    }
+    Ok(())
+}
+
+/// The file ends early at each of its offsets.
+fn ends_early(
     rt: &(impl Abort + AllocGlobal),
     host: &mut MemoryHost,
     file: &ShortFile,
@@ -183,17 +223,17 @@ pub fn ends_early(
     let whole = Vec::from_slice(rt.alloc(), file_of(host, file.name)?)?;
     for offset in file.offsets {
         store(host, file.name, slice(&whole, 0, *offset)?)?;
-        let line = line_at(rt.alloc(), file.line, *offset)?;
+        let line = line_at(rt.alloc(), &file.told, *offset)?;
         is_refused(rt, host, file.words, file.status, &line)?;
     }
     store(host, file.name, &whole)
 }
 
-/// The line with its end, and with this offset in the place of an `@` there.
-fn line_at(alloc: Global, line: &str, offset: usize) -> Result<String, NoMemory> {
-    match line.strip_suffix('@') {
-        Some(head) => format!(in alloc; "{head}{offset}\n"),
-        None => format!(in alloc; "{line}\n"),
+/// The line of a file that ends at this offset.
+fn line_at(alloc: Global, told: &Told, offset: usize) -> Result<String, NoMemory> {
+    match told {
+        Told::Line(line) => String::from_str(alloc, line),
+        Told::Offset(words) => format!(in alloc; "{words} {offset}\n"),
     }
 }
 

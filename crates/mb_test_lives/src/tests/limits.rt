@@ -3,7 +3,7 @@
 //! program, which also signed what no device signs.
 
 use super::births::new_device_goes_through;
-use super::hostile::ShortFile;
+use super::hostile::{ShortFile, Told};
 use super::{Content, Given, Part, Step, ends, file_of, go_through, host_with, status_of};
 use mb_host::MemoryHost;
 use std::process::Abort;
@@ -181,27 +181,29 @@ const THE_LOG_IS_FULL: &[Step] = &[
 ];
 
 /// The last entry ends where one of its fields begins, and the statement on it.
-const ITS_END_IS_SHORT: &[Step] = &[
-    Step::EndsEarly(&ShortFile {
+const SHORT_ENDS: &[ShortFile] = &[
+    ShortFile {
         words: "verify public0 chain 1",
         name: "chain",
         status: 7,
-        line: "refused 20 @",
+        told: Told::Offset("refused 20"),
         offsets: &[
             324_050, 324_051, 324_055, 324_059, 324_060, 324_061, 324_062, 324_063, 324_064,
             324_065, 324_066, 324_070, 324_074, 324_090, 324_122, 324_154, 324_158, 324_159,
             324_160, 324_161, 324_165, 324_169, 324_185, 324_217, 324_249, 324_253, 324_254,
             324_255, 324_256, 324_257, 324_261, 324_265, 324_281, 324_313, 326_661,
         ],
-    }),
-    Step::EndsEarly(&ShortFile {
+    },
+    ShortFile {
         words: "verify public0 attached 1",
         name: "attached",
         status: 7,
-        line: "refused 20 @",
+        told: Told::Offset("refused 20"),
         offsets: &[326_661, 326_662, 326_666, 326_667, 326_669],
-    }),
+    },
 ];
+
+const ITS_END_IS_SHORT: &[Step] = &[Step::InputsAreShort(SHORT_ENDS)];
 
 /// The last entry, its signature, the key that is asked for and the statement are not right.
 const ITS_END_IS_WRONG: &[Step] = &[
