@@ -233,7 +233,7 @@ fn ends_early(
 fn line_at(alloc: Global, told: &Told, offset: usize) -> Result<String, NoMemory> {
     match told {
         Told::Line(line) => String::from_str(alloc, line),
-        Told::Offset(words) => format!(in alloc; "{words} {offset}\n"),
+        Told::Offset(words) => format!(in alloc; "{} {offset}\n", *words),
     }
 }
 
