@@ -318,11 +318,11 @@ class Worker:
         is_like_others = trial.is_torn or trial.is_full or trial.ends is None
         key = trial.command, () if is_like_others else trial.changes
         if key not in self.known:
-            before = self.before(key[1])
+            self.before(key[1])
             self.run(dataclasses.replace(trial, limit=None, is_full=False))
             seen = self.seen()
             self.known[key] = {name: seen.get(name) for _, name in trial.command.writes}
-            self.restore(before)
+            self.restore()
         return self.known[key]
 
     def before(self, changes):
@@ -331,10 +331,10 @@ class Worker:
             self.lay(name, changed(self.files.get(name), change))
         return self.seen()
 
-    def restore(self, before):
+    def restore(self):
         """All files are those of every trial again."""
         seen = self.seen()
-        for name in seen | before:
+        for name in seen | self.files:
             if seen.get(name) != self.files.get(name):
                 self.lay(name, self.files.get(name))
 
@@ -348,7 +348,7 @@ class Worker:
         except subprocess.TimeoutExpired:
             return f"{trial.command.words}: no end after {GIVEN_UP} s"
         finally:
-            self.restore(before)
+            self.restore()
         wanted, free = dict(before), set()
         ends = trial.ends
         outputs = [name for _, name in trial.command.writes]
