@@ -4,13 +4,18 @@
 
 use super::births::new_device_goes_through;
 use super::hostile::{ShortFile, Told};
-use super::{Content, Given, Part, Step, ends, file_of, go_through, host_with, status_of};
+use super::{Content, Given, Part, Step, ends, file_of, host_with, status_of};
 use mb_host::MemoryHost;
+use mb_model::IMAGE_LENGTH;
 use std::process::Abort;
 use std::test::Fail;
 
-/// A script of the most lines, and of one more.
-const SCRIPTS: &[Given] = &[
+/// A device that is dead, and a script of the most lines, and of one more.
+const FILES: &[Given] = &[
+    Given {
+        name: "image",
+        content: Content::Laid(&[("", IMAGE_LENGTH, 0)]),
+    },
     Given {
         name: "longest",
         content: Content::Repeats("off\n", 65_536),
@@ -457,8 +462,7 @@ fn long_scripts(rt: &(impl Abort + AllocGlobal), host: &mut MemoryHost) -> Resul
 
 #[test]
 fn the_longest_script_is_served(rt: HostRuntime) -> Result<(), Fail> {
-    let mut host = host_with(rt.alloc(), SCRIPTS, &[])?;
-    go_through(&rt, &mut host, &[A_DEAD_DEVICE])?;
+    let mut host = host_with(rt.alloc(), FILES, &[])?;
     long_scripts(&rt, &mut host)
 }
 
