@@ -22,7 +22,7 @@ mod succession;
 mod trusts;
 mod workloads;
 
-use hostile::{Access, ShortFile};
+use crate::tests::hostile::{Access, ShortFile, calls_fail, inputs_are_long, inputs_are_short};
 use mb_board::SimBoard;
 use mb_host::{Host, MemoryHost};
 use mb_model::{Bytes, Calls, File, Files, NoMemory, SECTOR_LENGTH};
@@ -182,9 +182,9 @@ fn take(rt: &(impl Abort + AllocGlobal), host: &mut MemoryHost, step: &Step) -> 
         Step::IsCut(cut) => is_cut(rt, host, cut),
         Step::KeepsStatement(name) => keep_statement(rt.alloc(), host, name),
         Step::IsSummarised(name) => is_summarised(rt, host, name),
-        Step::CallsFail(table) => hostile::calls_fail(rt, host, table),
-        Step::InputsAreLong(table) => hostile::inputs_are_long(rt, host, table),
-        Step::InputsAreShort(table) => hostile::inputs_are_short(rt, host, table),
+        Step::CallsFail(table) => calls_fail(rt, host, table),
+        Step::InputsAreLong(table) => inputs_are_long(rt, host, table),
+        Step::InputsAreShort(table) => inputs_are_short(rt, host, table),
     }
 }
 
