@@ -1,2 +1,11 @@
 mod Sizes
 mod Lengths
+mod Following
+mod WholeBeginnings
+mod Inhabited
+mod Partial
+mod OrderParts
+mod Surveying
+mod SurveyLoops
+mod SurveyParts
+mod Feeding

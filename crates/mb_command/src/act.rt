@@ -24,7 +24,7 @@ use mb_model::{
 use std::alloc::Global;
 
 /// Reads a trust other than this one.
-fn other_trust_at(cursor: &mut Cursor, one: Trust) -> Result<Trust, BadRecord>
+pub fn other_trust_at(cursor: &mut Cursor, one: Trust) -> Result<Trust, BadRecord>
     ensures { Reads bad_at (listed w8 (other_rows one) trust_byte) cursor.old result cursor.new }
 {
     let at = cursor.offset();

@@ -6,15 +6,23 @@
 #![tactic(auto)]
 
 mod act;
+mod begun;
 mod body;
 mod countersignatures;
 mod end;
 mod kind;
 mod order;
+mod reader;
 mod signed;
+mod stuck;
+mod survey;
+mod survey_act;
+mod survey_body;
+mod survey_fields;
 mod targets;
 
 pub use body::body_length;
 pub use end::OrderEnd;
 pub use order::{ORDER_LIMIT, read_order, write_order};
+pub use reader::OrderReader;
 pub use signed::signed_part;

@@ -13,7 +13,8 @@ use crate::countersignatures::{
     countersignatures_at, put_countersignatures, put_signature, signature_at,
 };
 use crate::end::OrderEnd;
-use mb_bytes::{Cursor, Field, WriteField, read_whole, write_field};
+use crate::reader::OrderReader;
+use mb_bytes::{Cursor, Field, WriteField, write_field};
 use mb_model::{NoMemory, Order};
 use std::alloc::Global;
 
@@ -21,7 +22,7 @@ use std::alloc::Global;
 pub const ORDER_LIMIT: usize = 65_536;
 
 /// An order.
-struct OrderField;
+pub struct OrderField;
 
 #[tactic(auto, unfolding(mb_model::specs::OrderFormat::order_format))]
 impl Field for OrderField {
@@ -70,10 +71,9 @@ pub fn read_order(alloc: Global, bytes: &[u8]) -> Result<Order, OrderEnd>
     ensures reads { ReadsWhole order_text_at order_format bytes.now result }
     ensures near { IfErr result (λ end. IfSome (order_text_at end) (λ at. at ≤ ORDER_LIMIT)) }
 {
-    match bytes.get(..ORDER_LIMIT) {
-        Some(first) => read_whole::<OrderField>(alloc, first),
-        None => read_whole::<OrderField>(alloc, bytes),
-    }
+    let mut reader = OrderReader::new(alloc);
+    reader.feed(bytes)?;
+    reader.finish(alloc)
 }
 
 #[tactic(auto, unfolding(mb_model::specs::OrderFormat::order_format))]

@@ -1,0 +1,18 @@
+use Rattle.mb_command.specs.Surveys.{IsTold}
+use Rattle.std.specs.Int.{w32}
+use Rattle.std.proofs.lemmas.Result.{err_from_is_err_and}
+use Rattle.mb_format.specs.Combinators.{row_of, table}
+use Rattle.mb_model.specs.Key.{tree_type}
+use Rattle.mb_model.specs.KeyFormat.{tree_rows}
+use Rattle.mb_command.proofs.OrderParts.{trees_are, tree_numbered}
+use Rattle.mb_command.proofs.Surveying.{forget, table_found, table_stuck}
+use Rattle.mb_command.proofs.survey_fields.survey_tree.Goals as goal
+
+pub returns-in_err-survey_u32 : goal.returns-in_err-survey_u32
+returns-in_err-survey_u32 c =
+    let p = err_from_is_err_and c.from_residual.result c.from_residual.ensures.1 in
+    rw (p.1, p.2) (table_stuck w32 tree_type (λ a. Unit {0}) (row_of tree_rows) 5 9 tree_numbered c.args.cursor.now c.survey_u32.new.cursor c.in_err-survey_u32.field-0.0 trees_are c.in_err-survey_u32.ensures)
+
+pub returns : goal.returns
+returns c =
+    forget (table w32 tree_rows tree_type) (IsTold (tree_numbered c.in_ok-survey_u32.field-0)) c.args.cursor.now c.survey_u32.new.cursor (table_found w32 tree_type (λ a. Unit {0}) (row_of tree_rows) 5 9 c.in_ok-survey_u32.field-0 tree_numbered c.args.cursor.now c.survey_u32.new.cursor trees_are c.in_ok-survey_u32.ensures)
