@@ -15,6 +15,7 @@ import sys
 
 import chain_readers
 import examples
+import pieces
 import readers
 import top_readers
 from sources import Source
@@ -28,6 +29,7 @@ READERS = {
     "crates/mb_lms/src/tests/heights.rt": readers.lms_signatures,
     "crates/mb_test_bytes/src/tests/signing.rt": readers.signer,
     "crates/mb_test_bytes/src/tests/orders.rt": readers.commands_orders,
+    "crates/mb_test_bytes/src/tests/pieces.rt": pieces.orders_in_pieces,
     "crates/mb_test_bytes/src/tests/trusts.rt": readers.records_with_trusts,
     "crates/mb_test_texts/src/tests/keys.rt": readers.key_files,
     "crates/mb_test_texts/src/tests/orders.rt": readers.officers_orders,

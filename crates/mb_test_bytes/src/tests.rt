@@ -6,6 +6,7 @@ mod fields;
 mod limits;
 mod model;
 mod orders;
+mod pieces;
 mod places;
 mod public;
 mod records;

@@ -14,7 +14,7 @@ use std::test::Fail;
 
 /// The body of a load of layer 1 with eight targets, two trusts and 32,768 bytes of code, and its signature and the countersignatures
 /// of layers 2 and 3, each of 9,324 bytes after their length.
-const LARGEST_ORDER: &[(&str, usize)] = &[
+pub const LARGEST_ORDER: &[(&str, usize)] = &[
     ("130108", 1),
     ("0301", 1),
     ("11", 32),
@@ -32,7 +32,7 @@ const LARGEST_ORDER: &[(&str, usize)] = &[
 ];
 
 /// How many of those bytes are the body.
-const BODY: usize = 32_850;
+pub const BODY: usize = 32_850;
 
 /// The lengths of the lists of an order, and of its signature.
 fn lengths(order: &Order) -> (usize, usize, usize) {

@@ -43,7 +43,7 @@ fn goes_both_ways(
 }
 
 /// Bodies and signatures of orders.
-const ORDERS: &[(&str, &str)] = &[
+pub const ORDERS: &[(&str, &str)] = &[
     ("0202010200000007", UNSIGNED),
     ("05030001", UNSIGNED),
     ("030300000001020100000003616263", UNSIGNED),
