@@ -34,7 +34,7 @@ FLASH, BBRAM, AREA, SECTOR = 1_048_576, 28_672, 4_096, 4_096
 # the first sector of the log
 LOG = 64
 
-verifies = functools.lru_cache(1_024)(lms.verify)
+verifies = functools.lru_cache(8_192)(lms.verify)
 
 
 class Unformed(Exception):

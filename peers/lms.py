@@ -35,6 +35,10 @@ def sha256(*parts):
     return hashlib.sha256(b"".join(parts)).digest()
 
 
+# the numbers of the steps of a chain, as a step hashes them
+STEPS = [u8(step) for step in range(256)]
+
+
 class Chains:
     """The numbers of an LM-OTS type, by Appendix B: its width, its number of chains and the shift of its checksum."""
 
@@ -67,9 +71,9 @@ class Chains:
 
 def take(identifier, leaf, chain, value, first, end):
     """The steps `first` to `end - 1` of a chain (sections 4.3, 4.5 and 4.6)."""
-    head = identifier + u32(leaf) + u16(chain)
-    for step in range(first, end):
-        value = sha256(head, u8(step), value)
+    head, hashed = identifier + u32(leaf) + u16(chain), hashlib.sha256
+    for step in STEPS[first:end]:
+        value = hashed(head + step + value).digest()
     return value
 
 

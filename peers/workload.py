@@ -217,6 +217,11 @@ def served(number, rounds):
     return "\n".join([*lines, f"image {sha256(serving.image()).hex()}", ""])
 
 
+def generated(number, rounds):
+    """The image, the script and its noise, and the lines that `generate` prints."""
+    return workload(number, rounds), served(number, rounds).splitlines()
+
+
 def stands_for(device):
     """What the records of its image are, but for the areas in which they stand, and its codes and log."""
     root = device.root(0, None)

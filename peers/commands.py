@@ -1,0 +1,347 @@
+"""What each command does with its files: its status, its line, and the files that it writes, from the documents alone.
+
+    answer(words, folder)    the answer of a command that is given these words, over a folder of files
+
+Nothing here is taken from the program. What is printed at status 0 and the bytes that are written are told exactly; but
+for `run`, whose image is told by what it stands for, and whose replies follow from those before where a power loss is
+armed.
+"""
+
+import dataclasses
+import pathlib
+import re
+
+import chains
+import images
+import machine
+import texts
+import workload
+from chains import LONGEST_FILE, Ended, Reader, Unformed
+from images import Fault
+from keys import born, key_of, officers
+from lms import sha256, u8, u32
+from orders import can_take, countersigned, read_order
+from texts import BadLine
+
+SPENT = 32
+MOST_ROUNDS = 24
+LONGEST_CODE = 32_768
+
+
+class Folder:
+    """Files by their names. `folders` are names of folders, `is_full` says that nothing can be printed, and `limit` is
+    the longest file that can be written, where there is one."""
+
+    def __init__(self, files, folders=(), is_full=False, limit=None):
+        self.files, self.folders, self.is_full, self.limit = files, set(folders), is_full, limit
+
+    def content(self, name):
+        return self.files.get(name)
+
+    def takes(self, name, bytes_):
+        """These bytes can be written into a file of this name."""
+        if name in self.folders or name.endswith("/") or (self.limit is not None and len(bytes_) > self.limit):
+            return False
+        return str(pathlib.PurePosixPath(name).parent) in {".", *self.folders}
+
+
+@dataclasses.dataclass
+class Answer:
+    """How a command ends. `text` is what it prints, or None where `run` serves events; then `served` says what is
+    known of its replies and its image."""
+
+    status: int
+    text: str | None
+    written: dict = dataclasses.field(default_factory=dict)
+    served: object = None
+
+
+@dataclasses.dataclass
+class Served:
+    """A run that serves events from an image."""
+
+    name: str
+    before: bytes
+    worlds: list
+    events: list
+
+
+class Call:
+    """A command at work over a folder."""
+
+    def __init__(self, folder, workloads):
+        self.folder, self.workloads, self.written = folder, workloads, {}
+
+    def read(self, role, name):
+        bytes_ = self.folder.content(name)
+        if bytes_ is None:
+            raise Ended(4, f"read failed {role}")
+        if len(bytes_) > LONGEST_FILE:
+            raise Ended(3, f"input {role} too long")
+        return bytes_
+
+    def record(self, role, name, read):
+        bytes_ = self.read(role, name)
+        try:
+            return Reader(bytes_).whole(read)
+        except Unformed as unformed:
+            raise Ended(3, f"input {role} at {unformed.at}") from None
+
+    def text(self, role, name, read):
+        text = self.read(role, name)
+        try:
+            return read(text)
+        except BadLine as bad:
+            raise Ended(3, f"input {role} line {bad.line}") from None
+
+    def image(self, name, meaning=images.meaning):
+        """The state of an image, or None of a dead device, and its bytes."""
+        bytes_ = self.read("image", name)
+        try:
+            return meaning(bytes_), bytes_
+        except Fault as fault:
+            raise Ended(3, f"input image {fault.place}") from None
+
+    def noise(self, name, least):
+        bytes_ = self.read("noise", name)
+        if len(bytes_) < least:
+            raise Ended(3, "input noise length")
+        return bytes_
+
+    def write(self, role, name, bytes_):
+        """Writes an output; after a failed one its file may hold anything."""
+        if not self.folder.takes(name, bytes_):
+            self.written[name] = None
+            raise Ended(5, f"write failed {role}")
+        self.written[name] = bytes_
+
+
+def number(word, least, most):
+    try:
+        return texts.number(word.encode(), most, least)
+    except texts.Wrong:
+        raise Ended(2, "words") from None
+
+
+# ---- officers
+
+
+def read_key_file(reader):
+    if reader.take(4) != b"MBK1":
+        raise Unformed(0)
+    return reader.take(16), reader.take(32), reader.number(4, 0, SPENT)
+
+
+def key_file(identifier, seed, used):
+    return b"MBK1" + identifier + seed + u32(used)
+
+
+def keygen(call, noise, key, public):
+    identifier, seed = officers(call.noise(noise, 32))
+    spelled = key_of(identifier, seed).public()
+    call.write("key", key, key_file(identifier, seed, 0))
+    call.write("public", public, spelled)
+    return [f"owner {sha256(spelled).hex()}"]
+
+
+def take_index(call, name, file):
+    """Raises the index of a key file before its signature is written."""
+    identifier, seed, used = file
+    if used == SPENT:
+        raise Ended(7, "spent")
+    call.write("key", name, key_file(identifier, seed, used + 1))
+    return key_of(identifier, seed)
+
+
+def order_line(order):
+    return f"command {order.hex()}\n".encode()
+
+
+def sign(call, key, draft, out):
+    file = call.record("key", key, read_key_file)
+    body = call.text("draft", draft, texts.read_draft)
+    signature = take_index(call, key, file).sign(file[2], u8(1) + body)
+    unsigned = read_order(body + bytes(3))
+    call.write("out", out, order_line(dataclasses.replace(unsigned, signature=signature).spelled()))
+    return [f"index {file[2]}"]
+
+
+def countersign(call, key, layer, order, out):
+    m = number(layer, 2, 3)
+    file = call.record("key", key, read_key_file)
+    given = call.text("order", order, texts.read_order_line)
+    if not can_take(given, m):
+        raise Ended(7, "not countersignable")
+    signature = take_index(call, key, file).sign(file[2], u8(2) + u8(m) + given.body)
+    call.write("out", out, order_line(countersigned(given, m, signature).spelled()))
+    return [f"index {file[2]}"]
+
+
+def factory(call, noise, key, owner, code, image):
+    bytes_ = call.noise(noise, 48)
+    file = call.record("key", key, read_key_file)
+    owner_key = call.record("owner", owner, Reader.key)
+    loaded = call.read("code", code)
+    if len(loaded) > LONGEST_CODE:
+        raise Ended(3, "input code length")
+    maker = take_index(call, key, file)
+    serial = bytes_[32:48]
+    identifier, seed = born(bytes_[:32], serial, 0)
+    layer = chains.Layer(owner_key, sha256(loaded), 1, True, (chains.ALWAYS, chains.ALWAYS))
+    text = u8(16) + serial + key_of(identifier, seed).public()
+    text += b"".join(map(machine.spelled_layer, (layer, chains.Layer(), chains.Layer())))
+    birth = Reader(text).whole(Reader.entry), maker.sign(file[2], u8(3) + text)
+    state = images.State(
+        serial, (birth,), (loaded, None, None), identifier, seed, 0, images.Region(), images.Region()
+    )
+    call.write("image", image, images.image_of(state))
+    return [f"serial {serial.hex()}"]
+
+
+# ---- chains
+
+
+def write_chain(call, out, entries, statement=None):
+    call.write("out", out, chains.spelled(entries, statement))
+    return [f"entries {len(entries)}"]
+
+
+def chain(call, image, out):
+    state, _ = call.image(image)
+    if state is None:
+        raise Ended(7, "zeroised")
+    return write_chain(call, out, state.log)
+
+
+def attach(call, chain, statement, out):
+    entries, has_statement = call.record("chain", chain, Reader.chain)
+    stated = call.text("statement", statement, texts.read_statement_line)
+    if has_statement:
+        raise Ended(7, "has statement")
+    count = 1
+    while count < len(entries) and not chains.is_change_above(stated.number, entries[count][0]):
+        count += 1
+    return write_chain(call, out, entries[:count], stated)
+
+
+def verify(call, root, chain, key):
+    n = number(key, 0, 2**32 - 1)
+    maker = call.record("root", root, Reader.key)
+    life, statement, _ = chains.judged(maker, call.read("chain", chain), n)
+    return list(chains.listing(n, life, statement))
+
+
+def audit(call, image, root, chain, key):
+    n = number(key, 0, 2**32 - 1)
+    state, _ = call.image(image)
+    maker = call.record("root", root, Reader.key)
+    bytes_ = call.read("chain", chain)
+    if state is None:
+        raise Ended(7, "zeroised")
+    life, _, length = chains.judged(maker, bytes_, n)
+    here = chains.life_of([entry for entry, _ in state.log[:length]], n)
+    if here is None or here.configurations != life.configurations:
+        raise Ended(7, "differs")
+    return ["agrees"]
+
+
+# ---- devices
+
+
+def migrate(call, image, out):
+    state, _ = call.image(image, images.migrated)
+    bytes_ = images.BLANK + bytes(images.BBRAM) if state is None else images.image_of(state)
+    call.write("out", out, bytes_)
+    return [f"migrated {sha256(bytes_).hex()}"]
+
+
+def with_draw(event, noise, at):
+    return dataclasses.replace(event, bytes=(event.bytes, noise[32 * at : 32 * at + 32]))
+
+
+def run(call, image, script, noise):
+    state, before = call.image(image)
+    events = call.text("script", script, texts.read_script)
+    commands = [at for at, event in enumerate(events) if event.word == "command"]
+    bytes_ = call.noise(noise, 32 * len(commands))
+    for number_, at in enumerate(commands):
+        events[at] = with_draw(events[at], bytes_, number_)
+    world = machine.World(state, images.is_clean(before))
+    return Served(image, before, [world], events)
+
+
+def generate(call, number_, rounds, image, script, noise):
+    given = number(number_, 0, 2**32 - 1), number(rounds, 1, MOST_ROUNDS)
+    if given not in call.workloads:
+        call.workloads[given] = workload.generated(*given)
+    files, lines = call.workloads[given]
+    for (role, name), bytes_ in zip((("image", image), ("script", script), ("noise", noise)), files):
+        call.write(role, name, bytes_)
+    return lines
+
+
+COMMANDS = {
+    "run": (run, 3),
+    "verify": (verify, 3),
+    "audit": (audit, 4),
+    "chain": (chain, 2),
+    "attach": (attach, 3),
+    "factory": (factory, 5),
+    "keygen": (keygen, 3),
+    "sign": (sign, 3),
+    "countersign": (countersign, 4),
+    "migrate": (migrate, 2),
+    "generate": (generate, 5),
+}
+
+
+def is_text(word):
+    """A word is text, and not bytes that stand in it as lone surrogates."""
+    return not re.search("[\ud800-\udfff]", word)
+
+
+def answer(words, folder, workloads=None):
+    """How the command of these words ends over a folder. `workloads` keeps those that were generated."""
+    call = Call(folder, {} if workloads is None else workloads)
+    command, count = COMMANDS.get(words[0], (None, 0)) if words else (None, 0)
+    try:
+        if command is None or len(words) != count + 1 or "" in words or not all(map(is_text, words)):
+            raise Ended(2, "words")
+        lines = command(call, *words[1:])
+    except Ended as ended:
+        return Answer(ended.status, ended.line + "\n", call.written)
+    if isinstance(lines, Served):
+        return Answer(0, None, served=lines)
+    return Answer(5 if folder.is_full else 0, "".join(line + "\n" for line in lines), call.written)
+
+
+# ---- what a run did
+
+
+def wrong_in_run(served, replies, after):
+    """What is wrong with the replies of a run, and with the image after it, or None."""
+    worlds = served.worlds
+    for at, (event, reply) in enumerate(zip(served.events, replies), 1):
+        worlds, possible = machine.follow(worlds, event, reply)
+        if not worlds:
+            return f"reply {at}: {reply}, and not {' or '.join(map(str, possible))}"
+    if len(replies) != len(served.events):
+        return f"{len(replies)} replies, and not {len(served.events)}"
+    if not any(is_left(world, served.before, after) for world in worlds):
+        return "the image is not that of a device with these replies"
+    return None
+
+
+def is_left(world, before, after):
+    """An image can be what is left in this world."""
+    if not world.has_written:
+        return after == (before[: images.FLASH] + bytes(images.BBRAM) if world.was_opened else before)
+    if world.state is None:
+        return len(after) == len(before) and not any(after[images.FLASH :])
+    try:
+        parts = images.stored(after)
+        if parts is None or images.completed(parts) != world.state:
+            return False
+    except Fault:
+        return False
+    return not world.is_clean or images.is_clean(after)
