@@ -1,4 +1,4 @@
-use Rattle.std.proofs.Common.{◌≡◌, ℕ, List, true, false, ◌∷◌, refl, sym, ◌∙◌, subst}
+use Rattle.std.proofs.Common.{◌≡◌, ℕ, List, true, false, ◌∷◌, refl, sym, subst}
 use Rattle.mb_hss.specs.HssVerification.{HssVerifies}
 use Rattle.mb_tools_hss.specs.declared.endorse.TheConstants.{ENDORSED_TEXT}
 use Rattle.mb_tools_hss.proofs.EndorsedLemmas.{endorsement_accepted, endorsement_refused}
