@@ -65,11 +65,7 @@ const EXTENDED_AND_OLDER: &[Step] = &[
         "3f3c72884d008d6ad283789767749a98e0b190f251bdcaaa7caac443dab7f98b",
     ),
     Step::Ends("fleet public1 register items", 0, "refused 21 0\n"),
-    Step::Ends(
-        "fleet public0 register nothing",
-        0,
-        "",
-    ),
+    Step::Ends("fleet public0 register nothing", 0, ""),
     Step::HasHash(
         "register",
         "3f3c72884d008d6ad283789767749a98e0b190f251bdcaaa7caac443dab7f98b",
@@ -88,7 +84,9 @@ const FOUND_BY_CODE: &[Step] = &[
     }),
     Step::Gives(Given {
         name: "finds",
-        content: Content::Hex("0202ba7816bf8f01cfea414140de5dae2223b00361a396177a9cb410ff61f20015ad"),
+        content: Content::Hex(
+            "0202ba7816bf8f01cfea414140de5dae2223b00361a396177a9cb410ff61f20015ad",
+        ),
     }),
     Step::Gives(Given {
         name: "counts",
