@@ -129,7 +129,7 @@ one_line (instruction.Get name) is =
     joined_line (keyword_word (keyword_of_instruction (instruction.Get name))) name (keyword_above (keyword_of_instruction (instruction.Get name)))
     (name_above name named.printed)
 
-are_lines : (listed : List Instruction) → All instruction_format.Allowed listed → All IsLine (lines_of listed)
+pub are_lines : (listed : List Instruction) → All instruction_format.Allowed listed → All IsLine (lines_of listed)
 are_lines [] all = All-nil IsLine
 are_lines (i ∷ listed) all =
     All-cons IsLine (instruction_line i) (lines_of listed) (one_line i (All-head instruction_format.Allowed i listed all))
