@@ -1,6 +1,7 @@
 //! The program over a host in memory: what it makes, by values of an independent program, and what a host shows of it.
 //! Tests are tables of plays: words one after another, how each ends, and what files then hold.
 
+mod applications;
 mod births;
 mod chains;
 mod devices;

@@ -1,0 +1,4 @@
+pub mod AppLemmas
+pub mod AssemblyLemmas
+pub mod InputLemmas
+pub mod SeeingLemmas

@@ -1,0 +1,6 @@
+pub mod AppInputs
+pub mod AppCommand
+pub mod AssemblyCommands
+pub mod Seeing
+pub mod Names
+pub mod Reads

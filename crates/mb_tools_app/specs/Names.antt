@@ -1,0 +1,34 @@
+-- The names of files and the numbers in the words of these commands, as their definitions have them.
+use Rattle.std.specs.Prelude.{List}
+use Rattle.mb_console.specs.Words.{Argument, file_given, number_given}
+use Rattle.mb_tools_app.specs.AppCommand.{AppNames as AppFiles}
+use Rattle.mb_tools_app.specs.AssemblyCommands.{AsmNames as AsmFiles, DisasmNames as DisasmFiles}
+use Rattle.mb_tools_app.specs.declared.app.AppNames.{AppNames}
+use Rattle.mb_tools_app.specs.declared.asm.AsmNames.{AsmNames}
+use Rattle.mb_tools_app.specs.declared.disasm.DisasmNames.{DisasmNames}
+
+abbrev pub app_files : AppNames → AppFiles
+app_files names =
+    record { image = names.image.now; layer = names.layer; input = names.input.now; steps = names.steps }
+
+abbrev pub asm_files : AsmNames → AsmFiles
+asm_files names = record { text = names.text.now; out = names.out.now }
+
+abbrev pub disasm_files : DisasmNames → DisasmFiles
+disasm_files names = record { code = names.code.now; out = names.out.now }
+
+-- ---- by the places of the words
+
+abbrev pub app_given : List Argument → AppFiles
+app_given given = record {
+  image = file_given 0 given;
+  layer = number_given 1 given;
+  input = file_given 2 given;
+  steps = number_given 3 given;
+}
+
+abbrev pub asm_given : List Argument → AsmFiles
+asm_given given = record { text = file_given 0 given; out = file_given 1 given }
+
+abbrev pub disasm_given : List Argument → DisasmFiles
+disasm_given given = record { code = file_given 0 given; out = file_given 1 given }

@@ -1,0 +1,14 @@
+-- A code that was read to be listed, and its text. Is the text that of the code's instructions?
+use Rattle.std.specs.Prelude.{◌≡◌, ℕ, List, map}
+use Rattle.mb_model.specs.Outside.{Outside}
+use Rattle.mb_model.specs.Lines.{text_of}
+use Rattle.mb_console.specs.Ending.{HasInput}
+use Rattle.mb_appvm.specs.declared.instruction.Instruction.{Instruction}
+use Rattle.mb_appvm.specs.Listing.{instruction_line}
+use Rattle.mb_tools_app.specs.AppInputs.{listing_input}
+
+-- the code was read, and the text has the line of each of its instructions
+pub record HasListing (name : List ℕ) (before now : Outside) (text : List ℕ) : Type 0 where
+  pub listed : List Instruction
+  pub read : HasInput (listing_input name) before now listed
+  pub written : text ≡ text_of (map instruction_line listed)

@@ -1,0 +1,4 @@
+//! The inputs of these commands.
+
+pub mod assembly;
+pub mod listing;

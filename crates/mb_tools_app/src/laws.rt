@@ -1,0 +1,19 @@
+//! Laws of the definitions, as the contracts of functions that do nothing.
+
+ghost use Rattle.std.specs.Prelude.{ℕ, List};
+ghost use Rattle.mb_model.specs.Inputs.{IsClearInput};
+ghost use Rattle.mb_tools_app.specs.AppInputs.{app_input, assembly_input, listing_input};
+ghost use Rattle.mb_tools_app.specs.Seeing.{AppSeesNothingElse};
+
+/// No input stands for a value and is at fault.
+pub fn inputs_are_clear()
+    ensures app { (name : List ℕ) → IsClearInput (app_input name) }
+    ensures assembly { (name : List ℕ) → IsClearInput (assembly_input name) }
+    ensures listing { (name : List ℕ) → IsClearInput (listing_input name) }
+{}
+
+/// Devices that agree on their layers, on the code of a layer and on the secrets of the regions not below it give `app`
+/// the same ends and the same line.
+pub fn app_sees_nothing_else()
+    ensures { AppSeesNothingElse }
+{}

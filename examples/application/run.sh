@@ -1,0 +1,117 @@
+#!/usr/bin/env bash
+# An application. The owner of layer 3 has a program in assembler text, answer.asm (answer.md says what each line does),
+# which answers a challenge with a secret of its layer. It is assembled and loaded by a signed order, the secret is put,
+# and the program answers. Then the same code runs where it may not read the secret. Builds the proved program, makes
+# keys and the device with it, and shows each step. Fails where what was printed is not what expected.txt says, whose
+# answers another program computed (bench/applications/interpreter.c). run.sh [PROGRAM] tries a program that is built.
+# Works from any current folder; beside the build in crates/*/out/ it writes in a temporary folder alone, which it
+# removes.
+set -euo pipefail
+export LC_ALL=C
+
+here=$(cd "$(dirname "${BASH_SOURCE[0]}")" && pwd)
+crate=$(cd "$here/../../crates/miniboot" && pwd)
+
+for tool in cmp cut head od paste sed sha256sum tr; do
+    if ! command -v "$tool" >/dev/null; then
+        echo "$tool is needed, and is not on the PATH" >&2
+        exit 1
+    fi
+done
+
+work=$(mktemp -d)
+trap 'rm -rf "$work"' EXIT
+if [ $# -gt 0 ]; then
+    program=$(realpath "$1")
+else
+    # shellcheck source=../build.sh
+    . "$here/../build.sh"
+    build
+    program=$crate/out/miniboot
+fi
+# shellcheck source=../steps.sh
+. "$here/../steps.sh"
+
+# Makes somebody's key of the noise, which is given in hexadecimal.
+make_key() {
+    bytes "$2" >noise
+    miniboot keygen noise "$1.key" "$1.public"
+}
+
+# Signs an order with somebody's key: order NAME OFFICER DRAFT
+order() {
+    printf '%b' "$3" >draft
+    miniboot sign "$2.key" draft "$1"
+}
+
+a_device() {
+    make_key maker 35fe183c068bc13ac735a76ac05c37d8d055c34bf945b99c4cdada2e31cc8ca8
+    make_key first d95321bdf284c2032c7a5209b847eae96c3080c86bfc2585312e15361179d1ac
+    make_key second c0fcde819a0006907629b33ec8a491a8b0d7cbf7ef92d8dfeb3bb22913d91c30
+    make_key third 547202fca623e77ec47fe0d1edad602736c85db474f6c085282bd16c65856985
+    bytes 12d71d7255b6325df7487678010fc9dbb905c6d5af1a7d986e75ecdfdc39dfbec10b471ceff881272aa5ed819fd9a0e0 >noise
+    printf 'layer one' >code
+    miniboot factory noise maker.key first.public code image
+    head -c 256 /dev/zero | tr '\0' '\7' >noise
+}
+
+it_is_assembled() {
+    echo "The program is a text, answer.asm. It is assembled, and its code listed again, with jumps by number:"
+    ask asm answer.asm answer
+    ask disasm answer listing
+    echo "The listing assembles to the same code:"
+    ask asm listing again
+    cmp answer again
+    hash_of answer answer
+}
+
+it_is_loaded() {
+    echo "Layers 2 and 3 get their owners, and both get the code by signed orders. Layer 3 keeps a secret, 'sesame':"
+    order owner2 first "order establish 2\nowner $(hex <second.public)\ntrust countersigned\n"
+    order owner3 second "order establish 3\nowner $(hex <third.public)\ntrust countersigned\n"
+    order load2 first "order emergency 2\nversion 1\ntrust countersigned\ncode $(hex <answer)\n"
+    order load3 second "order emergency 3\nversion 1\ntrust countersigned\ncode $(hex <answer)\n"
+    serve image boot owner2 owner3 load2 load3 go go 'put 3 token 736573616d65' off
+}
+
+it_answers() {
+    echo "It answers a challenge, 'good morning', with four bytes, and another with others. Nobody without the secret"
+    echo "knows them:"
+    printf 'good morning' >challenge
+    ask app image 3 challenge 1000
+    printf 'good evening' >other
+    ask app image 3 other 1000
+    echo "Layer 2 has the same code, and layer 3 is not below it, so it answers the same:"
+    ask app image 2 challenge 1000
+    echo "A run has as many steps as it is given:"
+    ask app image 3 challenge 332
+    ask app image 3 challenge 331
+    echo "A run changes nothing: the secret is still there."
+    serve image boot 'get 3 token' off
+}
+
+it_may_not_read() {
+    echo "The owner of layer 2 loads the same code again, and the owner of layer 3 does not countersign. Layer 3 is not"
+    echo "reliable any more, and its secrets are gone:"
+    order load2 second "order load 2\nversion 2\ntrust countersigned\ncode $(hex <answer)\n"
+    serve image boot load2 status off
+    echo "So the code of layer 2 may not read region 3 (trap 6, at its third instruction), and that of layer 3 may not"
+    echo "run:"
+    ask app image 2 challenge 1000
+    ask app image 3 challenge 1000
+}
+
+cd "$work"
+cp "$here/answer.asm" answer.asm
+echo "Making keys, a device and orders, which takes a moment .." >&2
+{
+    a_device
+    it_is_assembled
+    echo
+    it_is_loaded
+    echo
+    it_answers
+    echo
+    it_may_not_read
+} >told
+compare_told "$here"
