@@ -17,8 +17,8 @@ use Rattle.mb_board.specs.Calls.{Seen, held_in}
 use Rattle.mb_console.specs.declared.end.End.{End}
 use Rattle.mb_console.specs.Ending.{ended_at, EndsOncePrinted}
 use Rattle.mb_console.specs.Words.{Row, Argument, IsCall}
-use Rattle.mb_tools.specs.Names.{keygen_given, sign_given, countersign_given, factory_given, migrate_given, verify_given}
-use Rattle.mb_tools.specs.Names.{audit_given, chain_given, attach_given}
+use Rattle.mb_tools.specs.Names.{keygen_given, sign_given, countersign_given, factory_given, migrate_given}
+use Rattle.mb_tools.specs.Names.{verify_given, audit_given, chain_given, attach_given}
 use Rattle.mb_tools_hss.specs.HssKeygen.{hsskeygen}
 use Rattle.mb_tools_hss.specs.Endorse.{endorse}
 use Rattle.mb_tools_hss.specs.Endorsed.{endorsed}

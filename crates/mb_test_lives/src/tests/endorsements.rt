@@ -220,53 +220,51 @@ const FILES: &[Given] = &[
 ];
 
 /// Each maker is made, and made again of the same noise. Noise beyond 32 bytes is not used.
-const MAKERS_ARE_MADE: &[Play] = &[
-    Play {
-        failing: &[],
-        steps: &[
-            Step::Ends("hsskeygen noise 1 key public", 0, ONE_LINE),
-            Step::Holds("key", ONE),
-            Step::Holds("public", ONE_PUBLIC),
-            Step::WasCalled(1, 2, 1),
-            Step::Ends("hsskeygen noise 2 key public", 0, TWO_LINE),
-            Step::Holds("key", TWO),
-            Step::Holds("public", TWO_PUBLIC),
-            Step::Ends("hsskeygen longer 2 key public", 0, TWO_LINE),
-            Step::Holds("key", TWO),
-            Step::Holds("public", TWO_PUBLIC),
-            Step::Ends(
-                "hsskeygen noise 8 key public",
-                0,
-                "maker 9bc2395e07b7070829fd29ee6bb935937c242c5e7d6d220c270ce175ffc684da\n",
-            ),
-            Step::Holds(
-                "key",
-                "4d424b3208136b8c60f7349e4e452847a2b564f20a1e0642410e09d0ba9ae7a13915d483190000000000000000",
-            ),
-            Step::Holds(
-                "public",
-                "000000080000000500000003ec1b77804d0b7d73e6b29b7af6b8498a1b15cc212083944aeacb532a50b5fbe9951a6555\
+const MAKERS_ARE_MADE: &[Play] = &[Play {
+    failing: &[],
+    steps: &[
+        Step::Ends("hsskeygen noise 1 key public", 0, ONE_LINE),
+        Step::Holds("key", ONE),
+        Step::Holds("public", ONE_PUBLIC),
+        Step::WasCalled(1, 2, 1),
+        Step::Ends("hsskeygen noise 2 key public", 0, TWO_LINE),
+        Step::Holds("key", TWO),
+        Step::Holds("public", TWO_PUBLIC),
+        Step::Ends("hsskeygen longer 2 key public", 0, TWO_LINE),
+        Step::Holds("key", TWO),
+        Step::Holds("public", TWO_PUBLIC),
+        Step::Ends(
+            "hsskeygen noise 8 key public",
+            0,
+            "maker 9bc2395e07b7070829fd29ee6bb935937c242c5e7d6d220c270ce175ffc684da\n",
+        ),
+        Step::Holds(
+            "key",
+            "4d424b3208136b8c60f7349e4e452847a2b564f20a1e0642410e09d0ba9ae7a13915d483190000000000000000",
+        ),
+        Step::Holds(
+            "public",
+            "000000080000000500000003ec1b77804d0b7d73e6b29b7af6b8498a1b15cc212083944aeacb532a50b5fbe9951a6555\
                     c1e02060c0570115138b9a32",
-            ),
-            Step::Ends(
-                "hsskeygen zeros 3 key public",
-                0,
-                "maker f2ae76b8dad73a642e3cad6888498914af8334cb77dca3ec4fa753587ec31966\n",
-            ),
-            Step::Holds(
-                "key",
-                "4d424b3203ae8896961cb11eab8333610414a7cd5ca1ad38c7a076a143f2aa079e9d2d03f90000000000000000",
-            ),
-            Step::Holds(
-                "public",
-                "00000003000000050000000369a33de96f86cbe7b711e5b5cf5e3e82d42172539884e4d4db5a86b349e8ee2507f99c38\
+        ),
+        Step::Ends(
+            "hsskeygen zeros 3 key public",
+            0,
+            "maker f2ae76b8dad73a642e3cad6888498914af8334cb77dca3ec4fa753587ec31966\n",
+        ),
+        Step::Holds(
+            "key",
+            "4d424b3203ae8896961cb11eab8333610414a7cd5ca1ad38c7a076a143f2aa079e9d2d03f90000000000000000",
+        ),
+        Step::Holds(
+            "public",
+            "00000003000000050000000369a33de96f86cbe7b711e5b5cf5e3e82d42172539884e4d4db5a86b349e8ee2507f99c38\
                     ccbec16d48ac4b2297473476",
-            ),
-            Step::Ends("hsskeygen noise 2 file file", 0, TWO_LINE),
-            Step::Holds("file", TWO_PUBLIC),
-        ],
-    },
-];
+        ),
+        Step::Ends("hsskeygen noise 2 file file", 0, TWO_LINE),
+        Step::Holds("file", TWO_PUBLIC),
+    ],
+}];
 
 #[test]
 fn makers_are_made(rt: HostRuntime) -> Result<(), Fail> {
@@ -424,65 +422,63 @@ fn levels_are_spent(rt: HostRuntime) -> Result<(), Fail> {
 
 /// An endorsement that another program made with keys of other types is accepted, and refused where it is changed or
 /// cut at the beginning of a field.
-const FOREIGN_ENDORSEMENTS: &[Play] = &[
-    Play {
-        failing: &[],
-        steps: &[
-            Step::Ends("endorsed foreign_public root foreign", 0, "endorsed\n"),
-            Step::Ends("endorsed public2 root foreign", 7, "refused 28\n"),
-            Step::Writes("made", &[Part::File("foreign"), Part::Text("\0")]),
-            Step::Ends("endorsed foreign_public root made", 7, "refused 28\n"),
-            Step::Writes("made", &[Part::Without("foreign", 1)]),
-            Step::Ends("endorsed foreign_public root made", 7, "refused 28\n"),
-            Step::Writes(
-                "made",
-                &[
-                    Part::Slice("foreign", 0, 3),
-                    Part::Text("\0"),
-                    Part::Slice("foreign", 4, 2804),
-                ],
-            ),
-            Step::Ends("endorsed foreign_public root made", 7, "refused 28\n"),
-            Step::Writes(
-                "made",
-                &[
-                    Part::Slice("foreign", 0, 3),
-                    Part::Text("\u{2}"),
-                    Part::Slice("foreign", 4, 2804),
-                ],
-            ),
-            Step::Ends("endorsed foreign_public root made", 7, "refused 28\n"),
-            Step::Writes("made", &[Part::Slice("foreign", 0, 3)]),
-            Step::Ends("endorsed foreign_public root made", 7, "refused 28\n"),
-            Step::Writes("made", &[Part::Slice("foreign", 0, 4)]),
-            Step::Ends("endorsed foreign_public root made", 7, "refused 28\n"),
-            Step::Writes("made", &[Part::Slice("foreign", 0, 1296)]),
-            Step::Ends("endorsed foreign_public root made", 7, "refused 28\n"),
-            Step::Writes("made", &[Part::Slice("foreign", 0, 1352)]),
-            Step::Ends("endorsed foreign_public root made", 7, "refused 28\n"),
-            Step::Writes(
-                "made",
-                &[
-                    Part::Slice("foreign", 0, 1299),
-                    Part::Text("\u{4}"),
-                    Part::Slice("foreign", 1300, 2804),
-                ],
-            ),
-            Step::Ends("endorsed foreign_public root made", 7, "refused 28\n"),
-            Step::Writes(
-                "made",
-                &[
-                    Part::Slice("foreign", 0, 1303),
-                    Part::Text("\u{5}"),
-                    Part::Slice("foreign", 1304, 2804),
-                ],
-            ),
-            Step::Ends("endorsed foreign_public root made", 7, "refused 28\n"),
-            Step::Ends("endorsed foreign_public root noise", 7, "refused 28\n"),
-            Step::Ends("endorsed foreign_public root longest", 7, "refused 28\n"),
-        ],
-    },
-];
+const FOREIGN_ENDORSEMENTS: &[Play] = &[Play {
+    failing: &[],
+    steps: &[
+        Step::Ends("endorsed foreign_public root foreign", 0, "endorsed\n"),
+        Step::Ends("endorsed public2 root foreign", 7, "refused 28\n"),
+        Step::Writes("made", &[Part::File("foreign"), Part::Text("\0")]),
+        Step::Ends("endorsed foreign_public root made", 7, "refused 28\n"),
+        Step::Writes("made", &[Part::Without("foreign", 1)]),
+        Step::Ends("endorsed foreign_public root made", 7, "refused 28\n"),
+        Step::Writes(
+            "made",
+            &[
+                Part::Slice("foreign", 0, 3),
+                Part::Text("\0"),
+                Part::Slice("foreign", 4, 2804),
+            ],
+        ),
+        Step::Ends("endorsed foreign_public root made", 7, "refused 28\n"),
+        Step::Writes(
+            "made",
+            &[
+                Part::Slice("foreign", 0, 3),
+                Part::Text("\u{2}"),
+                Part::Slice("foreign", 4, 2804),
+            ],
+        ),
+        Step::Ends("endorsed foreign_public root made", 7, "refused 28\n"),
+        Step::Writes("made", &[Part::Slice("foreign", 0, 3)]),
+        Step::Ends("endorsed foreign_public root made", 7, "refused 28\n"),
+        Step::Writes("made", &[Part::Slice("foreign", 0, 4)]),
+        Step::Ends("endorsed foreign_public root made", 7, "refused 28\n"),
+        Step::Writes("made", &[Part::Slice("foreign", 0, 1296)]),
+        Step::Ends("endorsed foreign_public root made", 7, "refused 28\n"),
+        Step::Writes("made", &[Part::Slice("foreign", 0, 1352)]),
+        Step::Ends("endorsed foreign_public root made", 7, "refused 28\n"),
+        Step::Writes(
+            "made",
+            &[
+                Part::Slice("foreign", 0, 1299),
+                Part::Text("\u{4}"),
+                Part::Slice("foreign", 1300, 2804),
+            ],
+        ),
+        Step::Ends("endorsed foreign_public root made", 7, "refused 28\n"),
+        Step::Writes(
+            "made",
+            &[
+                Part::Slice("foreign", 0, 1303),
+                Part::Text("\u{5}"),
+                Part::Slice("foreign", 1304, 2804),
+            ],
+        ),
+        Step::Ends("endorsed foreign_public root made", 7, "refused 28\n"),
+        Step::Ends("endorsed foreign_public root noise", 7, "refused 28\n"),
+        Step::Ends("endorsed foreign_public root longest", 7, "refused 28\n"),
+    ],
+}];
 
 #[test]
 fn foreign_endorsements(rt: HostRuntime) -> Result<(), Fail> {
@@ -563,39 +559,43 @@ const CALLS_FAIL: &[Play] = &[
     },
     Play {
         failing: &[0],
-        steps: &[
-            Step::Ends("endorsed foreign_public root foreign", 4, "read failed public\n"),
-        ],
+        steps: &[Step::Ends(
+            "endorsed foreign_public root foreign",
+            4,
+            "read failed public\n",
+        )],
     },
     Play {
         failing: &[1],
-        steps: &[
-            Step::Ends("endorsed foreign_public root foreign", 4, "read failed root\n"),
-        ],
+        steps: &[Step::Ends(
+            "endorsed foreign_public root foreign",
+            4,
+            "read failed root\n",
+        )],
     },
     Play {
         failing: &[2],
-        steps: &[
-            Step::Ends("endorsed foreign_public root foreign", 4, "read failed endorsement\n"),
-        ],
+        steps: &[Step::Ends(
+            "endorsed foreign_public root foreign",
+            4,
+            "read failed endorsement\n",
+        )],
     },
     Play {
         failing: &[3],
-        steps: &[
-            Step::Ends("endorsed foreign_public root foreign", 5, "write failed output\n"),
-        ],
+        steps: &[Step::Ends(
+            "endorsed foreign_public root foreign",
+            5,
+            "write failed output\n",
+        )],
     },
     Play {
         failing: &[3],
-        steps: &[
-            Step::Ends("endorsed foreign_public other foreign", 7, ""),
-        ],
+        steps: &[Step::Ends("endorsed foreign_public other foreign", 7, "")],
     },
     Play {
         failing: &[2],
-        steps: &[
-            Step::Ends("endorse spent root out", 7, ""),
-        ],
+        steps: &[Step::Ends("endorse spent root out", 7, "")],
     },
 ];
 
@@ -605,40 +605,46 @@ fn calls_fail_in_turn(rt: HostRuntime) -> Result<(), Fail> {
 }
 
 /// What is refused writes nothing, and the first input that is not right is named.
-const REFUSED: &[Play] = &[
-    Play {
-        failing: &[],
-        steps: &[
-            Step::Ends("hsskeygen noise 1 key ", 2, "words\n"),
-            Step::Ends("hsskeygen noise 0 key public", 2, "words\n"),
-            Step::Ends("hsskeygen noise 9 key public", 2, "words\n"),
-            Step::Ends("hsskeygen noise 01 key public", 2, "words\n"),
-            Step::Ends("hsskeygen noise one key public", 2, "words\n"),
-            Step::Ends("endorse two root", 2, "words\n"),
-            Step::Ends("endorse two root ", 2, "words\n"),
-            Step::Ends("endorsed public2 root out out", 2, "words\n"),
-            Step::WasCalled(0, 0, 8),
-            Step::Ends("hsskeygen short 1 key public", 3, "input noise length\n"),
-            Step::Ends("hsskeygen long 1 key public", 3, "input noise too long\n"),
-            Step::Ends("endorse long root out", 3, "input key too long\n"),
-            Step::Ends("endorse two long out", 3, "input root too long\n"),
-            Step::Ends("endorsed long root foreign", 3, "input public too long\n"),
-            Step::Ends("endorsed public2 long foreign", 3, "input root too long\n"),
-            Step::Ends("endorsed public2 root long", 3, "input endorsement too long\n"),
-            Step::Ends("endorse spent root out", 7, "spent\n"),
-            Step::Ends("endorse spent8 root out", 7, "spent\n"),
-            Step::Ends("endorse spent missing out", 4, "read failed root\n"),
-            Step::Ends("endorse root missing out", 3, "input key at 0\n"),
-            Step::Ends("endorsed public2 root missing", 4, "read failed endorsement\n"),
-            Step::Ends("endorsed root missing long", 3, "input public at 4\n"),
-            Step::Ends("endorse two public2 out", 3, "input root at 0\n"),
-            Step::Holds("two", TWO),
-            Step::IsMissing("key"),
-            Step::IsMissing("public"),
-            Step::IsMissing("out"),
-        ],
-    },
-];
+const REFUSED: &[Play] = &[Play {
+    failing: &[],
+    steps: &[
+        Step::Ends("hsskeygen noise 1 key ", 2, "words\n"),
+        Step::Ends("hsskeygen noise 0 key public", 2, "words\n"),
+        Step::Ends("hsskeygen noise 9 key public", 2, "words\n"),
+        Step::Ends("hsskeygen noise 01 key public", 2, "words\n"),
+        Step::Ends("hsskeygen noise one key public", 2, "words\n"),
+        Step::Ends("endorse two root", 2, "words\n"),
+        Step::Ends("endorse two root ", 2, "words\n"),
+        Step::Ends("endorsed public2 root out out", 2, "words\n"),
+        Step::WasCalled(0, 0, 8),
+        Step::Ends("hsskeygen short 1 key public", 3, "input noise length\n"),
+        Step::Ends("hsskeygen long 1 key public", 3, "input noise too long\n"),
+        Step::Ends("endorse long root out", 3, "input key too long\n"),
+        Step::Ends("endorse two long out", 3, "input root too long\n"),
+        Step::Ends("endorsed long root foreign", 3, "input public too long\n"),
+        Step::Ends("endorsed public2 long foreign", 3, "input root too long\n"),
+        Step::Ends(
+            "endorsed public2 root long",
+            3,
+            "input endorsement too long\n",
+        ),
+        Step::Ends("endorse spent root out", 7, "spent\n"),
+        Step::Ends("endorse spent8 root out", 7, "spent\n"),
+        Step::Ends("endorse spent missing out", 4, "read failed root\n"),
+        Step::Ends("endorse root missing out", 3, "input key at 0\n"),
+        Step::Ends(
+            "endorsed public2 root missing",
+            4,
+            "read failed endorsement\n",
+        ),
+        Step::Ends("endorsed root missing long", 3, "input public at 4\n"),
+        Step::Ends("endorse two public2 out", 3, "input root at 0\n"),
+        Step::Holds("two", TWO),
+        Step::IsMissing("key"),
+        Step::IsMissing("public"),
+        Step::IsMissing("out"),
+    ],
+}];
 
 #[test]
 fn a_command_that_is_refused_writes_nothing(rt: HostRuntime) -> Result<(), Fail> {
@@ -703,131 +709,121 @@ fn inputs_are_cut(rt: HostRuntime) -> Result<(), Fail> {
 }
 
 /// Makers' files and public keys that are in no form, and the offset at which each fails.
-const FAULTY: &[Play] = &[
-    Play {
-        failing: &[],
-        steps: &[
-            Step::Gives(Given {
-                name: "faulty",
-                content: Content::Hex(
-                    "",
-                ),
-            }),
-            Step::Ends("endorse faulty root out", 3, "input key at 0\n"),
-            Step::Gives(Given {
-                name: "faulty",
-                content: Content::Hex(
-                    "4d424b3102136b8c60f7349e4e452847a2b564f20a1e0642410e09d0ba9ae7a13915d483190000000000000000",
-                ),
-            }),
-            Step::Ends("endorse faulty root out", 3, "input key at 0\n"),
-            Step::Gives(Given {
-                name: "faulty",
-                content: Content::Hex(
-                    "4d424b3200136b8c60f7349e4e452847a2b564f20a1e0642410e09d0ba9ae7a13915d483190000000000000000",
-                ),
-            }),
-            Step::Ends("endorse faulty root out", 3, "input key at 4\n"),
-            Step::Gives(Given {
-                name: "faulty",
-                content: Content::Hex(
-                    "4d424b3209136b8c60f7349e4e452847a2b564f20a1e0642410e09d0ba9ae7a13915d483190000000000000000",
-                ),
-            }),
-            Step::Ends("endorse faulty root out", 3, "input key at 4\n"),
-            Step::Gives(Given {
-                name: "faulty",
-                content: Content::Hex(
-                    "4d424b3202136b8c60f7349e4e452847a2b564f2",
-                ),
-            }),
-            Step::Ends("endorse faulty root out", 3, "input key at 5\n"),
-            Step::Gives(Given {
-                name: "faulty",
-                content: Content::Hex(
-                    "4d424b3202136b8c60f7349e4e452847a2b564f20a1e0642410e09d0ba9ae7a13915d483190000000000000401",
-                ),
-            }),
-            Step::Ends("endorse faulty root out", 3, "input key at 37\n"),
-            Step::Gives(Given {
-                name: "faulty",
-                content: Content::Hex(
-                    "4d424b3202136b8c60f7349e4e452847a2b564f20a1e0642410e09d0ba9ae7a13915d4831900000000000000",
-                ),
-            }),
-            Step::Ends("endorse faulty root out", 3, "input key at 37\n"),
-            Step::Gives(Given {
-                name: "faulty",
-                content: Content::Hex(
-                    "4d424b3202136b8c60f7349e4e452847a2b564f20a1e0642410e09d0ba9ae7a13915d48319000000000000000000",
-                ),
-            }),
-            Step::Ends("endorse faulty root out", 3, "input key at 45\n"),
-            Step::Gives(Given {
-                name: "faulty",
-                content: Content::Hex(
-                    "000000",
-                ),
-            }),
-            Step::Ends("endorsed faulty root foreign", 3, "input public at 0\n"),
-            Step::Gives(Given {
-                name: "faulty",
-                content: Content::Hex(
-                    "000000000000000500000003ec1b77804d0b7d73e6b29b7af6b8498a1b15cc212083944aeacb532a50b5fbe9951a6555\
+const FAULTY: &[Play] = &[Play {
+    failing: &[],
+    steps: &[
+        Step::Gives(Given {
+            name: "faulty",
+            content: Content::Hex(""),
+        }),
+        Step::Ends("endorse faulty root out", 3, "input key at 0\n"),
+        Step::Gives(Given {
+            name: "faulty",
+            content: Content::Hex(
+                "4d424b3102136b8c60f7349e4e452847a2b564f20a1e0642410e09d0ba9ae7a13915d483190000000000000000",
+            ),
+        }),
+        Step::Ends("endorse faulty root out", 3, "input key at 0\n"),
+        Step::Gives(Given {
+            name: "faulty",
+            content: Content::Hex(
+                "4d424b3200136b8c60f7349e4e452847a2b564f20a1e0642410e09d0ba9ae7a13915d483190000000000000000",
+            ),
+        }),
+        Step::Ends("endorse faulty root out", 3, "input key at 4\n"),
+        Step::Gives(Given {
+            name: "faulty",
+            content: Content::Hex(
+                "4d424b3209136b8c60f7349e4e452847a2b564f20a1e0642410e09d0ba9ae7a13915d483190000000000000000",
+            ),
+        }),
+        Step::Ends("endorse faulty root out", 3, "input key at 4\n"),
+        Step::Gives(Given {
+            name: "faulty",
+            content: Content::Hex("4d424b3202136b8c60f7349e4e452847a2b564f2"),
+        }),
+        Step::Ends("endorse faulty root out", 3, "input key at 5\n"),
+        Step::Gives(Given {
+            name: "faulty",
+            content: Content::Hex(
+                "4d424b3202136b8c60f7349e4e452847a2b564f20a1e0642410e09d0ba9ae7a13915d483190000000000000401",
+            ),
+        }),
+        Step::Ends("endorse faulty root out", 3, "input key at 37\n"),
+        Step::Gives(Given {
+            name: "faulty",
+            content: Content::Hex(
+                "4d424b3202136b8c60f7349e4e452847a2b564f20a1e0642410e09d0ba9ae7a13915d4831900000000000000",
+            ),
+        }),
+        Step::Ends("endorse faulty root out", 3, "input key at 37\n"),
+        Step::Gives(Given {
+            name: "faulty",
+            content: Content::Hex(
+                "4d424b3202136b8c60f7349e4e452847a2b564f20a1e0642410e09d0ba9ae7a13915d48319000000000000000000",
+            ),
+        }),
+        Step::Ends("endorse faulty root out", 3, "input key at 45\n"),
+        Step::Gives(Given {
+            name: "faulty",
+            content: Content::Hex("000000"),
+        }),
+        Step::Ends("endorsed faulty root foreign", 3, "input public at 0\n"),
+        Step::Gives(Given {
+            name: "faulty",
+            content: Content::Hex(
+                "000000000000000500000003ec1b77804d0b7d73e6b29b7af6b8498a1b15cc212083944aeacb532a50b5fbe9951a6555\
                         c1e02060c0570115138b9a32",
-                ),
-            }),
-            Step::Ends("endorsed faulty root foreign", 3, "input public at 0\n"),
-            Step::Gives(Given {
-                name: "faulty",
-                content: Content::Hex(
-                    "000000090000000500000003ec1b77804d0b7d73e6b29b7af6b8498a1b15cc212083944aeacb532a50b5fbe9951a6555\
+            ),
+        }),
+        Step::Ends("endorsed faulty root foreign", 3, "input public at 0\n"),
+        Step::Gives(Given {
+            name: "faulty",
+            content: Content::Hex(
+                "000000090000000500000003ec1b77804d0b7d73e6b29b7af6b8498a1b15cc212083944aeacb532a50b5fbe9951a6555\
                         c1e02060c0570115138b9a32",
-                ),
-            }),
-            Step::Ends("endorsed faulty root foreign", 3, "input public at 0\n"),
-            Step::Gives(Given {
-                name: "faulty",
-                content: Content::Hex(
-                    "000000020000000400000003ec1b77804d0b7d73e6b29b7af6b8498a1b15cc212083944aeacb532a50b5fbe9951a6555\
+            ),
+        }),
+        Step::Ends("endorsed faulty root foreign", 3, "input public at 0\n"),
+        Step::Gives(Given {
+            name: "faulty",
+            content: Content::Hex(
+                "000000020000000400000003ec1b77804d0b7d73e6b29b7af6b8498a1b15cc212083944aeacb532a50b5fbe9951a6555\
                         c1e02060c0570115138b9a32",
-                ),
-            }),
-            Step::Ends("endorsed faulty root foreign", 3, "input public at 4\n"),
-            Step::Gives(Given {
-                name: "faulty",
-                content: Content::Hex(
-                    "000000020000000500000005ec1b77804d0b7d73e6b29b7af6b8498a1b15cc212083944aeacb532a50b5fbe9951a6555\
+            ),
+        }),
+        Step::Ends("endorsed faulty root foreign", 3, "input public at 4\n"),
+        Step::Gives(Given {
+            name: "faulty",
+            content: Content::Hex(
+                "000000020000000500000005ec1b77804d0b7d73e6b29b7af6b8498a1b15cc212083944aeacb532a50b5fbe9951a6555\
                         c1e02060c0570115138b9a32",
-                ),
-            }),
-            Step::Ends("endorsed faulty root foreign", 3, "input public at 8\n"),
-            Step::Gives(Given {
-                name: "faulty",
-                content: Content::Hex(
-                    "000000020000000500000003ec1b77804d0b7d73e6b29b7af6b849",
-                ),
-            }),
-            Step::Ends("endorsed faulty root foreign", 3, "input public at 12\n"),
-            Step::Gives(Given {
-                name: "faulty",
-                content: Content::Hex(
-                    "000000020000000500000003ec1b77804d0b7d73e6b29b7af6b8498a1b15cc212083944aeacb532a50b5fbe9951a6555\
+            ),
+        }),
+        Step::Ends("endorsed faulty root foreign", 3, "input public at 8\n"),
+        Step::Gives(Given {
+            name: "faulty",
+            content: Content::Hex("000000020000000500000003ec1b77804d0b7d73e6b29b7af6b849"),
+        }),
+        Step::Ends("endorsed faulty root foreign", 3, "input public at 12\n"),
+        Step::Gives(Given {
+            name: "faulty",
+            content: Content::Hex(
+                "000000020000000500000003ec1b77804d0b7d73e6b29b7af6b8498a1b15cc212083944aeacb532a50b5fbe9951a6555\
                         c1e02060c0570115138b9a",
-                ),
-            }),
-            Step::Ends("endorsed faulty root foreign", 3, "input public at 28\n"),
-            Step::Gives(Given {
-                name: "faulty",
-                content: Content::Hex(
-                    "000000020000000500000003ec1b77804d0b7d73e6b29b7af6b8498a1b15cc212083944aeacb532a50b5fbe9951a6555\
+            ),
+        }),
+        Step::Ends("endorsed faulty root foreign", 3, "input public at 28\n"),
+        Step::Gives(Given {
+            name: "faulty",
+            content: Content::Hex(
+                "000000020000000500000003ec1b77804d0b7d73e6b29b7af6b8498a1b15cc212083944aeacb532a50b5fbe9951a6555\
                         c1e02060c0570115138b9a3200",
-                ),
-            }),
-            Step::Ends("endorsed faulty root foreign", 3, "input public at 60\n"),
-        ],
-    },
-];
+            ),
+        }),
+        Step::Ends("endorsed faulty root foreign", 3, "input public at 60\n"),
+    ],
+}];
 
 #[test]
 fn files_are_faulty(rt: HostRuntime) -> Result<(), Fail> {
