@@ -12,11 +12,14 @@ import sys
 
 sys.path.insert(0, str(pathlib.Path(__file__).resolve().parents[2] / "peers"))
 
+import chains  # noqa: E402
 import device  # noqa: E402
 
 ROUNDS = 5
 # lines of sets of 64 hashes among the 256 lines of a policy
 SETS = 8
+# the first key of layer 3, which lives on through each later load of the layer
+KEY = "9"
 FILE_LIMIT = 4_194_304
 
 
@@ -45,7 +48,7 @@ class Bench:
     def trust(self, policy):
         """The time of `trust` by this policy, which allows the key."""
         (self.folder / "policy").write_text(policy)
-        return self.time("trust", "root", "chain", "1", "policy", printed="allowed\n")
+        return self.time("trust", "root", "chain", KEY, "policy", printed="allowed\n")
 
 
 def hash_set(number):
@@ -89,8 +92,9 @@ def main(words):
     made = device.full()[0]
     (folder / "root").write_bytes(made.maker.public())
     (folder / "chain").write_bytes(made.chain())
-    verifying = bench.time("verify", "root", "chain", "1")
-    print(f"verify, {len(made.log)} entries: {verifying * 1e3:.1f} ms")
+    life = chains.accepted(made.maker.public(), made.chain(), int(KEY))[0]
+    verifying = bench.time("verify", "root", "chain", KEY)
+    print(f"verify, {len(made.log)} entries, {len(life.configurations)} configurations: {verifying * 1e3:.1f} ms")
     trusting = bench.trust(full_policy())
     judging = trusting - verifying
     print(f"trust, 256 lines, {SETS} sets of 64 hashes: {trusting * 1e3:.1f} ms, {judging * 1e3:.1f} ms more than verify")
