@@ -232,8 +232,8 @@ fn ends_early(
 /// The line of a file that ends at this offset.
 fn line_at(alloc: Global, told: &Told, offset: usize) -> Result<String, NoMemory> {
     match told {
-        Told::Line(line) => String::from_str(alloc, line),
-        Told::Offset(words) => format!(in alloc; "{} {offset}\n", *words),
+        Told::Line(line) => Ok(String::from_str(alloc, line)?),
+        Told::Offset(words) => Ok(format!(in alloc; "{} {offset}\n", *words)?),
     }
 }
 
