@@ -34,6 +34,7 @@ pub enum Told {
 }
 
 /// A host before the words, and one after them.
+#[derive(Clone, Copy)]
 struct Times<'a> {
     before: &'a MemoryHost,
     after: &'a MemoryHost,
