@@ -24,7 +24,8 @@ LOOPS = {
     "memory": "label again\npush 9\npush 40\nstore\npush 40\nload\npop\njump again\n",
     "input": "label again\npush 3\ninput\npop\nlength\npop\njump again\n",
     "calls": "label again\ncall on\njump again\nlabel on\nreturn\n",
-    "a count down": "label again\npush 255\nlabel down\ndup\njumpzero again\npush 1\nsub\njump down\n",
+    "a count down": "label again\npush 255\nlabel down\ndup\njumpzero end\npush 1\nsub\njump down\n"
+    "label end\npop\njump again\n",
 }
 
 
