@@ -82,17 +82,17 @@ class Program:
     def __init__(self, path, folder):
         self.path, self.folder = path, folder
 
-    def run(self, *words):
+    def run(self, *words, status=0):
         """What a call prints, and its time."""
         began = spent()
         done = subprocess.run([self.path, *words], cwd=self.folder, capture_output=True, text=True)
         time = spent() - began
-        if done.returncode != 0:
+        if done.returncode != status:
             sys.exit(f"miniboot {' '.join(words)} ended with status {done.returncode}: {done.stdout}{done.stderr}")
         return done.stdout, time
 
-    def least(self, runs, *words):
-        return min(self.run(*words)[1] for _ in range(runs))
+    def least(self, runs, *words, status=0):
+        return min(self.run(*words, status=status)[1] for _ in range(runs))
 
     def write(self, name, bytes_):
         (self.folder / name).write_bytes(bytes_)
@@ -114,8 +114,14 @@ class Program:
         return (min(self.serve(register, items, wanted) for _ in range(RUNS)) - alone) / count
 
 
-def show_all(program, devices, word, count, hash_time):
-    """Shows the first entries of each device, and tells the share of the signatures."""
+def verifying(program, chain, alone):
+    """The time of verifying a chain for a key that it does not have: all its entries, and nothing of a key."""
+    program.write("chain", chain)
+    return program.least(KEYS, "verify", "root", "chain", str(0xFFFFFFFF), status=7) - alone
+
+
+def show_all(program, devices, word, count, hash_time, alone):
+    """Shows the first entries of each device, and tells the shares of verifying the chains and of the hashes in it."""
     time, calls = 0, 0
     for items, serials in devices.files(count):
         time += program.serve("register", items, [f"{word} {serial.hex()} {count}" for serial in serials])
@@ -123,7 +129,9 @@ def show_all(program, devices, word, count, hash_time):
     shown = len(devices.births)
     signatures = shown * sum(devices.hashes[:count]) * hash_time
     print(f"{shown} devices {word} with {count} entries each: {time:.2f} s in {calls} calls, {time / shown * 1e3:.2f} ms each")
-    print(f"  of which the hashes of their {shown * count:,} signatures take {signatures:.2f} s, {signatures / time:.1%}")
+    verified = shown * verifying(program, devices.chain(next(iter(devices.births)), count), alone)
+    print(f"  of which verifying the chains, as `verify` does, takes {verified:.2f} s, {verified / time:.1%}")
+    print(f"  and the hashes of their {shown * count:,} signatures take {signatures:.2f} s, {signatures / time:.1%}")
 
 
 def made_register(count):
@@ -171,8 +179,8 @@ def main(path, folder, count, entries):
     alone = program.least(KEYS, "--version")
     hash_time = (program.least(KEYS, "keygen", "noise", "key", "public") - alone) / TREE
     print(f"one hash, by keygen: {hash_time * 1e9:.0f} ns")
-    show_all(program, devices, "added", entries - 1, hash_time)
-    show_all(program, devices, "extended", entries, hash_time)
+    show_all(program, devices, "added", entries - 1, hash_time, alone)
+    show_all(program, devices, "extended", entries, hash_time, alone)
     bytes_ = len(program.read("register"))
     program.write("items", b"")
     once = program.least(RUNS, "fleet", "root", "register", "items")
