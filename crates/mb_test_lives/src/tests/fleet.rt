@@ -408,10 +408,10 @@ fn questions(alloc: Global) -> Result<Vec<u8>, Fail> {
     Ok(items)
 }
 
-/// Answers that are too long want memory before anything is written.
+/// Answers that are too long want memory before anything is written: the one write is that of the questions.
 const TOO_LONG: &[Step] = &[
     Step::Ends("fleet root two questions", 6, "no memory\n"),
-    Step::WasCalled(3, 0, 1),
+    Step::WasCalled(3, 1, 1),
     Step::Holds("two", TWO_CODES),
 ];
 
