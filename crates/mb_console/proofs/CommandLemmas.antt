@@ -3,7 +3,7 @@ use Rattle.std.proofs.Common.{◌≡◌, ℕ, true, false, List, ◌++◌, codes
 use Rattle.mb_model.specs.declared.event.Answered.{Answered}
 use Rattle.mb_model.specs.Outside.{Outside, read_once, WritesFile, FailsToWrite, Prints, FailsToPrint}
 use Rattle.mb_model.specs.Board.{Held}
-use Rattle.mb_model.specs.Commands.{Input, Output, Command, read, find, either_command, serve, write, print, refuse, lack, Past, SaysLine, Stops, WantsMemory, too_long, faulty, not_read, no_room, printed, not_printed, CommandEnds, input_line, role_word, place_words}
+use Rattle.mb_model.specs.Commands.{Input, Output, Command, read, find, either_command, serve, rehearse, write, print, refuse, lack, Past, SaysLine, Stops, WantsMemory, too_long, faulty, not_read, no_room, printed, not_printed, CommandEnds, input_line, role_word, place_words}
 use Rattle.mb_console.specs.declared.end.End.{End}
 use Rattle.mb_console.specs.declared.end.End.TheVariants as end
 use Rattle.mb_console.specs.Ending.{end_status, RefusesWith, ended_at, CarriesOutRest, HasInput, StopsAt}
@@ -121,6 +121,19 @@ pub serve_goes : (IsServed : List Answered → Held → Type 0) (rest : List Ans
 unfolding CarriesOutRest CommandEnds
 serve_goes IsServed rest past answered final before now (Ok u) served ends = inl (served, ends)
 serve_goes IsServed rest past answered final before now (Err why) served carried = λ after says. inl (served, carried after says)
+
+pub memory_unrehearsed : (IsRehearsed : List Answered → Held → Type 0) (rest : List Answered → Held → Command) (past : Past) (answered : List Answered) (final : Held) (before : Outside)
+    → past.wrote ≡ false → answered ≡ past.answered → CarriesOutRest (rehearse IsRehearsed rest) past answered final before (Err end.NoMemory) before
+unfolding CarriesOutRest CommandEnds
+memory_unrehearsed IsRehearsed rest past answered final before none same = λ after says.
+    inr (wanted past answered final before after none same says)
+
+pub rehearse_goes : (IsRehearsed : List Answered → Held → Type 0) (rest : List Answered → Held → Command) (past : Past) (first : List Answered) (held : Held) (answered : List Answered) (final : Held) (before now : Outside)
+    (result : Result (Unit {0}) End) → IsRehearsed first held → CarriesOutRest (rest first held) (record past { answered = first }) answered final before result now
+    → CarriesOutRest (rehearse IsRehearsed rest) past answered final before result now
+unfolding CarriesOutRest CommandEnds
+rehearse_goes IsRehearsed rest past first held answered final before now (Ok u) rehearsed ends = inl (first, held, rehearsed, ends)
+rehearse_goes IsRehearsed rest past first held answered final before now (Err why) rehearsed carried = λ after says. inl (first, held, rehearsed, carried after says)
 
 -- ---- outputs and the text
 

@@ -4,7 +4,7 @@ use Rattle.std.proofs.Common.{nat_lt}
 use Rattle.std.proofs.lemmas.Bool.{ltb-false}
 use Rattle.mb_model.specs.declared.role.Place.{Place}
 use Rattle.mb_model.specs.Outside.{Outside, HasRisen, raised, count_limit, by_fault, by_absence}
-use Rattle.mb_model.specs.Commands.{Input, Command, read, find, either_command, serve, write, print, refuse, lack, Past, Ended, SaysLine, InputEnds, too_long, faulty, not_read, no_room, printed, not_printed, CommandEnds, IsFaultless, HasInputsFor, ComesToRefusal, onward, role_word}
+use Rattle.mb_model.specs.Commands.{Input, Command, read, find, either_command, serve, rehearse, write, print, refuse, lack, Past, Ended, SaysLine, InputEnds, too_long, faulty, not_read, no_room, printed, not_printed, CommandEnds, IsFaultless, HasInputsFor, ComesToRefusal, onward, role_word}
 
 -- ---- counts of faults
 
@@ -85,6 +85,10 @@ command_completes (serve IsServed rest) past e files told has well (inl ends) =
     completes_as (rest e.answered e.final) (serve IsServed rest) files files e.status (λ refused. (e.answered, e.final, ends.0, refused))
     (command_completes (rest e.answered e.final) (record past { answered = e.answered }) e files told (has e.answered e.final ends.0) well ends.1)
 command_completes (serve IsServed rest) past e files told has well (inr wants) = inr (inl wants.stops.status_is)
+command_completes (rehearse IsRehearsed rest) past e files told has well (inl ends) =
+    completes_as (rest ends.0 ends.1) (rehearse IsRehearsed rest) files files e.status (λ refused. (ends.0, ends.1, ends.2, refused))
+    (command_completes (rest ends.0 ends.1) (record past { answered = ends.0 }) e files told (has ends.0 ends.1 ends.2) well ends.3)
+command_completes (rehearse IsRehearsed rest) past e files told has well (inr wants) = inr (inl wants.stops.status_is)
 command_completes (write output rest) past e files told has well (inl ends) =
     absurd (well.write (says_writes (codes "write failed " ++ role_word output.role) e.before.write_faults ends.mid e.after (ap (λ o. o.write_faults) ends.fails.stays) ends.stops.says))
 command_completes (write output rest) past e files told has well (inr (inl ends)) =

@@ -74,6 +74,8 @@ pub data Command : Type 1 where
   either_command : Type 0 → Command → Command → Command
   -- it serves the board's events, so that this holds of what was answered and of what the board held at the last answer
   serve : (List Answered → Held → Type 0) → (List Answered → Held → Command) → Command
+  -- it serves events in the same way, and then loads the board anew, so that what the board answered before is gone
+  rehearse : (List Answered → Held → Type 0) → (List Answered → Held → Command) → Command
   -- it writes an output
   write : Output → Command → Command
   -- it prints a text and is done
@@ -174,6 +176,10 @@ CommandEnds (either_command If first second) past e =
 CommandEnds (serve IsServed rest) past e =
     (IsServed e.answered e.final × CommandEnds (rest e.answered e.final) (record past { answered = e.answered }) e)
     ⊎ WantsMemory past e
+CommandEnds (rehearse IsRehearsed rest) past e =
+    ((answered : List Answered) × (held : Held) × IsRehearsed answered held
+    × CommandEnds (rest answered held) (record past { answered = answered }) e)
+    ⊎ WantsMemory past e
 CommandEnds (write output rest) past e =
     WriteEnds output past e
     ⊎ ((mid : Outside) × WritesFile output.name output.bytes e.before mid
@@ -201,6 +207,8 @@ HasInputsFor (either_command If first second) files =
     (If → HasInputsFor first files) × ((If → ⊥) → HasInputsFor second files)
 HasInputsFor (serve IsServed rest) files =
     (answered : List Answered) (final : Held) → IsServed answered final → HasInputsFor (rest answered final) files
+HasInputsFor (rehearse IsRehearsed rest) files =
+    (answered : List Answered) (held : Held) → IsRehearsed answered held → HasInputsFor (rest answered held) files
 -- a file that was written may hold anything
 HasInputsFor (write output rest) files =
     (now : List ℕ → Option (List ℕ)) → ((other : List ℕ) → other ≢ output.name → now other ≡ files other)
@@ -219,6 +227,8 @@ ComesToRefusal (either_command If first second) files =
     (If × ComesToRefusal first files) ⊎ ((If → ⊥) × ComesToRefusal second files)
 ComesToRefusal (serve IsServed rest) files =
     (answered : List Answered) × (final : Held) × IsServed answered final × ComesToRefusal (rest answered final) files
+ComesToRefusal (rehearse IsRehearsed rest) files =
+    (answered : List Answered) × (held : Held) × IsRehearsed answered held × ComesToRefusal (rest answered held) files
 ComesToRefusal (write output rest) files =
     (now : List ℕ → Option (List ℕ)) × ((other : List ℕ) → other ≢ output.name → now other ≡ files other)
     × ComesToRefusal rest now

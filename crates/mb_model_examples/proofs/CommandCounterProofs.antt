@@ -3,7 +3,7 @@ use Rattle.std.proofs.Common.{◌≡◌, ℕ, zero, suc, ◌≤◌, List, [], �
 use Rattle.std.specs.Prelude.{◌⊎◌, codes, slice_index}
 use Rattle.std.proofs.lemmas.Bool.{false≢true}
 use Rattle.mb_model.specs.Outside.{Outside, raised, read_once, FailsToRead, by_fault, by_absence}
-use Rattle.mb_model.specs.Commands.{Command, read, find, either_command, serve, write, print, refuse, lack, Input, Output, Past, Ended, onward, InputEnds, too_long, faulty, not_read, no_room, PrintEnds, printed, not_printed, CommandEnds, HasInputsFor}
+use Rattle.mb_model.specs.Commands.{Command, read, find, either_command, serve, rehearse, write, print, refuse, lack, Input, Output, Past, Ended, onward, InputEnds, too_long, faulty, not_read, no_room, PrintEnds, printed, not_printed, CommandEnds, HasInputsFor}
 use Rattle.mb_model.specs.Inputs.{code_input}
 use Rattle.mb_model_lemmas.proofs.Splits.{some_same, none_is_some}
 use Rattle.mb_model.specs.Keygen.{keygen}
@@ -40,6 +40,8 @@ statuses (either_command If first second) past e least most (inr (inl it)) = sta
 statuses (either_command If first second) past e least most (inr (inr wants)) = omega (arith, most, wants.stops.status_is)
 statuses (serve IsServed rest) past e least most (inl it) = statuses (rest e.answered e.final) (record past { answered = e.answered }) e least most it.1
 statuses (serve IsServed rest) past e least most (inr wants) = omega (arith, most, wants.stops.status_is)
+statuses (rehearse IsRehearsed rest) past e least most (inl it) = statuses (rest it.0 it.1) (record past { answered = it.0 }) e least most it.3
+statuses (rehearse IsRehearsed rest) past e least most (inr wants) = omega (arith, most, wants.stops.status_is)
 statuses (write output rest) past e least most (inl ends) = omega (arith, most, ends.stops.status_is)
 statuses (write output rest) past e least most (inr (inl it)) = statuses rest (record past { wrote = true }) (onward it.0 e) least most it.2
 statuses (write output rest) past e least most (inr (inr wants)) = omega (arith, most, wants.stops.status_is)
