@@ -10,8 +10,8 @@ abbrev pub needed_with : ℕ → Bool → ℕ
 needed_with uses next = if uses == LAST_INDEX && not next then 2 else 1
 
 -- the log has room for the entries of the fact
-abbrev pub HasRoom : View → Fact → Type 0
-HasRoom view fact = view.length + needed_with view.uses (names_next fact) ≤ ENTRY_LIMIT
+abbrev pub HasRoomFor : View → Fact → Type 0
+HasRoomFor view fact = view.length + needed_with view.uses (names_next fact) ≤ ENTRY_LIMIT
 
 -- the device key has an index left, and the other counts are those of a log that fits
 pub record IsInRange (view : View) : Type 0 where

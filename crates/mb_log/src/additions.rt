@@ -1,11 +1,12 @@
 //! The entries that an order appends to the log, and the keys that it makes.
 
-ghost use Rattle.std.specs.Prelude.{◌≡◌, ◌+◌, ◌<◌, ◌≤◌, [], ◌∷◌, ◌++◌, IfOk, OnErr, vec_len, vec_capacity, if◌then◌else◌, ◌*◌};
+ghost use Rattle.std.specs.Prelude.{◌≡◌, ◌+◌, ◌<◌, ◌≤◌, [], ◌∷◌, ◌++◌, IfOk, IsSome, OnErr, vec_len, vec_capacity, if◌then◌else◌, ◌*◌, true, false};
 ghost use Rattle.mb_model.specs.declared.limits.TheConstants.{LAST_INDEX, ENTRY_LIMIT};
 ghost use Rattle.mb_model.specs.Signing.{public_of};
 ghost use Rattle.mb_model.specs.OrderEffects.{names_next, next_key, named_next, entry_of, device_after, uses_after};
 ghost use Rattle.mb_model.specs.Work.{ready_by, first_by, key_by, outgoing_by, bodies_by};
-ghost use Rattle.mb_log.specs.Additions.{needed_with, HasRoom, IsInRange};
+ghost use Rattle.mb_log.specs.Additions.{needed_with, HasRoomFor, IsInRange};
+ghost use Rattle.mb_signer.specs.Benches.{HasTree};
 ghost use Rattle.mb_lms.specs.declared.hash_count.TheConstants.{TREE_HASHES};
 
 use crate::keys::born;
@@ -15,7 +16,7 @@ use mb_model::{
     Bodies, Entries, Entry, Fact, KeyKind, KeySeed, LAST_INDEX, NoMemory, Outgoing, PublicKey,
     RegionKey, View,
 };
-use mb_signer::public;
+use mb_signer::{Bench, public};
 use std::alloc::Global;
 use std::sync::ledger::Ledger;
 
@@ -36,7 +37,8 @@ pub fn needed(uses: u32, names_next: bool) -> u32
 }
 
 /// The entries and keys that the fact adds to a device, in at most 68,798 hashes: those of two public keys. New keys
-/// are derived from the draw.
+/// are derived from the draw. The tree of a new device key is on the bench afterwards, to sign by; that of a region's
+/// key is not, since the order does not sign by it.
 ///
 /// No hash is taken if an allocation fails.
 pub fn bodies<L: Ledger>(
@@ -44,18 +46,20 @@ pub fn bodies<L: Ledger>(
     view: &View,
     fact: &Fact,
     draw: &[u8; 32],
+    bench: &mut Bench,
     hashes: &mut HashCount<L>,
 ) -> Result<Bodies, NoMemory>
     requires range { IsInRange view.now }
-    requires room { HasRoom view.now fact.now }
+    requires room { HasRoomFor view.now fact.now }
     ensures bodies { IfOk result (λ bodies. bodies ≡ bodies_by view.now fact.now draw.now) }
+    ensures at_hand { IfOk result (λ bodies. IsSome bodies.outgoing → HasTree bench.new bodies.device) }
     ensures cost { hashes.new ≤ hashes.old + 2 * TREE_HASHES }
     ensures unhashed { OnErr result (hashes.new ≡ hashes.old) }
 {
     let mut entries = Vec::with_capacity(alloc, MOST)?;
     let next_named = names_next(fact);
-    let ready = make_ready(view, next_named, draw, &mut entries, hashes);
-    let own = own_addition(&ready, fact, draw, hashes);
+    let ready = make_ready(view, next_named, draw, &mut entries, bench, hashes);
+    let own = own_addition(&ready, fact, draw, bench, hashes);
     put(&mut entries, own.entry);
     Ok(Bodies {
         entries: Entries::from_vec(entries),
@@ -95,6 +99,7 @@ fn make_ready<L: Ledger>(
     names_next: bool,
     draw: &[u8; 32],
     entries: &mut Vec<Entry>,
+    bench: &mut Bench,
     hashes: &mut HashCount<L>,
 ) -> View
     requires empty { vec_len entries.old ≡ 0 }
@@ -104,12 +109,13 @@ fn make_ready<L: Ledger>(
     ensures ready { result ≡ ready_by view.now names_next draw.now }
     ensures entries { entries.new.items ≡ entries.old.items ++ first_by view.now names_next draw.now }
     ensures room { vec_len entries.new < vec_capacity entries.new }
+    ensures at_hand { needed_with view.now.uses names_next ≡ 2 → HasTree bench.new result.device }
     ensures cost { hashes.new ≤ hashes.old + TREE_HASHES }
 {
     if needed(view.uses, names_next) == 1 {
         return *view;
     }
-    let next = make_key(view, draw, hashes);
+    let next = next_device_key(view, draw, bench, hashes);
     let succession = Entry::Succession {
         position: view.length,
         key: next.public,
@@ -131,16 +137,22 @@ struct MadeKey {
     public: PublicKey,
 }
 
-/// The key that the device makes next.
-fn make_key<L: Ledger>(view: &View, draw: &[u8; 32], hashes: &mut HashCount<L>) -> MadeKey
+/// The key that the device makes next, as its device key. Its tree is on the bench afterwards.
+fn next_device_key<L: Ledger>(
+    view: &View,
+    draw: &[u8; 32],
+    bench: &mut Bench,
+    hashes: &mut HashCount<L>,
+) -> MadeKey
     ensures seed { result.seed ≡ next_key view.now draw.now }
     ensures public { result.public ≡ public_of (next_key view.now draw.now) }
-    ensures counted { hashes.new ≡ hashes.old + TREE_HASHES }
+    ensures at_hand { HasTree bench.new result.seed }
+    ensures cost { hashes.new ≤ hashes.old + TREE_HASHES }
 {
     let seed = born(draw, &view.serial, view.keys_made);
     MadeKey {
         seed,
-        public: public(&seed, hashes),
+        public: bench.public(&seed, hashes),
     }
 }
 
@@ -159,12 +171,15 @@ fn device_after<L: Ledger>(
     names_next: bool,
     view: &View,
     draw: &[u8; 32],
+    bench: &mut Bench,
     hashes: &mut HashCount<L>,
 ) -> DeviceKey
     requires { view.now.uses ≤ LAST_INDEX }
     ensures named { result.named ≡ named_next names_next view.now draw.now }
     ensures seed { result.seed ≡ (if names_next then next_key view.now draw.now else view.now.device) }
     ensures uses { result.uses ≡ (if names_next then 0 else view.now.uses + 1) }
+    ensures at_hand { names_next ≡ true → HasTree bench.new result.seed }
+    ensures same { names_next ≡ false → bench.new ≡ bench.old }
     ensures cost { hashes.new ≤ hashes.old + TREE_HASHES }
 {
     if !names_next {
@@ -174,7 +189,7 @@ fn device_after<L: Ledger>(
             uses: view.uses + 1,
         };
     }
-    let next = make_key(view, draw, hashes);
+    let next = next_device_key(view, draw, bench, hashes);
     DeviceKey {
         named: Some(next.public),
         seed: next.seed,
@@ -199,6 +214,7 @@ fn own_addition<L: Ledger>(
     view: &View,
     fact: &Fact,
     draw: &[u8; 32],
+    bench: &mut Bench,
     hashes: &mut HashCount<L>,
 ) -> Addition
     requires uses { view.now.uses ≤ LAST_INDEX }
@@ -207,6 +223,8 @@ fn own_addition<L: Ledger>(
     ensures device { result.device ≡ device_after (names_next fact.now) view.now draw.now }
     ensures uses { result.uses ≡ uses_after (names_next fact.now) view.now }
     ensures key { result.key ≡ key_by view.now fact.now draw.now }
+    ensures at_hand { names_next fact.now ≡ true → HasTree bench.new result.device }
+    ensures same { names_next fact.now ≡ false → bench.new ≡ bench.old }
     ensures cost { hashes.new ≤ hashes.old + TREE_HASHES }
 {
     match *fact {
@@ -217,7 +235,7 @@ fn own_addition<L: Ledger>(
             layers,
             kept,
         } => {
-            let device = device_after(renews(Some(kind), layer), view, draw, hashes);
+            let device = device_after(renews(Some(kind), layer), view, draw, bench, hashes);
             let entry = Entry::Change {
                 version: 2,
                 position: view.length,
@@ -255,7 +273,7 @@ fn key_addition<L: Ledger>(
     ensures key { result.key ≡ key_by view.now (Fact.NewKey layer kind) draw.now }
     ensures cost { hashes.new ≤ hashes.old + TREE_HASHES }
 {
-    let made = make_key(view, draw, hashes);
+    let seed = born(draw, &view.serial, view.keys_made);
     Addition {
         entry: Entry::NewKey {
             position: view.length,
@@ -263,14 +281,14 @@ fn key_addition<L: Ledger>(
             key_number: view.keys_made,
             layer,
             kind,
-            key: made.public,
+            key: public(&seed, hashes),
         },
         device: view.device,
         uses: view.uses + 1,
         key: Some(RegionKey {
             number: view.keys_made,
             kind,
-            seed: made.seed,
+            seed,
             uses: 0,
         }),
     }
