@@ -1,9 +1,10 @@
 //! Orders judged.
 
-ghost use Rattle.std.specs.Prelude.{◌≡◌, ◌+◌, ◌≤◌, OnErr, ◌*◌};
+ghost use Rattle.std.specs.Prelude.{◌≡◌, ◌+◌, ◌≤◌, IfOk, IsSome, OnErr, ◌*◌};
 ghost use Rattle.mb_model.specs.OrderFormat.{order_format};
 ghost use Rattle.mb_log.specs.Additions.{IsInRange};
 ghost use Rattle.mb_orders.specs.Judging.{Judges};
+ghost use Rattle.mb_signer.specs.Benches.{HasTree};
 ghost use Rattle.mb_lms.specs.declared.hash_count.TheConstants.{TREE_HASHES};
 
 use crate::checks::check;
@@ -11,11 +12,13 @@ use crate::end::JudgeEnd;
 use crate::plan::{Plan, make_plan};
 use mb_lms::HashCount;
 use mb_model::{Order, View};
+use mb_signer::Bench;
 use std::alloc::Global;
 use std::sync::ledger::Ledger;
 
 /// Judges the order, which has a spelling, by the figures of a device. The plan of an order that passes every check
-/// derives new keys from `draw`, in at most 68,798 hashes: those of two public keys.
+/// derives new keys from `draw`, in at most 68,798 hashes: those of two public keys. The tree of a new device key is on
+/// the bench afterwards.
 ///
 /// Errors: the first check that the order fails. Nothing is hashed then.
 pub fn judge<L: Ledger>(
@@ -23,14 +26,17 @@ pub fn judge<L: Ledger>(
     view: &View,
     order: &Order,
     draw: &[u8; 32],
+    bench: &mut Bench,
     hashes: &mut HashCount<L>,
 ) -> Result<Plan, JudgeEnd>
     requires spelled { order_format.Allowed order.now }
     requires range { IsInRange view.now }
     ensures judged { Judges view.now order.now draw.now result }
+    ensures at_hand { IfOk result (λ plan. IsSome plan.bodies.outgoing
+        → HasTree bench.new plan.bodies.device) }
     ensures cost { hashes.new ≤ hashes.old + 2 * TREE_HASHES }
     ensures unhashed { OnErr result (hashes.new ≡ hashes.old) }
 {
     check(alloc, view, order)?;
-    Ok(make_plan(alloc, view, order, draw, hashes)?)
+    Ok(make_plan(alloc, view, order, draw, bench, hashes)?)
 }

@@ -1,6 +1,6 @@
 //! The effect of an order that passes every check.
 
-ghost use Rattle.std.specs.Prelude.{◌≡◌, ◌+◌, ◌≤◌, ◌==◌, IfOk, OnErr, ◌*◌};
+ghost use Rattle.std.specs.Prelude.{◌≡◌, ◌+◌, ◌≤◌, ◌==◌, IfOk, IsSome, OnErr, ◌*◌};
 ghost use Rattle.std.specs.List.{list_any};
 ghost use Rattle.mb_model.specs.OrderChecks.{LogHasRoom};
 ghost use Rattle.mb_model.specs.OrderEffects.{cosigned_by, change_fact, fact_of, layers_after};
@@ -8,6 +8,7 @@ ghost use Rattle.mb_model.specs.Fates.{change_fate};
 ghost use Rattle.mb_model.specs.Work.{region_fate};
 ghost use Rattle.mb_log.specs.Additions.{IsInRange};
 ghost use Rattle.mb_orders.specs.Judging.{plan_by};
+ghost use Rattle.mb_signer.specs.Benches.{HasTree};
 ghost use Rattle.mb_lms.specs.declared.hash_count.TheConstants.{TREE_HASHES};
 
 use mb_authority::{admits, after, kept_regions, layer_of, placed};
@@ -16,6 +17,7 @@ use mb_log::bodies;
 use mb_model::{
     Act, Bodies, ChangeKind, Fact, Fate, Layers, NoMemory, Order, Pair, RegionKey, View,
 };
+use mb_signer::Bench;
 use std::alloc::Global;
 use std::sync::ledger::Ledger;
 
@@ -129,16 +131,19 @@ pub fn make_plan<L: Ledger>(
     view: &View,
     order: &Order,
     draw: &[u8; 32],
+    bench: &mut Bench,
     hashes: &mut HashCount<L>,
 ) -> Result<Plan, NoMemory>
     requires range { IsInRange view.now }
     requires room { LogHasRoom view.now order.now }
     ensures planned { IfOk result (λ plan. plan ≡ plan_by view.now order.now draw.now) }
+    ensures at_hand { IfOk result (λ plan. IsSome plan.bodies.outgoing
+        → HasTree bench.new plan.bodies.device) }
     ensures cost { hashes.new ≤ hashes.old + 2 * TREE_HASHES }
     ensures unhashed { OnErr result (hashes.new ≡ hashes.old) }
 {
     let fact = fact_of(&view.layers, order);
-    let bodies = bodies(alloc, view, &fact, draw, hashes)?;
+    let bodies = bodies(alloc, view, &fact, draw, bench, hashes)?;
     Ok(Plan {
         layers: layers_after(&view.layers, &fact),
         two: fate_of(&view.layers, &fact, bodies.key, 2),
