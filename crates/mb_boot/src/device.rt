@@ -12,7 +12,7 @@ ghost use Rattle.mb_boot.specs.Settling.{IsLive};
 ghost use Rattle.mb_boot.specs.Booting.{IsFoundAs, Rests, IsWiped, Cleans, IsQuiet, StandsForValid, KeepsState, IfUnwritten, stop_of, power_at, HasLevel, is_zeroised};
 ghost use Rattle.mb_lms.specs.declared.hash_count.TheConstants.{SIGNING_HASHES};
 
-use crate::work::settle;
+use crate::work::{settle, settle_by};
 use mb_area::{LookEnd, Looked, Unsettled, look, wipe_root};
 use mb_board::Board;
 use mb_layout::Room;
@@ -20,6 +20,7 @@ use mb_lms::HashCount;
 use mb_model::NoMemory;
 use mb_ratchet::{Dead, Off, R1, Three, Two, Up, Zero};
 use mb_region::wipe_region;
+use mb_signer::Bench;
 use std::alloc::Global;
 use std::sync::ledger::Ledger;
 
@@ -135,14 +136,16 @@ fn come_up<B: Board, L: Ledger>(
     Ok(up)
 }
 
-/// Does the pending work of a committed order, and wipes what it replaced. The memory has to stand for a state that a
+/// Does the pending work of a committed order, and wipes what it replaced. The entries are signed by the trees on the
+/// bench; one that is not there is built. The memory has to stand for a state that a
 /// device can have. It stands for the same state wherever power fails, and afterwards it is clean. There are at most
 /// 15 write calls, and 70,946 hashes.
-#[tactic(auto, using(crate::proofs::Booted::cleaned, mb_model_memory::proofs::HoldingLemmas::contents_keep, mb_model_memory::proofs::HoldingLemmas::keeps_then, crate::proofs::Settled::spared_then))]
+#[tactic(auto, using(crate::proofs::Booted::settled_rests, crate::proofs::Booted::cleaned, mb_model_memory::proofs::HoldingLemmas::contents_keep, mb_model_memory::proofs::HoldingLemmas::keeps_then, crate::proofs::Settled::spared_then))]
 pub fn finish_order<B: Board, L: Ledger>(
     u: Unsettled,
     b: &mut B,
     room: &mut Room,
+    bench: &mut Bench,
     hashes: &mut HashCount<L>,
 ) -> Result<Up<R1>, Off>
     requires up { IsUp 1 (B.seen b.old) }
@@ -153,7 +156,8 @@ pub fn finish_order<B: Board, L: Ledger>(
     ensures ran { Ran 15 result (B.seen b.old) (B.seen b.new) }
     ensures cost { hashes.new ≤ hashes.old + 2 * SIGNING_HASHES }
 {
-    let up = settle_and_wipe(u, b, room, hashes)?;
+    let w = settle_by(u, b, room, bench, hashes)?;
+    let up = wipe_root(w, b)?;
     let up = wipe_regions(up, b)?;
     Ok(up)
 }

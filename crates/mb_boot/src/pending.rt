@@ -21,7 +21,7 @@ use mb_lms::HashCount;
 use mb_model::separators::ENTRY_TEXT;
 use mb_model::{Header, KeySeed, Outgoing, Root, SIGNATURE_LENGTH};
 use mb_segments::{StoredHeader, header_at, put_log, write_header};
-use mb_signer::{Uses, sign, take_index};
+use mb_signer::{Bench, Uses, take_index};
 use std::sync::ledger::Ledger;
 
 // ---- headers
@@ -145,12 +145,13 @@ fn last_of(uses: u32) -> u32
     uses.saturating_sub(1)
 }
 
-/// Signs the bytes of an entry with the key at the index.
+/// Signs the bytes of an entry with the key at the index, by the key's tree on the bench.
 fn sign_entry<L: Ledger>(
     key: &KeySeed,
     index: u32,
     entry: &[u8],
     signature: &mut [u8; SIGNATURE_LENGTH],
+    bench: &mut Bench,
     hashes: &mut HashCount<L>,
 )
     requires { index ≤ LAST_INDEX }
@@ -161,11 +162,17 @@ fn sign_entry<L: Ledger>(
     let Some(right) = take_index(&mut uses) else {
         unreachable!();
     };
-    sign(right, key, &[ENTRY_TEXT], entry, signature, hashes);
+    bench.sign(right, key, &[ENTRY_TEXT], entry, signature, hashes);
 }
 
 /// Replaces `log` by the content of the sector of the log for an unsigned entry: its bytes and its signature.
-fn sign_text<L: Ledger>(signer: &Signer, text: &[u8], log: &mut Vec<u8>, hashes: &mut HashCount<L>)
+fn sign_text<L: Ledger>(
+    signer: &Signer,
+    text: &[u8],
+    log: &mut Vec<u8>,
+    bench: &mut Bench,
+    hashes: &mut HashCount<L>,
+)
     requires index { signer.now.index ≤ LAST_INDEX }
     requires text { (1 ≤ length text.now) × (length text.now ≤ ENTRY_TEXT_LIMIT) }
     requires room { SECTOR_LENGTH ≤ vec_capacity log.old }
@@ -174,7 +181,14 @@ fn sign_text<L: Ledger>(signer: &Signer, text: &[u8], log: &mut Vec<u8>, hashes:
     ensures cost { hashes.new ≤ hashes.old + SIGNING_HASHES }
 {
     let mut signature = [0; SIGNATURE_LENGTH];
-    sign_entry(&signer.key, signer.index, text, &mut signature, hashes);
+    sign_entry(
+        &signer.key,
+        signer.index,
+        text,
+        &mut signature,
+        bench,
+        hashes,
+    );
     log.clear();
     let _ = put_log(text, &signature, log);
 }
@@ -185,6 +199,7 @@ pub(crate) fn sign_next<L: Ledger>(
     root: &Root,
     place: u32,
     room: &mut Room,
+    bench: &mut Bench,
     hashes: &mut HashCount<L>,
 ) -> Option<u32>
     requires uses { root.now.uses ≤ KEY_USES }
@@ -200,6 +215,7 @@ pub(crate) fn sign_next<L: Ledger>(
     let Some(text) = text_in(header, place) else {
         return None;
     };
-    sign_text(&signer_of(root, place), text, &mut room.log, hashes);
+    let signer = signer_of(root, place);
+    sign_text(&signer, text, &mut room.log, bench, hashes);
     Some(header.signed + place)
 }

@@ -17,6 +17,7 @@ use mb_lms::HashCount;
 use mb_model::Root;
 use mb_ratchet::{Off, Three, Two};
 use mb_region::apply_fate;
+use mb_signer::Bench;
 use std::sync::ledger::Ledger;
 
 /// Applies the fates that are pending for both regions.
@@ -48,6 +49,7 @@ fn write_entry<B: Board, L: Ledger>(
     root: &Root,
     place: u32,
     room: &mut Room,
+    bench: &mut Bench,
     hashes: &mut HashCount<L>,
 ) -> Result<Unsettled, Off>
     requires up { IsUp 1 (B.seen b.old) }
@@ -64,7 +66,7 @@ fn write_entry<B: Board, L: Ledger>(
     ensures ran { RanOnFlash 2 result (B.seen b.old) (B.seen b.new) }
     ensures cost { hashes.new ≤ hashes.old + SIGNING_HASHES }
 {
-    let Some(position) = sign_next(root, place, room, hashes) else {
+    let Some(position) = sign_next(root, place, room, bench, hashes) else {
         return Ok(u);
     };
     let u = write_log(u, b, position, room)?;
@@ -78,6 +80,7 @@ fn write_entries<B: Board, L: Ledger>(
     b: &mut B,
     root: &Root,
     room: &mut Room,
+    bench: &mut Bench,
     hashes: &mut HashCount<L>,
 ) -> Result<Unsettled, Off>
     requires up { IsUp 1 (B.seen b.old) }
@@ -93,8 +96,8 @@ fn write_entries<B: Board, L: Ledger>(
     ensures cost { hashes.new ≤ hashes.old + 2 * SIGNING_HASHES }
 {
     read_header(b, root.area, room);
-    let u = write_entry(u, b, root, 0, room, hashes)?;
-    let u = write_entry(u, b, root, 1, room, hashes)?;
+    let u = write_entry(u, b, root, 0, room, bench, hashes)?;
+    let u = write_entry(u, b, root, 1, room, bench, hashes)?;
     Ok(u)
 }
 
@@ -129,6 +132,7 @@ fn write_signed<B: Board, L: Ledger>(
     b: &mut B,
     root: &Root,
     room: &mut Room,
+    bench: &mut Bench,
     hashes: &mut HashCount<L>,
 ) -> Result<Unsettled, Off>
     requires up { IsUp 1 (B.seen b.old) }
@@ -141,15 +145,38 @@ fn write_signed<B: Board, L: Ledger>(
     ensures ran { RanOnFlash 6 result (B.seen b.old) (B.seen b.new) }
     ensures cost { hashes.new ≤ hashes.old + 2 * SIGNING_HASHES }
 {
-    let u = write_entries(u, b, root, room, hashes)?;
+    let u = write_entries(u, b, root, room, bench, hashes)?;
     let u = write_settled(u, b, root, room)?;
     Ok(u)
+}
+
+/// Does the pending work, and signs by the trees on the bench. There are at most 12 write calls.
+#[tactic(auto, using(crate::proofs::Settled::some_root, crate::proofs::Settled::only_root, crate::proofs::Settled::live_still, mb_model_memory::proofs::HoldingLemmas::contents_keep, crate::proofs::Settled::finish_keeps, mb_model_memory::proofs::HoldingLemmas::keeps_then, crate::proofs::Settled::settled))]
+pub(crate) fn settle_by<B: Board, L: Ledger>(
+    u: Unsettled,
+    b: &mut B,
+    room: &mut Room,
+    bench: &mut Bench,
+    hashes: &mut HashCount<L>,
+) -> Result<Unwiped, Off>
+    requires up { IsUp 1 (B.seen b.old) }
+    requires live { IsLive (B.seen b.old).memory }
+    ensures settled { OnOk result (Settles (B.seen b.old).memory (B.seen b.new).memory) }
+    ensures meaning { KeepsMeaning (B.seen b.old).memory (B.seen b.new).memory }
+    ensures spared { SparesSectors (B.seen b.old).memory (B.seen b.new).memory }
+    ensures ran { Ran 12 result (B.seen b.old) (B.seen b.new) }
+    ensures cost { hashes.new ≤ hashes.old + 2 * SIGNING_HASHES }
+{
+    let root = read_root(b, room);
+    let u = apply_fates(u, b, &root, room)?;
+    let u = write_signed(u, b, &root, room, bench, hashes)?;
+    let w = finish_root(u, b, room)?;
+    Ok(w)
 }
 
 /// Does the pending work: applies the fates of the regions, and signs each unsigned entry once. The memory has to stand
 /// for a state that a device can have. It stands for the same state wherever power fails, and afterwards nothing is
 /// pending. The sectors of the log that the header before counts keep their bytes. There are at most 12 write calls, and 70,946 hashes.
-#[tactic(auto, using(crate::proofs::Settled::some_root, crate::proofs::Settled::only_root, crate::proofs::Settled::live_still, mb_model_memory::proofs::HoldingLemmas::contents_keep, crate::proofs::Settled::finish_keeps, mb_model_memory::proofs::HoldingLemmas::keeps_then, crate::proofs::Settled::settled))]
 pub fn settle<B: Board, L: Ledger>(
     u: Unsettled,
     b: &mut B,
@@ -164,9 +191,5 @@ pub fn settle<B: Board, L: Ledger>(
     ensures ran { Ran 12 result (B.seen b.old) (B.seen b.new) }
     ensures cost { hashes.new ≤ hashes.old + 2 * SIGNING_HASHES }
 {
-    let root = read_root(b, room);
-    let u = apply_fates(u, b, &root, room)?;
-    let u = write_signed(u, b, &root, room, hashes)?;
-    let w = finish_root(u, b, room)?;
-    Ok(w)
+    settle_by(u, b, room, &mut Bench::new(), hashes)
 }

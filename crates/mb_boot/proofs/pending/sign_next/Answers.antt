@@ -17,4 +17,4 @@ sign_text-requires-clause-text g c =
 pub returns-clause-signed : goal.returns-clause-signed
 returns-clause-signed g c =
     signed_next c.args.root.now c.args.place _ c.args.room.now.header.items c.as_slice.result.now c.in-Some.text.now c.sign_text.new.log.items (header_of c.held_header-header.result) c.as_slice.ensures.value
-    c.held_header-header.ensures.only refl (sym c.text_in.ensures ∙ ap option_copied c.in-Some.is) (subst (λ signer. IsSignedSector signer c.in-Some.text.now c.sign_text.new.log.items) c.signer_of.ensures.signer c.sign_text.ensures.signed)
+    c.held_header-header.ensures.only refl (sym c.text_in.ensures ∙ ap option_copied c.in-Some.is) (subst (λ signer. IsSignedSector signer c.in-Some.text.now c.sign_text.new.log.items) c.signer_of-signer.ensures.signer c.sign_text.ensures.signed)

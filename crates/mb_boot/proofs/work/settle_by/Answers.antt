@@ -1,6 +1,6 @@
 use Rattle.mb_boot.proofs.Settled.{only_root, finish_keeps, spared_by_writes, spared_then}
 use Rattle.mb_model_memory.proofs.HoldingLemmas.{keeps_then, contents_keep}
-use Rattle.mb_boot.proofs.work.settle.Goals as goal
+use Rattle.mb_boot.proofs.work.settle_by.Goals as goal
 
 pub returns-in_err-w-clause-meaning : goal.returns-in_err-w-clause-meaning
 returns-in_err-w-clause-meaning g c =
