@@ -1,6 +1,6 @@
 -- What is planned of an order is what it commits.
 use Rattle.std.proofs.Common.{◌≡◌, ◌≤◌, ℕ, ◌+◌, ◌-◌, ◌==◌, if◌then◌else◌, Bool, true, false, List, [], ◌∷◌, ◌++◌, length, map, Option, None, Some, refl, sym, ap, subst, ◌∙◌, length-append, arith}
-use Rattle.std.specs.Prelude.{All}
+use Rattle.std.specs.Prelude.{All, IfSome}
 use Rattle.std.specs.Global.{Vec}
 use Rattle.std.proofs.lemmas.List.{length-map, map-append}
 use Rattle.std.proofs.lemmas.List.Elements.{All-nil, All-cons, All-head, All-tail, All-drop}
@@ -52,8 +52,10 @@ use Rattle.mb_boot.specs.Settling.{IsOnlyRoot}
 use Rattle.mb_device_orders.specs.declared.judging.Judged.{Judged}
 use Rattle.mb_outbound.specs.declared.kept.RegionTree.{RegionTree}
 use Rattle.mb_outbound.specs.KeptTrees.{IsKeptIn}
+use Rattle.mb_signer.specs.declared.tree.KeptTree.{KeptTree}
+use Rattle.mb_signer.specs.Tree.{IsTreeOf}
 use Rattle.mb_device_orders.specs.declared.remembering.Known.{Known}
-use Rattle.mb_device_orders.specs.Remembering.{Knows}
+use Rattle.mb_device_orders.specs.Remembering.{IsDeviceTree, Knows}
 use Rattle.mb_device_orders.specs.Planning.{BringsShortCode, CanTake, IsToWrite, PassesAs, HasPassed, IsCommit}
 use Rattle.mb_device_orders.proofs.Remembered.{rest_in, root_is, public_in, sector_short}
 
@@ -241,12 +243,21 @@ figures_next memory state text draw judged known next ready knows passed added s
 
 -- what is remembered once the order is done, where no tree is kept of a region's key
 pub knows_next : (state : State) (order : Order) (draw : List ℕ) (known next : Known) → Knows known state → next.serial ≡ known.serial → next.figures ≡ figures_of (entries_of (obeyed state order draw).log)
-    → next.trees.value.region ≡ None → Knows next (obeyed state order draw)
-knows_next state order draw known next knows serial figures none = record {
+    → next.trees.value.region ≡ None → IsDeviceTree next.trees.value.device (obeyed state order draw) → Knows next (obeyed state order draw)
+knows_next state order draw known next knows serial figures none device = record {
   serial = serial ∙ knows.serial ∙ sym (obeyed_serial state order draw);
   figures = figures;
-  trees = record { region = subst (λ (kept : Option RegionTree). IsKeptIn kept (obeyed state order draw)) (sym none) tt };
+  trees = record {
+    device = device;
+    region = subst (λ (kept : Option RegionTree). IsKeptIn kept (obeyed state order draw)) (sym none) tt;
+  };
 }
+
+-- the root that commits has the device key of the state afterwards
+pub device_committed : (root : Root) (state : State) (order : Order) (draw : List ℕ) (area : ℕ) (kept : Option KeptTree) → root ≡ root_for state order draw area → IfSome kept (IsTreeOf root.device)
+    → IsDeviceTree kept (obeyed state order draw)
+unfolding root_for
+device_committed root state order draw area kept is its = subst (λ (seed : KeySeed). IfSome kept (IsTreeOf seed)) (ap (λ (r : Root). r.device) is) its
 
 -- ---- the commit
 

@@ -1,5 +1,6 @@
 -- What the memory of a device that is ready tells of its state.
 use Rattle.std.proofs.Common.{◌≡◌, ◌≤◌, ◌*◌, ℕ, List, [], length, drop, Option, None, Some, Result, Ok, Err, sym, ap, subst, ◌∙◌, arith}
+use Rattle.std.specs.Prelude.{IfSome}
 use Rattle.std.specs.Result.{result_ok}
 use Rattle.std.proofs.lemmas.List.{length-take, take_all}
 use Rattle.mb_format.specs.Format.{Format, IsBytes, SpelledAt, Spells}
@@ -10,7 +11,6 @@ use Rattle.mb_bytes.specs.Reads.{bad_at, ReadsExactly}
 use Rattle.mb_model.specs.declared.tools.BadRecord.{BadRecord}
 use Rattle.mb_model.specs.declared.entry.Entry.{Entry}
 use Rattle.mb_model.specs.declared.entry.SignedEntry.{SignedEntry}
-use Rattle.mb_model.specs.declared.state.Figures.{Figures}
 use Rattle.mb_model.specs.declared.state.State.{State}
 use Rattle.mb_model.specs.declared.stored.Header.{Header}
 use Rattle.mb_model.specs.declared.stored.Root.{Root}
@@ -35,8 +35,10 @@ use Rattle.mb_device_orders.specs.declared.judging.Judged.{Judged}
 use Rattle.mb_device_orders.specs.Planning.{HasPassed}
 use Rattle.mb_outbound.specs.declared.kept.RegionTree.{RegionTree}
 use Rattle.mb_outbound.specs.KeptTrees.{IsKeptIn}
+use Rattle.mb_signer.specs.declared.tree.KeptTree.{KeptTree}
+use Rattle.mb_signer.specs.Tree.{IsTreeOf}
 use Rattle.mb_device_orders.specs.declared.remembering.Known.{Known}
-use Rattle.mb_device_orders.specs.Remembering.{Knows, IsRemembered}
+use Rattle.mb_device_orders.specs.Remembering.{IsDeviceTree, Knows, IsRemembered}
 
 -- a memory that is ready holds its state with nothing pending
 pub rest_in : (memory : Memory) (state : State) (ready : IsReady memory state) → IsBytes memory.bbram → Holds memory (at_rest state ready.clean.area)
@@ -68,14 +70,22 @@ public_in memory root state ready only =
 pub knows_of : (memory : Memory) (root : Root) (signed : ℕ) (known : Known) (state : State) → IsReady memory state → ((any : Root) → RootIn memory.bbram any → any ≡ root)
     → ((header : Header) → HoldsHeader memory.flash root.area header → signed ≡ header.signed)
     → ((log : List SignedEntry) → HoldsLog memory.flash log → length log ≡ signed → known.figures ≡ figures_of (entries_of log))
-    → known.serial ≡ root.serial → known.trees.value.region ≡ None → Knows known state
-knows_of memory root signed known state ready only counted counts serial none =
+    → known.serial ≡ root.serial → known.trees.value.device ≡ None → known.trees.value.region ≡ None → Knows known state
+knows_of memory root signed known state ready only counted counts serial no_device none =
     let public = public_in memory root state ready only in
     record {
       serial = serial ∙ sym (ap (λ (r : Root). r.serial) (root_is memory root state ready only));
       figures = counts state.log public.log (public.count ∙ sym (counted public.header public.begins));
-      trees = record { region = subst (λ (kept : Option RegionTree). IsKeptIn kept state) (sym none) tt };
+      trees = record {
+        device = subst (λ (kept : Option KeptTree). IsDeviceTree kept state) (sym no_device) tt;
+        region = subst (λ (kept : Option RegionTree). IsKeptIn kept state) (sym none) tt;
+      };
     }
+
+-- the tree that is kept is that of the device key in the root in force
+pub device_in_force : (memory : Memory) (root : Root) (known : Known) → IsRemembered known memory → IsOnlyRoot memory.bbram root → IfSome known.trees.value.device (IsTreeOf root.device)
+device_in_force memory root known is only =
+    subst (λ (r : Root). IfSome known.trees.value.device (IsTreeOf r.device)) (root_is memory root is.state is.ready only.only) is.knows.trees.device
 
 -- ---- what bytes begin with
 

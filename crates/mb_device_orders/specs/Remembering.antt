@@ -1,15 +1,22 @@
 -- What a device remembers of its state while power is on. Does it stand in the memory?
-use Rattle.std.specs.Prelude.{◌≡◌}
+use Rattle.std.specs.Prelude.{◌≡◌, Option, IfSome}
 use Rattle.mb_model.specs.declared.state.State.{State}
 use Rattle.mb_model.specs.Board.{Memory}
 use Rattle.mb_model.specs.Log.{figures_of, entries_of}
 use Rattle.mb_model_memory.specs.Holding.{IsReady}
 use Rattle.mb_outbound.specs.KeptTrees.{IsKeptIn}
+use Rattle.mb_signer.specs.declared.tree.KeptTree.{KeptTree}
+use Rattle.mb_signer.specs.Tree.{IsTreeOf}
 use Rattle.mb_device_orders.specs.declared.remembering.Known.{Known}
 use Rattle.mb_device_orders.specs.declared.remembering.Trees.{Trees}
 
+-- in this state, the tree is that of the device key, if it is kept
+abbrev pub IsDeviceTree : Option KeptTree → State → Type 0
+IsDeviceTree kept state = IfSome kept (IsTreeOf state.device)
+
 -- in this state, each tree that is kept is that of the key for which it is kept
 pub record AreTreesOf (trees : Trees) (state : State) : Type 0 where
+  pub device : IsDeviceTree trees.device state
   pub region : IsKeptIn trees.region state
 
 -- what a device remembers is true of this state

@@ -17,18 +17,20 @@ use mb_layout::Room;
 use mb_lms::HashCount;
 use mb_model::Root;
 use mb_ratchet::{Off, R1, Up};
+use mb_signer::Bench;
 use std::sync::ledger::Ledger;
 
 /// Commits an order: writes its code and header, which the room holds, where they do not count yet, makes its root
-/// record current, which is when the order counts, and completes the order's pending work. If power fails, the memory
-/// stands for the state before the order or for the state after it. No signed entry of the log is written to. There are
-/// at most 35 write calls and 70,946 hashes. Takes no memory.
+/// record current, which is when the order counts, and completes the order's pending work, by the trees on the bench.
+/// If power fails, the memory stands for the state before the order or for the state after it. No signed entry of the
+/// log is written to. There are at most 35 write calls and 70,946 hashes. Takes no memory.
 #[tactic(auto, using(crate::proofs::Committed::header_there, crate::proofs::Committed::plan_is, crate::proofs::Committed::root_allowed))]
 pub fn commit<B: Board, L: Ledger>(
     up: Up<R1>,
     b: &mut B,
     root: &Root,
     room: &mut Room,
+    bench: &mut Bench,
     hashes: &mut HashCount<L>,
 ) -> Result<Up<R1>, Off>
     requires up { IsUp 1 (B.seen b.old) }
@@ -46,6 +48,6 @@ pub fn commit<B: Board, L: Ledger>(
 {
     let up = write_public(up, b, room)?;
     let unsettled = commit_root(up, b, root, room)?;
-    let up = finish_order(unsettled, b, room, hashes)?;
+    let up = finish_order(unsettled, b, room, bench, hashes)?;
     Ok(up)
 }

@@ -23,6 +23,7 @@ use mb_model::{Order, Refusal, Reply, Root, View};
 use mb_orders::{JudgeEnd, Plan, judge};
 use mb_ratchet::{R1, Three, Two, Up};
 use mb_region::count_stored_keys;
+use mb_signer::Bench;
 use std::alloc::Global;
 use std::sync::ledger::Ledger;
 
@@ -83,7 +84,7 @@ fn view_now<B: Board>(up: &Up<R1>, b: &B, known: &Known, root: &Root, room: &mut
 }
 
 /// Reads the order that the bytes spell, and judges it. The error is the answer to an order that is not obeyed. New
-/// keys are derived from `draw`.
+/// keys are derived from `draw`. The tree of a new device key is on the bench afterwards.
 #[tactic(auto, using(crate::proofs::Remembered::remembered_root, mb_boot::proofs::Settled::only_root, crate::proofs::Judgement::none_step))]
 pub fn judge_text<B: Board, L: Ledger>(
     alloc: Global,
@@ -92,6 +93,7 @@ pub fn judge_text<B: Board, L: Ledger>(
     known: &Known,
     text: &[u8],
     draw: &[u8; 32],
+    bench: &mut Bench,
     room: &mut Room,
     hashes: &mut HashCount<L>,
 ) -> Result<Judged, Reply>
@@ -106,7 +108,7 @@ pub fn judge_text<B: Board, L: Ledger>(
     let order = read_text(alloc, text)?;
     let root = read_root(b, room);
     let view = view_now(up, b, known, &root, room);
-    match judge(alloc, &view, &order, draw, hashes) {
+    match judge(alloc, &view, &order, draw, bench, hashes) {
         Ok(plan) => Ok(Judged { order, plan, root }),
         Err(end) => Err(reply_for(end)),
     }

@@ -14,12 +14,13 @@ ghost use Rattle.mb_lms.specs.declared.hash_count.TheConstants.{SIGNING_HASHES, 
 use crate::committing::commit;
 use crate::judging::judge_text;
 use crate::planning::plan_commit;
-use crate::remembering::Known;
+use crate::remembering::{Known, Trees};
 use mb_board::Board;
 use mb_layout::Room;
 use mb_lms::HashCount;
 use mb_model::{NoMemory, Reply};
 use mb_ratchet::{Off, R1, Up};
+use mb_signer::Bench;
 use std::alloc::Global;
 use std::sync::ledger::Ledger;
 
@@ -27,7 +28,11 @@ use std::sync::ledger::Ledger;
 /// `draw`. A device that has answered is ready and remembers its state. If power fails, the memory stands for the state
 /// before the order or for the state after it. No signed entry of the log is written to. Nothing is written for an
 /// order that is refused, nor if an allocation fails, which is an answer of its own. There are at most 35 write calls
-/// and 139,744 hashes. Once an order is done, the tree of a region's key is kept no longer.
+/// and 139,744 hashes.
+///
+/// The order's entries are signed by the tree of the device key, if it is kept. Once an order is done, the tree of the
+/// device key that stands then is kept, and that of a region's key is kept no longer. If the order is refused or an
+/// allocation fails, the trees stay as they are.
 #[tactic(auto, using(crate::proofs::Answered::has_passed))]
 pub fn obey<B: Board, L: Ledger>(
     alloc: Global,
@@ -51,17 +56,23 @@ pub fn obey<B: Board, L: Ledger>(
     ensures ran { Ran 35 result (B.seen b.old) (B.seen b.new) }
     ensures cost { hashes.new ≤ hashes.old + 2 * TREE_HASHES + 2 * SIGNING_HASHES }
 {
-    let judged = match judge_text(alloc, &up, b, known, text, draw, room, hashes) {
+    let mut bench = Bench::new();
+    let judged = match judge_text(alloc, &up, b, known, text, draw, &mut bench, room, hashes) {
         Ok(judged) => judged,
         Err(reply) => return Ok((up, reply)),
     };
+    let device = judged.root.device;
     let planned = match plan_commit(alloc, b, known, judged, room) {
         Ok(planned) => planned,
         Err(NoMemory) => return Ok((up, Reply::NoMemory)),
     };
-    let up = commit(up, b, &planned.root, room, hashes)?;
+    known.lend(&device, &mut bench);
+    let up = commit(up, b, &planned.root, room, &mut bench, hashes)?;
     known.figures = planned.figures;
-    known.trees.region = None;
+    *known.trees = Trees {
+        device: bench.take(&planned.root.device),
+        region: None,
+    };
     let reply = Reply::Done {
         number: known.figures.number,
         length: known.figures.length,

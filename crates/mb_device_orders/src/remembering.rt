@@ -1,6 +1,6 @@
 //! What a device remembers of its state.
 
-ghost use Rattle.std.specs.Prelude.{◌≡◌, ◌≤◌, ◌<◌, List, length, None, Some};
+ghost use Rattle.std.specs.Prelude.{◌≡◌, ◌≤◌, ◌<◌, List, length, IfSome, None, Some};
 ghost use Rattle.mb_model.specs.declared.limits.TheConstants.{ENTRY_LIMIT, FILE_LIMIT};
 ghost use Rattle.mb_model.specs.declared.entry.SignedEntry.{SignedEntry};
 ghost use Rattle.mb_model.specs.declared.state.State.{State};
@@ -11,6 +11,7 @@ ghost use Rattle.mb_model.specs.Log.{figures_of, entries_of};
 ghost use Rattle.mb_model.specs.Sectors.{log_sector, BeginsAs};
 ghost use Rattle.mb_board.specs.Calls.{IsPowered, IsUp};
 ghost use Rattle.mb_model_memory.specs.Holding.{IsReady, HasReady};
+ghost use Rattle.mb_signer.specs.Tree.{IsTreeOf};
 ghost use Rattle.mb_device_orders.specs.Remembering.{Knows};
 
 use mb_area::{read_header, read_log, read_root};
@@ -18,15 +19,18 @@ use mb_board::Board;
 use mb_bytes::Cursor;
 use mb_layout::{Room, read_entry};
 use mb_log::{add_entry, no_figures};
-use mb_model::{Entry, Figures};
+use mb_model::{Entry, Figures, KeySeed};
 use mb_outbound::RegionTree;
 use mb_ratchet::{R1, Up};
 use mb_segments::{header_at, log_at};
+use mb_signer::{Bench, KeptTree};
 
 /// The trees of keys that a device keeps while power is on, to sign by again. They are public nodes: no seed is among
 /// them.
 #[derive(Drop)]
 pub struct Trees {
+    /// The tree of the device key, once it has signed an order's entry.
+    pub device: Option<KeptTree>,
     /// The tree of the region's key that signed last.
     pub region: Option<RegionTree>,
 }
@@ -34,9 +38,13 @@ pub struct Trees {
 impl Trees {
     /// No tree.
     pub fn none() -> Trees
-        ensures { result.region ≡ None }
+        ensures device { result.device ≡ None }
+        ensures region { result.region ≡ None }
     {
-        Trees { region: None }
+        Trees {
+            device: None,
+            region: None,
+        }
     }
 }
 
@@ -49,6 +57,18 @@ pub struct Known {
     pub figures: Figures,
     /// The trees that it keeps.
     pub trees: Box<Trees>,
+}
+
+impl Known {
+    /// Puts the tree of the device key on the bench, if it is kept. It is kept no longer then.
+    pub(crate) fn lend(&mut self, device: &KeySeed, bench: &mut Bench)
+        requires { IfSome self.old.trees.value.device (λ tree. IsTreeOf device.now tree) }
+        ensures { self.new.serial ≡ self.old.serial }
+    {
+        if let Some(tree) = self.trees.device.take() {
+            bench.put(device, tree);
+        }
+    }
 }
 
 /// The number of signed entries by the header at the beginning of a sector; 0 if there is no header.

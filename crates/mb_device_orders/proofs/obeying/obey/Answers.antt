@@ -1,15 +1,19 @@
 use Rattle.std.proofs.lemmas.Result.{err_from_is_err_and}
-use Rattle.std.proofs.Common.{None, refl}
+use Rattle.std.proofs.Common.{None, refl, ◌-◌}
 use Rattle.std.specs.Box.{with_value}
 use Rattle.mb_device_orders.specs.declared.remembering.Known.{Known}
 use Rattle.mb_device_orders.specs.declared.remembering.Trees.{Trees}
-use Rattle.mb_device_orders.proofs.Planned.{knows_next}
+use Rattle.mb_device_orders.proofs.Planned.{knows_next, device_committed}
+use Rattle.mb_device_orders.proofs.Remembered.{device_in_force}
 use Rattle.mb_device_orders.proofs.Answered.{has_commit, answered_same, answered_done, order_cut}
 use Rattle.mb_device_orders.proofs.obeying.obey.Goals as goal
 
 pub returns-in-Err-clause-told : goal.returns-in-Err-clause-told
 returns-in-Err-clause-told g c = λ state ready knows.
     answered_same (g.B.Board.seen c.args.b.now).memory state c.args.text.now c.args.draw.now c.args.known.now c.in-Err.reply ready knows (c.in-Err.ensures.judged state ready knows)
+
+pub lend-requires : goal.lend-requires
+lend-requires g c = device_in_force (g.B.Board.seen c.args.b.now).memory c.in-Ok.judged.root c.args.known.now c.requires.remembered c.in-Ok.ensures.root
 
 pub commit-requires-clause-commit : goal.commit-requires-clause-commit
 commit-requires-clause-commit g c =
@@ -29,8 +33,9 @@ returns-clause-told g c = λ state ready knows.
     let passed = c.in-Ok.ensures.judged state ready knows in
     let commit = c.in-Ok-plan_commit.ensures.commit state c.args.text.now c.args.draw.now ready passed in
     let figures = c.in-Ok-plan_commit.ensures.figures state c.args.text.now c.args.draw.now ready knows passed in
-    let trees : Trees = record { region = None } in
-    let known : Known = record { serial = c.args.known.now.serial; figures = c.in-Ok-plan_commit.planned.figures; trees = with_value c.args.known.now.trees trees } in
+    let trees : Trees = record { device = c.take.result; region = None } in
+    let known : Known = record { serial = c.lend.new.self.serial; figures = c.in-Ok-plan_commit.planned.figures; trees = with_value c.lend.new.self.trees trees } in
     answered_done (g.B.Board.seen c.args.b.now).memory (g.B.Board.seen c.commit.new.b).memory state c.args.text.now c.args.draw.now c.in-Ok.judged known passed
     (c.in_ok-up.ensures.done state c.in-Ok.judged.order c.args.draw.now commit)
-    (knows_next state c.in-Ok.judged.order c.args.draw.now c.args.known.now known knows refl figures refl)
+    (knows_next state c.in-Ok.judged.order c.args.draw.now c.args.known.now known knows c.lend.ensures figures refl
+    (device_committed c.in-Ok-plan_commit.planned.root state c.in-Ok.judged.order c.args.draw.now (1 - commit.area) c.take.result commit.root_is c.take.ensures.tree))
