@@ -112,7 +112,10 @@ knows_edited : (known : Known) (L : ℕ) (region : Region) (state : State) → K
 knows_edited known L region state same knows = record {
   serial = knows.serial;
   figures = knows.figures;
-  trees = record { region = kept_stays known.trees.value.region L region state same knows.trees.region };
+  trees = record {
+    device = knows.trees.device;
+    region = kept_stays known.trees.value.region L region state same knows.trees.region;
+  };
 }
 
 put_keeps : (known : Known) (L : ℕ) (name value : List ℕ) (state : State) → Knows known state → Knows known (put_event L name value state).1

@@ -3,6 +3,7 @@ use Rattle.mb_model.specs.declared.event.Event.{Event}
 use Rattle.mb_model_memory.specs.Answering.{ComesTo}
 use Rattle.mb_outbound.specs.KeptTrees.{IsKeptIn}
 use Rattle.mb_device_orders.specs.declared.remembering.Trees.{Trees}
+use Rattle.mb_device_orders.specs.Remembering.{IsDeviceTree}
 use Rattle.mb_device.specs.Regions.{layer_outcome}
 use Rattle.mb_device.proofs.Uses.{known_runs}
 use Rattle.mb_device.proofs.Told.{known_number}
@@ -32,5 +33,8 @@ pub returns-in-Sign-clause-known : goal.returns-in-Sign-clause-known
 returns-in-Sign-clause-known g c = λ state ready knows. record {
   serial = knows.serial;
   figures = knows.figures;
-  trees = record { region = c.sign_message.ensures.kept state ready (subst (λ (trees : Trees). IsKeptIn trees.region state) (sym c.deref_mut.ensures.value) knows.trees.region) };
+  trees = record {
+    device = subst (λ (trees : Trees). IsDeviceTree trees.device state) (sym c.deref_mut.ensures.value) knows.trees.device;
+    region = c.sign_message.ensures.kept state ready (subst (λ (trees : Trees). IsKeptIn trees.region state) (sym c.deref_mut.ensures.value) knows.trees.region);
+  };
 }
