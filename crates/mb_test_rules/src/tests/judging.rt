@@ -12,6 +12,7 @@ use mb_command::read_order;
 use mb_lms::HashCount;
 use mb_model::{CodeName, Fate, KeySeed, Layer, Layers, Order, Trust, Trusts, View};
 use mb_orders::{JudgeEnd, Plan, judge};
+use mb_signer::Bench;
 use std::alloc::Global;
 use std::marker::Brand;
 use std::process::Abort;
@@ -131,7 +132,7 @@ fn judge_counted<L: Ledger>(
     requires some { 0 < blank.parts }
 {
     let mut hashes = HashCount::<L>::begin(alloc, blank);
-    judge(alloc, view, order, &[8; 32], &mut hashes)
+    judge(alloc, view, order, &[8; 32], &mut Bench::new(), &mut hashes)
 }
 
 /// What is seen of a plan.

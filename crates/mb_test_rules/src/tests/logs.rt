@@ -8,6 +8,7 @@ use mb_model::{
     Bodies, Chains, ChangeKind, CodeName, Configuration, Entry, Fact, Follow, KeyKind, KeySeed,
     Layer, Layers, NoMemory, Pair, PublicKey, SignedEntry, Tree, Trust, Trusts, View,
 };
+use mb_signer::Bench;
 use std::alloc::Global;
 use std::marker::Brand;
 use std::process::Abort;
@@ -416,7 +417,7 @@ fn added<L: Ledger>(alloc: Global, blank: Blank) -> Result<Bodies, NoMemory>
         kind: KeyKind::Epoch,
     };
     let mut hashes = HashCount::<L>::begin(alloc, blank);
-    bodies(alloc, &view, &fact, &DRAW, &mut hashes)
+    bodies(alloc, &view, &fact, &DRAW, &mut Bench::new(), &mut hashes)
 }
 
 /// The entries of the succession and of the new key.
