@@ -15,12 +15,13 @@ import policies  # noqa: F401, among the commands of chains.py from here on
 from life import Living
 from lms import sha256, u8, u16
 from officer import body, order, order_line, unhex
-from sources import HEX, Source
+from sources import BIRTHS, HEX, Source
 from top_readers import Host, private_key
 
 TOKEN = re.compile(r'"(?:[^"\\]|\\.)*"|[A-Za-z_][\w:]*|0x[0-9A-F]+|\d[\d_]*|[()\[\]{}]')
-BIRTHS = "crates/mb_test_lives/src/tests/births.rt"
+LIFE = "crates/mb_test_plays/src/lives.rt"
 CHAINS = "crates/mb_test_lives/src/tests/chains.rt"
+FAILURES = "crates/mb_test_commands/src/tests/failures.rt"
 # the tables that lead to a new device with its first orders, and to one whose layers have code
 A_NEW_DEVICE = "MADE", "FIRST_ORDERS"
 LAYERS_OWNED = *A_NEW_DEVICE, "ORDERS_OF_A_LIFE", "LAYERS_ARE_GIVEN"
@@ -300,8 +301,8 @@ def compare_end(source, world, words, status, lines):
 
 
 def compare_short(source, world, words, name, status, told, offsets):
-    """The file ends at each of the offsets, for the commands on chains."""
-    if words.split(" ")[0] not in chains.COMMANDS or name not in world.files:
+    """The file ends at each of the offsets, for the commands on chains and registers."""
+    if words.split(" ")[0] not in COMMANDS or name not in world.files:
         return
     whole, (kind, line) = world.files[name], told
     for offset in offsets:
@@ -312,8 +313,8 @@ def compare_short(source, world, words, name, status, told, offsets):
 
 def born(source, first=LAYERS_OWNED):
     """The world in which tests begin: keys, orders, and a device to which the first tables of births have led."""
-    births = type(source)(source.root, BIRTHS)
-    constants = {name: births.owner(name).constant(name) for name in ("MAKER", "OWNER", "SERIAL", "IMAGE")}
+    births = Source(source.root, BIRTHS)
+    constants = {name: births.constant(name) for name in ("MAKER", "OWNER", "SERIAL", "IMAGE")}
     files = {"noise": b"\7" * 4_096}
     for name, kind, word in births.rows(r'name: "(\w+)",\s*content: Content::(Hex|Text)\(\s*"([^"]*)",?\s*\)'):
         files[name] = bytes.fromhex(word) if kind == "Hex" else unescaped(word).encode()
@@ -340,8 +341,7 @@ def compare_turned(source, world):
 def fleet_tests(source):
     """The tables that lead devices before registers, and the plays in which no call of the host fails."""
     source.text, plays = source.text.split("/// A maker's key, a register of two devices")
-    steps = tables(type(source)(source.root, CHAINS), {}) | tables(source, {})
-    chains_tests(source, steps, plays)
+    chains_tests(source, tests=plays)
     source.text = plays
     files = {"long": b"\7" * 4_194_305, "nothing": b""}
     for name, content in source.rows(r'name: "(\w+)",\s*content: Content::Hex\(\s*("[^"]*"|[A-Z_]+),?\s*\)'):
@@ -355,23 +355,22 @@ def fleet_tests(source):
     world = World(files)
     for step in values(table):
         follow(source, world, step)
-    for field in ("register", "items"):
-        fields_are_missing(source, world, field)
+    for _, *short in tables(source, {})["SHORT"]:
+        compare_short(source, world, *short)
 
 
-def fields_are_missing(source, world, name):
-    """A file is cut where its fields begin."""
-    ((offsets,),) = source.rows(rf"const {name.upper().removesuffix('S')}_FIELDS: &\[usize\] = &\[([\d,\s]*)\]")
-    for word in re.findall(r"\d+", offsets):
-        world.files["cut"] = world.files[name][: int(word)]
-        names = " ".join("cut" if each == name else each for each in ("root", "register", "items"))
-        compare_end(source, world, f"fleet {names}", 3, f"input {name} at {word}\n")
+def shared_life(source):
+    """The life that the plays share, its chain, and what that lists."""
+    world = born(source)
+    for steps in tables(source, {}).values():
+        for step in steps:
+            follow(source, world, step)
 
 
-def chains_tests(source, steps=None, tests=None):
+def chains_tests(source, tests=None):
     """The tables in the order of the tests, each test over a world of its own."""
     begins = A_NEW_DEVICE if "new_device_goes_through" in source.text else LAYERS_OWNED
-    steps, start = steps or tables(source, {}), born(source, begins)
+    steps, start = tables(Source(source.root, LIFE), {}) | tables(source, {}), born(source, begins)
     lists = dict(re.findall(r"const (\w+): &\[&\[Step\]\] = &\[([\w\s,]*)\]", source.text))
     for test in (tests or source.text).split("#[test]")[1:]:
         world = copy.deepcopy(start)
@@ -384,12 +383,13 @@ def chains_tests(source, steps=None, tests=None):
 
 
 def short_inputs(source):
-    """Chains and the keys that they are judged by, which end where their fields begin."""
+    """Chains, the keys and the policies that they are judged by, which end where their fields and words begin."""
     world, steps = born(source), tables(source, {})
-    life = tables(Source(source.root, CHAINS), {})
-    for step in [*life["A_NEW_DEVICE"], *life["A_WHOLE_LIFE"], *steps["FILES_ARE_MADE"]]:
-        follow(source, world, step)
-    for _, *short in steps["DEVICES_ARE_SHORT"]:
+    life = tables(Source(source.root, LIFE), {}) | tables(Source(source.root, FAILURES), {})
+    for name in ("A_NEW_DEVICE", "A_WHOLE_LIFE", "FILES_ARE_MADE", "TOOLS_ARE_MADE"):
+        for step in life[name]:
+            follow(source, world, step)
+    for _, *short in [*steps["DEVICES_ARE_SHORT"], *steps["TOOLS_ARE_SHORT"]]:
         compare_short(source, world, *short)
 
 
@@ -434,12 +434,12 @@ def chain_versions(source):
 
 
 def policies_tests(source):
-    """The policies that are judged for the key of the whole life of chains.rt, and the other ends after them."""
-    chains_rt = type(source)(source.root, CHAINS)
-    world, steps = born(source), tables(chains_rt, {})
+    """The policies that are judged for the key of the life that the plays share, and the other ends after them."""
+    life = Source(source.root, LIFE)
+    world, steps = born(source), tables(life, {})
     for name in ("A_NEW_DEVICE", "A_WHOLE_LIFE"):
         for step in steps[name]:
-            follow(chains_rt, world, step)
+            follow(life, world, step)
     table = source.text[source.text.index("const JUDGED") : source.text.index("const OTHER_ENDS")]
     for policy, status, lines in re.findall(r'\(\s*"([^"]*)",\s*(\d),\s*"([^"]*)",?\s*\)', table):
         world.files["policy"] = unescaped(policy).encode()
@@ -451,7 +451,7 @@ def policies_tests(source):
 
 def sample_signatures(source):
     """The key, the text and the signature of each entry of the first chain of the tests, and of its statement."""
-    world, steps = born(source), tables(source, {})
+    world, steps = born(source), tables(Source(source.root, LIFE), {}) | tables(source, {})
     for name in ("A_NEW_DEVICE", "A_WHOLE_LIFE", "A_STATEMENT_IS_ATTACHED"):
         for step in steps[name]:
             follow(source, world, step)

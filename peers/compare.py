@@ -18,7 +18,7 @@ import examples
 import pieces
 import readers
 import top_readers
-from sources import Source
+from sources import BIRTHS, Source
 
 HERE = pathlib.Path(__file__).resolve().parent
 
@@ -38,16 +38,17 @@ READERS = {
     "crates/mb_test_cuts/src/tests/roots.rt": readers.next_root,
     "crates/mb_test_rules/src/tests/signed.rt": readers.judged_orders,
     "crates/mb_test_rules/src/tests/versions.rt": chain_readers.chain_versions,
-    "crates/mb_test_lives/src/tests/births.rt": top_readers.births,
+    BIRTHS: top_readers.births,
+    chain_readers.LIFE: chain_readers.shared_life,
     chain_readers.CHAINS: chain_readers.chains_tests,
-    "crates/mb_test_lives/src/tests/policies.rt": chain_readers.policies_tests,
+    "crates/mb_test_commands/src/tests/policies.rt": chain_readers.policies_tests,
     "crates/mb_test_lives/src/tests/trusts.rt": chain_readers.chains_tests,
-    "crates/mb_test_lives/src/tests/fleet.rt": chain_readers.fleet_tests,
-    "crates/mb_test_lives/src/tests/failures.rt": chain_readers.short_inputs,
-    "crates/mb_test_lives/src/tests/limits.rt": chain_readers.last_entries,
-    "crates/mb_test_lives/src/tests/devices.rt": top_readers.plays,
-    "crates/mb_test_lives/src/tests/keys.rt": top_readers.plays,
-    "crates/mb_test_lives/src/tests/sign.rt": top_readers.signed_orders,
+    "crates/mb_test_commands/src/tests/fleet.rt": chain_readers.fleet_tests,
+    "crates/mb_test_commands/src/tests/short_files.rt": chain_readers.short_inputs,
+    "crates/mb_test_commands/src/tests/limits.rt": chain_readers.last_entries,
+    "crates/mb_test_commands/src/tests/devices.rt": top_readers.plays,
+    "crates/mb_test_commands/src/tests/keys.rt": top_readers.plays,
+    "crates/mb_test_commands/src/tests/sign.rt": top_readers.signed_orders,
     "crates/mb_test_lives/src/tests/workloads.rt": readers.workloads,
     "crates/miniboot/stdout": readers.stored_run,
     "examples/device-life/expected.txt": examples.device_life,

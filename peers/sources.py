@@ -6,6 +6,8 @@ from lms import verify
 
 HEX = r'"([0-9a-f]*)"'
 TEXT = r'b?"([^"]*)"'
+# the device of the plays, its officers and their orders
+BIRTHS = "crates/mb_test_plays/src/births.rt"
 
 
 class Source:
@@ -40,9 +42,12 @@ class Source:
         return word.strip('"') if '"' in word else self.owner(word).constant(word)
 
     def owner(self, name):
-        """The file where the constant of this name stands: this one, or one beside it from which it is imported."""
+        """The file where the constant of this name stands: this one, one beside it from which it is imported, or the births
+        of the plays."""
+        if re.search(rf"const {name}:", self.text):
+            return self
         found = re.search(rf"use super::(\w+)::{{[^}}]*\b{name}\b", self.text)
-        return Source(self.root, f"{self.name.rsplit('/', 1)[0]}/{found[1]}.rt") if found else self
+        return Source(self.root, f"{self.name.rsplit('/', 1)[0]}/{found[1]}.rt" if found else BIRTHS)
 
     def unseen(self):
         """Words of at least 32 bytes that no reader has looked at."""

@@ -1,8 +1,7 @@
-//! The program served by `top`, over a host in memory and the simulated board: what each command makes, and whole
-//! lives of devices.
+//! Whole lives of devices, served by `top` over a host in memory and the simulated board.
 //!
-//! This crate has tests alone, of `mb_top`. What they expect are values of another program, and the ends that the
-//! rules of the commands give.
+//! This crate has tests alone, of `mb_top`. What they expect are values of another program, and the replies that the
+//! rules of a device give. The commands by themselves are tested in `mb_test_commands`.
 #![tactic(auto)]
 
 #[cfg(test)]

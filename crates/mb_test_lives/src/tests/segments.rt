@@ -1,8 +1,7 @@
 //! Which sectors of the flash an order writes, and a power loss in the sector of an entry.
 
 use super::births::{new_device_goes_through, owned_device_goes_through};
-use super::chains::{A_NEW_DEVICE, ITS_CHAIN, ITS_LISTING};
-use super::{Content, Given, Part, Step};
+use super::{A_NEW_DEVICE, Content, Given, ITS_CHAIN, ITS_LISTING, Part, Step};
 use std::test::Fail;
 
 /// An order writes both header areas, the sector of its entry and the sectors that its code takes, and no other. Layer

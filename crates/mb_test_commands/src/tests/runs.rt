@@ -1,7 +1,7 @@
 //! The command `run` over a host that prints nothing.
 
-use super::devices::{KEY, OTHER_OWNER, SERIAL};
-use super::{Content, Given, Play, Step, perform};
+use super::devices::{KEY, OTHER_OWNER};
+use super::{Content, Given, Play, SERIAL, Step, perform};
 use std::test::Fail;
 
 const FILES: &[Given] = &[

@@ -1,105 +1,7 @@
-//! Each command over a hostile world: each of its calls of the host fails in turn, each of its inputs has one byte more
-//! than an input may have, and each of its inputs ends where a field or a word begins. The lines are those that the
-//! rules of the commands and the formats of the inputs give.
+//! Files that end where a field or a word begins: the offsets at which they end, and the line that tells of it.
 
-use super::births::owned_device_goes_through;
-use super::chains::{A_NEW_DEVICE, A_WHOLE_LIFE};
-use super::hostile::{Access, ShortFile, Told};
-use super::{Part, Step};
+use super::{Part, ShortFile, Step, Told};
 use mb_model::{FLASH_LENGTH, IMAGE_LENGTH};
-use std::test::Fail;
-
-/// The files of the tables, of a device whose key 1 made a statement before layers 1 and 3 were loaded.
-const FILES_ARE_MADE: &[Step] = &[
-    Step::Writes("draw", &[Part::Slice("noise", 0, 32)]),
-    Step::Writes(
-        "events",
-        &[Part::Text("boot\nput 2 pin 35363738\ncommand 00\noff\n")],
-    ),
-    Step::Writes(
-        "every",
-        &[Part::Text(
-            "go\nput 2 pin 35\nget 2 pin\ndrop 2 pin\nsign 3 1 68\ncut 1 keep 2 fill 00\ncommand 00\n",
-        )],
-    ),
-    Step::Writes(
-        "full",
-        &[Part::Text(
-            "order load 1\n\
-                target serial 000102030405060708090a0b0c0d0e0f\n\
-                target length 5\n\
-                target owner 1 1111111111111111111111111111111111111111111111111111111111111111\n\
-                target code 3 2222222222222222222222222222222222222222222222222222222222222222\n\
-                version 2\ntrust always never\ncode 616263\n",
-        )],
-    ),
-    Step::Ends("sign officer1 full targets", 0, "index 3\n"),
-    Step::Ends("attach chain statement attached", 0, "entries 6\n"),
-];
-
-/// What each command reads and writes.
-const COMMANDS: &[Access] = &[
-    Access {
-        words: "run image events draw",
-        reads: &[("image", "image"), ("script", "events"), ("noise", "draw")],
-        writes: &[("image", "image")],
-    },
-    Access {
-        words: "verify public0 chain 1",
-        reads: &[("root", "public0"), ("chain", "chain")],
-        writes: &[],
-    },
-    Access {
-        words: "audit image public0 chain 1",
-        reads: &[("image", "image"), ("root", "public0"), ("chain", "chain")],
-        writes: &[],
-    },
-    Access {
-        words: "chain image out",
-        reads: &[("image", "image")],
-        writes: &[("out", "out")],
-    },
-    Access {
-        words: "attach chain statement out",
-        reads: &[("chain", "chain"), ("statement", "statement")],
-        writes: &[("out", "out")],
-    },
-    Access {
-        words: "factory birth maker public1 code made",
-        reads: &[
-            ("noise", "birth"),
-            ("key", "maker"),
-            ("owner", "public1"),
-            ("code", "code"),
-        ],
-        writes: &[("key", "maker"), ("image", "made")],
-    },
-    Access {
-        words: "keygen noise0 key public",
-        reads: &[("noise", "noise0")],
-        writes: &[("key", "key"), ("public", "public")],
-    },
-    Access {
-        words: "sign officer2 draft7 out",
-        reads: &[("key", "officer2"), ("draft", "draft7")],
-        writes: &[("key", "officer2"), ("out", "out")],
-    },
-    Access {
-        words: "countersign officer2 2 load out",
-        reads: &[("key", "officer2"), ("order", "load")],
-        writes: &[("key", "officer2"), ("out", "out")],
-    },
-    Access {
-        words: "migrate image out",
-        reads: &[("image", "image")],
-        writes: &[("out", "out")],
-    },
-    Access {
-        words: "generate 1 1 image script noise",
-        reads: &[],
-        writes: &[("image", "image"), ("script", "script"), ("noise", "noise")],
-    },
-];
 
 /// Where the fields of a key file begin.
 const KEY: &[usize] = &[0, 4, 20, 52];
@@ -158,7 +60,7 @@ const TARGETS: &[usize] = &[
 ];
 
 /// Inputs of the commands on devices, chains and statements end early.
-const DEVICES_ARE_SHORT: &[ShortFile] = &[
+pub const DEVICES_ARE_SHORT: &[ShortFile] = &[
     ShortFile {
         words: "run image events draw",
         name: "image",
@@ -302,7 +204,7 @@ const DEVICES_ARE_SHORT: &[ShortFile] = &[
 ];
 
 /// Inputs of the commands on keys and orders end early.
-const ORDERS_ARE_SHORT: &[ShortFile] = &[
+pub const ORDERS_ARE_SHORT: &[ShortFile] = &[
     ShortFile {
         words: "factory birth maker public1 code out",
         name: "birth",
@@ -445,18 +347,159 @@ const ORDERS_ARE_SHORT: &[ShortFile] = &[
     },
 ];
 
-/// Calls fail, of a command that writes several files also after the first was written; and inputs are too long or end
-/// early.
-const CALLS_FAIL: &[Step] = &[Step::CallsFail(COMMANDS)];
+/// Where the fields of an endorsement of two levels begin, and its last byte.
+const ENDORSEMENT: &[usize] = &[
+    0, 4, 8, 12, 44, 2_188, 2_192, 2_352, 2_356, 2_360, 2_376, 2_408, 2_412, 2_416, 2_448, 4_592,
+    4_596, 4_755,
+];
 
-const INPUTS_FAIL: &[Step] = &[
-    Step::InputsAreLong(COMMANDS),
-    Step::InputsAreShort(DEVICES_ARE_SHORT),
-    Step::InputsAreShort(ORDERS_ARE_SHORT),
+/// Inputs of the commands on makers' keys, policies and the code of applications end early. Those of `fleet` stand beside
+/// its registers.
+pub const TOOLS_ARE_SHORT: &[ShortFile] = &[
+    ShortFile {
+        words: "hsskeygen noise0 1 out out",
+        name: "noise0",
+        status: 3,
+        told: Told::Line("input noise length\n"),
+        offsets: &[0, 31],
+    },
+    ShortFile {
+        words: "endorse hss public0 out",
+        name: "hss",
+        status: 3,
+        told: Told::Offset("input key at"),
+        offsets: &[0, 4, 5, 37],
+    },
+    ShortFile {
+        words: "endorse hss public0 out",
+        name: "public0",
+        status: 3,
+        told: Told::Offset("input root at"),
+        offsets: PUBLIC,
+    },
+    ShortFile {
+        words: "endorsed hss_public public0 endorsement",
+        name: "hss_public",
+        status: 3,
+        told: Told::Offset("input public at"),
+        offsets: &[0, 4, 8, 12, 28],
+    },
+    ShortFile {
+        words: "endorsed hss_public public0 endorsement",
+        name: "public0",
+        status: 3,
+        told: Told::Offset("input root at"),
+        offsets: PUBLIC,
+    },
+    ShortFile {
+        words: "endorsed hss_public public0 endorsement",
+        name: "endorsement",
+        status: 7,
+        told: Told::Line("refused 28\n"),
+        offsets: ENDORSEMENT,
+    },
+    ShortFile {
+        words: "trust public0 chain 1 policy",
+        name: "public0",
+        status: 3,
+        told: Told::Offset("input root at"),
+        offsets: PUBLIC,
+    },
+    ShortFile {
+        words: "trust public0 chain 1 policy",
+        name: "chain",
+        status: 7,
+        told: Told::Offset("refused 20"),
+        offsets: CHAIN_FIELDS,
+    },
+    ShortFile {
+        words: "trust public0 attached 1 policy",
+        name: "attached",
+        status: 7,
+        told: Told::Offset("refused 20"),
+        offsets: STATEMENT,
+    },
+    ShortFile {
+        words: "trust public0 chain 1 policy",
+        name: "policy",
+        status: 3,
+        told: Told::Line("input policy line 1\n"),
+        offsets: &[4, 10, 75],
+    },
+    ShortFile {
+        words: "trust public0 chain 1 policy",
+        name: "policy",
+        status: 3,
+        told: Told::Line("input policy line 2\n"),
+        offsets: &[146, 148, 152, 157, 159, 165],
+    },
+    ShortFile {
+        words: "trust public0 chain 1 policy",
+        name: "policy",
+        status: 7,
+        told: Told::Line("denied 4 default\n"),
+        offsets: &[0, 140],
+    },
+    ShortFile {
+        words: "app coded 2 nothing 10",
+        name: "coded",
+        status: 3,
+        told: Told::Line("input image length\n"),
+        offsets: IMAGE,
+    },
+    ShortFile {
+        words: "asm text out",
+        name: "text",
+        status: 3,
+        told: Told::Line("input text line 1\n"),
+        offsets: &[6],
+    },
+    ShortFile {
+        words: "asm text out",
+        name: "text",
+        status: 3,
+        told: Told::Line("input text line 2\n"),
+        offsets: &[13],
+    },
+    ShortFile {
+        words: "asm text out",
+        name: "text",
+        status: 3,
+        told: Told::Line("input text line 4\n"),
+        offsets: &[26],
+    },
+    ShortFile {
+        words: "asm text out",
+        name: "text",
+        status: 3,
+        told: Told::Line("input text line 5\n"),
+        offsets: &[32],
+    },
+    ShortFile {
+        words: "disasm assembled out",
+        name: "assembled",
+        status: 3,
+        told: Told::Line("input code at 0\n"),
+        offsets: &[1],
+    },
+    ShortFile {
+        words: "disasm assembled out",
+        name: "assembled",
+        status: 3,
+        told: Told::Line("input code at 6\n"),
+        offsets: &[7],
+    },
+    ShortFile {
+        words: "disasm assembled out",
+        name: "assembled",
+        status: 3,
+        told: Told::Line("input code at 9\n"),
+        offsets: &[10, 11],
+    },
 ];
 
 /// Orders that end where a field begins are no orders, for the device.
-const SHORT_ORDERS_ARE_REFUSED: &[Step] = &[Step::Serves(
+pub const SHORT_ORDERS_ARE_REFUSED: &[Step] = &[Step::Serves(
     &[
         Part::Text("boot\ncommand -\n"),
         Part::Slice("order1", 0, 10),
@@ -576,25 +619,3 @@ const SHORT_ORDERS_ARE_REFUSED: &[Step] = &[Step::Serves(
         refused 10 text\nrefused 10 text\nrefused 10 text\nrefused 10 text\nrefused 10 text\n\
         refused 10 text\nrefused 10 text\n",
 )];
-
-#[test]
-fn calls_fail_in_turn(rt: HostRuntime) -> Result<(), Fail> {
-    owned_device_goes_through(
-        &rt,
-        &[A_NEW_DEVICE, A_WHOLE_LIFE, FILES_ARE_MADE, CALLS_FAIL],
-    )
-}
-
-#[test]
-fn inputs_are_long_or_short(rt: HostRuntime) -> Result<(), Fail> {
-    owned_device_goes_through(
-        &rt,
-        &[
-            A_NEW_DEVICE,
-            A_WHOLE_LIFE,
-            FILES_ARE_MADE,
-            INPUTS_FAIL,
-            SHORT_ORDERS_ARE_REFUSED,
-        ],
-    )
-}

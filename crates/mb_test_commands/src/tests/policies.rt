@@ -2,10 +2,11 @@
 //! chain lists is by an independent program (`ITS_LISTING`).
 
 use super::births::owned;
-use super::chains::{A_NEW_DEVICE, A_WHOLE_LIFE, ITS_CHAIN};
-use super::{Content, Given, Part, Step, ends, file_of, go_on, go_through, host_with, store};
+use super::{
+    A_NEW_DEVICE, A_WHOLE_LIFE, Content, Given, ITS_CHAIN, Part, Step, ends, file_of, go_on,
+    go_through, host_with, store,
+};
 use mb_host::MemoryHost;
-use std::process::Abort;
 use std::test::Fail;
 
 /// Policies, the status of each for key 1, and what is printed. The key lived in configurations 4, 5 and 6.
@@ -135,33 +136,9 @@ const POLICIES: &[Given] = &[
     },
 ];
 
-/// The calls of a host that fail, from 2 on, the words, the status and what is printed. Where the line cannot be printed
-/// either, the status is the same.
+/// The calls of a host that fail, from 2 on, the words, the status and what is printed. Where a line cannot be printed, the
+/// status is the same.
 const CALLS_FAIL: &[(&[u64], &str, u8, &str)] = &[
-    (
-        &[2],
-        "trust public0 chain 1 policy",
-        4,
-        "read failed root\n",
-    ),
-    (
-        &[3],
-        "trust public0 chain 1 policy",
-        4,
-        "read failed chain\n",
-    ),
-    (
-        &[4],
-        "trust public0 chain 1 policy",
-        4,
-        "read failed policy\n",
-    ),
-    (
-        &[5],
-        "trust public0 chain 1 policy",
-        5,
-        "write failed output\n",
-    ),
     (&[5, 6], "trust public0 chain 1 policy", 5, ""),
     (&[5], "trust public0 chain 1 denies", 7, ""),
     (
@@ -174,7 +151,7 @@ const CALLS_FAIL: &[(&[u64], &str, u8, &str)] = &[
 
 /// The policy comes to this for key 1 of the chain.
 fn is_judged(
-    rt: &(impl Abort + AllocGlobal),
+    rt: &impl AllocGlobal,
     host: &mut MemoryHost,
     policy: &str,
     status: u8,
@@ -187,7 +164,7 @@ fn is_judged(
 /// On a host with the maker's public key and the chain of this one, whose calls of these numbers fail, the words end so.
 /// Its first two calls are those that write these two files.
 fn calls_fail(
-    rt: &(impl Abort + AllocGlobal),
+    rt: &impl AllocGlobal,
     host: &MemoryHost,
     failing: &[u64],
     words: &str,

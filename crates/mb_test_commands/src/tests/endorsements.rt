@@ -485,110 +485,8 @@ fn foreign_endorsements(rt: HostRuntime) -> Result<(), Fail> {
     perform(&rt, FILES, FOREIGN_ENDORSEMENTS)
 }
 
-/// Each call of the host fails in turn. The key is used before the endorsement is written.
-const CALLS_FAIL: &[Play] = &[
-    Play {
-        failing: &[0],
-        steps: &[
-            Step::Ends("hsskeygen noise 1 key public", 4, "read failed noise\n"),
-            Step::IsMissing("key"),
-        ],
-    },
-    Play {
-        failing: &[1],
-        steps: &[
-            Step::Ends("hsskeygen noise 1 key public", 5, "write failed key\n"),
-            Step::IsMissing("key"),
-            Step::IsMissing("public"),
-        ],
-    },
-    Play {
-        failing: &[2],
-        steps: &[
-            Step::Ends("hsskeygen noise 1 key public", 5, "write failed public\n"),
-            Step::Holds("key", ONE),
-            Step::IsMissing("public"),
-        ],
-    },
-    Play {
-        failing: &[3],
-        steps: &[
-            Step::Ends("hsskeygen noise 1 key public", 5, "write failed output\n"),
-            Step::Holds("key", ONE),
-            Step::Holds("public", ONE_PUBLIC),
-        ],
-    },
-    Play {
-        failing: &[0],
-        steps: &[
-            Step::Ends("endorse two root out", 4, "read failed key\n"),
-            Step::IsMissing("out"),
-        ],
-    },
-    Play {
-        failing: &[1],
-        steps: &[
-            Step::Ends("endorse two root out", 4, "read failed root\n"),
-            Step::Holds("two", TWO),
-            Step::IsMissing("out"),
-        ],
-    },
-    Play {
-        failing: &[2],
-        steps: &[
-            Step::Ends("endorse two root out", 5, "write failed key\n"),
-            Step::Holds("two", TWO),
-            Step::IsMissing("out"),
-        ],
-    },
-    Play {
-        failing: &[3],
-        steps: &[
-            Step::Ends("endorse two root out", 5, "write failed out\n"),
-            Step::Holds("two", TWO_USED),
-            Step::IsMissing("out"),
-        ],
-    },
-    Play {
-        failing: &[4],
-        steps: &[
-            Step::Ends("endorse two root out", 5, "write failed output\n"),
-            Step::Holds("two", TWO_USED),
-            Step::HasHash("out", TWO_HASH),
-        ],
-    },
-    Play {
-        failing: &[0],
-        steps: &[Step::Ends(
-            "endorsed foreign_public root foreign",
-            4,
-            "read failed public\n",
-        )],
-    },
-    Play {
-        failing: &[1],
-        steps: &[Step::Ends(
-            "endorsed foreign_public root foreign",
-            4,
-            "read failed root\n",
-        )],
-    },
-    Play {
-        failing: &[2],
-        steps: &[Step::Ends(
-            "endorsed foreign_public root foreign",
-            4,
-            "read failed endorsement\n",
-        )],
-    },
-    Play {
-        failing: &[3],
-        steps: &[Step::Ends(
-            "endorsed foreign_public root foreign",
-            5,
-            "write failed output\n",
-        )],
-    },
+/// What is refused has its status where its line cannot be printed, too.
+const NOT_PRINTED: &[Play] = &[
     Play {
         failing: &[3],
         steps: &[Step::Ends("endorsed foreign_public other foreign", 7, "")],
@@ -600,8 +498,8 @@ const CALLS_FAIL: &[Play] = &[
 ];
 
 #[test]
-fn calls_fail_in_turn(rt: HostRuntime) -> Result<(), Fail> {
-    perform(&rt, FILES, CALLS_FAIL)
+fn a_refusal_is_not_printed(rt: HostRuntime) -> Result<(), Fail> {
+    perform(&rt, FILES, NOT_PRINTED)
 }
 
 /// What is refused writes nothing, and the first input that is not right is named.
@@ -649,63 +547,6 @@ const REFUSED: &[Play] = &[Play {
 #[test]
 fn a_command_that_is_refused_writes_nothing(rt: HostRuntime) -> Result<(), Fail> {
     perform(&rt, FILES, REFUSED)
-}
-
-/// Inputs that are cut at the beginning of each field, or have a byte more.
-const CUT: &[Play] = &[
-    Play {
-        failing: &[],
-        steps: &[
-            Step::Writes("cut", &[Part::Slice("two", 0, 0)]),
-            Step::Ends("endorse cut root out", 3, "input key at 0\n"),
-            Step::Writes("cut", &[Part::Slice("two", 0, 4)]),
-            Step::Ends("endorse cut root out", 3, "input key at 4\n"),
-            Step::Writes("cut", &[Part::Slice("two", 0, 5)]),
-            Step::Ends("endorse cut root out", 3, "input key at 5\n"),
-            Step::Writes("cut", &[Part::Slice("two", 0, 37)]),
-            Step::Ends("endorse cut root out", 3, "input key at 37\n"),
-            Step::Writes("cut", &[Part::File("two"), Part::Text("\0")]),
-            Step::Ends("endorse cut root out", 3, "input key at 45\n"),
-            Step::Writes("cut", &[Part::Slice("root", 0, 0)]),
-            Step::Ends("endorse two cut out", 3, "input root at 0\n"),
-            Step::Ends("endorsed public2 cut foreign", 3, "input root at 0\n"),
-            Step::Writes("cut", &[Part::Slice("root", 0, 4)]),
-            Step::Ends("endorse two cut out", 3, "input root at 4\n"),
-            Step::Ends("endorsed public2 cut foreign", 3, "input root at 4\n"),
-            Step::Writes("cut", &[Part::Slice("root", 0, 8)]),
-            Step::Ends("endorse two cut out", 3, "input root at 8\n"),
-            Step::Ends("endorsed public2 cut foreign", 3, "input root at 8\n"),
-            Step::Writes("cut", &[Part::Slice("root", 0, 24)]),
-            Step::Ends("endorse two cut out", 3, "input root at 24\n"),
-            Step::Ends("endorsed public2 cut foreign", 3, "input root at 24\n"),
-            Step::Writes("cut", &[Part::File("root"), Part::Text("\0")]),
-            Step::Ends("endorse two cut out", 3, "input root at 56\n"),
-            Step::Ends("endorsed public2 cut foreign", 3, "input root at 56\n"),
-            Step::IsMissing("out"),
-        ],
-    },
-    Play {
-        failing: &[],
-        steps: &[
-            Step::Writes("cut", &[Part::Slice("public2", 0, 0)]),
-            Step::Ends("endorsed cut root foreign", 3, "input public at 0\n"),
-            Step::Writes("cut", &[Part::Slice("public2", 0, 4)]),
-            Step::Ends("endorsed cut root foreign", 3, "input public at 4\n"),
-            Step::Writes("cut", &[Part::Slice("public2", 0, 8)]),
-            Step::Ends("endorsed cut root foreign", 3, "input public at 8\n"),
-            Step::Writes("cut", &[Part::Slice("public2", 0, 12)]),
-            Step::Ends("endorsed cut root foreign", 3, "input public at 12\n"),
-            Step::Writes("cut", &[Part::Slice("public2", 0, 28)]),
-            Step::Ends("endorsed cut root foreign", 3, "input public at 28\n"),
-            Step::Writes("cut", &[Part::File("public2"), Part::Text("\0")]),
-            Step::Ends("endorsed cut root foreign", 3, "input public at 60\n"),
-        ],
-    },
-];
-
-#[test]
-fn inputs_are_cut(rt: HostRuntime) -> Result<(), Fail> {
-    perform(&rt, FILES, CUT)
 }
 
 /// Makers' files and public keys that are in no form, and the offset at which each fails.
@@ -764,6 +605,9 @@ const FAULTY: &[Play] = &[Play {
             ),
         }),
         Step::Ends("endorse faulty root out", 3, "input key at 45\n"),
+        Step::Writes("faulty", &[Part::File("root"), Part::Text("\0")]),
+        Step::Ends("endorse two faulty out", 3, "input root at 56\n"),
+        Step::Ends("endorsed public2 faulty foreign", 3, "input root at 56\n"),
         Step::Gives(Given {
             name: "faulty",
             content: Content::Hex("000000"),

@@ -1,7 +1,7 @@
 //! Words that are no command, and inputs of `run` that are too long, not in their form or not there.
 
-use super::devices::{KEY, OTHER_OWNER, SERIAL};
-use super::{Content, Given, Play, Step, perform};
+use super::devices::{KEY, OTHER_OWNER};
+use super::{Content, Given, Play, SERIAL, Step, perform};
 use mb_model::IMAGE_LENGTH;
 use std::test::Fail;
 

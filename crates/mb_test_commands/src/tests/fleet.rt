@@ -2,11 +2,11 @@
 //! the command, and inputs and calls that fail.
 
 use super::births::owned_device_goes_through;
-use super::chains::{A_NEW_DEVICE, A_WHOLE_LIFE};
-use super::{Content, Given, Part, Play, Step, ends, go_on, host_with, perform, store, write};
-use mb_host::MemoryHost;
+use super::{
+    A_NEW_DEVICE, A_WHOLE_LIFE, Content, Given, Part, Play, ShortFile, Step, Told, go_on,
+    host_with, perform, store,
+};
 use std::alloc::Global;
-use std::process::Abort;
 use std::test::Fail;
 
 /// A register of no devices, and what stands in items before chains of 15,300 and of 20,650 bytes.
@@ -302,54 +302,15 @@ const INPUTS: &[Play] = &[Play {
     ],
 }];
 
-/// The calls are three reads, the write of the register and a print. Where the print fails, the register is written; in
-/// the last, the line of the failure is not printed either.
-const CALLS_FAIL: &[Play] = &[
-    Play {
-        failing: &[0],
-        steps: &[
-            Step::Ends("fleet root register items", 4, "read failed root\n"),
-            Step::WasCalled(1, 0, 1),
-        ],
-    },
-    Play {
-        failing: &[1],
-        steps: &[
-            Step::Ends("fleet root register items", 4, "read failed register\n"),
-            Step::WasCalled(2, 0, 1),
-        ],
-    },
-    Play {
-        failing: &[2],
-        steps: &[
-            Step::Ends("fleet root register items", 4, "read failed items\n"),
-            Step::WasCalled(3, 0, 1),
-        ],
-    },
-    Play {
-        failing: &[3],
-        steps: &[
-            Step::Ends("fleet root register items", 5, "write failed register\n"),
-            Step::WasCalled(3, 1, 1),
-        ],
-    },
-    Play {
-        failing: &[4],
-        steps: &[
-            Step::Ends("fleet root register items", 5, "write failed output\n"),
-            Step::WasCalled(3, 1, 2),
-            Step::Holds("register", REGISTER),
-        ],
-    },
-    Play {
-        failing: &[4, 5],
-        steps: &[
-            Step::Ends("fleet root register items", 5, ""),
-            Step::WasCalled(3, 1, 2),
-            Step::Holds("register", REGISTER),
-        ],
-    },
-];
+/// Neither the answers nor the line of the failure are printed: the register is written.
+const NOTHING_IS_PRINTED: &[Play] = &[Play {
+    failing: &[4, 5],
+    steps: &[
+        Step::Ends("fleet root register items", 5, ""),
+        Step::WasCalled(3, 1, 2),
+        Step::Holds("register", REGISTER),
+    ],
+}];
 
 /// The fields of the register begin at these offsets.
 const REGISTER_FIELDS: &[usize] = &[
@@ -359,42 +320,35 @@ const REGISTER_FIELDS: &[usize] = &[
 /// The fields of the items begin at these offsets, without those that begin an item: items may end there.
 const ITEM_FIELDS: &[usize] = &[1, 3, 4, 37, 41, 44];
 
-/// The register and the items are cut where fields begin.
-fn fields_are_missing(rt: &(impl Abort + AllocGlobal), host: &mut MemoryHost) -> Result<(), Fail> {
-    for at in REGISTER_FIELDS {
-        register_stops(rt, host, *at)?;
-    }
-    items_are_missing(rt, host)
-}
+/// The register and the items end where fields begin, and so does the maker's key.
+const SHORT: &[ShortFile] = &[
+    ShortFile {
+        words: "fleet root register items",
+        name: "root",
+        status: 3,
+        told: Told::Offset("input root at"),
+        offsets: &[0, 4, 8, 24],
+    },
+    ShortFile {
+        words: "fleet root register items",
+        name: "register",
+        status: 3,
+        told: Told::Offset("input register at"),
+        offsets: REGISTER_FIELDS,
+    },
+    ShortFile {
+        words: "fleet root register items",
+        name: "items",
+        status: 3,
+        told: Told::Offset("input items at"),
+        offsets: ITEM_FIELDS,
+    },
+];
 
-fn items_are_missing(rt: &(impl Abort + AllocGlobal), host: &mut MemoryHost) -> Result<(), Fail> {
-    for at in ITEM_FIELDS {
-        items_stop(rt, host, *at)?;
-    }
-    Ok(())
-}
-
-/// The register lacks the field at this offset.
-fn register_stops(
-    rt: &(impl Abort + AllocGlobal),
-    host: &mut MemoryHost,
-    at: usize,
-) -> Result<(), Fail> {
-    write(rt.alloc(), host, "cut", &[Part::Slice("register", 0, at)])?;
-    let line = format!(in rt.alloc(); "input register at {at}\n")?;
-    ends(rt, host, "fleet root cut items", 3, &line)
-}
-
-/// The items lack the field at this offset.
-fn items_stop(
-    rt: &(impl Abort + AllocGlobal),
-    host: &mut MemoryHost,
-    at: usize,
-) -> Result<(), Fail> {
-    write(rt.alloc(), host, "cut", &[Part::Slice("items", 0, at)])?;
-    let line = format!(in rt.alloc(); "input items at {at}\n")?;
-    ends(rt, host, "fleet root register cut", 3, &line)
-}
+const FIELDS_ARE_MISSING: &[Play] = &[Play {
+    failing: &[],
+    steps: &[Step::InputsAreShort(SHORT)],
+}];
 
 /// Each question for the two codes of layer 1 is answered by 152 bytes, and so many of them by more than 268,435,456.
 const QUESTIONS: u32 = 1_766_023;
@@ -436,13 +390,8 @@ fn devices_are_found_by_code(rt: HostRuntime) -> Result<(), Fail> {
 #[test]
 fn inputs_of_a_fleet_are_read(rt: HostRuntime) -> Result<(), Fail> {
     perform(&rt, FILES, INPUTS)?;
-    let mut host = host_with(rt.alloc(), FILES, &[])?;
-    fields_are_missing(&rt, &mut host)
-}
-
-#[test]
-fn calls_of_a_fleet_fail_in_turn(rt: HostRuntime) -> Result<(), Fail> {
-    perform(&rt, FILES, CALLS_FAIL)
+    perform(&rt, FILES, FIELDS_ARE_MISSING)?;
+    perform(&rt, FILES, NOTHING_IS_PRINTED)
 }
 
 #[test]

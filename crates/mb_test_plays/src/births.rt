@@ -1,12 +1,32 @@
 //! The birth of the device of the rows, the officers that give it orders, and the orders of a life, by values of an
 //! independent program.
 
-use super::devices::{IMAGE, MAKER, OWNER, SERIAL};
-use super::keys::{ZEROS_KEY, ZEROS_PUBLIC};
-use super::{Content, Given, Part, Step, go_on, go_through, host_with};
+use crate::files::host_with;
+use crate::play::{Program, go_on, go_through};
+use crate::step::{Content, Given, Part, Step};
 use mb_host::MemoryHost;
-use std::process::Abort;
 use std::test::Fail;
+
+/// The line of the maker's public key.
+pub const MAKER: &str = "owner 48995f84931c2e75a903a306f20e1d44ba9031ce4a7461428aae28b0b491ff65\n";
+
+/// The line of the owner's public key.
+pub const OWNER: &str = "owner a40bf9d678da59a9e050d292356cbcb44ba41a7e2df7a4cc8f77c8f3acf75b0f\n";
+
+/// The line that tells the device's serial.
+pub const SERIAL: &str = "serial c10b471ceff881272aa5ed819fd9a0e0\n";
+
+/// The hash of the device's image.
+pub const IMAGE: &str = "26d49fb85b2008888126b6f88eb5bbb2d4a6caf06a64fcc80c3228e2e8e71db0";
+
+/// The key file of 32 zeros as noise, before it has signed, and its public key.
+pub const ZEROS_KEY: &str =
+    "4d424b31415f9f8fc3e618dd8524180f3db6a7c9eb495b20b522240648df79d22ec304c592f6d73c19b49bf70f19f34f7288\
+    8b1a00000000";
+
+pub const ZEROS_PUBLIC: &str =
+    "0000000500000003415f9f8fc3e618dd8524180f3db6a7c9a7881c4ccb3521694cbdd14fd42b0822cdfb7c6f9fc531cab957\
+    f755e6a2d2bc";
 
 /// The noise of the maker, of the officers and of the birth, the code of layer 1, what is drafted, and the key of a
 /// fourth officer.
@@ -228,33 +248,27 @@ const LAYERS_ARE_GIVEN: &[Step] = &[
 ];
 
 /// A host on which the device and its first orders are made.
-fn born(rt: &(impl Abort + AllocGlobal)) -> Result<MemoryHost, Fail> {
-    let mut host = host_with(rt.alloc(), FILES, &[])?;
-    go_on(rt, &mut host, MADE)?;
-    go_on(rt, &mut host, FIRST_ORDERS)?;
+fn born(program: &impl Program) -> Result<MemoryHost, Fail> {
+    let mut host = host_with(program.alloc(), FILES, &[])?;
+    go_on(program, &mut host, MADE)?;
+    go_on(program, &mut host, FIRST_ORDERS)?;
     Ok(host)
 }
 
 /// A host on which all three layers of the device have owners and code.
-pub fn owned(rt: &(impl Abort + AllocGlobal)) -> Result<MemoryHost, Fail> {
-    let mut host = born(rt)?;
-    go_on(rt, &mut host, ORDERS_OF_A_LIFE)?;
-    go_on(rt, &mut host, LAYERS_ARE_GIVEN)?;
+pub fn owned(program: &impl Program) -> Result<MemoryHost, Fail> {
+    let mut host = born(program)?;
+    go_on(program, &mut host, ORDERS_OF_A_LIFE)?;
+    go_on(program, &mut host, LAYERS_ARE_GIVEN)?;
     Ok(host)
 }
 
 /// A new device goes through the parts.
-pub fn new_device_goes_through(
-    rt: &(impl Abort + AllocGlobal),
-    parts: &[&[Step]],
-) -> Result<(), Fail> {
-    go_through(rt, &mut born(rt)?, parts)
+pub fn new_device_goes_through(program: &impl Program, parts: &[&[Step]]) -> Result<(), Fail> {
+    go_through(program, &mut born(program)?, parts)
 }
 
 /// A device whose layers all have owners and code goes through the parts.
-pub fn owned_device_goes_through(
-    rt: &(impl Abort + AllocGlobal),
-    parts: &[&[Step]],
-) -> Result<(), Fail> {
-    go_through(rt, &mut owned(rt)?, parts)
+pub fn owned_device_goes_through(program: &impl Program, parts: &[&[Step]]) -> Result<(), Fail> {
+    go_through(program, &mut owned(program)?, parts)
 }

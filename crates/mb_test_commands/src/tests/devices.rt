@@ -1,10 +1,7 @@
 //! The command `factory`, by a device that an independent program made.
 
-use super::{Content, Given, Play, Step, perform};
+use super::{Content, Given, IMAGE, MAKER, OWNER, Play, SERIAL, Step, perform};
 use std::test::Fail;
-
-/// The line of the maker's public key.
-pub const MAKER: &str = "owner 48995f84931c2e75a903a306f20e1d44ba9031ce4a7461428aae28b0b491ff65\n";
 
 /// The file of the maker's key before it has signed, after its first signature, and after its last.
 pub const KEY: &str =
@@ -19,19 +16,10 @@ const SPENT_KEY: &str =
     "4d424b31abc79a08451338fa701ede4a2dce0108fd9509691deba24454b97c4c547dcaf949f4315085cb9f83cae75a316a58\
     902b00000020";
 
-/// The line of the owner's public key.
-pub const OWNER: &str = "owner a40bf9d678da59a9e050d292356cbcb44ba41a7e2df7a4cc8f77c8f3acf75b0f\n";
-
 /// A public key of another pair of types, 9 and 4.
 pub const OTHER_OWNER: &str =
     "0000000900000004000102030405060708090a0b0c0d0e0f101112131415161718191a1b1c1d1e1f20212223242526272829\
     2a2b2c2d2e2f";
-
-/// The line that tells the device's serial.
-pub const SERIAL: &str = "serial c10b471ceff881272aa5ed819fd9a0e0\n";
-
-/// The hash of the device's image.
-pub const IMAGE: &str = "26d49fb85b2008888126b6f88eb5bbb2d4a6caf06a64fcc80c3228e2e8e71db0";
 
 const FILES: &[Given] = &[
     Given {

@@ -3,8 +3,7 @@
 //! program, which also signed what no device signs.
 
 use super::births::new_device_goes_through;
-use super::hostile::{ShortFile, Told};
-use super::{Content, Given, Part, Step, ends, file_of, host_with, status_of};
+use super::{Content, Given, Part, ShortFile, Step, Told, ends, file_of, host_with};
 use mb_host::MemoryHost;
 use mb_model::IMAGE_LENGTH;
 use std::process::Abort;
@@ -453,8 +452,7 @@ fn long_scripts(rt: &(impl Abort + AllocGlobal), host: &mut MemoryHost) -> Resul
         "input script line 65537\n",
     )?;
     let seen = host.printed().len();
-    let ended = status_of(rt.alloc(), host, "run image longest longest")?;
-    assert_eq!(rt; ended, 0);
+    ends(rt, host, "run image longest longest", 0, "**")?;
     let printed = host.printed().get(seen..).unwrap_or_default();
     assert!(rt; printed == file_of(host, "longest")?);
     Ok(())

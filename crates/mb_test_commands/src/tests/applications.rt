@@ -2,10 +2,9 @@
 //! program and by the rules of the machine.
 
 use super::births::owned_device_goes_through;
-use super::devices::{KEY, OWNER, SERIAL};
-use super::{Content, Given, Part, Play, Step, go_through, host_with, perform};
+use super::devices::KEY;
+use super::{Content, Given, OWNER, Part, Play, SERIAL, Step, go_through, host_with, perform};
 use mb_model::{FLASH_LENGTH, IMAGE_LENGTH};
-use std::process::Abort;
 use std::test::Fail;
 
 /// Layers 2 and 3 have the code that answers with the secret `token` of region 3. It was put before.
@@ -188,7 +187,7 @@ const LAYER_TWO_HAS_CODE: &[Step] = &[
 
 /// A host on which that device is made, and whose calls of these numbers fail, goes through the parts.
 fn coded_device_goes_through(
-    rt: &(impl Abort + AllocGlobal),
+    rt: &impl AllocGlobal,
     failing: &[u64],
     parts: &[&[Step]],
 ) -> Result<(), Fail> {
@@ -233,21 +232,12 @@ fn the_stored_code_runs(rt: HostRuntime) -> Result<(), Fail> {
     coded_device_goes_through(&rt, &[], &[STEPS_ARE_COUNTED, OTHER_ENDS])
 }
 
-/// The image cannot be read, then the input, and then the line is not printed.
-const NO_IMAGE: &[Step] = &[Step::Ends("app image 2 nothing 3", 4, "read failed image\n")];
-
-const NO_INPUT: &[Step] = &[Step::Ends("app image 2 nothing 3", 4, "read failed input\n")];
-
-const NOT_PRINTED: &[Step] = &[Step::Ends("app image 2 nothing 3", 5, "write failed output\n")];
-
-const NOT_PRINTED_AT_LENGTH: &[Step] = &[Step::Ends("app image 2 nothing 2", 7, "")];
+/// The line of a code that does not halt has its status where it cannot be printed, too.
+const NOT_PRINTED: &[Step] = &[Step::Ends("app image 2 nothing 2", 7, "")];
 
 #[test]
-fn a_call_fails_while_code_runs(rt: HostRuntime) -> Result<(), Fail> {
-    coded_device_goes_through(&rt, &[28], &[NO_IMAGE])?;
-    coded_device_goes_through(&rt, &[29], &[NO_INPUT])?;
-    coded_device_goes_through(&rt, &[30], &[NOT_PRINTED])?;
-    coded_device_goes_through(&rt, &[30], &[NOT_PRINTED_AT_LENGTH])
+fn an_end_is_not_printed(rt: HostRuntime) -> Result<(), Fail> {
+    coded_device_goes_through(&rt, &[30], &[NOT_PRINTED])
 }
 
 /// Layer 2 is given one code after another: each runs as the other program says, on the byte 9.
@@ -435,7 +425,7 @@ const LISTED: &[Step] = &[
     Step::IsMissing("none"),
 ];
 
-/// Texts and codes are as another program has them, and each call of the host fails in turn.
+/// Texts and codes are as another program has them.
 const TEXTS_AND_CODES: &[Play] = &[
     Play {
         failing: &[],
@@ -444,42 +434,6 @@ const TEXTS_AND_CODES: &[Play] = &[
     Play {
         failing: &[],
         steps: LISTED,
-    },
-    Play {
-        failing: &[0],
-        steps: &[
-            Step::Ends("asm secret out", 4, "read failed text\n"),
-            Step::IsMissing("out"),
-        ],
-    },
-    Play {
-        failing: &[1],
-        steps: &[Step::Ends("asm secret out", 5, "write failed out\n")],
-    },
-    Play {
-        failing: &[2],
-        steps: &[
-            Step::Ends("asm secret out", 5, "write failed output\n"),
-            Step::Holds("out", "430161"),
-        ],
-    },
-    Play {
-        failing: &[0],
-        steps: &[
-            Step::Ends("disasm emits out", 4, "read failed code\n"),
-            Step::IsMissing("out"),
-        ],
-    },
-    Play {
-        failing: &[1],
-        steps: &[Step::Ends("disasm emits out", 5, "write failed out\n")],
-    },
-    Play {
-        failing: &[2],
-        steps: &[
-            Step::Ends("disasm emits out", 5, "write failed output\n"),
-            Step::Holds("out", "707573682036350a656d69740a68616c740a"),
-        ],
     },
 ];
 

@@ -1,19 +1,10 @@
 //! The command `keygen`, by keys that an independent program made.
 
-use super::{Content, Given, Play, Step, perform};
+use super::{Content, Given, Play, Step, ZEROS_KEY, ZEROS_PUBLIC, perform};
 use std::test::Fail;
 
 /// Noise of zeros.
 const ZEROS: &str = "0000000000000000000000000000000000000000000000000000000000000000";
-
-/// The file of the key before it has signed, and its public key.
-pub const ZEROS_KEY: &str =
-    "4d424b31415f9f8fc3e618dd8524180f3db6a7c9eb495b20b522240648df79d22ec304c592f6d73c19b49bf70f19f34f7288\
-    8b1a00000000";
-
-pub const ZEROS_PUBLIC: &str =
-    "0000000500000003415f9f8fc3e618dd8524180f3db6a7c9a7881c4ccb3521694cbdd14fd42b0822cdfb7c6f9fc531cab957\
-    f755e6a2d2bc";
 
 const ZEROS_LINE: &str = "owner 625b604768f314a52f400dd694db5bb7cc1c22fa47e38cf7f5c4f90ca5b84392\n";
 

@@ -1,0 +1,20 @@
+//! The commands, as tables of plays: what each makes, by values of an independent program, and how it ends.
+
+mod applications;
+mod devices;
+mod endorsements;
+mod failures;
+mod fleet;
+mod keys;
+mod limits;
+mod policies;
+mod runs;
+mod short_files;
+mod sign;
+mod statuses;
+
+use mb_test_plays::{
+    A_NEW_DEVICE, A_WHOLE_LIFE, Access, Content, Given, IMAGE, ITS_CHAIN, MAKER, OWNER, Part, Play,
+    SERIAL, ShortFile, Step, Told, ZEROS_KEY, ZEROS_PUBLIC, file_of, host_with, store,
+};
+use mb_test_program::{births, ends, go_on, go_through, perform};

@@ -1,0 +1,123 @@
+//! Plays, their steps, and the files that they are given.
+
+/// A file that is given.
+pub struct Given {
+    pub name: &'static str,
+    pub content: Content,
+}
+
+/// What a file holds that is given.
+pub enum Content {
+    /// Bytes in hexadecimal.
+    Hex(&'static str),
+    /// A text.
+    Text(&'static str),
+    /// The pieces of a text.
+    Pieces(&'static [&'static str]),
+    /// Pieces: what each begins with, in hexadecimal, where it ends, and the byte up to there.
+    Laid(&'static [(&'static str, usize, u8)]),
+    /// So many bytes, all of them 7.
+    Sevens(usize),
+    /// So many digits, all of them 7.
+    Digits(usize),
+    /// A text, so many times.
+    Repeats(&'static str, usize),
+}
+
+/// Steps over one host.
+pub struct Play {
+    /// The numbers of the host's calls that fail.
+    pub failing: &'static [u64],
+    pub steps: &'static [Step],
+}
+
+/// What is done in a play, or seen of its host.
+pub enum Step {
+    /// The words end with this status and print these lines, of which one that ends in `*` stands for all that begin so, and
+    /// one that is `**` for all that follow. A space separates words; one may be empty.
+    Ends(&'static str, u8, &'static str),
+    /// The image is served a script of these parts, with the noise of this name, which ends with status 0 and prints these
+    /// lines.
+    Serves(&'static [Part], &'static str, &'static str),
+    /// The file of this name has these bytes, in hexadecimal.
+    Holds(&'static str, &'static str),
+    /// The bytes of the file of this name have this hash.
+    HasHash(&'static str, &'static str),
+    /// The file of this name is the line of an order whose bytes have this hash.
+    IsOrder(&'static str, &'static str),
+    /// There is no file of this name.
+    IsMissing(&'static str),
+    /// So many reads, writes and prints were called.
+    WasCalled(u64, u64, u64),
+    /// The file is written.
+    Gives(Given),
+    /// The file of this name is written, of these parts.
+    Writes(&'static str, &'static [Part]),
+    /// The files of these names have the same bytes.
+    Matches(&'static str, &'static str),
+    /// The flashes of the images of these names differ in these sectors, and in no other.
+    Touches(&'static str, &'static str, &'static [usize]),
+    /// The file of this name ends in so many zeros.
+    EndsInZeros(&'static str, usize),
+    /// Power is lost at each write in turn.
+    IsCut(&'static Cut),
+    /// The file of this name becomes the line of the statement that was printed last.
+    KeepsStatement(&'static str),
+    /// Summaries were printed, and each tells the hash of the file of this name.
+    IsSummarised(&'static str),
+    /// Each call of the host by each of these commands fails in turn.
+    CallsFail(&'static [Access]),
+    /// Each input of each of these commands is too long in turn.
+    InputsAreLong(&'static [Access]),
+    /// Each of these files ends early at each of its offsets.
+    InputsAreShort(&'static [ShortFile]),
+}
+
+/// A script on an image, in which power is lost at each write in turn of what comes after these lines.
+pub struct Cut {
+    pub image: &'static str,
+    pub before: &'static str,
+    pub after: &'static [Part],
+    /// What may be printed where power is lost.
+    pub torn: &'static [&'static str],
+    /// What is printed first where there are fewer writes.
+    pub whole: &'static str,
+}
+
+/// A part of a file that is written.
+#[derive(Drop)]
+pub enum Part {
+    /// This text.
+    Text(&'static str),
+    /// The content of the file of this name.
+    File(&'static str),
+    /// The content of the file of this name, without so many of its last bytes.
+    Without(&'static str, usize),
+    /// The content of the file of this name from the first of these offsets up to the second.
+    Slice(&'static str, usize, usize),
+}
+
+/// What a command reads and what it then writes, one after another, before it prints: the role of each file, and its
+/// name among the words.
+pub struct Access {
+    pub words: &'static str,
+    pub reads: &'static [(&'static str, &'static str)],
+    pub writes: &'static [(&'static str, &'static str)],
+}
+
+/// A file that ends early at each of these offsets, and how the words then end.
+pub struct ShortFile {
+    pub words: &'static str,
+    pub name: &'static str,
+    pub status: u8,
+    pub told: Told,
+    pub offsets: &'static [usize],
+}
+
+/// The line of a file that ends early.
+pub enum Told {
+    /// This line.
+    Line(&'static str),
+    /// These words, and then the offset.
+    Offset(&'static str),
+}

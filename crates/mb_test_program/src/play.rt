@@ -1,0 +1,59 @@
+//! The program goes through plays of its own, or goes on with others.
+
+use mb_board::SimBoard;
+use mb_host::MemoryHost;
+use mb_test_plays::{Given, Play, Program, Step};
+use mb_top::top;
+use std::alloc::Global;
+use std::test::Fail;
+
+/// The program, which takes its memory of this.
+#[derive(Drop)]
+pub(crate) struct Miniboot {
+    pub(crate) alloc: Global,
+}
+
+impl Program for Miniboot {
+    fn alloc(&self) -> Global {
+        self.alloc
+    }
+
+    fn answer(&self, words: &[String], host: &mut MemoryHost) -> u8 {
+        top(self.alloc, words, host, &mut SimBoard::new(self.alloc))
+    }
+}
+
+/// The program in this memory.
+pub(crate) fn miniboot(rt: &impl AllocGlobal) -> Miniboot {
+    Miniboot { alloc: rt.alloc() }
+}
+
+/// Each play goes as it says, over a host of its own with these files.
+pub fn perform(rt: &impl AllocGlobal, files: &[Given], plays: &[Play]) -> Result<(), Fail> {
+    mb_test_plays::perform(&miniboot(rt), files, plays)
+}
+
+/// The steps go as they say.
+pub fn go_on(rt: &impl AllocGlobal, host: &mut MemoryHost, steps: &[Step]) -> Result<(), Fail> {
+    mb_test_plays::go_on(&miniboot(rt), host, steps)
+}
+
+/// The parts go as their steps say, one after another.
+pub fn go_through(
+    rt: &impl AllocGlobal,
+    host: &mut MemoryHost,
+    parts: &[&[Step]],
+) -> Result<(), Fail> {
+    mb_test_plays::go_through(&miniboot(rt), host, parts)
+}
+
+/// The words end with this status and print these lines.
+pub fn ends(
+    rt: &impl AllocGlobal,
+    host: &mut MemoryHost,
+    words: &str,
+    status: u8,
+    lines: &str,
+) -> Result<(), Fail> {
+    mb_test_plays::ends(&miniboot(rt), host, words, status, lines)
+}
