@@ -453,6 +453,9 @@ class Files:
             raise Ended(3, f"input {role} too long")
         return bytes_
 
+    def write(self, role, name, bytes_):
+        self.written[name] = bytes_
+
     def record(self, role, name, read):
         try:
             return Reader(self.read(role, name)).whole(read)

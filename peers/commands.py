@@ -11,9 +11,13 @@ import dataclasses
 import pathlib
 import re
 
+import applications
 import chains
+import fleet
+import hss
 import images
 import machine
+import policies
 import texts
 import workload
 from chains import LONGEST_FILE, Ended, Reader, Unformed
@@ -26,6 +30,7 @@ from texts import BadLine
 SPENT = 32
 MOST_ROUNDS = 24
 LONGEST_CODE = 32_768
+MOST_STEPS = 10_000_000
 
 
 class Folder:
@@ -101,6 +106,12 @@ class Call:
             return meaning(bytes_), bytes_
         except Fault as fault:
             raise Ended(3, f"input image {fault.place}") from None
+
+    def code(self, name):
+        bytes_ = self.read("code", name)
+        if len(bytes_) > LONGEST_CODE:
+            raise Ended(3, "input code length")
+        return bytes_
 
     def noise(self, name, least):
         bytes_ = self.read("noise", name)
@@ -181,9 +192,7 @@ def factory(call, noise, key, owner, code, image):
     bytes_ = call.noise(noise, 48)
     file = call.record("key", key, read_key_file)
     owner_key = call.record("owner", owner, Reader.key)
-    loaded = call.read("code", code)
-    if len(loaded) > LONGEST_CODE:
-        raise Ended(3, "input code length")
+    loaded = call.code(code)
     maker = take_index(call, key, file)
     serial = bytes_[32:48]
     identifier, seed = born(bytes_[:32], serial, 0)
@@ -280,6 +289,85 @@ def generate(call, number_, rounds, image, script, noise):
     return lines
 
 
+# ---- makers' keys
+
+
+def read_maker(reader):
+    if reader.take(4) != b"MBK2":
+        raise Unformed(0)
+    levels = reader.number(1, 1, 8)
+    return hss.Maker(reader.take(32), levels), reader.number(8, 0, 32**levels)
+
+
+def read_maker_public(reader):
+    return u32(reader.number(4, 1, 8)) + reader.key()
+
+
+def hsskeygen(call, noise, levels, key, public):
+    n = number(levels, 1, 8)
+    maker = hss.Maker(hss.seed_of(call.noise(noise, 32)), n)
+    spelled = maker.public()
+    call.write("key", key, maker.file(0))
+    call.write("public", public, spelled)
+    return [f"maker {sha256(spelled).hex()}"]
+
+
+def endorse(call, key, root, out):
+    maker, used = call.record("key", key, read_maker)
+    spelled = call.record("root", root, Reader.key)
+    if used == 32**maker.levels:
+        raise Ended(7, "spent")
+    call.write("key", key, maker.file(used + 1))
+    call.write("out", out, maker.endorse(used, spelled))
+    return [f"index {used}"]
+
+
+def endorsed(call, public, root, endorsement):
+    maker = call.record("public", public, read_maker_public)
+    spelled = call.record("root", root, Reader.key)
+    if not hss.verify(maker, hss.HEAD + spelled, call.read("endorsement", endorsement)):
+        raise Ended(7, "refused 28")
+    return ["endorsed"]
+
+
+# ---- the code of applications
+
+
+def app(call, image, layer, input_, steps):
+    at, most = number(layer, 2, 3), number(steps, 1, MOST_STEPS)
+    state, _ = call.image(image)
+    given = call.read("input", input_)
+    if state is None:
+        raise Ended(7, "zeroised")
+    if machine.standing(state.judged, at) != "runnable":
+        raise Ended(7, "refused 4 layer")
+    regions = [m for m in range(at, 4) if machine.standing(state.judged, m) == "runnable"]
+    secrets = {m: {name: value for name, value, _ in state.region(m).secrets} for m in regions}
+    line, is_halted = applications.run(state.codes[at - 1], given, secrets, most)
+    if not is_halted:
+        raise Ended(7, line)
+    return [line]
+
+
+def asm(call, text, out):
+    code = call.text("text", text, applications.assemble)
+    call.write("out", out, code)
+    return [f"bytes {len(code)}"]
+
+
+def disasm(call, code, out):
+    bytes_ = call.code(code)
+    try:
+        lines = applications.disassemble(bytes_)
+    except applications.NoInstruction as none:
+        raise Ended(3, f"input code at {none.at}") from None
+    call.write("out", out, "".join(line + "\n" for line in lines).encode())
+    return [f"lines {len(lines)}"]
+
+
+# ---- all commands
+
+
 COMMANDS = {
     "run": (run, 3),
     "verify": (verify, 3),
@@ -292,6 +380,14 @@ COMMANDS = {
     "countersign": (countersign, 4),
     "migrate": (migrate, 2),
     "generate": (generate, 5),
+    "hsskeygen": (hsskeygen, 4),
+    "endorse": (endorse, 3),
+    "endorsed": (endorsed, 3),
+    "trust": (policies.trust, 4),
+    "fleet": (fleet.fleet, 3),
+    "app": (app, 4),
+    "asm": (asm, 2),
+    "disasm": (disasm, 2),
 }
 
 
@@ -312,7 +408,8 @@ def answer(words, folder, workloads=None):
         return Answer(ended.status, ended.line + "\n", call.written)
     if isinstance(lines, Served):
         return Answer(0, None, served=lines)
-    return Answer(5 if folder.is_full else 0, "".join(line + "\n" for line in lines), call.written)
+    # where there is nothing to print, printing does not fail
+    return Answer(5 if folder.is_full and lines else 0, "".join(line + "\n" for line in lines), call.written)
 
 
 # ---- what a run did

@@ -13,6 +13,7 @@ bytes and more in the tests that no reader here has looked at are counted on a l
 import pathlib
 import sys
 
+import app_readers
 import chain_readers
 import examples
 import pieces
@@ -27,6 +28,8 @@ READERS = {
     "crates/mb_lms/src/tests.rt": readers.lms_keys,
     "crates/mb_lms/src/tests/widths.rt": readers.lms_signatures,
     "crates/mb_lms/src/tests/heights.rt": readers.lms_signatures,
+    "crates/mb_appvm/src/tests/runs.rt": app_readers.app_runs,
+    "crates/mb_appvm/src/tests/texts.rt": app_readers.app_texts,
     "crates/mb_test_bytes/src/tests/signing.rt": readers.signer,
     "crates/mb_test_bytes/src/tests/orders.rt": readers.commands_orders,
     "crates/mb_test_bytes/src/tests/pieces.rt": pieces.orders_in_pieces,

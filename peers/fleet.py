@@ -151,7 +151,7 @@ def fleet(files, root, register, items):
         lines += answers(rows, maker, item)
     if sum(len(line) + 1 for line in lines) > LONGEST_TEXT:
         raise Ended(6, "no memory")
-    files.written[register] = spelled(rows)
+    files.write("register", register, spelled(rows))
     return lines
 
 

@@ -10,6 +10,7 @@ Bytes stand in hexadecimal, and `-` stands for none. It keeps no count of used n
 
 import sys
 
+import keys
 import lms
 
 HEAD = b"\x05"
@@ -19,16 +20,21 @@ def u64(number):
     return number.to_bytes(8, "big")
 
 
-class Maker:
-    """A maker of HSS signatures, all of whose keys are made of 32 bytes of noise."""
+def seed_of(noise):
+    """The seed of the maker that is made of noise."""
+    return lms.sha256(b"\x16", noise[:32])
 
-    def __init__(self, noise, levels):
+
+class Maker:
+    """A maker of HSS signatures, all of whose keys are made of one seed."""
+
+    def __init__(self, seed, levels):
         assert 1 <= levels <= 8
-        self.levels, self.seed = levels, lms.sha256(b"\x16", noise[:32])
+        self.levels, self.seed = levels, seed
 
     def key(self, level, prefix):
         whose = self.seed + lms.u8(level) + u64(prefix)
-        return lms.PrivateKey(lms.sha256(b"\x15", whose)[:16], lms.sha256(b"\x14", whose))
+        return keys.key_of(lms.sha256(b"\x15", whose)[:16], lms.sha256(b"\x14", whose))
 
     def file(self, number):
         return b"MBK2" + lms.u8(self.levels) + self.seed + u64(number)
@@ -86,7 +92,7 @@ def main(words):
         right = verify(public, HEAD + root, signature)
         print("endorsed" if right else "refused 28")
         return 0 if right else 7
-    maker = Maker(bytes.fromhex(rest[0]), int(rest[1]))
+    maker = Maker(seed_of(bytes.fromhex(rest[0])), int(rest[1]))
     if command == "maker":
         print(maker.file(0).hex(), maker.public().hex(), lms.sha256(maker.public()).hex())
     else:

@@ -15,10 +15,11 @@ import texts
 from chains import LONGEST_FILE, NEW_KEY, Reader, Unformed
 from lms import u8, u16, u32
 from pool import DRAWS, NOISES
+from tools import Tools, runs
 
 KIND_WORDS = {1: "establish", 2: "surrender", 3: "load", 4: "emergency", 5: "newkey"}
 MESSAGES = b"", b"a", b"hello", b"m" * 127, b"m" * 128
-OUTPUTS = "out", "key", "public", "image", "script", "noise"
+OUTPUTS = "out", "key", "public", "image", "script", "noise", "register"
 NUMBERS = "01", "-1", "+1", "1 ", "4294967296", "4294967295", "0", "1", "4", "25", "x", "2.0"
 # so often each command is tried
 SHARES = {
@@ -33,6 +34,14 @@ SHARES = {
     "countersign": 7,
     "migrate": 7,
     "generate": 2,
+    "hsskeygen": 2,
+    "endorse": 5,
+    "endorsed": 8,
+    "trust": 9,
+    "fleet": 8,
+    "app": 10,
+    "asm": 5,
+    "disasm": 5,
 }
 
 
@@ -60,7 +69,7 @@ def hexadecimal(bytes_):
     return bytes_.hex().encode() or b"-"
 
 
-class Maker:
+class Maker(Tools):
     """Makes the case of a number. The same seed and number make the same case."""
 
     def __init__(self, pool, seed):
@@ -498,11 +507,6 @@ class Maker:
             at = rng.randrange(3)
             outputs[at] = "missing/" + outputs[at]
         return [*words, *outputs], {}
-
-
-def runs(state, layer):
-    """The layer runs, and all beneath it."""
-    return machine.standing(state.judged, layer) == "runnable"
 
 
 def runs_two(life):

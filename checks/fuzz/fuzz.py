@@ -24,10 +24,11 @@ from lms import sha256  # noqa: E402
 GIVEN_UP, GAVE_UP = 60, -1
 HERE = pathlib.Path(__file__).resolve().parent
 IMAGE_PLACES = "length", "root", "public", "region 2", "region 3", "state"
-AT_ROLES = "key", "owner", "root", "chain"
-LINE_ROLES = "script", "draft", "order", "statement"
-INPUTS = "image", "script", "noise", "root", "chain", "statement", "key", "owner", "code", "draft", "order"
-OUTPUTS = "image", "script", "noise", "key", "public", "out", "output"
+AT_ROLES = "key", "owner", "root", "chain", "public", "register", "items", "code"
+LINE_ROLES = "script", "draft", "order", "statement", "policy", "text"
+INPUTS = ["image", "script", "noise", "root", "chain", "statement", "key", "owner", "code", "draft", "order"]
+INPUTS += ["public", "endorsement", "policy", "input", "text", "register", "items"]
+OUTPUTS = "image", "script", "noise", "key", "public", "out", "register", "output"
 LINES = [
     "words",
     *(f"input image {place}" for place in IMAGE_PLACES),
@@ -38,11 +39,14 @@ LINES = [
     *(f"read failed {role}" for role in INPUTS),
     *(f"write failed {role}" for role in OUTPUTS),
     *(f"refused {code} N" for code in (20, 21, 22, 23)),
-    *(f"refused {code}" for code in (24, 25, 26, 27)),
+    *(f"refused {code}" for code in (24, 25, 26, 27, 28)),
+    *("refused 4 layer", "denied N RULE", "out of steps", *(f"trap {cause} N" for cause in range(1, 9))),
     *("zeroised", "differs", "has statement", "not countersignable", "spent"),
 ]
 REPLIES = ["booted", "off", "tampered", "armed", "at N", "done N N", "kept", "dropped", "value", "absent", "signed N N"]
 REPLIES += ["status", "stopped"] + [f"refused {number} {words}" for number, words in commands.machine.REFUSALS.items()]
+ANSWERS = ["added", "same", "extended", *(f"refused {number}" for number in (20, 21, 22, 23, 30, 31, 32))]
+ANSWERS += ["found", "codes"]
 
 
 def lay(case, folder):
@@ -161,7 +165,8 @@ class Counts:
 
     def __init__(self):
         self.statuses, self.lines = collections.defaultdict(collections.Counter), collections.Counter()
-        self.replies, self.untold, self.wrong, self.tried = collections.Counter(), 0, 0, 0
+        self.replies, self.answers = collections.Counter(), collections.Counter()
+        self.untold, self.wrong, self.tried = 0, 0, 0
 
     def add(self, case, status, printed):
         self.tried += 1
@@ -170,10 +175,11 @@ class Counts:
             self.lines["write failed output"] += status == 5
         elif status != 0:
             line = printed.rstrip("\n")
-            numbered = re.sub(r"^(refused 2[0-3]|input \S+ at|input \S+ line) \d+$", r"\1 N", line)
-            self.lines[numbered] += 1
+            self.lines[kind_of_line(line)] += 1
         elif case.command == "run":
             self.replies.update(map(kind_of_reply, printed.splitlines()))
+        elif case.command == "fleet":
+            self.answers.update(filter(None, map(kind_of_answer, printed.splitlines())))
 
     def show(self, seconds):
         took = " and ".join(
@@ -189,10 +195,27 @@ class Counts:
         print(f"\n{'status':14}" + "".join(f"{status:>8}" for status in statuses))
         for command, counts in sorted(self.statuses.items()):
             print(f"{command:14}" + "".join(f"{counts[status]:8}" for status in statuses))
-        for name, counts, known in (("line", self.lines, LINES), ("reply", self.replies, REPLIES)):
+        tables = ("line", self.lines, LINES), ("reply", self.replies, REPLIES), ("answer", self.answers, ANSWERS)
+        for name, counts, known in tables:
             print(f"\n{name:30} times")
             for line in [*known, *sorted(counts.keys() - set(known))]:
                 print(f"{line:30} {counts[line]:5}")
+
+
+def kind_of_line(line):
+    """A line with N for its numbers, without the bytes that a code emits."""
+    line = re.sub(r"^(refused 2[0-3]|input \S+ at|input \S+ line) \d+$", r"\1 N", line)
+    line = re.sub(r"^denied \d+ .*", "denied N RULE", line)
+    line = re.sub(r"^(trap \d) \d+ .*", r"\1 N", line)
+    return re.sub(r"^out of steps .*", "out of steps", line)
+
+
+def kind_of_answer(line):
+    """The kind of an answer of `fleet`, or None of a line that goes on with one."""
+    words = line.split(" ")
+    if words[0] == "refused":
+        return " ".join(words[:2])
+    return words[0] if words[0] in ANSWERS else None
 
 
 def kind_of_reply(reply):

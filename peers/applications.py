@@ -1,0 +1,270 @@
+"""Application code: its instructions, how a code runs, and its text, written from docs/formats.md alone.
+
+    run(code, input, secrets, steps)     how the code ends, in the words of `app`, and whether it halts
+    assemble(text), disassemble(code)    what `asm` and `disasm` write
+"""
+
+import re
+
+from texts import BadLine
+
+MOST_CODE, MOST_VALUES, MOST_PLACES, MEMORY, MOST_OUTPUT = 32_768, 256, 64, 1_024, 4_096
+WORD = 2**32
+# byte, name, bytes of the operand, values taken, values left
+TABLE = [
+    (0x00, "halt", 0, 0, 0),
+    (0x01, "push", 4, 0, 1),
+    (0x02, "pop", 0, 1, 0),
+    (0x03, "dup", 0, 1, 2),
+    (0x04, "swap", 0, 2, 2),
+    (0x05, "over", 0, 2, 3),
+    *((0x10 + at, name, 0, 2, 1) for at, name in enumerate("add sub mul div rem and or xor equal less".split())),
+    (0x20, "jump", 2, 0, 0),
+    (0x21, "jumpzero", 2, 1, 0),
+    (0x22, "call", 2, 0, 0),
+    (0x23, "return", 0, 0, 0),
+    (0x30, "load", 0, 1, 1),
+    (0x31, "store", 0, 2, 0),
+    (0x40, "input", 0, 1, 1),
+    (0x41, "length", 0, 0, 1),
+    (0x42, "emit", 0, 1, 0),
+    (0x43, "get", None, 2, 1),
+]
+BY_BYTE = {byte: (name, size) for byte, name, size, _, _ in TABLE}
+VALUES = {name: (takes, leaves) for _, name, _, takes, leaves in TABLE}
+BY_NAME = {name.encode(): (byte, size) for byte, name, size, _, _ in TABLE}
+JUMPS = "jump", "jumpzero", "call"
+SUMS = {
+    "add": lambda a, b: a + b,
+    "sub": lambda a, b: a - b,
+    "mul": lambda a, b: a * b,
+    "div": lambda a, b: a // b,
+    "rem": lambda a, b: a % b,
+    "and": lambda a, b: a & b,
+    "or": lambda a, b: a | b,
+    "xor": lambda a, b: a ^ b,
+    "equal": lambda a, b: int(a == b),
+    "less": lambda a, b: int(a < b),
+}
+
+
+class Trap(Exception):
+    """An instruction that cannot be executed."""
+
+    def __init__(self, cause):
+        super().__init__(cause)
+        self.cause = cause
+
+
+class Wrong(Exception):
+    """A line or an instruction that is none."""
+
+
+def instruction(code, place):
+    """The name, the operand and the length of the instruction at a place."""
+    if place >= len(code) or code[place] not in BY_BYTE:
+        raise Wrong
+    (name, size), begins = BY_BYTE[code[place]], place + 1
+    if size is None:
+        size = code[begins] if begins < len(code) else 0
+        begins += 1
+        if not 1 <= size <= 32 or not re.fullmatch(rb"[\x21-\x7e]*", code[begins : begins + size]):
+            raise Wrong
+    operand = code[begins : begins + size]
+    if len(operand) < size:
+        raise Wrong
+    return name, operand if name == "get" else int.from_bytes(operand, "big"), begins + size - place
+
+
+# ---- a run
+
+
+class Machine:
+    """A code at work. `secrets` has a dictionary for each region that the code may read."""
+
+    def __init__(self, code, input_, secrets):
+        self.code, self.input, self.secrets = code, input_, secrets
+        self.values, self.places, self.memory, self.output, self.at = [], [], bytearray(MEMORY), bytearray(), 0
+
+    def step(self):
+        """Executes an instruction; whether it is a `halt`."""
+        try:
+            name, operand, length = instruction(self.code, self.at)
+        except Wrong:
+            raise Trap(1) from None
+        takes, leaves = VALUES[name]
+        if len(self.values) < takes:
+            raise Trap(2)
+        if len(self.values) - takes + leaves > MOST_VALUES:
+            raise Trap(3)
+        taken = self.values[len(self.values) - takes :]
+        left, after = self.does(name, operand, taken, self.at + length)
+        self.values[len(self.values) - takes :] = [value % WORD for value in left]
+        self.at = after
+        return name == "halt"
+
+    def does(self, name, operand, taken, after):
+        """The values that an instruction leaves, and the place after it. What changes besides is changed."""
+        if name in SUMS:
+            a, b = taken
+            if name in ("div", "rem") and b == 0:
+                raise Trap(5)
+            return [SUMS[name](a, b)], after
+        if name in ("halt", "push", "pop", "dup", "swap", "over", "length"):
+            return {
+                "halt": lambda: [],
+                "push": lambda: [operand],
+                "pop": lambda: [],
+                "dup": lambda: taken * 2,
+                "swap": lambda: taken[::-1],
+                "over": lambda: [*taken, taken[0]],
+                "length": lambda: [len(self.input)],
+            }[name](), after
+        return getattr(self, name + "_")(operand, taken, after)
+
+    def jump_(self, place, taken, after):
+        return [], place
+
+    def jumpzero_(self, place, taken, after):
+        return [], place if taken == [0] else after
+
+    def call_(self, place, taken, after):
+        if len(self.places) == MOST_PLACES:
+            raise Trap(8)
+        self.places.append(after)
+        return [], place
+
+    def return_(self, operand, taken, after):
+        if not self.places:
+            raise Trap(8)
+        return [], self.places.pop()
+
+    def load_(self, operand, taken, after):
+        if taken[0] >= MEMORY:
+            raise Trap(4)
+        return [self.memory[taken[0]]], after
+
+    def store_(self, operand, taken, after):
+        value, address = taken
+        if address >= MEMORY:
+            raise Trap(4)
+        self.memory[address] = value % 256
+        return [], after
+
+    def input_(self, operand, taken, after):
+        return [self.input[taken[0]] if taken[0] < len(self.input) else 256], after
+
+    def emit_(self, operand, taken, after):
+        if len(self.output) == MOST_OUTPUT:
+            raise Trap(7)
+        self.output.append(taken[0] % 256)
+        return [], after
+
+    def get_(self, name, taken, after):
+        address, region = taken
+        if region not in self.secrets:
+            raise Trap(6)
+        secret = self.secrets[region].get(name)
+        if secret is None:
+            return [WORD - 1], after
+        if address + len(secret) > MEMORY:
+            raise Trap(4)
+        self.memory[address : address + len(secret)] = secret
+        return [len(secret)], after
+
+
+def run(code, input_, secrets, steps):
+    """How a code ends that runs for at most so many steps, in the words of `app`, and whether it halts."""
+    machine = Machine(code, input_, secrets)
+    for number in range(1, steps + 1):
+        at = machine.at
+        try:
+            if machine.step():
+                return f"halted {number} {machine.output.hex() or '-'}", True
+        except Trap as trap:
+            return f"trap {trap.cause} {at} {machine.output.hex() or '-'}", False
+    return f"out of steps {machine.output.hex() or '-'}", False
+
+
+# ---- texts
+
+
+def number(word, size):
+    """The bytes of a decimal number of this size."""
+    if not re.fullmatch(rb"0|[1-9][0-9]*", word) or int(word) >= 256**size:
+        raise Wrong
+    return int(word).to_bytes(size, "big")
+
+
+LABEL = re.compile(rb"^label ((?![0-9])[\x21-\x7e]{1,32})$", re.MULTILINE)
+
+
+def label_in(line):
+    """The label that a line gives, or None."""
+    found = LABEL.fullmatch(line)
+    return found and found[1]
+
+
+def assembled(line, values):
+    """The code of a line that gives no label. `values` has the places of the labels, or what stands for them."""
+    name, *operands = line.split(b" ")
+    if name not in BY_NAME:
+        raise Wrong
+    byte, size = BY_NAME[name]
+    if len(operands) != (size != 0):
+        raise Wrong
+    if size is None:
+        if not re.fullmatch(rb"[\x21-\x7e]{1,32}", operands[0]):
+            raise Wrong
+        return bytes([byte, len(operands[0])]) + operands[0]
+    if name.decode() in JUMPS and not re.match(rb"[0-9]", operands[0]):
+        if operands[0] not in values:
+            raise Wrong
+        return bytes([byte]) + values[operands[0]].to_bytes(size, "big")
+    return bytes([byte]) + (number(operands[0], size) if size else b"")
+
+
+def assemble(text):
+    """The code of a text."""
+    lines = text.split(b"\n")
+    if lines[-1] == b"":
+        lines.pop()
+    given = dict.fromkeys(LABEL.findall(text), 0)
+    size, seen = 0, set()
+    for at, line in enumerate(lines, 1):
+        label = label_in(line)
+        try:
+            if label is None:
+                size += len(assembled(line, given))
+            elif label in seen:
+                raise Wrong
+            if size > MOST_CODE:
+                raise Wrong
+        except Wrong:
+            raise BadLine(at) from None
+        if label is not None:
+            seen.add(label)
+            given[label] = size
+    return b"".join(assembled(line, given) for line in lines if label_in(line) is None)
+
+
+class NoInstruction(Exception):
+    """No whole instruction stands at this place of a code."""
+
+    def __init__(self, at):
+        super().__init__(at)
+        self.at = at
+
+
+def disassemble(code):
+    """The lines of a code."""
+    lines, at = [], 0
+    while at < len(code):
+        try:
+            name, operand, length = instruction(code, at)
+        except Wrong:
+            raise NoInstruction(at) from None
+        told = operand.decode() if name == "get" else str(operand)
+        lines.append(f"{name} {told}" if length > 1 else name)
+        at += length
+    return lines
