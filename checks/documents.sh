@@ -1,14 +1,15 @@
 #!/usr/bin/env bash
-# What the documents say of the tree. Each link in the pages at the top, in docs/, in docs/start/ and in peers/ leads to
-# a file that is there, and to a heading where it names one; the name in backquotes that a link to definitions or code
+# What the documents say of the tree. Each link in the pages at the top, in the rooms of docs/ and in peers/ leads to a
+# file that is there, and to a heading where it names one; the name in backquotes that a link to definitions or code
 # shows is defined in that file, or is the file's own; each path in backquotes that begins in a folder of the repository
 # is there, and so is each file of code that is named by its end; no line but that of a table has over 120 columns; each
-# row of docs/proved.md names public calls of its section's crate, and clauses that these calls have; each clause of each
-# public call has a row there, but for those that its table of common clauses has; the table of crates in
-# docs/architecture.md has a row for each crate and for nothing else, and names those on which each stands as crates.txt
-# does; the commands that docs/commands.md lists first are those of --help, in its order; each block of a tutorial in
-# docs/start/ stands in an example, and each line in its tables is listed, with its status, in docs/commands.md or
-# docs/formats.md. A method of a trait is a call of the type that implements it where it has clauses of its own there.
+# row of docs/believe/proved.md names public calls of its section's crate, and clauses that these calls have; each clause
+# of each public call has a row there, but for those that its table of common clauses has; the table of crates in
+# docs/change/architecture.md has a row for each crate and for nothing else, and names those on which each stands as
+# crates.txt does; the commands that docs/use/commands.md lists first are those of --help, in its order; each block of a
+# tutorial in docs/start/ stands in an example, and each line in its tables is listed, with its status, in
+# docs/use/commands.md or docs/use/formats.md. A method of a trait is a call of the type that implements it where it has
+# clauses of its own there.
 # Prints a line for each that is wrong, and nothing where none is.
 set -u
 cd "$(dirname "$0")/.." || exit 2
@@ -255,13 +256,13 @@ def check_commands(path):
             report(path, 1, f"--help has {printed}, and the list {said}")
 
 
-folders = [".", "docs", "docs/start", "peers"]
-documents = [page for folder in folders for page in sorted(pathlib.Path(folder).glob("*.md"))]
+documents = [page for folder in (".", "peers") for page in sorted(pathlib.Path(folder).glob("*.md"))]
+documents += sorted(pathlib.Path("docs").rglob("*.md"))
 for document in documents:
     check_links(document)
-check_proved(pathlib.Path("docs/proved.md"))
-check_crates(pathlib.Path("docs/architecture.md"))
-check_commands(pathlib.Path("docs/commands.md"))
+check_proved(pathlib.Path("docs/believe/proved.md"))
+check_crates(pathlib.Path("docs/change/architecture.md"))
+check_commands(pathlib.Path("docs/use/commands.md"))
 for tutorial in sorted(pathlib.Path("docs/start").glob("*.md")):
     for number, what in faults_of(tutorial.read_text()):
         report(tutorial, number, what)

@@ -5,8 +5,8 @@ import re
 
 LONG = re.compile(r"([0-9a-f]{8})[0-9a-f]{8,}")
 QUOTED = re.compile(r"`([^`]+)`")
-COMMANDS = pathlib.Path("docs/commands.md")
-FORMATS = pathlib.Path("docs/formats.md")
+COMMANDS = pathlib.Path("docs/use/commands.md")
+FORMATS = pathlib.Path("docs/use/formats.md")
 
 
 def shown_by(path):

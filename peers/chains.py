@@ -1,7 +1,7 @@
 #!/usr/bin/env python3
 """Chains of certificates, read and judged by the formats, the rules of the log and RFC 8554 alone.
 
-    chains.py chain IMAGE OUT              as `miniboot` does, with the words and statuses of docs/commands.md
+    chains.py chain IMAGE OUT              as `miniboot` does, with the words and statuses of docs/use/commands.md
     chains.py attach CHAIN STATEMENT OUT
     chains.py verify ROOT CHAIN KEYNUMBER
     chains.py audit IMAGE ROOT CHAIN KEYNUMBER

@@ -1,7 +1,7 @@
 #!/usr/bin/env python3
 """A register of what devices have shown, kept and asked by the formats, the rules of the log and RFC 8554 alone.
 
-    fleet.py ROOT REGISTER ITEMS    as `miniboot fleet` does, with the words and statuses of docs/commands.md
+    fleet.py ROOT REGISTER ITEMS    as `miniboot fleet` does, with the words and statuses of docs/use/commands.md
 
 A register is a dictionary of rows by serials here, and each question looks through all of its rows.
 """

@@ -1,5 +1,5 @@
 #!/usr/bin/env python3
-"""A maker's HSS key, written from RFC 8554, section 6, and docs/formats.md alone, over lms.py.
+"""A maker's HSS key, written from RFC 8554, section 6, and docs/use/formats.md alone, over lms.py.
 
     hss.py maker NOISE LEVELS                 prints the maker's file, its public key and the public key's hash
     hss.py endorse NOISE LEVELS NUMBER ROOT   prints the endorsement of the root key by this number

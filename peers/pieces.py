@@ -1,4 +1,4 @@
-"""Where the first bytes of an order fail whatever bytes follow, written from docs/formats.md with nothing of the program.
+"""Where the first bytes of an order fail whatever bytes follow, written from docs/use/formats.md alone.
 
 A field fails as soon as none of its allowed values begins with its bytes that are there."""
 

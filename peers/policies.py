@@ -1,6 +1,6 @@
 #!/usr/bin/env python3
-"""A relying party's policy: read, and asked what it comes to for what a chain says of a key. Written from docs/formats.md
-and docs/commands.md alone, over the chains of chains.py.
+"""A relying party's policy: read, and asked what it comes to for what a chain says of a key. Written from
+docs/use/formats.md and docs/use/commands.md alone, over the chains of chains.py.
 
     policies.py trust ROOT CHAIN KEYNUMBER POLICY    what `miniboot trust` says
 """

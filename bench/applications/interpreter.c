@@ -1,4 +1,4 @@
-// A plain interpreter of application code (docs/formats.md), with which bench/applications.sh compares the program:
+// A plain interpreter of application code (docs/use/formats.md), with which bench/applications.sh compares the program:
 //
 //     interpreter CODE INPUT STEPS [NAME HEX]
 //

@@ -9,9 +9,9 @@
 #
 # What expected.txt has of keys, the device, the seven orders, the life and its chain was made by another program, and
 # peers/run.sh makes all of it anew by a third. The life of step 8 is that program's alone. The refusals and the power
-# losses follow from docs/commands.md and docs/formats.md: of the refusals 11, 12 and 13 the first that applies is given;
-# an event in which power fails is answered `stopped`, and the next boot does what was left to be done; and an order's
-# records count from the write of the root's selector on, so that the first write leaves the state before it.
+# losses follow from docs/use/commands.md and docs/use/formats.md: of the refusals 11, 12 and 13 the first that applies
+# is given; an event in which power fails is answered `stopped`, and the next boot does what was left to be done; and an
+# order's records count from the write of the root's selector on, so that the first write leaves the state before it.
 #
 # The noise is known here, so that the same keys can be made; people take bytes that nobody can guess, as
 # `head -c 32 /dev/urandom` gives them. Works from any current folder; beside the build in crates/*/out/ it writes in a

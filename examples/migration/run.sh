@@ -1,6 +1,6 @@
 #!/usr/bin/env bash
 # A device from the field, whose image has the form before the flash was in segments, is brought to the present form,
-# as docs/commands.md says. The image is that of a device which has lived as that of examples/device-life, with
+# as docs/use/commands.md says. The image is that of a device which has lived as that of examples/device-life, with
 # entries of version 1; old-image.txt has it by offset and bytes, and another program made it. A second image, of
 # which pending-image.txt has all but the record of codes and log, is that of the device before its last entry was
 # signed, with the record in the other area of the flash. Builds the proved program, and shows each step. Fails where
