@@ -8,8 +8,8 @@
 # docs/change/architecture.md has a row for each crate and for nothing else, and names those on which each stands as
 # crates.txt does; the commands that docs/use/commands.md lists first are those of --help, in its order; each block of a
 # tutorial in docs/start/ stands in an example, and each line in its tables is listed, with its status, in
-# docs/use/commands.md or docs/use/formats.md. A method of a trait is a call of the type that implements it where it has
-# clauses of its own there.
+# docs/use/commands.md or docs/use/formats.md; the figure of the layers of crates is that of crates.txt. A method of a
+# trait is a call of the type that implements it where it has clauses of its own there.
 # Prints a line for each that is wrong, and nothing where none is.
 set -u
 cd "$(dirname "$0")/.." || exit 2
@@ -18,6 +18,7 @@ python3 -B - <<'PYTHON'
 import itertools
 import pathlib
 import re
+import subprocess
 import sys
 
 sys.path.insert(0, "checks")
@@ -230,6 +231,15 @@ def check_crates(path):
         report(path, 1, f"no row for the crate {name}")
 
 
+def check_layers(script, figure):
+    """Whether the figure of the layers is what its script draws of crates.txt."""
+    drawn = subprocess.run([sys.executable, "-B", script], capture_output=True, text=True)
+    for line in drawn.stderr.splitlines():
+        report(script, 1, line)
+    if drawn.returncode == 0 and drawn.stdout != figure.read_text():
+        report(figure, 1, f"{script} draws another figure")
+
+
 # ---- the list of commands
 
 def commands_of(path, begins):
@@ -262,6 +272,7 @@ for document in documents:
     check_links(document)
 check_proved(pathlib.Path("docs/believe/proved.md"))
 check_crates(pathlib.Path("docs/change/architecture.md"))
+check_layers(pathlib.Path("docs/figures/layers.py"), pathlib.Path("docs/figures/layers.svg"))
 check_commands(pathlib.Path("docs/use/commands.md"))
 for tutorial in sorted(pathlib.Path("docs/start").glob("*.md")):
     for number, what in faults_of(tutorial.read_text()):
