@@ -8,8 +8,10 @@
 # docs/change/architecture.md has a row for each crate and for nothing else, and names those on which each stands as
 # crates.txt does; the commands that docs/use/commands.md lists first are those of --help, in its order; each block of a
 # tutorial in docs/start/ stands in an example, and each line in its tables is listed, with its status, in
-# docs/use/commands.md or docs/use/formats.md; the figure of the layers of crates is that of crates.txt. A method of a
-# trait is a call of the type that implements it where it has clauses of its own there.
+# docs/use/commands.md or docs/use/formats.md; the figure of the layers of crates is that of crates.txt; each file of
+# definitions that a clause of `top` reaches is named in a section of docs/believe/definitions.md, and the counts of such
+# files and their lines there and in docs/believe/theorem.md are right within a tenth. A method of a trait is a call of
+# the type that implements it where it has clauses of its own there.
 # Prints a line for each that is wrong, and nothing where none is.
 set -u
 cd "$(dirname "$0")/.." || exit 2
@@ -22,8 +24,9 @@ import subprocess
 import sys
 
 sys.path.insert(0, "checks")
+import believed
+import tutorials
 from definitions import names_of
-from tutorials import faults_of
 
 LINK = re.compile(r"\[[^\]]*\]\(([^)\s]+)\)")
 NAMED = re.compile(r"\[`([^`\]]+)`\]\(([^)\s#]+\.(?:antt|rt))\)")
@@ -275,8 +278,13 @@ check_crates(pathlib.Path("docs/change/architecture.md"))
 check_layers(pathlib.Path("docs/figures/layers.py"), pathlib.Path("docs/figures/layers.svg"))
 check_commands(pathlib.Path("docs/use/commands.md"))
 for tutorial in sorted(pathlib.Path("docs/start").glob("*.md")):
-    for number, what in faults_of(tutorial.read_text()):
+    for number, what in tutorials.faults_of(tutorial.read_text()):
         report(tutorial, number, what)
+for counting in (pathlib.Path("docs/believe/theorem.md"), pathlib.Path("docs/believe/definitions.md")):
+    for number, what in believed.faults_of(counting):
+        report(counting, number, what)
+for file in believed.unnamed_in(pathlib.Path("docs/believe/definitions.md")):
+    report("docs/believe/definitions.md", 1, f"no section names {file}, which a clause of top reaches")
 print("\n".join(wrong), end="\n" if wrong else "")
 sys.exit(1 if wrong else 0)
 PYTHON
