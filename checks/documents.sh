@@ -1,10 +1,11 @@
 #!/usr/bin/env bash
-# What the documents say of the tree. Each link in the pages at the top, in the rooms of docs/ and in peers/ leads to a
+# What the documents say of the tree. Each link in the pages at the top, of docs/, of peers/ and of crates leads to a
 # file that is there, and to a heading where it names one; the name in backquotes that a link to definitions or code
 # shows is defined in that file, or is the file's own; each path in backquotes that begins in a folder of the repository
 # is there, and so is each file of code that is named by its end; no line but that of a table has over 120 columns; each
-# row of docs/believe/proved.md names public calls of its section's crate, and clauses that these calls have; each clause
-# of each public call has a row there, but for those that its table of common clauses has; the table of crates in
+# row of a crate's page, its README.md (and of docs/believe/proved.md, while it is there), names public calls of the
+# crate, and clauses that these calls have, and so does what the page has that they do not say; each clause of each public
+# call has a row there, but for those that the table of common clauses in docs/believe/crates.md has; the table of crates in
 # docs/change/architecture.md has a row for each crate and for nothing else, and names those on which each stands as
 # crates.txt does; the commands that docs/use/commands.md lists first are those of --help, in its order; each block of a
 # tutorial in docs/start/ stands in an example, and each line in its tables is listed, with its status, in
@@ -161,11 +162,12 @@ def cells_of(line):
     return [cell.strip() for cell in re.split(r"(?<!\\)\|", line.strip().strip("|"))]
 
 
-def check_proved(path):
-    calls, crate, is_table_of_calls = None, None, False
-    told, common, is_table_of_clauses = {}, set(), False
+def check_rows(path, crate, told, common):
+    """The rows of a page on one crate, or of one whose headings name crates."""
+    calls, of_one = calls_of(pathlib.Path("crates", crate)) if crate else None, crate is not None
+    is_table_of_calls = is_table_of_clauses = False
     for number, line in enumerate(path.read_text().splitlines(), 1):
-        if line.startswith("## "):
+        if line.startswith("## ") and not of_one:
             named = re.findall(r"`(\w+)`", line)
             crate = named[0] if named else None
             calls = None
@@ -186,23 +188,57 @@ def check_proved(path):
             if calls is None:
                 report(path, number, "no crate is named in the heading above")
                 continue
-            names = re.findall(r"`([\w:]+)`", cells[0])
-            clauses = re.findall(r"`(\w+)`", cells[1]) if len(cells) > 1 else []
-            for name in names:
-                if name not in calls:
-                    report(path, number, f"{crate} has no public call {name}")
-                    continue
-                wanted = clauses or ([UNNAMED] if UNNAMED in cells[1] else [])
-                told.setdefault((crate, name), set()).update(wanted)
-                for clause in wanted:
-                    if clause not in calls[name]:
-                        report(path, number, f"{name} of {crate} has no clause {clause}")
-                if not wanted:
+            clauses = re.findall(r"`(\w+)`", cells[1]) or ([UNNAMED] if UNNAMED in cells[1] else [])
+            check_call(path, number, crate, calls, re.findall(r"`([\w:]+)`", cells[0]), clauses)
+            for name in re.findall(r"`([\w:]+)`", cells[0]):
+                told.setdefault((crate, name), set()).update(clauses)
+                if not clauses:
                     report(path, number, f"no clause of {name} is named")
-    for crate in sorted(p for p in pathlib.Path("crates").iterdir() if (p / "src").is_dir()):
+
+
+def check_call(path, number, crate, calls, names, clauses):
+    """Whether a crate has these calls, and each of them these clauses."""
+    for name in names:
+        if name not in calls:
+            report(path, number, f"{crate} has no public call {name}")
+            continue
+        for clause in clauses:
+            if clause not in calls[name]:
+                report(path, number, f"{name} of {crate} has no clause {clause}")
+
+
+def check_unsaid(path, crate):
+    """Whether the calls and clauses are there of which a page says what they do not say."""
+    calls = calls_of(pathlib.Path("crates", crate))
+    front, _, unsaid = path.read_text().partition("\n## Not said\n")
+    for item in re.finditer(r"^- (?:.|\n(?!- |\n))*", unsaid, re.M):
+        number = front.count("\n") + 2 + unsaid[: item.start()].count("\n")
+        for of in " ".join(item[0][2:].split()).split(": ")[0].split("; "):
+            named = re.fullmatch(r"((?:, )?`[\w:]+`)+(?: \(((?:, )?`\w+`)+\))?", of)
+            names, _, clauses = of.partition(" (")
+            if named:
+                check_call(path, number, crate, calls, re.findall(r"`([\w:]+)`", names), re.findall(r"`(\w+)`", clauses))
+
+
+def check_proved(whole, shared):
+    """Whether each clause of each public call has a row, in the page of its crate."""
+    told, common = {}, set()
+    crates = sorted(p for p in pathlib.Path("crates").iterdir() if (p / "src").is_dir())
+    if whole.exists():
+        check_rows(whole, None, told, common)
+    else:
+        check_rows(shared, None, told, common)
+        for crate in crates:
+            page = crate / "README.md"
+            if page.exists():
+                check_rows(page, crate.name, told, common)
+                check_unsaid(page, crate.name)
+            else:
+                report(page, 0, "the crate has no page")
+    for crate in crates:
         for name, clauses in sorted(calls_of(crate).items()):
             for clause in sorted(clauses - told.get((crate.name, name), set()) - common):
-                report(path, 0, f"{name} of {crate.name} has no row for {clause}")
+                report(whole if whole.exists() else crate / "README.md", 0, f"{name} has no row for {clause}")
 
 
 # ---- the table of crates
@@ -270,10 +306,10 @@ def check_commands(path):
 
 
 documents = [page for folder in (".", "peers") for page in sorted(pathlib.Path(folder).glob("*.md"))]
-documents += sorted(pathlib.Path("docs").rglob("*.md"))
+documents += [*sorted(pathlib.Path("docs").rglob("*.md")), *sorted(pathlib.Path("crates").glob("*/README.md"))]
 for document in documents:
     check_links(document)
-check_proved(pathlib.Path("docs/believe/proved.md"))
+check_proved(pathlib.Path("docs/believe/proved.md"), pathlib.Path("docs/believe/crates.md"))
 check_crates(pathlib.Path("docs/change/architecture.md"))
 check_layers(pathlib.Path("docs/figures/layers.py"), pathlib.Path("docs/figures/layers.svg"))
 check_commands(pathlib.Path("docs/use/commands.md"))
