@@ -12,7 +12,8 @@ DECLARED = re.compile(r"^use Rattle\.(\w+)\.specs\.declared\.(\w+)\.(\w+)\.", re
 CLAUSE = re.compile(r"^    ensures (\w+) \{(.*?)\}\n(?=    ensures|\{)", re.M | re.S)
 NAMED = re.compile(r"`(?:crates/(\w+)/specs/)?(\w+\.antt)`")
 FOLDER = re.compile(r"`crates/(\w+)/specs`")
-COUNTED = re.compile(r"^\s*\| (?:.*\]\()?(?:([^)|]*\.(?:antt|rt))\)|\[([^\]]*)\]\(#[^)]*\)).*\| ([\d,]+) \| ([\d,]+) \|$")
+COUNTED = re.compile(
+    r"^\s*\| (?:.*\]\()?(?:([^)|]*\.(?:antt|rt))\)|\[([^\]]*)\]\(#[^)]*\)).*\| ([\d,]+) \| ([\d,]+) \|$")
 NEAR = 0.1
 
 
@@ -82,7 +83,8 @@ def main(words):
             show(f"`{name}` of `top`", files, listed)
         every = set().union(*clauses.values())
         show("all clauses of `top`", every, listed)
-        show("all clauses of `top`, and the traits", every.union(*(used_by(file.read_text()) for file in TRAITS)), listed)
+        traits = set().union(*(used_by(file.read_text()) for file in TRAITS))
+        show("all clauses of `top`, and the traits", every | traits, listed)
 
 
 # ---- what the documents say
@@ -117,7 +119,7 @@ def believed():
 def faults_of(page):
     """The rows of a page that count files and lines of definitions, and are wrong by more than a tenth.
 
-    A row counts what a file of definitions reaches, what the clauses of `top` reach, or what a section names of that."""
+    A row counts what a file of definitions reaches, what the clauses of `top` reach, or what a section names of it."""
     top, sections = believed(), sections_of(page)
     for number, line in enumerate(page.read_text().splitlines(), 1):
         row = COUNTED.match(line)

@@ -5,13 +5,14 @@
 #
 #     run.sh               proves and builds the program first, and tells each crate that is proved
 #     run.sh PROGRAM       takes a program that is built
-#     run.sh --unproved    compiles the program without proving anything, and has it make and serve a life of its own
+#     run.sh --unproved    compiles the program without proving anything, and has it verify the chain of step 10
 #
 # What expected.txt has of keys, the device, the seven orders, the life and its chain was made by another program, and
-# peers/run.sh makes all of it anew by a third. The life of step 8 is that program's alone. The refusals and the power
-# losses follow from docs/use/commands.md and docs/use/formats.md: of the refusals 11, 12 and 13 the first that applies
-# is given; an event in which power fails is answered `stopped`, and the next boot does what was left to be done; and an
-# order's records count from the write of the root's selector on, so that the first write leaves the state before it.
+# peers/run.sh makes all of it anew by a third; maker.txt and attached.txt are files of step 10, for --unproved. The life
+# of step 8 is that program's alone. The refusals and the power losses follow from docs/use/commands.md and
+# docs/use/formats.md: of the refusals 11, 12 and 13 the first that applies is given; an event in which power fails is
+# answered `stopped`, and the next boot does what was left to be done; and an order's records count from the write of
+# the root's selector on, so that the first write leaves the state before it.
 #
 # The noise is known here, so that the same keys can be made; people take bytes that nobody can guess, as
 # `head -c 32 /dev/urandom` gives them. Works from any current folder; beside the build in crates/*/out/ it writes in a
@@ -27,7 +28,7 @@ if [ $# -gt 1 ]; then
     echo "$usage" >&2
     exit 2
 fi
-for tool in cut head od paste sed sha256sum tr uniq; do
+for tool in cut diff grep head od paste sed sha256sum tr uniq; do
     if ! command -v "$tool" >/dev/null; then
         echo "$tool is needed, and is not on the PATH" >&2
         exit 1
@@ -37,28 +38,40 @@ done
 work=$(mktemp -d)
 trap 'rm -rf "$work"' EXIT
 
-# Makes and serves a workload by a program that is compiled without a proof, which can be given no files.
-serve_unproved() {
-    echo "Compiling the program without proving anything, in about half a minute. Such a build runs slowly .."
-    local words=()
-    mapfile -t words <"$crate/args"
-    (cd "$crate" && rt try --seconds 900 -- "${words[@]}") >"$work/printed" 2>"$work/try.log" || {
+# Writes the bytes of a file of hexadecimal words, whose SHA-256 hash expected.txt has: unpack NAME FILE
+unpack() {
+    printf '%b' "$(tr -d '\n' <"$here/$1.txt" | sed 's/../\\x&/g')" >"$2"
+    if ! grep -q "$(sha256sum <"$2" | cut -d ' ' -f 1)" "$here/expected.txt"; then
+        echo "$1.txt is not the file whose hash expected.txt has" >&2
+        return 1
+    fi
+}
+
+# Verifies the chain of step 10 by a program that is compiled without a proof.
+verify_unproved() {
+    local words=(verify maker.public attached 1)
+    unpack maker "$work/maker.public"
+    unpack attached "$work/attached"
+    echo "Compiling the program without proving anything, in about a minute. Such a build runs slowly .."
+    (cd "$crate" && rt try --seconds 900 --data maker.public="$work/maker.public" --data attached="$work/attached" \
+        -- "${words[@]}") >"$work/printed" 2>"$work/try.log" || {
         status=$?
         cat "$work/printed" "$work/try.log" >&2
         echo "the program ended with status $status" >&2
         return 1
     }
-    echo "miniboot ${words[*]} made a device, its owners' orders and its life, served it, and counted the replies:"
-    sed 's/^/  /' "$work/printed"
-    if ! diff "$crate/stdout" "$work/printed" >&2; then
-        echo "this is not what crates/miniboot/stdout says" >&2
+    echo "Which code said 'hello'? Whoever trusts the maker's key alone asks the chain of a device, at step 10:"
+    echo "  \$ miniboot ${words[*]}"
+    sed -E 's/^/    /; s/([0-9a-f]{8})[0-9a-f]{8,}/\1../g' "$work/printed"
+    if ! sed -n '/verify maker.public attached 1$/,/^$/ s/^    //p' "$here/expected.txt" | diff - "$work/printed" >&2; then
+        echo "this is not what expected.txt says at step 10" >&2
         return 1
     fi
 }
 
 if [ "${1-}" = --unproved ]; then
     echo "This build is NOT PROVED: it shows how the program is used, and nothing about what it guarantees."
-    serve_unproved
+    verify_unproved
     echo "As expected, by a build that is NOT PROVED. Run it without --unproved for one that is."
     exit 0
 fi
