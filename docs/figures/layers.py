@@ -1,8 +1,9 @@
 #!/usr/bin/env python3
 """Draws the layers of crates: layers.py >layers.svg, from crates.txt.
 
-A row has crates of one subject. It is an error if a crate of crates.txt stands in no row or box, if one that is drawn is
-not in crates.txt, if a crate stands on one of a row above its own, or if one stands on a crate of tests alone."""
+A row has crates of one subject. Crates of tests alone, and of lemmas and laws, have a box each, and those of commands a
+row, by what their names begin with. It is an error if another crate stands in no row, if one that is drawn is not in
+crates.txt, if a crate stands on one of a row above its own, or if one that is no test stands on a crate of tests."""
 
 import pathlib
 import sys
@@ -10,8 +11,7 @@ import sys
 ROWS = [
     ("the program", "#e7edf6", ["miniboot"]),
     ("its table of commands", "#e7edf6", ["mb_top"]),
-    ("commands", "#e7edf6", [
-        "mb_tools", "mb_tools_hss", "mb_tools_policy", "mb_tools_app", "mb_tools_fleet", "mb_console"]),
+    ("commands", "#e7edf6", ["mb_tools..", "mb_console"]),
     ("the device", "#e5f2e9", ["mb_device", "mb_device_orders", "mb_device_regions"]),
     ("its memory", "#e5f2e9", ["mb_boot", "mb_outbound", "mb_region", "mb_area", "mb_flash", "mb_slot"]),
     ("officers and verifiers", "#faf0e0", [
@@ -24,8 +24,7 @@ ROWS = [
     ("the world outside", "#f1e7f2", ["mb_host", "mb_board", "mb_ratchet"]),
     ("definitions", "#f1e7f2", ["mb_model", "mb_format"]),
 ]
-LEMMAS = ["mb_model_lemmas", "mb_model_memory", "mb_model_runs", "mb_model_laws", "mb_model_examples"]
-TESTS = ["mb_test_lives", "mb_test_texts", "mb_test_rules", "mb_test_cuts", "mb_test_bytes"]
+LEMMAS, TESTS = "mb_model_", "mb_test_"
 
 LEFT, RIGHT, TOP, HEIGHT, GAP = 176, 806, 84, 34, 14
 BOX, BOX_WIDTH = 830, 140
@@ -39,17 +38,28 @@ def crates_listed(path):
     return {name.strip(): others.split() for name, colon, others in rows if colon}
 
 
+def beginning(start, listed):
+    return [name for name in listed if name.startswith(start)]
+
+
+def rows_of(listed):
+    """The rows, with the crates of this list in place of the beginnings of names."""
+    for title, fill, names in ROWS:
+        yield title, fill, [each for name in names
+                            for each in (beginning(name[:-2], listed) if name.endswith("..") else [name])]
+
+
 def faults_of(listed):
     """What is wrong with the rows, by the list of crates."""
-    row_of = {name: at for at, (_, _, names) in enumerate(ROWS) for name in names}
-    drawn = [name for _, _, names in ROWS for name in names] + LEMMAS + TESTS
-    for name in sorted(set(drawn) ^ set(listed)):
+    row_of = {name: at for at, (_, _, names) in enumerate(rows_of(listed)) for name in names}
+    drawn = {*row_of, *beginning(LEMMAS, listed), *beginning(TESTS, listed)}
+    for name in sorted(drawn ^ set(listed)):
         yield f"{name} is {'drawn' if name in drawn else 'listed'}, and not {'listed' if name in drawn else 'drawn'}"
     for name, others in listed.items():
         for other in others:
             if row_of.get(other, len(ROWS)) < row_of.get(name, -1):
                 yield f"{name} stands on {other}, of a row above"
-            if other in TESTS:
+            if other.startswith(TESTS) and not name.startswith(TESTS):
                 yield f"{name} stands on {other}, a crate of tests"
 
 
@@ -69,7 +79,7 @@ def row(at, title, fill, names):
     for number, name in enumerate(names):
         x = LEFT + number * (width + 8)
         yield box(x, y, width, HEIGHT, fill)
-        size = {"font_size": 11} if len(name) > 14 and len(names) > 5 else {}
+        size = {"font_size": 11 if width > 90 else 10} if 8 * len(name) > width else {}
         yield text(x + width / 2, y + 22, name, text_anchor="middle", **size)
 
 
@@ -81,23 +91,24 @@ def side(y, title, names, fill):
 
 
 def figure(listed):
-    height = BOTTOM + 70
+    height, rows = BOTTOM + 70, list(rows_of(listed))
+    lemmas, tests = beginning(LEMMAS, listed), beginning(TESTS, listed)
     yield (f'<svg xmlns="http://www.w3.org/2000/svg" viewBox="0 0 {WIDTH} {height}" width="{WIDTH}" height="{height}" '
            'role="img" aria-labelledby="t d" font-family="Helvetica, Arial, sans-serif" font-size="12">')
     yield '<title id="t">The layers of crates</title>'
-    yield ('<desc id="d">' + "; ".join(f"{title}: {', '.join(names)}" for title, _, names in ROWS) +
-           f"; lemmas and laws: {', '.join(LEMMAS)}; tests alone: {', '.join(TESTS)}.</desc>")
+    yield ('<desc id="d">' + "; ".join(f"{title}: {', '.join(names)}" for title, _, names in rows) +
+           f"; lemmas and laws: {', '.join(lemmas)}; tests alone: {', '.join(tests)}.</desc>")
     yield f'<rect width="{WIDTH}" height="{height}" fill="#ffffff"/>'
     yield text(20, 30, f"The layers of {len(listed)} crates", font_size=15, font_weight="bold", fill="#222")
     yield text(20, 52, "A crate stands on crates of its own row and of the rows below it, and on crates of lemmas. "
                "Made of crates.txt by docs/figures/layers.py.", fill="#444")
-    for at, (title, fill, names) in enumerate(ROWS):
+    for at, (title, fill, names) in enumerate(rows):
         yield from row(at, title, fill, names)
-    yield from side(TOP, "tests alone", TESTS, "#fafafa")
-    yield from side(BOTTOM - GAP - 34 - 24 * len(LEMMAS), "lemmas and laws", LEMMAS, "#fafafa")
+    yield from side(TOP, "tests alone", tests, "#fafafa")
+    yield from side(BOTTOM - GAP - 34 - 24 * len(lemmas), "lemmas and laws", lemmas, "#fafafa")
     yield text(20, BOTTOM + 16, "The headline is a clause of mb_top. To believe it one reads definitions, of mb_model "
                "and in part of other crates, and the traits Host and Board", fill="#222")
-    yield text(20, BOTTOM + 36, "of the world outside. All code is proved against these. The crates of lemmas, laws and "
+    yield text(20, BOTTOM + 36, "of the world outside. All code is proved against these. Crates of lemmas, laws and "
                "tests need not be read.", fill="#222")
     yield "</svg>"
 
