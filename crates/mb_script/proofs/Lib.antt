@@ -3,3 +3,4 @@ pub mod LineKinds
 pub mod Written
 pub mod Drawings
 pub mod ScriptReading
+mod EventLines

@@ -40,10 +40,10 @@ one_more text rest line remaining events more_events number is splits some stand
   less = omega (arith, is.less, shorter rest line remaining splits some);
 }
 
-one_left : (line : List ℕ) → is_skipped line ≡ true → filter counts (line ∷ []) ≡ []
+pub one_left : (line : List ℕ) → is_skipped line ≡ true → filter counts (line ∷ []) ≡ []
 one_left line skipped = rw skipped refl
 
-one_kept : (line : List ℕ) → is_skipped line ≡ false → filter counts (line ∷ []) ≡ line ∷ []
+pub one_kept : (line : List ℕ) → is_skipped line ≡ false → filter counts (line ∷ []) ≡ line ∷ []
 one_kept line said = rw said refl
 
 pub skip_line : (text rest line remaining : List ℕ) (events : List Event) (number : ℕ) → IsReadTo text rest events number → SplitsLine rest line remaining → 0 < length rest

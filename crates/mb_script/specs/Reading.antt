@@ -1,12 +1,13 @@
 -- What the readers of a script give. Is what is read exactly what stands there?
-use Rattle.std.specs.Prelude.{◌≡◌, ℕ, ◌≤◌, List, ◌∷◌, ◌++◌, length, codes, IsTrue, Result, Ok, Err}
+use Rattle.std.specs.Prelude.{◌≡◌, ℕ, ◌+◌, ◌≤◌, false, not, filter, List, ◌∷◌, ◌++◌, length, codes, IsTrue, Result}
+use Rattle.std.specs.Prelude.{Ok, Err}
 use Rattle.std.specs.Fmt.{decimal}
 use Rattle.mb_model.specs.declared.limits.TheConstants.{FILL_LIMIT, FLASH_LENGTH}
 use Rattle.mb_model.specs.declared.event.Event.{Event}
 use Rattle.mb_model.specs.Layers.{is_upper}
 use Rattle.mb_model.specs.Texts.{IsHex}
-use Rattle.mb_model.specs.Lines.{ReadsLines, TextFailsAtLine}
-use Rattle.mb_model.specs.Script.{IsName, IsScript}
+use Rattle.mb_model.specs.Lines.{HasLines, ReadsLines, TextFailsAtLine}
+use Rattle.mb_model.specs.Script.{IsName, is_skipped, IsScript}
 use Rattle.mb_script.specs.declared.script.ScriptEnd.{ScriptEnd}
 use Rattle.mb_script.specs.declared.script.ScriptEnd.TheVariants as end
 
@@ -18,6 +19,18 @@ abbrev pub ReadsScript : List ℕ → Result (List Event) ScriptEnd → Type 0
 ReadsScript text (Ok events) = ReadsLines IsScript text events
 ReadsScript text (Err (end.BadLine line)) = TextFailsAtLine IsScript text line
 ReadsScript text (Err end.NoMemory) = Unit {0}
+
+-- the lines that say events
+abbrev pub lines_said : List (List ℕ) → List (List ℕ)
+lines_said lines = filter (λ line. not (is_skipped line)) lines
+
+-- This line, from 1, says the event with this index, from 0: as many lines before it are not skipped. Or there are no
+-- more events than that, and the line is the one after the last.
+pub data IsLineOf (text : List ℕ) (index n : ℕ) : Type 0 where
+  says : (before : List (List ℕ)) (line : List ℕ) (later : List (List ℕ)) → HasLines text (before ++ line ∷ later)
+      → is_skipped line ≡ false → length (lines_said before) ≡ index → n ≡ length before + 1 → IsLineOf text index n
+  past : (lines : List (List ℕ)) → HasLines text lines → length (lines_said lines) ≤ index → n ≡ length lines + 1
+      → IsLineOf text index n
 
 -- ---- parts of a line
 

@@ -12,4 +12,5 @@ mod words;
 
 pub use draws::{ShortNoise, place_draws};
 pub use replies::write_reply;
-pub use script::{ScriptEnd, read_script};
+pub use script::{ScriptEnd, line_of, read_script};
+pub use words::read_tear;

@@ -3,7 +3,7 @@
 ghost use Rattle.std.specs.Prelude.{◌≡◌, ◌≤◌, length};
 ghost use Rattle.mb_model.specs.declared.limits.TheConstants.{FILE_LIMIT};
 ghost use Rattle.mb_model.specs.Script.{is_skipped};
-ghost use Rattle.mb_script.specs.Reading.{ReadsScript};
+ghost use Rattle.mb_script.specs.Reading.{ReadsScript, IsLineOf};
 
 use crate::events::read_event;
 use mb_model::{EVENT_LIMIT, Events, NoMemory};
@@ -61,6 +61,30 @@ pub fn read_script(alloc: Global, text: &[u8]) -> Result<Events, ScriptEnd>
         }
     }
     Ok(events)
+}
+
+/// The number of the line, from 1, that says the event with this index, from 0, in a script of at most 4,194,304 bytes;
+/// one more than the number of lines if there are no more events than that.
+pub fn line_of(text: &[u8], index: usize) -> u32
+    requires { length text.now ≤ FILE_LIMIT }
+    ensures { IsLineOf text.now index result }
+{
+    let mut number: u32 = 0;
+    let mut passed: usize = 0;
+    let mut rest = text;
+    while !rest.is_empty() {
+        let (line, remaining) = split_line(rest);
+        number += 1;
+        rest = remaining;
+        if is_skipped(line) {
+            continue;
+        }
+        if passed == index {
+            return number;
+        }
+        passed += 1;
+    }
+    number + 1
 }
 
 /// Whether a line is skipped: it is empty, or a comment.

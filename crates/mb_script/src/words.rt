@@ -71,8 +71,9 @@ pub(crate) fn read_short(alloc: Global, word: &[u8]) -> Result<Bytes, NotSaid>
     Ok(bytes)
 }
 
-/// Reads the tear that keeps `keep` bytes from a whole hexadecimal word of the 1 to 16 bytes that fill.
-pub(crate) fn read_tear(keep: u32, word: &[u8]) -> Option<Tear>
+/// The tear that keeps `keep` bytes and fills with the 1 to 16 bytes of a hexadecimal word; `None` if the word is none
+/// of 1 to 16 bytes.
+pub fn read_tear(keep: u32, word: &[u8]) -> Option<Tear>
     ensures { MatchOption result ((fill : List ℕ) → IsFill word.now fill → ⊥) (λ tear. (fill : List ℕ) × IsFill word.now fill × (tear ≡ tear_of keep fill)) }
 {
     let length = word.len() / 2;
