@@ -1,9 +1,10 @@
--- What the words of a command line call: a command of a table, with names of files and numbers after its name. Can
--- words call two commands?
+-- What the words of a command line call: a command of a table, with names of files, numbers and bytes after its name.
+-- Can words call two commands?
 use Rattle.std.specs.Prelude.{◌≡◌, ◌≢◌, ◌≤◌, ◌⊎◌, ℕ, Bool, true, false, List, [], ◌∷◌, ◌++◌, map, slice_get}
 use Rattle.std.specs.Prelude.{Option, Some}
 use Rattle.std.specs.Fmt.{decimal}
 use Rattle.mb_model.specs.Lines.{number_limit}
+use Rattle.mb_script.specs.Reading.{IsFill}
 use Rattle.mb_console.specs.declared.words.Kind.{Kind}
 use Rattle.mb_console.specs.declared.words.Kind.TheVariants as kind
 use Rattle.mb_console.specs.declared.words.Argument.{Argument as Given}
@@ -17,20 +18,24 @@ Row C = C × List ℕ × List Kind
 
 -- ---- words
 
--- what a word stands for: the name of a file, or a number
+-- what a word stands for: the name of a file, a number, or bytes, which are given by their word in hexadecimal
 pub data Argument : Type 0 where
   file : List ℕ → Argument
   numeral : ℕ → Argument
+  hexadecimal : List ℕ → Argument
 
 -- the word that stands for it
 abbrev pub word_of : Argument → List ℕ
 word_of (file name) = name
 word_of (numeral n) = decimal n
+word_of (hexadecimal word) = word
 
--- it is of this kind: the name of a file is not empty, and a number of 32 bits is within its bounds
+-- it is of this kind: the name of a file is not empty, a number of 32 bits is within its bounds, and a word in
+-- hexadecimal stands for 1 to 16 bytes
 abbrev pub IsOfKind : Kind → Argument → Type 0
 IsOfKind kind.File (file name) = name ≢ []
 IsOfKind (kind.Number least most) (numeral n) = (least ≤ n) × (n ≤ most) × (n ≤ number_limit)
+IsOfKind kind.Hex (hexadecimal word) = (bytes : List ℕ) × IsFill word bytes
 IsOfKind _ _ = ⊥
 
 -- a word of this kind stands for this
@@ -69,6 +74,11 @@ abbrev pub number_or_zero : Option Argument → ℕ
 number_or_zero (Some (numeral n)) = n
 number_or_zero _ = 0
 
+-- the word of bytes, or no word
+abbrev pub hex_or_none : Option Argument → List ℕ
+hex_or_none (Some (hexadecimal word)) = word
+hex_or_none _ = []
+
 -- the name of the file at a place, from 0; no name where something else stands there, or nothing
 abbrev pub file_given : ℕ → List Argument → List ℕ
 file_given place arguments = name_or_none (slice_get arguments place)
@@ -77,12 +87,17 @@ file_given place arguments = name_or_none (slice_get arguments place)
 abbrev pub number_given : ℕ → List Argument → ℕ
 number_given place arguments = number_or_zero (slice_get arguments place)
 
+-- the word of the bytes at a place, from 0; no word where something else stands there, or nothing
+abbrev pub hex_given : ℕ → List Argument → List ℕ
+hex_given place arguments = hex_or_none (slice_get arguments place)
+
 -- ---- what is read
 
 -- what an argument means that was read
 abbrev pub given_argument : Given → Argument
 given_argument (given.File name) = file name.now
 given_argument (given.Number n) = numeral n
+given_argument (given.Hex word) = hexadecimal word.now
 
 -- where the words are of these kinds, what they stand for was appended
 abbrev pub AppendsWords : List Kind → List (List ℕ) → List Given → Bool → List Given → Type 0

@@ -2,9 +2,10 @@
 
 ghost use Rattle.std.specs.Prelude.{◌≡◌, ◌↔◌, ◌∷◌, ◌++◌, ◌+◌, ◌≤◌, ℕ, List, IsTrue, MatchOption, length, map, true, string_bytes};
 ghost use Rattle.arrayvec.specs.ArrayVec.{array_vec_len};
-ghost use Rattle.mb_console.specs.Words.{Argument as Meant, IsWordFor, IsCalled, AppendsWords, given_argument, file_given, number_given};
+ghost use Rattle.mb_console.specs.Words.{Argument as Meant, IsWordFor, IsCalled, AppendsWords, given_argument, file_given, number_given, hex_given};
 
 use arrayvec::ArrayVec;
+use mb_script::read_tear;
 use mb_words::read_number;
 
 /// The most words after a command's name.
@@ -17,6 +18,8 @@ pub enum Kind {
     File,
     /// A number from `least` to `most`, in decimal digits and without leading zeros.
     Number { least: u32, most: u32 },
+    /// 1 to 16 bytes in hexadecimal digits of either case.
+    Hex,
 }
 
 /// A word after a command's name: how `--help` shows it, and of which kind it is.
@@ -29,6 +32,8 @@ pub enum Argument<'a> {
     File(&'a str),
     /// A number.
     Number(u32),
+    /// 1 to 16 bytes in hexadecimal digits, as the word has them.
+    Hex(&'a str),
 }
 
 impl Default for Argument<'_> {
@@ -85,6 +90,7 @@ fn argument_of<'a>(kind: Kind, word: &'a str) -> Option<Argument<'a>>
     match kind {
         Kind::File => file_of(word),
         Kind::Number { least, most } => number_of(word, least, most),
+        Kind::Hex => hex_of(word),
     }
 }
 
@@ -115,6 +121,18 @@ fn number_of<'a>(word: &str, least: u32, most: u32) -> Option<Argument<'a>>
     Some(Argument::Number(number))
 }
 
+/// 1 to 16 bytes in hexadecimal digits.
+fn hex_of<'a>(word: &'a str) -> Option<Argument<'a>>
+    ensures { MatchOption result
+        ((argument : Meant) → IsWordFor Kind.Hex word.now argument → ⊥)
+        (λ found. IsWordFor Kind.Hex word.now (given_argument found)) }
+{
+    match read_tear(0, word.as_bytes()) {
+        Some(_) => Some(Argument::Hex(word)),
+        None => None,
+    }
+}
+
 /// Whether a word is this one.
 pub fn is_word(word: &str, wanted: &str) -> bool
     ensures { IsTrue result ↔ (word.now ≡ wanted.now) }
@@ -139,5 +157,15 @@ pub fn number(arguments: &Arguments<'_>, place: usize) -> u32
     match arguments.get(place) {
         Some(Argument::Number(number)) => *number,
         _ => 0,
+    }
+}
+
+/// The word of the bytes at this place, from 0; an empty word if another argument stands there, or none.
+pub fn hex<'a>(arguments: &Arguments<'a>, place: usize) -> &'a str
+    ensures { result.now ≡ hex_given place (map given_argument arguments.now.items) }
+{
+    match arguments.get(place) {
+        Some(Argument::Hex(word)) => word,
+        _ => "",
     }
 }
