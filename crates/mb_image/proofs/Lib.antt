@@ -6,6 +6,7 @@ pub mod LogSteps
 pub mod Meanings
 pub mod Reading
 pub mod RegionSteps
+pub mod SameEntries
 pub mod Sectors
 pub mod ValidParts
 pub mod Writing

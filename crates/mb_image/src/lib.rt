@@ -1,5 +1,5 @@
 //! The state that an image means, or the image's first fault; the length of the log of the image's device; and the image
-//! of a state, written from nothing.
+//! of a state, written from nothing; and whether two states are equal.
 //!
 //! This crate owns the meaning of a device's memory as it lies: the current areas, the unsigned entries and their
 //! signatures, the pending work on the regions, and whether a device can have the state that results. What a flash
@@ -18,6 +18,7 @@ mod log;
 mod memory;
 mod record;
 mod regions;
+mod same;
 mod segments;
 mod sound;
 mod stored;
@@ -27,5 +28,6 @@ mod written;
 pub use count::log_length;
 pub use form::{FlashForm, PublicParts};
 pub use image::{ImageEnd, stand_for, stand_for_by};
+pub use same::same_state;
 pub use segments::Segments;
 pub use written::{ImageRoom, write_image};
