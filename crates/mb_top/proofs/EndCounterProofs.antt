@@ -1,5 +1,5 @@
 -- The counterexamples of ends, refuted.
-use Rattle.std.proofs.Common.{◌≡◌, ◌≢◌, ℕ, ◌≤◌, Bool, true, false, nat_lt, List, [], ◌∷◌, length, refl, ap, arith}
+use Rattle.std.proofs.Common.{◌≡◌, ◌≢◌, ℕ, ◌≤◌, Bool, true, nat_lt, List, [], ◌∷◌, length, refl, arith}
 use Rattle.mb_model.specs.Commands.{Ended}
 use Rattle.mb_console.specs.declared.words.Kind.{Kind}
 use Rattle.mb_console.specs.Words.{Argument, Row, AreWordsFor, IsCalled, IsCall}

@@ -6,9 +6,10 @@ use Rattle.mb_model.specs.Board.{Held}
 use Rattle.mb_model.specs.Commands.{Ended, CommandEnds, HasInputsFor, IsFaultless, at_first}
 use Rattle.mb_console.specs.declared.end.End.{End}
 use Rattle.mb_console.specs.Ending.{CarriesOutRest, CarriesOut}
-use Rattle.mb_console.specs.Words.{Argument, IsCall, number_given}
+use Rattle.mb_console.specs.Words.{Argument, IsCall, number_given, hex_given}
+use Rattle.mb_script.specs.Reading.{IsFill}
 use Rattle.mb_console.proofs.Completing.{Completes, command_completes}
-use Rattle.mb_console.proofs.WordLemmas.{has_distinct_names, one_call, number_of_call}
+use Rattle.mb_console.proofs.WordLemmas.{has_distinct_names, one_call, number_of_call, hex_of_call}
 use Rattle.mb_top.specs.declared.table.Command.{Command}
 use Rattle.mb_top.specs.declared.table.Command.TheVariants as command
 use Rattle.mb_top.specs.Top.{commands, command_of, Ends, no_command, did, CarriesOutWords}
@@ -47,6 +48,10 @@ is_countersign : Command → Bool
 is_countersign command.Countersign = true
 is_countersign _ = false
 
+is_cutat : Command → Bool
+is_cutat command.Cutat = true
+is_cutat _ = false
+
 is_generate : Command → Bool
 is_generate command.Generate = true
 is_generate _ = false
@@ -78,3 +83,13 @@ levels_of words called given is call = number_of_call is_hsskeygen 1 1 8 command
 pub app_layer_of : (words : List (List ℕ)) (called : Command) (given : List Argument) → called ≡ command.App → IsCall commands words called given → (2 ≤ number_given 1 given) × (number_given 1 given ≤ 3)
 unfolding commands is_app
 app_layer_of words called given is call = number_of_call is_app 1 2 3 commands words called given refl (ap is_app is) call
+
+-- power is cut in one of the first 100,000 writes
+pub count_of : (words : List (List ℕ)) (called : Command) (given : List Argument) → called ≡ command.Cutat → IsCall commands words called given → (1 ≤ number_given 3 given) × (number_given 3 given ≤ 100000)
+unfolding commands is_cutat
+count_of words called given is call = number_of_call is_cutat 3 1 100000 commands words called given refl (ap is_cutat is) call
+
+-- 1 to 16 bytes fill the range of that write
+pub fill_of : (words : List (List ℕ)) (called : Command) (given : List Argument) → called ≡ command.Cutat → IsCall commands words called given → (bytes : List ℕ) × IsFill (hex_given 4 given) bytes
+unfolding commands is_cutat
+fill_of words called given is call = hex_of_call is_cutat 4 commands words called given refl (ap is_cutat is) call

@@ -1,5 +1,5 @@
 -- What the program does, by its words: which command they call, and how it ends.
-use Rattle.std.specs.Prelude.{◌≡◌, List, ℕ, map, codes, Result}
+use Rattle.std.specs.Prelude.{◌≡◌, ◌⊎◌, List, ℕ, map, codes, Result}
 use Rattle.mb_model.specs.declared.event.Answered.{Answered}
 use Rattle.mb_model.specs.Outside.{Outside}
 use Rattle.mb_model.specs.Board.{Held}
@@ -13,7 +13,7 @@ use Rattle.mb_model.specs.VerifyCommand.{verify}
 use Rattle.mb_model.specs.AuditCommand.{audit}
 use Rattle.mb_model.specs.ChainCommands.{chain, attach}
 use Rattle.mb_model.specs.GenerateCommand.{generate}
-use Rattle.mb_board.specs.Calls.{Seen, held_in}
+use Rattle.mb_board.specs.Calls.{Seen}
 use Rattle.mb_console.specs.declared.end.End.{End}
 use Rattle.mb_console.specs.Ending.{ended_at, EndsOncePrinted}
 use Rattle.mb_console.specs.Words.{Row, Argument, IsCall}
@@ -30,7 +30,9 @@ use Rattle.mb_tools_app.specs.AssemblyCommands.{asm, disasm}
 use Rattle.mb_tools_app.specs.Names.{app_given, asm_given, disasm_given}
 use Rattle.mb_tools_fleet.specs.FleetCommand.{fleet}
 use Rattle.mb_tools_fleet.specs.FleetWords.{fleet_given}
-use Rattle.mb_top.specs.Names.{run_given, generate_given}
+use Rattle.mb_tools_device.specs.CutCommand.{cutat}
+use Rattle.mb_tools_device.specs.Names.{run_given, cut_given, generate_given}
+use Rattle.mb_tools_device.specs.Holding.{HoldsAnswered, HoldsShut}
 use Rattle.mb_top.specs.declared.table.TheConstants.{COMMANDS}
 use Rattle.mb_top.specs.declared.table.Command.{Command}
 use Rattle.mb_top.specs.declared.table.Command.TheVariants as command
@@ -59,6 +61,7 @@ command_of command.Migrate given = migrate (migrate_given given)
 command_of command.App given = app (app_given given)
 command_of command.Asm given = asm (asm_given given)
 command_of command.Disasm given = disasm (disasm_given given)
+command_of command.Cutat given = cutat (cut_given given)
 command_of command.Generate given = generate (generate_given given)
 
 -- How the program ends.
@@ -78,6 +81,6 @@ abbrev pub CarriesOutWords :
 CarriesOutWords words answered final before result now =
     EndsOncePrinted (λ after status. Ends words (ended_at before answered final after status)) result now
 
--- a board holds what it held at its last answer
-abbrev pub HoldsAnswered : Seen → Type 0
-HoldsAnswered seen = seen.ledger.standing ≡ held_in seen
+-- A board holds what it held at its last answer. Or an allocation failed between two runs, and power was turned off.
+abbrev pub HoldsAtStatus : ℕ → Seen → Type 0
+HoldsAtStatus status seen = HoldsAnswered seen ⊎ ((status ≡ 6) × HoldsShut seen)

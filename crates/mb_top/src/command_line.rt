@@ -5,7 +5,8 @@ ghost use Rattle.mb_model.specs.Board.{Held};
 ghost use Rattle.mb_model.specs.Commands.{PrintEnds, Stops, at_first};
 ghost use Rattle.mb_console.specs.Ending.{ended_at, end_line, end_status};
 ghost use Rattle.mb_top.specs.Program.{ProgramEnds, end_without};
-ghost use Rattle.mb_top.specs.Top.{HoldsAnswered};
+ghost use Rattle.mb_tools_device.specs.Holding.{HoldsAnswered};
+ghost use Rattle.mb_top.specs.Top.{HoldsAtStatus};
 ghost use Rattle.mb_top.specs.Usage.{usage};
 
 use crate::commands::top;
@@ -62,7 +63,7 @@ pub fn program<H: Host, B: Board>(
     ensures none { IfErr words (λ why. Stops (end_line (end_without why)) (end_status (end_without why)) at_first
         (ended_at (H.outside host.old) (B.seen board.new).ledger.answered (B.seen board.new).ledger.standing
         (H.outside host.new) result)) }
-    ensures stays { HoldsAnswered (B.seen board.old) → HoldsAnswered (B.seen board.new) }
+    ensures stays { HoldsAnswered (B.seen board.old) → HoldsAtStatus result (B.seen board.new) }
 {
     match words {
         Ok(words) => answer(alloc, &words, host, board),
@@ -80,7 +81,7 @@ fn answer<H: Host, B: Board>(alloc: Global, words: &[String], host: &mut H, boar
     ensures carried { ProgramEnds usage VERSION.now (map string_bytes words.now)
         (ended_at (H.outside host.old) (B.seen board.new).ledger.answered (B.seen board.new).ledger.standing
         (H.outside host.new) result) }
-    ensures stays { HoldsAnswered (B.seen board.old) → HoldsAnswered (B.seen board.new) }
+    ensures stays { HoldsAnswered (B.seen board.old) → HoldsAtStatus result (B.seen board.new) }
 {
     if is_one_word(words, "--help") {
         tell(host, usage().as_slice())

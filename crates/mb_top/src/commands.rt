@@ -4,10 +4,9 @@ ghost use Rattle.std.specs.Prelude.{◌≡◌, ◌<◌, ◌⊎◌, ℕ, MatchOpt
 ghost use Rattle.mb_model.specs.Commands.{HasInputsFor, ComesToRefusal, IsFaultless, at_first};
 ghost use Rattle.mb_console.specs.Ending.{CarriesOutRest};
 ghost use Rattle.mb_console.specs.Words.{Argument, IsCall, given_argument};
-ghost use Rattle.mb_top.specs.Top.{commands, command_of, Ends, HoldsAnswered, CarriesOutWords};
+ghost use Rattle.mb_top.specs.Top.{commands, command_of, Ends, HoldsAtStatus, CarriesOutWords};
+ghost use Rattle.mb_tools_device.specs.Holding.{HoldsAnswered, EndsHolding};
 
-use crate::generate::{GenerateNames, generate};
-use crate::run::{RunNames, run};
 use crate::table::{COMMANDS, Call, Command, call_in};
 use mb_board::Board;
 use mb_console::{End, stop};
@@ -24,6 +23,9 @@ use mb_tools::verify::{VerifyNames, verify};
 use mb_tools_app::app::{AppNames, app};
 use mb_tools_app::asm::{AsmNames, asm};
 use mb_tools_app::disasm::{DisasmNames, disasm};
+use mb_tools_device::cutat::{CutNames, cutat};
+use mb_tools_device::generate::{GenerateNames, generate};
+use mb_tools_device::run::{RunNames, run};
 use mb_tools_fleet::fleet::{FleetNames, fleet};
 use mb_tools_hss::endorse::{EndorseNames, endorse};
 use mb_tools_hss::endorsed::{EndorsedNames, endorsed};
@@ -45,7 +47,7 @@ fn command<H: Host, B: Board>(
     requires none_answered { (B.seen board.old).ledger.answered ≡ [] }
     ensures carried { CarriesOutWords (map string_bytes words.now) (B.seen board.new).ledger.answered (B.seen board.new).ledger.standing
         (H.outside host.old) result (H.outside host.new) }
-    ensures stays { HoldsAnswered (B.seen board.old) → HoldsAnswered (B.seen board.new) }
+    ensures stays { HoldsAnswered (B.seen board.old) → EndsHolding result (B.seen board.new) }
 {
     counted_command::<H, B, Brand>(alloc, words, host, board, Blank::new(1))
 }
@@ -66,7 +68,7 @@ fn counted_command<H: Host, B: Board, L: Ledger>(
     requires none_answered { (B.seen board.old).ledger.answered ≡ [] }
     ensures carried { CarriesOutWords (map string_bytes words.now) (B.seen board.new).ledger.answered (B.seen board.new).ledger.standing
         (H.outside host.old) result (H.outside host.new) }
-    ensures stays { HoldsAnswered (B.seen board.old) → HoldsAnswered (B.seen board.new) }
+    ensures stays { HoldsAnswered (B.seen board.old) → EndsHolding result (B.seen board.new) }
 {
     let mut hashes = HashCount::<L>::begin(alloc, blank);
     match called(words) {
@@ -98,7 +100,7 @@ fn carry_out<H: Host, B: Board, L: Ledger>(
     requires none_answered { (B.seen board.old).ledger.answered ≡ [] }
     ensures carried { CarriesOutRest (command_of call.now.command (map given_argument call.now.arguments.items)) at_first
         (B.seen board.new).ledger.answered (B.seen board.new).ledger.standing (H.outside host.old) result (H.outside host.new) }
-    ensures stays { HoldsAnswered (B.seen board.old) → HoldsAnswered (B.seen board.new) }
+    ensures stays { HoldsAnswered (B.seen board.old) → EndsHolding result (B.seen board.new) }
 {
     let given = &call.arguments;
     match call.command {
@@ -120,6 +122,7 @@ fn carry_out<H: Host, B: Board, L: Ledger>(
         Command::App => app(alloc, &AppNames::of(given), host, hashes),
         Command::Asm => asm(alloc, &AsmNames::of(given), host),
         Command::Disasm => disasm(alloc, &DisasmNames::of(given), host),
+        Command::Cutat => cutat(alloc, &CutNames::of(given), host, board, hashes),
         Command::Generate => generate(alloc, &GenerateNames::of(given), host, board, hashes),
     }
 }
@@ -141,7 +144,7 @@ pub fn top<H: Host, B: Board>(alloc: Global, words: &[String], host: &mut H, boa
         → (files : List ℕ → Option (List ℕ)) → (H.outside host.old).files ≡ Some files → HasInputsFor (command_of called given) files
         → IsFaultless (H.outside host.old) (H.outside host.new)
         → (result ≡ 0) ⊎ (result ≡ 6) ⊎ ((result ≡ 7) × ComesToRefusal (command_of called given) files) }
-    ensures stays { HoldsAnswered (B.seen board.old) → HoldsAnswered (B.seen board.new) }
+    ensures stays { HoldsAnswered (B.seen board.old) → HoldsAtStatus result (B.seen board.new) }
 {
     match command(alloc, words, host, board) {
         Ok(()) => 0,

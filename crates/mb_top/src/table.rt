@@ -7,6 +7,7 @@ ghost use Rattle.mb_top.specs.Usage.{AllFit, usage_line};
 
 use arrayvec::ArrayVec;
 use mb_console::{Arguments, Kind, WORD_LIMIT, Word, arguments_of};
+use mb_model::CUT_LIMIT;
 
 /// The commands of the program.
 #[derive(Clone, Copy)]
@@ -29,6 +30,7 @@ pub enum Command {
     App,
     Asm,
     Disasm,
+    Cutat,
     Generate,
 }
 
@@ -36,9 +38,19 @@ const CHAIN: Word = ("CHAIN", Kind::File);
 
 const CODE: Word = ("CODE", Kind::File);
 
+const COUNT: Word = (
+    "COUNT",
+    Kind::Number {
+        least: 1,
+        most: CUT_LIMIT,
+    },
+);
+
 const DRAFT: Word = ("DRAFT", Kind::File);
 
 const ENDORSEMENT: Word = ("ENDORSEMENT", Kind::File);
+
+const FILL: Word = ("FILL", Kind::Hex);
 
 const IMAGE: Word = ("IMAGE", Kind::File);
 
@@ -104,7 +116,7 @@ const TEXT: Word = ("TEXT", Kind::File);
 pub type Row = (Command, &'static str, &'static [Word], &'static str);
 
 /// The commands in the order in which `--help` lists them.
-pub const COMMANDS: [Row; 19] = [
+pub const COMMANDS: [Row; 20] = [
     (
         Command::Run,
         "run",
@@ -241,6 +253,15 @@ pub const COMMANDS: [Row; 19] = [
         &[CODE, OUT],
         "
       lists the code, writes its text, and prints how many lines that has",
+    ),
+    (
+        Command::Cutat,
+        "cutat",
+        &[IMAGE, SCRIPT, NOISE, COUNT, FILL],
+        "
+      serves SCRIPT on the device of IMAGE, and cuts power in the write with the number COUNT, 1 to 100,000,
+      of its last event; prints which state that leaves, and writes no file; FILL is what the write leaves,
+      1 to 16 bytes in hexadecimal",
     ),
     (
         Command::Generate,

@@ -1,0 +1,11 @@
+pub mod Buffers
+pub mod RunLemmas
+pub mod SummaryLemmas
+pub mod GenerateLemmas
+pub mod MachineLemmas
+pub mod RefusingLemmas
+pub mod TwiceLemmas
+pub mod CutLemmas
+pub mod CutRuns
+pub mod Shutting
+pub mod FirstRun

@@ -1,0 +1,39 @@
+use Rattle.std.proofs.Common.{◌≡◌, true, false, length, refl, sym, ◌∙◌, ap, subst, arith, length-append}
+use Rattle.std.specs.Prelude.{Any}
+use Rattle.mb_model.specs.declared.reply.Reply.TheVariants as reply
+use Rattle.sha2.specs.Sha256.{sha256}
+use Rattle.mb_model.specs.Lines.{text_of}
+use Rattle.mb_model.specs.Listing.{summary}
+use Rattle.mb_model.specs.Board.{Memory, image_of}
+use Rattle.mb_model.specs.Meaning.{StandsFor}
+use Rattle.mb_tools_device.proofs.Buffers.{filled_whole}
+use Rattle.mb_tools_device.proofs.GenerateLemmas.{summary_lacks, summary_told}
+use Rattle.mb_tools_device.proofs.generate.summarise.Goals as goal
+
+pub returns-then-wants_memory : goal.returns-then-wants_memory
+returns-then-wants_memory g c = λ past same.
+    let board = c.args.board.now in
+    let some = subst (λ l. Any (λ a. a.reply ≡ reply.NoMemory) l) c.answered-answered.ensures (c.if-wants_memory.ensures.0 refl) in
+    summary_lacks (g.B.Board.seen board).ledger.answered (g.B.Board.seen board).ledger.standing past
+    (g.H.Host.outside c.args.host.now) some same
+
+pub returns : goal.returns
+returns g c = λ past same.
+    let board = c.args.board.now in
+    let memory = (g.B.Board.seen board).memory in
+    let final = (g.B.Board.seen board).ledger.standing in
+    let answered = (g.B.Board.seen board).ledger.answered in
+    let sized : c.args.image.len ≡ length c.copy_image.new.out =
+    omega (arith, c.requires.room, c.args.image.ok, ap length c.copy_image.ensures, length-append memory.flash memory.bbram, c.requires.loaded.flash, c.requires.loaded.bbram) in
+    let filled = filled_whole c.args.image.len c.copy_image.new.out c.args.image.items sized ∙ c.copy_image.ensures in
+    let last = c.requires.shown.0 in
+    let shown = c.requires.shown.1 in
+    let stands = subst (λ (m : Memory). StandsFor m.flash m.bbram last.state) c.requires.answered shown.stands in
+    let counted = c.log_length.ensures memory.flash memory.bbram last.state (c.deref.ensures.value ∙ filled, c.requires.loaded) stands in
+    let told = c.as_slice.ensures.value ∙ c.summary_of-summary.ensures
+    ∙ ap (λ a. text_of (summary a c.log_length.result c.digest-hash.result)) c.answered-answered.ensures
+    ∙ ap (λ h. text_of (summary answered c.log_length.result h)) (c.digest-hash.ensures ∙ ap sha256 (filled ∙ ap image_of (sym c.requires.answered))) in
+    let none : Any (λ a. a.reply ≡ reply.NoMemory) answered → ⊥ =
+    λ some. (let bad : false ≡ true = c.if-wants_memory.ensures.1 (subst (λ l. Any (λ a. a.reply ≡ reply.NoMemory) l) (sym c.answered-answered.ensures) some) in cc) in
+    summary_told answered final c.log_length.result c.as_slice.result.now past (g.H.Host.outside c.args.host.now) (g.H.Host.outside c.print_text.new.host) c.print_text.result
+    none (record { last = last; shown = shown; entries_is = counted }) told c.print_text.ensures same

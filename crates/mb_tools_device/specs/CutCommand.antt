@@ -1,0 +1,157 @@
+-- What the command `cutat` does. Which state does a power loss in the last event of a script leave: the one before that
+-- event, or the one after it?
+use Rattle.std.specs.Prelude.{◌≡◌, ◌≢◌, ℕ, ◌+◌, ◌≤◌, ◌⊎◌, false, List, [], ◌∷◌, ◌++◌, length, codes, All, Any, Option}
+use Rattle.mb_model.specs.declared.event.Event.{Event}
+use Rattle.mb_model.specs.declared.event.Event.TheVariants as event
+use Rattle.mb_model.specs.declared.event.Tear.{Tear}
+use Rattle.mb_model.specs.declared.event.Answered.{Answered}
+use Rattle.mb_model.specs.declared.limits.TheConstants.{EVENT_LIMIT}
+use Rattle.mb_model.specs.declared.reply.Reply.TheVariants as reply
+use Rattle.mb_model.specs.declared.role.Role.TheVariants as role
+use Rattle.mb_model.specs.declared.role.Place.TheVariants as fault
+use Rattle.mb_model.specs.declared.state.State.{State}
+use Rattle.mb_model.specs.Texts.{IsHex, ended}
+use Rattle.mb_model.specs.Lines.{ReadsLines, TextFailsAtLine}
+use Rattle.mb_model.specs.Script.{IsScript, tear_of}
+use Rattle.mb_model.specs.Machine.{World}
+use Rattle.mb_model.specs.Board.{Held}
+use Rattle.mb_model.specs.Acknowledged.{Shows}
+use Rattle.mb_model.specs.Inputs.{image_input, draws_input}
+use Rattle.mb_model.specs.Commands.{Input, Command, read, find, either_command, rehearse, serve, print, lack}
+use Rattle.mb_model.specs.RunCommand.{IsServed}
+use Rattle.mb_tools_device.specs.MachineRuns.{MachineComesTo, is_cut}
+
+-- the names of the files, the number of the write that is cut, and the word of the bytes that fill its range
+pub record CutNames : Type 0 where
+  pub image : List ℕ
+  pub script : List ℕ
+  pub noise : List ℕ
+  pub count : ℕ
+  pub fill : List ℕ
+
+-- ---- the script
+
+-- Events of which the last can be cut: there is one, none is a cut itself, and there is room for three events more.
+pub record AreUncut (events : List Event) : Type 0 where
+  pub some : events ≢ []
+  pub uncut : All (λ e. is_cut e ≡ false) events
+  pub most : length events + 3 ≤ EVENT_LIMIT
+
+-- a script whose last event can be cut
+pub record IsUncutScript (lines : List (List ℕ)) (events : List Event) : Type 0 where
+  pub script : IsScript lines events
+  pub uncut : AreUncut events
+
+-- Where a text is a script, this line is the first that is wrong in a script whose last event can be cut.
+pub record IsRefusedAt (text : List ℕ) (n : ℕ) : Type 0 where
+  pub events : List Event
+  pub script : ReadsLines IsScript text events
+  pub fails : TextFailsAtLine IsUncutScript text n
+
+-- It is at fault at the first line that is wrong in a script, or, where there is none, in one whose last event can be
+-- cut.
+abbrev pub uncut_script_input : List ℕ → Input (List Event)
+uncut_script_input name = record {
+  role = role.Script;
+  name = name;
+  Is = ReadsLines IsUncutScript;
+  FaultyAt = λ bytes place. (n : ℕ) × (place ≡ fault.Line n) × (TextFailsAtLine IsScript bytes n ⊎ IsRefusedAt bytes n);
+}
+
+-- ---- the two runs
+
+-- the events before the last one, the last one, and what is left of the write in which it is cut
+pub record CutRun : Type 0 where
+  pub first : List Event
+  pub last : Event
+  pub tear : Tear
+
+-- They are the events of a script. Nothing is kept of the write, and the bytes of this word fill its range.
+pub record IsCutRun (fill_word : List ℕ) (events : List Event) (cut : CutRun) : Type 0 where
+  pub whole : events ≡ cut.first ++ cut.last ∷ []
+  pub fill : List ℕ
+  pub filled : IsHex fill_word fill
+  pub torn : cut.tear ≡ tear_of 0 fill
+
+-- the events of the second run: power fails in the last event of the script, and then the device is booted
+abbrev pub cut_events : ℕ → CutRun → List Event
+cut_events count cut = cut.first ++ event.Cut count cut.tear ∷ cut.last ∷ event.Boot ∷ event.Off ∷ []
+
+-- memory was wanted for one of the events
+abbrev pub AnyLacksMemory : List Answered → Type 0
+AnyLacksMemory answered = Any (λ a. a.reply ≡ reply.NoMemory) answered
+
+-- the third answer from the end, which is that to the script's last event, is that power failed
+pub record LastIsStopped (answered : List Answered) : Type 0 where
+  pub before : List Answered
+  pub last : Answered
+  pub boot : Answered
+  pub off : Answered
+  pub split : answered ≡ before ++ last ∷ boot ∷ off ∷ []
+  pub stopped : last.reply ≡ reply.Stopped
+
+-- what a board holds shows this state
+pub record ShowsState (held : Held) (state : Option State) : Type 0 where
+  pub world : World
+  pub shown : Shows held world
+  pub is : world.state ≡ state
+
+-- The first run was served. Unless memory was wanted, it leaves the state to which the machine comes.
+pub record IsRehearsed (state : Option State) (cut : CutRun) (answered : List Answered) (held : Held) : Type 0 where
+  pub served : IsServed state cut.first answered held
+  pub whole : (AnyLacksMemory answered → ⊥)
+      → (old : Option State) × ShowsState held old × MachineComesTo state cut.first old
+
+-- The second run was served. Where power failed in the script's last event, it leaves the state to which the machine
+-- comes before that event, or after it.
+pub record IsCutServed
+    (state : Option State)
+    (count : ℕ)
+    (cut : CutRun)
+    (answered : List Answered)
+    (final : Held) : Type 0 where
+  pub served : IsServed state (cut_events count cut) answered final
+  pub counts : (AnyLacksMemory answered → ⊥) → LastIsStopped answered
+      → (old : Option State) × (new : Option State) × MachineComesTo state cut.first old
+      × MachineComesTo state (cut.first ++ cut.last ∷ []) new × (ShowsState final old ⊎ ShowsState final new)
+
+-- both runs leave one state
+pub record ShowSame (held final : Held) : Type 0 where
+  pub state : Option State
+  pub first : ShowsState held state
+  pub second : ShowsState final state
+
+-- ---- the command
+
+-- which state is left where power failed
+abbrev pub tell_state : Held → Held → Command
+tell_state held final =
+    either_command (ShowSame held final) (print (ended (codes "old"))) (print (ended (codes "new")))
+
+-- whether power failed in the last event, and which state is left then
+abbrev pub tell_cut : Held → List Answered → Held → Command
+tell_cut held answered final =
+    either_command (AnyLacksMemory answered) lack
+    (either_command (LastIsStopped answered) (tell_state held final) (print (ended (codes "unstopped"))))
+
+-- once the first run was served, the second is, from the same image
+abbrev pub serve_cut : CutNames → Option State → CutRun → List Answered → Held → Command
+serve_cut names state cut answered held =
+    either_command (AnyLacksMemory answered) lack (serve (IsCutServed state names.count cut) (tell_cut held))
+
+abbrev pub serve_first : CutNames → Option State → CutRun → Command
+serve_first names state cut = rehearse (IsRehearsed state cut) (serve_cut names state cut)
+
+abbrev pub serve_twice : CutNames → Option State → List Event → Command
+serve_twice names state events = find (IsCutRun names.fill events) (serve_first names state)
+
+abbrev pub read_cut_noise : CutNames → Option State → List Event → Command
+read_cut_noise names state events = read (draws_input events names.noise) (serve_twice names state)
+
+abbrev pub read_uncut_script : CutNames → Option State → Command
+read_uncut_script names state = read (uncut_script_input names.script) (read_cut_noise names state)
+
+-- Image, script and noise are read, and the events are served twice: those before the last, and then all of them with
+-- a power loss in the last. No file is written.
+unfoldable pub cutat : CutNames → Command
+cutat names = read (image_input names.image) (read_uncut_script names)

@@ -1,0 +1,292 @@
+//! The command `cutat`.
+
+ghost use Rattle.std.specs.Prelude.{◌≡◌, ◌≤◌, ℕ, List, [], length, All, None, Option, false, map};
+ghost use Rattle.mb_model.specs.declared.event.Answered.{Answered as Gave};
+ghost use Rattle.mb_model.specs.declared.limits.TheConstants.{CUT_LIMIT, EVENT_LIMIT, IMAGE_LENGTH};
+ghost use Rattle.mb_model.specs.declared.state.State.{State as Stands};
+ghost use Rattle.mb_model.specs.Board.{Held, IsLoaded, image_of};
+ghost use Rattle.mb_model.specs.Commands.{at_first, serve};
+ghost use Rattle.mb_model.specs.Meaning.{IsWellFormed};
+ghost use Rattle.mb_model.specs.Script.{IsScriptEvent};
+ghost use Rattle.mb_script.specs.Reading.{IsFill};
+ghost use Rattle.mb_console.specs.Words.{given_argument};
+ghost use Rattle.mb_console.specs.Ending.{CarriesOutRest};
+ghost use Rattle.mb_tools_device.specs.CutCommand.{AreUncut, CutRun, IsCutServed, cut_events, cutat, read_uncut_script, read_cut_noise, serve_twice, serve_first, tell_cut, tell_state};
+ghost use Rattle.mb_tools_device.specs.Holding.{HoldsAnswered, HoldsShut, EndsHolding};
+ghost use Rattle.mb_tools_device.specs.Names.{cut_files, cut_given};
+ghost use Rattle.mb_tools_device.specs.TwoRuns.{AreRuns, CanBeCut, IsImageLeft};
+
+use crate::scripts::{UncutScriptForm, read_draws};
+use crate::summary::wants_memory;
+use crate::twice::{TwoRuns, last_is_stopped, two_runs};
+use mb_board::Board;
+use mb_console::{Arguments, End, file, hex, number, print_text, read_as};
+use mb_device::Device;
+use mb_host::Host;
+use mb_image::{same_state, stand_for};
+use mb_lms::HashCount;
+use mb_model::{Events, Role};
+use mb_tools::read_image;
+use std::alloc::Global;
+use std::sync::ledger::Ledger;
+
+/// The names of the files of `cutat`, the write that is cut, and the bytes that fill its range.
+#[derive(Clone, Copy)]
+pub struct CutNames<'a> {
+    pub image: &'a str,
+    pub script: &'a str,
+    pub noise: &'a str,
+    /// The number of the write, 1 to 100,000.
+    pub count: u32,
+    /// 1 to 16 bytes in hexadecimal.
+    pub fill: &'a str,
+}
+
+impl<'a> CutNames<'a> {
+    /// The names by their places among the arguments of `cutat`.
+    pub fn of(given: &Arguments<'a>) -> CutNames<'a>
+        ensures { cut_files result ≡ cut_given (map given_argument given.now.items) }
+    {
+        CutNames {
+            image: file(given, 0),
+            script: file(given, 1),
+            noise: file(given, 2),
+            count: number(given, 3),
+            fill: hex(given, 4),
+        }
+    }
+}
+
+/// Serves a script without its last event, and then all of it with a power loss in that event. Prints whether power
+/// failed there, and which state is left.
+pub fn cutat<H: Host, B: Board, L: Ledger>(
+    alloc: Global,
+    names: &CutNames<'_>,
+    host: &mut H,
+    board: &mut B,
+    hashes: &mut HashCount<L>,
+) -> Result<(), End>
+    requires least { 1 ≤ names.now.count }
+    requires most { names.now.count ≤ CUT_LIMIT }
+    requires fill { (bytes : List ℕ) × IsFill names.now.fill.now bytes }
+    requires off { (B.seen board.old).power ≡ false }
+    requires none_out { (B.seen board.old).ledger.out ≡ None }
+    requires none_answered { (B.seen board.old).ledger.answered ≡ [] }
+    ensures carried { CarriesOutRest (cutat (cut_files names.now)) at_first (B.seen board.new).ledger.answered
+        (B.seen board.new).ledger.standing (H.outside host.old) result (H.outside host.new) }
+    ensures stays { HoldsAnswered (B.seen board.old) → EndsHolding result (B.seen board.new) }
+{
+    let image = read_image(alloc, host, names.image, hashes)?;
+    cut_image(alloc, names, image.bytes, host, board, hashes)
+}
+
+/// Reads the script, and goes on with its events.
+fn cut_image<H: Host, B: Board, L: Ledger>(
+    alloc: Global,
+    names: &CutNames<'_>,
+    image: Vec<u8>,
+    host: &mut H,
+    board: &mut B,
+    hashes: &mut HashCount<L>,
+) -> Result<(), End>
+    requires least { 1 ≤ names.now.count }
+    requires most { names.now.count ≤ CUT_LIMIT }
+    requires fill { (bytes : List ℕ) × IsFill names.now.fill.now bytes }
+    requires off { (B.seen board.old).power ≡ false }
+    requires none_out { (B.seen board.old).ledger.out ≡ None }
+    requires none_answered { (B.seen board.old).ledger.answered ≡ [] }
+    requires image { (state : Option Stands) × IsWellFormed image.items state }
+    ensures carried { (state : Option Stands) → IsWellFormed image.items state
+        → CarriesOutRest (read_uncut_script (cut_files names.now) state) at_first (B.seen board.new).ledger.answered
+        (B.seen board.new).ledger.standing (H.outside host.old) result (H.outside host.new) }
+    ensures stays { HoldsAnswered (B.seen board.old) → EndsHolding result (B.seen board.new) }
+{
+    let events = read_as(alloc, host, Role::Script, names.script, UncutScriptForm)?;
+    cut_script(alloc, names, image, events, host, board, hashes)
+}
+
+/// Reads the noise, and goes on with the draws of the events.
+fn cut_script<H: Host, B: Board, L: Ledger>(
+    alloc: Global,
+    names: &CutNames<'_>,
+    image: Vec<u8>,
+    events: Events,
+    host: &mut H,
+    board: &mut B,
+    hashes: &mut HashCount<L>,
+) -> Result<(), End>
+    requires least { 1 ≤ names.now.count }
+    requires most { names.now.count ≤ CUT_LIMIT }
+    requires fill { (bytes : List ℕ) × IsFill names.now.fill.now bytes }
+    requires off { (B.seen board.old).power ≡ false }
+    requires none_out { (B.seen board.old).ledger.out ≡ None }
+    requires none_answered { (B.seen board.old).ledger.answered ≡ [] }
+    requires image { (state : Option Stands) × IsWellFormed image.items state }
+    requires uncut { AreUncut events }
+    requires events { All IsScriptEvent events }
+    ensures carried { (state : Option Stands) → IsWellFormed image.items state
+        → CarriesOutRest (read_cut_noise (cut_files names.now) state events) at_first (B.seen board.new).ledger.answered
+        (B.seen board.new).ledger.standing (H.outside host.old) result (H.outside host.new) }
+    ensures stays { HoldsAnswered (B.seen board.old) → EndsHolding result (B.seen board.new) }
+{
+    let drawn = read_draws(alloc, host, names.noise, events)?;
+    cut_drawn(alloc, names, image, drawn, host, board, hashes)
+}
+
+/// Finds the events of both runs, and goes on with them.
+fn cut_drawn<H: Host, B: Board, L: Ledger>(
+    alloc: Global,
+    names: &CutNames<'_>,
+    image: Vec<u8>,
+    events: Events,
+    host: &mut H,
+    board: &mut B,
+    hashes: &mut HashCount<L>,
+) -> Result<(), End>
+    requires least { 1 ≤ names.now.count }
+    requires most { names.now.count ≤ CUT_LIMIT }
+    requires fill { (bytes : List ℕ) × IsFill names.now.fill.now bytes }
+    requires off { (B.seen board.old).power ≡ false }
+    requires none_out { (B.seen board.old).ledger.out ≡ None }
+    requires none_answered { (B.seen board.old).ledger.answered ≡ [] }
+    requires image { (state : Option Stands) × IsWellFormed image.items state }
+    requires uncut { AreUncut events }
+    requires events { All IsScriptEvent events }
+    ensures carried { (state : Option Stands) → IsWellFormed image.items state
+        → CarriesOutRest (serve_twice (cut_files names.now) state events) at_first (B.seen board.new).ledger.answered
+        (B.seen board.new).ledger.standing (H.outside host.old) result (H.outside host.new) }
+    ensures stays { HoldsAnswered (B.seen board.old) → EndsHolding result (B.seen board.new) }
+{
+    let Ok(runs) = two_runs(alloc, events, names.count, names.fill) else {
+        return Err(End::NoMemory);
+    };
+    serve_first(alloc, names, image, runs, host, board, hashes)
+}
+
+/// Serves the first run, keeps the image that it leaves, turns power off, and goes on with the second run.
+fn serve_first<H: Host, B: Board, L: Ledger>(
+    alloc: Global,
+    names: &CutNames<'_>,
+    image: Vec<u8>,
+    runs: TwoRuns,
+    host: &mut H,
+    board: &mut B,
+    hashes: &mut HashCount<L>,
+) -> Result<(), End>
+    requires off { (B.seen board.old).power ≡ false }
+    requires none_out { (B.seen board.old).ledger.out ≡ None }
+    requires none_answered { (B.seen board.old).ledger.answered ≡ [] }
+    requires image { (state : Option Stands) × IsWellFormed image.items state }
+    requires first_count { length runs.first ≤ EVENT_LIMIT }
+    requires first_events { All IsScriptEvent runs.first }
+    requires second_count { length runs.second ≤ EVENT_LIMIT }
+    requires second_events { All IsScriptEvent runs.second }
+    ensures carried { (state : Option Stands) (cut : CutRun) → IsWellFormed image.items state
+        → AreRuns names.now.count runs.first runs.second cut
+        → CarriesOutRest (serve_first (cut_files names.now) state cut) at_first (B.seen board.new).ledger.answered
+        (B.seen board.new).ledger.standing (H.outside host.old) result (H.outside host.new) }
+    ensures stays { HoldsAnswered (B.seen board.old) → EndsHolding result (B.seen board.new) }
+{
+    let Ok(mut before) = Vec::from_slice(alloc, &image) else {
+        return Err(End::NoMemory);
+    };
+    let TwoRuns { first, second } = runs;
+    match board.load(alloc, &image, first) {
+        Ok(()) => {}
+        Err(_) => return Err(End::NoMemory),
+    }
+    let device = Device::start(board).serve(alloc, board, hashes);
+    board.copy_image(&mut before);
+    if wants_memory(board.answered()) {
+        return Err(End::NoMemory);
+    }
+    device.shut(board);
+    serve_cut(alloc, names, image, &before, second, host, board, hashes)
+}
+
+/// Serves the second run from the same image, and tells what it leaves. `before` is the image that the first run left.
+fn serve_cut<H: Host, B: Board, L: Ledger>(
+    alloc: Global,
+    names: &CutNames<'_>,
+    image: Vec<u8>,
+    before: &[u8],
+    events: Events,
+    host: &mut H,
+    board: &mut B,
+    hashes: &mut HashCount<L>,
+) -> Result<(), End>
+    requires off { (B.seen board.old).power ≡ false }
+    requires none_out { (B.seen board.old).ledger.out ≡ None }
+    requires image { (state : Option Stands) × IsWellFormed image.items state }
+    requires count { length events ≤ EVENT_LIMIT }
+    requires events { All IsScriptEvent events }
+    ensures carried { (state : Option Stands) (cut : CutRun) (held : Held) → IsWellFormed image.items state
+        → events ≡ cut_events names.now.count cut → CanBeCut names.now.count cut → IsImageLeft held before.now
+        → CarriesOutRest (serve (IsCutServed state names.now.count cut) (tell_cut held))
+        (record { answered = (B.seen board.old).ledger.answered; wrote = false }) (B.seen board.new).ledger.answered
+        (B.seen board.new).ledger.standing (H.outside host.old) result (H.outside host.new) }
+    ensures stays { HoldsShut (B.seen board.old) → EndsHolding result (B.seen board.new) }
+{
+    match board.load(alloc, &image, events) {
+        Ok(()) => {}
+        Err(_) => return Err(End::NoMemory),
+    }
+    let _device = Device::start(board).serve(alloc, board, hashes);
+    tell_cut(alloc, image, before, host, board, hashes)
+}
+
+/// Tells whether power failed in the last event, and which state is left. The bytes of `image` are room for the image
+/// that the board holds.
+fn tell_cut<H: Host, B: Board, L: Ledger>(
+    alloc: Global,
+    mut image: Vec<u8>,
+    before: &[u8],
+    host: &mut H,
+    board: &B,
+    hashes: &mut HashCount<L>,
+) -> Result<(), End>
+    requires loaded { IsLoaded (B.seen board.now).memory }
+    requires answered { (B.seen board.now).ledger.standing.memory ≡ (B.seen board.now).memory }
+    requires room { length image.items ≡ IMAGE_LENGTH }
+    ensures { (held : Held) → IsImageLeft held before.now
+        → ((last : List ℕ) → last ≡ image_of (B.seen board.now).memory → IsImageLeft (B.seen board.now).ledger.standing last)
+        → CarriesOutRest (tell_cut held (B.seen board.now).ledger.answered (B.seen board.now).ledger.standing)
+        (record { answered = (B.seen board.now).ledger.answered; wrote = false }) (B.seen board.now).ledger.answered
+        (B.seen board.now).ledger.standing (H.outside host.old) result (H.outside host.new) }
+{
+    let answered = board.answered();
+    if wants_memory(answered) {
+        return Err(End::NoMemory);
+    }
+    if !last_is_stopped(answered) {
+        return print_text(host, b"unstopped\n");
+    }
+    board.copy_image(&mut image);
+    tell_state(alloc, before, &image, host, hashes)
+}
+
+/// Tells whether two images stand for one state. Each is a board's, so that it stands for a state, and nothing but want
+/// of memory keeps it from being read.
+fn tell_state<H: Host, L: Ledger>(
+    alloc: Global,
+    before: &[u8],
+    after: &[u8],
+    host: &mut H,
+    hashes: &mut HashCount<L>,
+) -> Result<(), End>
+    ensures { (held final : Held) (answered : List Gave) → IsImageLeft held before.now → IsImageLeft final after.now
+        → CarriesOutRest (tell_state held final) (record { answered = answered; wrote = false }) answered final
+        (H.outside host.old) result (H.outside host.new) }
+{
+    let Ok(before) = stand_for(alloc, before, hashes) else {
+        return Err(End::NoMemory);
+    };
+    let Ok(after) = stand_for(alloc, after, hashes) else {
+        return Err(End::NoMemory);
+    };
+    if same_state(&before, &after) {
+        print_text(host, b"old\n")
+    } else {
+        print_text(host, b"new\n")
+    }
+}

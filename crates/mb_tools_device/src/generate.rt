@@ -1,0 +1,184 @@
+//! The command `generate`.
+
+ghost use Rattle.std.specs.Prelude.{◌≡◌, ◌≤◌, [], length, All, IfOk, IfErr, OnOk, None, false, map};
+ghost use Rattle.mb_model.specs.declared.limits.TheConstants.{EVENT_LIMIT, IMAGE_LENGTH};
+ghost use Rattle.mb_model.specs.Board.{IsLoaded};
+ghost use Rattle.mb_model.specs.Machine.{World};
+ghost use Rattle.mb_model.specs.Acknowledged.{Shows};
+ghost use Rattle.mb_model.specs.Script.{IsScriptEvent};
+ghost use Rattle.mb_model.specs.Commands.{Past, at_first};
+ghost use Rattle.mb_model.specs.GenerateCommand.{generate, summarise};
+ghost use Rattle.mb_model.specs.Workload.{IsWorkload};
+ghost use Rattle.mb_generate.specs.Serving.{CanBeServed};
+ghost use Rattle.mb_tools_device.specs.Names.{generate_files, generate_given};
+ghost use Rattle.mb_console.specs.Words.{given_argument};
+ghost use Rattle.mb_console.specs.Ending.{CarriesOutRest};
+ghost use Rattle.mb_tools_device.specs.Holding.{HoldsAnswered};
+ghost use Rattle.mb_console.specs.Outputs.{WritesAll, StopsWriting};
+ghost use Rattle.mb_tools_device.specs.Generated.{HasEvents, workload_outputs};
+
+use crate::summary::{summary_of, wants_memory};
+use mb_board::Board;
+use mb_console::{Arguments, End, Output, file, number, print_text, write_all};
+use mb_device::Device;
+use mb_generate::workload;
+use mb_host::Host;
+use mb_image::log_length;
+use mb_lms::HashCount;
+use mb_model::{Events, NoMemory, Role, Workload};
+use mb_script::{ScriptEnd, ShortNoise, place_draws, read_script};
+use sha2::{Digest, Sha256};
+use std::alloc::Global;
+use std::sync::ledger::Ledger;
+
+/// The number of a workload, how many rounds it has, and the names of its files.
+#[derive(Clone, Copy)]
+pub struct GenerateNames<'a> {
+    pub number: u32,
+    /// 1 to 24.
+    pub rounds: u32,
+    pub image: &'a str,
+    pub script: &'a str,
+    pub noise: &'a str,
+}
+
+impl<'a> GenerateNames<'a> {
+    /// The names by their places among the arguments of `generate`.
+    pub fn of(given: &Arguments<'a>) -> GenerateNames<'a>
+        ensures { generate_files result ≡ generate_given (map given_argument given.now.items) }
+    {
+        GenerateNames {
+            number: number(given, 0),
+            rounds: number(given, 1),
+            image: file(given, 2),
+            script: file(given, 3),
+            noise: file(given, 4),
+        }
+    }
+}
+
+/// Makes a workload, loads it on the board, writes its three files, serves it, and prints the summary.
+pub fn generate<H: Host, B: Board, L: Ledger>(
+    alloc: Global,
+    names: &GenerateNames<'_>,
+    host: &mut H,
+    board: &mut B,
+    hashes: &mut HashCount<L>,
+) -> Result<(), End>
+    requires least { 1 ≤ names.now.rounds }
+    requires most { names.now.rounds ≤ 24 }
+    requires off { (B.seen board.old).power ≡ false }
+    requires none_out { (B.seen board.old).ledger.out ≡ None }
+    requires none_answered { (B.seen board.old).ledger.answered ≡ [] }
+    ensures carried { CarriesOutRest (generate (generate_files names.now)) at_first (B.seen board.new).ledger.answered (B.seen board.new).ledger.standing
+        (H.outside host.old) result (H.outside host.new) }
+    ensures stays { HoldsAnswered (B.seen board.old) → HoldsAnswered (B.seen board.new) }
+{
+    let Ok(files) = workload(alloc, names.number, names.rounds, hashes) else {
+        return Err(End::NoMemory);
+    };
+    let Ok(events) = events_of(alloc, &files) else {
+        return Err(End::NoMemory);
+    };
+    load_workload(alloc, names, files, events, host, board, hashes)
+}
+
+/// The events of a workload's script with their draws, which come from its noise.
+fn events_of(alloc: Global, files: &Workload) -> Result<Events, NoMemory>
+    requires { CanBeServed files.now }
+    ensures events { IfOk result (HasEvents files.now) }
+    ensures count { IfOk result (λ events. length events ≤ EVENT_LIMIT) }
+    ensures each { IfOk result (All IsScriptEvent) }
+{
+    let mut events = match read_script(alloc, files.script.as_slice()) {
+        Ok(events) => events,
+        Err(ScriptEnd::NoMemory) => return Err(NoMemory),
+        Err(ScriptEnd::BadLine { .. }) => unreachable!(),
+    };
+    match place_draws(&mut events, files.noise.as_slice()) {
+        Ok(()) => Ok(events),
+        Err(ShortNoise) => unreachable!(),
+    }
+}
+
+/// Loads a workload, which has these events, on the board, writes its files, and goes on with serving it.
+fn load_workload<H: Host, B: Board, L: Ledger>(
+    alloc: Global,
+    names: &GenerateNames<'_>,
+    files: Workload,
+    events: Events,
+    host: &mut H,
+    board: &mut B,
+    hashes: &mut HashCount<L>,
+) -> Result<(), End>
+    requires generated { IsWorkload names.now.number names.now.rounds files }
+    requires events { HasEvents files events }
+    requires count { length events ≤ EVENT_LIMIT }
+    requires each { All IsScriptEvent events }
+    requires off { (B.seen board.old).power ≡ false }
+    requires none_out { (B.seen board.old).ledger.out ≡ None }
+    requires none_answered { (B.seen board.old).ledger.answered ≡ [] }
+    ensures carried { CarriesOutRest (generate (generate_files names.now)) at_first (B.seen board.new).ledger.answered (B.seen board.new).ledger.standing
+        (H.outside host.old) result (H.outside host.new) }
+    ensures stays { HoldsAnswered (B.seen board.old) → HoldsAnswered (B.seen board.new) }
+{
+    match board.load(alloc, files.image.as_slice(), events) {
+        Ok(()) => {}
+        Err(_) => return Err(End::NoMemory),
+    }
+    write_files(names, &files, host)?;
+    let _device = Device::start(board).serve(alloc, board, hashes);
+    summarise(files.image.into_vec(), host, board)
+}
+
+/// Writes the three files of a workload.
+fn write_files<H: Host>(
+    names: &GenerateNames<'_>,
+    files: &Workload,
+    host: &mut H,
+) -> Result<(), End>
+    ensures ok { OnOk result (WritesAll (workload_outputs (generate_files names.now) files.now) (H.outside host.old) (H.outside host.new)) }
+    ensures err { IfErr result (λ why. StopsWriting (workload_outputs (generate_files names.now) files.now) (H.outside host.old) why (H.outside host.new)) }
+{
+    let outputs = [
+        Output {
+            role: Role::Image,
+            name: names.image,
+            bytes: files.image.as_slice(),
+        },
+        Output {
+            role: Role::Script,
+            name: names.script,
+            bytes: files.script.as_slice(),
+        },
+        Output {
+            role: Role::Noise,
+            name: names.noise,
+            bytes: files.noise.as_slice(),
+        },
+    ];
+    write_all(host, &outputs)
+}
+
+/// Prints the summary of the answered events, with the length of the log and the hash of the image as the board holds
+/// them now. The bytes `image` are room for that image. If an allocation failed while the events were served, there is no
+/// summary.
+fn summarise<H: Host, B: Board>(mut image: Vec<u8>, host: &mut H, board: &B) -> Result<(), End>
+    requires loaded { IsLoaded (B.seen board.now).memory }
+    requires answered { (B.seen board.now).ledger.standing.memory ≡ (B.seen board.now).memory }
+    requires room { length image.items ≡ IMAGE_LENGTH }
+    requires shown { (last : World) × Shows (B.seen board.now).ledger.standing last }
+    ensures { (past : Past) → past.answered ≡ (B.seen board.now).ledger.answered
+        → CarriesOutRest (summarise (B.seen board.now).ledger.answered (B.seen board.now).ledger.standing)
+        past (B.seen board.now).ledger.answered (B.seen board.now).ledger.standing
+        (H.outside host.old) result (H.outside host.new) }
+{
+    let answered = board.answered();
+    if wants_memory(answered) {
+        return Err(End::NoMemory);
+    }
+    board.copy_image(&mut image);
+    let hash = Sha256::digest(&image);
+    let summary = summary_of(answered, log_length(&image), &hash);
+    print_text(host, summary.as_slice())
+}

@@ -1,0 +1,16 @@
+//! The commands that serve a device.
+//!
+//! This crate owns what `run`, `cutat` and `generate` do after the words are read, and the forms of the scripts among
+//! their inputs. It stands on `mb_console`, on the device and its board, and on the readers of scripts and images.
+#![tactic(auto)]
+
+pub mod cutat;
+pub mod generate;
+mod laws;
+mod replies;
+pub mod run;
+mod scripts;
+mod summary;
+mod twice;
+
+pub use laws::{plain_runs_are_the_machines, uncut_scripts_are_clear};
