@@ -9,3 +9,4 @@ pub mod CutLemmas
 pub mod CutRuns
 pub mod Shutting
 pub mod FirstRun
+pub mod CutCounterProofs

@@ -6,3 +6,4 @@ pub mod MachineRuns
 pub mod CutCommand
 pub mod Refusing
 pub mod TwoRuns
+pub mod CutCounterExamples

@@ -4,6 +4,7 @@
 //! their inputs. It stands on `mb_console`, on the device and its board, and on the readers of scripts and images.
 #![tactic(auto)]
 
+mod counter_examples;
 pub mod cutat;
 pub mod generate;
 mod laws;
@@ -13,4 +14,5 @@ mod scripts;
 mod summary;
 mod twice;
 
+pub use counter_examples::cut_counter_examples;
 pub use laws::{plain_runs_are_the_machines, uncut_scripts_are_clear};
