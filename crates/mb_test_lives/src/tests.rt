@@ -2,6 +2,7 @@
 //! expect are values of an independent program.
 
 mod chains;
+mod cutat;
 mod lives;
 mod migration;
 mod rows;
@@ -12,6 +13,6 @@ mod workloads;
 
 use mb_test_plays::{
     A_NEW_DEVICE, A_WHOLE_LIFE, Content, Cut, Given, ITS_CHAIN, ITS_LISTING, Part, Play, Step,
-    file_of, store,
+    TwoCuts, file_of, store,
 };
 use mb_test_program::{births, ends, go_on, go_through, perform};

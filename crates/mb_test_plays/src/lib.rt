@@ -21,4 +21,4 @@ pub use births::{
 pub use files::{file_of, host_with, slice, store, write};
 pub use lives::{A_NEW_DEVICE, A_WHOLE_LIFE, ITS_CHAIN, ITS_LISTING};
 pub use play::{Program, ends, go_on, go_through, perform};
-pub use step::{Access, Content, Cut, Given, Part, Play, ShortFile, Step, Told};
+pub use step::{Access, Content, Cut, Given, Part, Play, ShortFile, Step, Told, TwoCuts};

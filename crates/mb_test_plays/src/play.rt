@@ -1,6 +1,6 @@
 //! A program goes through plays.
 
-use crate::cuts::is_cut;
+use crate::cuts::{is_cut, is_cut_twice};
 use crate::files::{bytes_of, file_of, host_with, keep_statement, store, write};
 use crate::hostile::{calls_fail, inputs_are_long, inputs_are_short};
 use crate::sights::{
@@ -67,6 +67,7 @@ fn take(program: &impl Program, host: &mut MemoryHost, step: &Step) -> Result<()
         Step::Touches(name, other, sectors) => touches(host, name, other, sectors),
         Step::EndsInZeros(name, count) => ends_in_zeros(host, name, *count),
         Step::IsCut(cut) => is_cut(program, host, cut),
+        Step::IsCutTwice(cut) => is_cut_twice(program, host, cut),
         Step::KeepsStatement(name) => keep_statement(alloc, host, name),
         Step::IsSummarised(name) => is_summarised(alloc, host, name),
         Step::CallsFail(table) => calls_fail(program, host, table),

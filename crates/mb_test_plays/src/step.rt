@@ -61,6 +61,8 @@ pub enum Step {
     EndsInZeros(&'static str, usize),
     /// Power is lost at each write in turn.
     IsCut(&'static Cut),
+    /// Power is lost at each write of an event in turn, and again in the boot that follows.
+    IsCutTwice(&'static TwoCuts),
     /// The file of this name becomes the line of the statement that was printed last.
     KeepsStatement(&'static str),
     /// Summaries were printed, and each tells the hash of the file of this name.
@@ -82,6 +84,23 @@ pub struct Cut {
     pub torn: &'static [&'static str],
     /// What is printed first where there are fewer writes.
     pub whole: &'static str,
+}
+
+/// An event on an image, at each write of which power is lost in turn, and again at the first writes of the next boot.
+pub struct TwoCuts {
+    pub image: &'static str,
+    pub noise: &'static str,
+    /// The lines before the event.
+    pub before: &'static str,
+    /// What is printed for those.
+    pub opened: &'static str,
+    pub event: &'static [Part],
+    /// The lines that ask for the state.
+    pub asks: &'static str,
+    /// What they are answered in the state before the event.
+    pub old: &'static str,
+    /// What they are answered in the state after it, or the same if the event leaves the state as it is.
+    pub new: &'static str,
 }
 
 /// A part of a file that is written.

@@ -95,6 +95,11 @@ const COMMANDS: &[Access] = &[
         writes: &[("image", "image")],
     },
     Access {
+        words: "cutat image events draw 1 00",
+        reads: &[("image", "image"), ("script", "events"), ("noise", "draw")],
+        writes: &[],
+    },
+    Access {
         words: "verify public0 chain 1",
         reads: &[("root", "public0"), ("chain", "chain")],
         writes: &[],
