@@ -4,7 +4,7 @@
 
 Nothing here is taken from the program. What is printed at status 0 and the bytes that are written are told exactly; but
 for `run`, whose image is told by what it stands for, and whose replies follow from those before where a power loss is
-armed.
+armed; and for `cutat`, of which each line is told that may come, since nothing here counts the writes of an event.
 """
 
 import dataclasses
@@ -31,6 +31,7 @@ SPENT = 32
 MOST_ROUNDS = 24
 LONGEST_CODE = 32_768
 MOST_STEPS = 10_000_000
+LAST_WRITE = 100_000
 
 
 class Folder:
@@ -53,12 +54,16 @@ class Folder:
 @dataclasses.dataclass
 class Answer:
     """How a command ends. `text` is what it prints, or None where `run` serves events; then `served` says what is
-    known of its replies and its image."""
+    known of its replies and its image. `others` are texts that may stand in the place of `text`."""
 
     status: int
     text: str | None
     written: dict = dataclasses.field(default_factory=dict)
     served: object = None
+    others: tuple = ()
+
+    def prints(self, printed):
+        return printed in (self.text, *self.others)
 
 
 @dataclasses.dataclass
@@ -268,15 +273,47 @@ def with_draw(event, noise, at):
     return dataclasses.replace(event, bytes=(event.bytes, noise[32 * at : 32 * at + 32]))
 
 
-def run(call, image, script, noise):
-    state, before = call.image(image)
-    events = call.text("script", script, texts.read_script)
+def drawn(call, noise, events):
+    """The events, each order with its draw."""
     commands = [at for at, event in enumerate(events) if event.word == "command"]
     bytes_ = call.noise(noise, 32 * len(commands))
     for number_, at in enumerate(commands):
         events[at] = with_draw(events[at], bytes_, number_)
+    return events
+
+
+def run(call, image, script, noise):
+    state, before = call.image(image)
+    events = drawn(call, noise, call.text("script", script, texts.read_script))
     world = machine.World(state, images.is_clean(before))
     return Served(image, before, [world], events)
+
+
+@dataclasses.dataclass
+class OneOf:
+    """Lines of which a command prints one."""
+
+    lines: list
+
+
+def cutat(call, image, script, noise, count, fill):
+    write = number(count, 1, LAST_WRITE)
+    if not re.fullmatch("([0-9A-Fa-f]{2}){1,16}", fill):
+        raise Ended(2, "words")
+    state, before = call.image(image)
+    *first, last = drawn(call, noise, call.text("script", script, texts.read_uncut_script))
+    world = machine.World(state, images.is_clean(before))
+    for event in first:
+        ((_, world),) = machine.outcomes(world, event)
+    armed = dataclasses.replace(world, cut=machine.Cut(write))
+    return OneOf(sorted({verdict(world, *outcome) for outcome in machine.outcomes(armed, last)}))
+
+
+def verdict(before, reply, after):
+    """What `cutat` prints of an event with this reply, by the worlds before it and after it."""
+    if reply != "stopped":
+        return "unstopped"
+    return "old" if after.state == before.state else "new"
 
 
 def generate(call, number_, rounds, image, script, noise):
@@ -370,6 +407,7 @@ def disasm(call, code, out):
 
 COMMANDS = {
     "run": (run, 3),
+    "cutat": (cutat, 5),
     "verify": (verify, 3),
     "audit": (audit, 4),
     "chain": (chain, 2),
@@ -408,6 +446,9 @@ def answer(words, folder, workloads=None):
         return Answer(ended.status, ended.line + "\n", call.written)
     if isinstance(lines, Served):
         return Answer(0, None, served=lines)
+    if isinstance(lines, OneOf):
+        text, *others = (line + "\n" for line in lines.lines)
+        return Answer(5 if folder.is_full else 0, text, others=tuple(others))
     # where there is nothing to print, printing does not fail
     return Answer(5 if folder.is_full and lines else 0, "".join(line + "\n" for line in lines), call.written)
 

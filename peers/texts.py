@@ -11,6 +11,8 @@ from lms import u8, u32
 from orders import CODE, COUNTERSIGNED, DIFFER, EMERGENCY, ESTABLISH, LOAD, NEW_KEY, SURRENDER, NoOrder, read_order
 
 MOST_EVENTS = 65_536
+# `cutat` serves so many events more than a script has.
+EVENTS_OF_A_CUT = 3
 MOST_TARGETS = 8
 KINDS = {b"establish": ESTABLISH, b"surrender": SURRENDER, b"load": LOAD, b"emergency": EMERGENCY, b"newkey": NEW_KEY}
 TRUSTS = {b"always": 0, b"never": 1, b"countersigned": COUNTERSIGNED}
@@ -251,8 +253,8 @@ def read_event(line):
     raise Wrong
 
 
-def read_script(text):
-    """The events of a script, or BadLine."""
+def numbered_events(text):
+    """The events of a script, each with the number of its line, or BadLine."""
     events = []
     for at, line in enumerate(lines_of(text), 1):
         if line == b"" or line.startswith(b"#"):
@@ -260,7 +262,23 @@ def read_script(text):
         if len(events) == MOST_EVENTS:
             raise BadLine(at)
         try:
-            events.append(read_event(line))
+            events.append((at, read_event(line)))
         except Wrong:
             raise BadLine(at) from None
     return events
+
+
+def read_script(text):
+    """The events of a script, or BadLine."""
+    return [event for _, event in numbered_events(text)]
+
+
+def read_uncut_script(text):
+    """The events of a script whose last event can be cut, or BadLine. The grammar of the whole script is tried first."""
+    events = numbered_events(text)
+    for count, (at, event) in enumerate(events, 1):
+        if event.word == "cut" or count > MOST_EVENTS - EVENTS_OF_A_CUT:
+            raise BadLine(at)
+    if not events:
+        raise BadLine(len(lines_of(text)) + 1)
+    return [event for _, event in events]

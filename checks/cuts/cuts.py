@@ -72,11 +72,13 @@ class Cutter:
         self.next = life.events[number + 1] if number + 1 < len(life.events) else None
         # Where it is sparse, boots are cut after fewer of the first cuts.
         self.sparse = sparse
-        # how many cuts were made, and whether the event counted after one of them
-        self.made, self.counted = 0, False
+        # how many cuts were made, how often `cutat` was asked, and whether the event counted after one of the cuts
+        self.made, self.asked, self.counted = 0, 0, False
         after = self.next.image if self.next else life.image
         self.old, self.new = self.reference(self.event.image), self.reference(after)
         self.sees = self.old[0] != self.new[0]
+        # whether the event leaves the state as it is
+        self.stays = meaning(self.event.image) == meaning(after)
         self.check_references()
 
     # ---- what follows where power holds
@@ -147,13 +149,27 @@ class Cutter:
         return fitting
 
     def ends(self, answers, fitting, which):
-        """The event, and the next one where `which` is 2, are answered as in a state of these, and lead to its end."""
+        """The event, and the next one where `which` is 2, are answered as in a state of these, and lead to its end.
+        Which states of these it may have been."""
         told, end = answers.replies[answers.at :], meaning(answers.image)
-        if (told, end) not in [state[which] for state in fitting]:
+        left = [state for state in fitting if state[which] == (told, end)]
+        if not left:
             states = {id(self.old): "old", id(self.new): "new"}
             wanted = " or ".join(f"{state[which][0]} of the {states[id(state)]} state" for state in fitting)
             image = "is another" if end else "is not clean"
             raise answers.wrong(f"{told}, and not {wanted}, or the image {image}")
+        return left
+
+    def ask(self, count, fill, left):
+        """Has `cutat` say which state a cut leaves: one that it may have been, the old one where both are the same, or
+        none where the event was not stopped."""
+        wanted = {"old" if state is self.old or self.stays else "new" for state in left} or {"unstopped"}
+        script = Script().add(*self.again())
+        verdict = self.program.verdict(self.event.image, script, count, fill)
+        self.asked += 1
+        if verdict not in wanted:
+            what = f"cutat {count} {fill}: {verdict}, and not {' or '.join(sorted(wanted))}"
+            raise Wrong(what, self.event.image, script)
 
     def try_alone(self, count, fill, keep, which):
         """Cuts the event: the states that it may then be in, or none where it was not stopped."""
@@ -161,9 +177,12 @@ class Cutter:
         script = Script().add(*self.cut_event(count, fill, keep), DISARMED, *self.view(), *rest)
         answers = Answers(self.program, self.event.image, script)
         if not self.is_stopped(answers):
+            self.ask(count, fill, [])
             return []
         fitting = self.shows(answers)
-        self.ends(answers, fitting, which)
+        left = self.ends(answers, fitting, which)
+        if keep == 0:
+            self.ask(count, fill, left)
         return fitting
 
     def writes(self, fill, which=1, keep_of=lambda count: 0):
@@ -230,10 +249,10 @@ class Cutter:
             raise answers.wrong("something is left in a dead device")
 
     def all(self):
-        """Every trial of the event: how many writes it has, and how many cuts were made."""
+        """Every trial of the event: how many writes it has."""
         writes, first = self.writes(FILLS[0], 2)
         if writes == 0:
-            return writes, self.made
+            return writes
         for fill in FILLS[1:]:
             self.writes(fill)
         self.writes(FILLS[writes % 4], 1, lambda count: KEEPS[count % 4] if first + 1 < count < writes - 6 else 1)
@@ -246,7 +265,7 @@ class Cutter:
             self.cut_boots(count, FILLS[count % 4], lambda each: every or (FILLS[(count + each) % 4],))
         for count in sorted({1, max(1, first - 1), first, writes}):
             self.tamper(count, FILLS[count % 4])
-        return writes, self.made
+        return writes
 
     def with_boots(self, first, writes):
         """The writes after which boots are cut too: all of few, and of many the first, the last and some."""
@@ -273,17 +292,17 @@ class Works:
         life, number, sparse = work
         began = time.monotonic()
         cutter = Cutter(self.program(), life, number, sparse)
-        writes, made = cutter.all()
-        return cutter.event.name, writes, made, time.monotonic() - began
+        writes = cutter.all()
+        return cutter.event.name, writes, (cutter.made, cutter.asked), time.monotonic() - began
 
     def all(self, works):
-        """Prints a line for each event, and gives the number of cuts."""
-        total = 0
+        """Prints a line for each event, and gives the numbers of cuts and of questions to `cutat`."""
+        total = 0, 0
         with concurrent.futures.ThreadPoolExecutor(self.processes) as pool:
             try:
                 for name, writes, made, seconds in pool.map(self.cut, works):
-                    total += made
-                    print(f"{name:32} {writes:3} writes {made:6} cuts {seconds:6.1f} s", flush=True)
+                    total = tuple(map(sum, zip(total, made)))
+                    print(f"{name:32} {writes:3} writes {made[0]:6} cuts {seconds:6.1f} s", flush=True)
             except Wrong:
                 pool.shutdown(cancel_futures=True)
                 raise
@@ -333,7 +352,7 @@ def main():
     try:
         works = made_lives(Program(path, folder / "lives"), str(peers))
         print(f"{len(works)} events, answered in {time.monotonic() - began:.0f} s where power holds", flush=True)
-        total = Works(path, folder, words.j).all(works)
+        total, asked = Works(path, folder, words.j).all(works)
     except Wrong as wrong:
         show(wrong)
         return 1
@@ -341,6 +360,7 @@ def main():
         shutil.rmtree(folder)
     seconds = f"{time.monotonic() - began:.0f} s, {processor_time():.0f} s of processor time"
     print(f"{total} cuts in {seconds}: each left the old or the new state, and the life went on")
+    print(f"{asked} times cutat said of a cut what it left")
     return 0
 
 

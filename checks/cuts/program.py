@@ -64,6 +64,19 @@ class Program:
         return replies, (self.folder / "image").read_bytes()
 
 
+    def verdict(self, image, script, count, fill):
+        """What `cutat` says of a power loss in the last event of a script. It writes no file."""
+        script.write(self.folder, image)
+        try:
+            lines = self.run("cutat", "image", "script", "noise", str(count), fill)
+        except Wrong as wrong:
+            wrong.image, wrong.script = image, script
+            raise
+        if len(lines) != 1 or (self.folder / "image").read_bytes() != image:
+            raise Wrong(f"cutat {count} {fill} prints {lines}, or writes its image", image, script)
+        return lines[0]
+
+
 class Officer:
     """An officer, whose key the program makes and signs with."""
 

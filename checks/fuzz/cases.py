@@ -24,6 +24,7 @@ NUMBERS = "01", "-1", "+1", "1 ", "4294967296", "4294967295", "0", "1", "4", "25
 # so often each command is tried
 SHARES = {
     "run": 44,
+    "cutat": 12,
     "verify": 14,
     "audit": 8,
     "chain": 5,
@@ -115,7 +116,7 @@ class Maker(Tools):
         elif how == 2:
             words[at] = ""
         elif how == 3:
-            words[0] = rng.choice((words[0].upper(), words[0][:-1], words[0] + "s", "", "--help", "jump", "cutat"))
+            words[0] = rng.choice((words[0].upper(), words[0][:-1], words[0] + "s", "", "--help", "jump", "cut"))
         elif how == 4:
             # no text
             words[at] += "\udcff"
@@ -209,6 +210,21 @@ class Maker(Tools):
         elif chance(rng, 0.2):
             noise += rng.randbytes(rng.choice((1, 31, 32)))
         return ["image", "script", "noise"], {"image": image, "script": script, "noise": noise}
+
+    def cutat(self):
+        """In most cases the event that is cut writes, and it is stopped in one of its first writes."""
+        rng = self.rng
+        words, files = self.run()
+        lines = files["script"].split(b"\n")
+        if chance(rng, 0.9):
+            files["script"] = b"\n".join(line for line in lines if not line.startswith(b"cut "))
+        count = rng.choice((*range(1, 25), 1, 2, 3, 65, 100_000))
+        fill = rng.choice(("00", "ff", "7e", "01", "A5" * 16))
+        if chance(rng, 0.06):
+            count = rng.choice(("0", "100001", "01", "x"))
+        elif chance(rng, 0.06):
+            fill = rng.choice(("-", "0", "0g", "00" * 17, "+1", "0x", "\uff10\uff10"))
+        return [*words, str(count), fill], files
 
     def script(self, world):
         """A script whose events mostly fit the device as it then is, and its noise."""

@@ -47,6 +47,7 @@ REPLIES = ["booted", "off", "tampered", "armed", "at N", "done N N", "kept", "dr
 REPLIES += ["status", "stopped"] + [f"refused {number} {words}" for number, words in commands.machine.REFUSALS.items()]
 ANSWERS = ["added", "same", "extended", *(f"refused {number}" for number in (20, 21, 22, 23, 30, 31, 32))]
 ANSWERS += ["found", "codes"]
+VERDICTS = "old", "new", "unstopped"
 
 
 def lay(case, folder):
@@ -112,9 +113,14 @@ def wrong_in(case, answer, found, after, folders):
         return f"there are the folders {sorted(folders)}, and not {sorted(case.folders)}"
     if answer.served is not None:
         return wrong_in_run(case, answer.served, status, printed, after)
-    if status != answer.status or (not case.is_full and printed != answer.text):
-        return f"status {status}, {printed!r}, and not {answer.status}, {answer.text!r}"
+    if status != answer.status or not (case.is_full or answer.prints(printed)):
+        return f"status {status}, {printed!r}, and not {answer.status}, {texts_of(answer)}"
     return wrong_files(case, answer.written, after)
+
+
+def texts_of(answer):
+    """What a command may print."""
+    return " or ".join(map(repr, (answer.text, *answer.others)))
 
 
 def wrong_files(case, written, after):
@@ -165,7 +171,7 @@ class Counts:
 
     def __init__(self):
         self.statuses, self.lines = collections.defaultdict(collections.Counter), collections.Counter()
-        self.replies, self.answers = collections.Counter(), collections.Counter()
+        self.replies, self.answers, self.verdicts = (collections.Counter() for _ in range(3))
         self.untold, self.wrong, self.tried = 0, 0, 0
 
     def add(self, case, status, printed):
@@ -180,6 +186,8 @@ class Counts:
             self.replies.update(map(kind_of_reply, printed.splitlines()))
         elif case.command == "fleet":
             self.answers.update(filter(None, map(kind_of_answer, printed.splitlines())))
+        elif case.command == "cutat":
+            self.verdicts.update(printed.splitlines())
 
     def show(self, seconds):
         took = " and ".join(
@@ -196,6 +204,7 @@ class Counts:
         for command, counts in sorted(self.statuses.items()):
             print(f"{command:14}" + "".join(f"{counts[status]:8}" for status in statuses))
         tables = ("line", self.lines, LINES), ("reply", self.replies, REPLIES), ("answer", self.answers, ANSWERS)
+        tables += (("state that a power loss leaves", self.verdicts, VERDICTS),)
         for name, counts, known in tables:
             print(f"\n{name:30} times")
             for line in [*known, *sorted(counts.keys() - set(known))]:
@@ -237,7 +246,7 @@ def expected(case, answer):
     """What a command should do, in words."""
     if answer.served is not None:
         return "status 0, replies of the device as peers/machine.py has them, and its image\n"
-    lines = [f"status {answer.status}, {answer.text!r}"]
+    lines = [f"status {answer.status}, {texts_of(answer)}"]
     for name, bytes_ in answer.written.items():
         lines.append(f"{name}: " + ("anything" if bytes_ is None else f"SHA-256 {sha256(bytes_).hex()}"))
     return "\n".join([*lines, "all other files as they were", ""])

@@ -25,6 +25,8 @@ from officer import Officer, body, order, order_line, signed_text  # noqa: E402
 
 LONGEST = chains.LONGEST_FILE
 MOST_LINES, MOST_CODE = 65_536, 32_768
+# `cutat` serves so many events more than a script has
+EVENTS_OF_A_CUT = 3
 SECTOR, IMAGE = chains.SECTOR, chains.FLASH + chains.BBRAM
 KEY_FIELDS, PUBLIC_FIELDS = (0, 4, 20, 52), (0, 4, 8, 24)
 # so many trials are given to a process at a time, and a call is given up after so many seconds
@@ -58,6 +60,9 @@ class Trial:
 RUN = Command(
     "run image script noise", (("image", "image"), ("script", "script"), ("noise", "noise")), (("image", "image"),)
 )
+CUTAT = Command(
+    "cutat image script noise 1 00", (("image", "image"), ("script", "script"), ("noise", "noise"))
+)
 VERIFY = Command("verify root chain 1", (("root", "root"), ("chain", "chain")))
 AUDIT = Command("audit image root chain 1", (("image", "image"), ("root", "root"), ("chain", "chain")))
 CHAIN = Command("chain image out", (("image", "image"),), (("out", "out"),))
@@ -74,8 +79,8 @@ COUNTERSIGN = Command(
 )
 MIGRATE = Command("migrate image out", (("image", "image"),), (("out", "out"),))
 GENERATE = Command("generate 1 1 new events draws", (), (("image", "new"), ("script", "events"), ("noise", "draws")))
-LEAST_NOISE = {RUN: 32, FACTORY: 48, KEYGEN: 32}
-COMMANDS = RUN, VERIFY, AUDIT, CHAIN, ATTACH, FACTORY, KEYGEN, SIGN, COUNTERSIGN, MIGRATE, GENERATE
+LEAST_NOISE = {RUN: 32, CUTAT: 32, FACTORY: 48, KEYGEN: 32}
+COMMANDS = RUN, CUTAT, VERIFY, AUDIT, CHAIN, ATTACH, FACTORY, KEYGEN, SIGN, COUNTERSIGN, MIGRATE, GENERATE
 # chains that peers/chains.py judges, of other files
 STATED, LAST, NO_KEY = Command("verify root attached 1"), Command("verify root full 1"), Command("verify root full 9")
 BAD, BAD_AUDIT = Command("verify root bad 1"), Command("audit image root bad 1")
@@ -238,6 +243,10 @@ def limits(files):
     off = b"off\n"
     yield Trial(RUN, (("script", "is", off * MOST_LINES),), (0, "off\n" * MOST_LINES), 1)
     yield Trial(RUN, (("script", "is", off * (MOST_LINES + 1)),), (3, f"input script line {MOST_LINES + 1}\n"))
+    most = MOST_LINES - EVENTS_OF_A_CUT
+    yield Trial(CUTAT, (("script", "is", off * most),), (0, "unstopped\n"))
+    yield Trial(CUTAT, (("script", "is", off * (most + 1)),), (3, f"input script line {most + 1}\n"))
+    yield Trial(CUTAT, (("script", "is", off * (MOST_LINES + 1)),), (3, f"input script line {MOST_LINES + 1}\n"))
     yield Trial(FACTORY, (("code", "is", bytes(MOST_CODE + 1)),), (3, "input code length\n"))
     yield Trial(FACTORY, (("code", "is", bytes(MOST_CODE)),), (0, f"serial {files['noise'][32:48].hex()}\n"), 2)
     head = b"order load 2\nversion 7\ntrust always\ncode "
