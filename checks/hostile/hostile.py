@@ -18,10 +18,16 @@ HERE = pathlib.Path(__file__).resolve().parent
 sys.path[:0] = [str(HERE.parents[1] / "peers"), str(HERE.parent / "chains")]
 
 import chains  # noqa: E402
+import commands  # noqa: E402
+import fleet  # noqa: E402
 import forged  # noqa: E402
+import hss  # noqa: E402
+import images  # noqa: E402
+import machine  # noqa: E402
 from device import owned  # noqa: E402
 from lms import sha256  # noqa: E402
 from officer import Officer, body, order, order_line, signed_text  # noqa: E402
+from orders import read_order  # noqa: E402
 
 LONGEST = chains.LONGEST_FILE
 MOST_LINES, MOST_CODE = 65_536, 32_768
@@ -29,6 +35,8 @@ MOST_LINES, MOST_CODE = 65_536, 32_768
 EVENTS_OF_A_CUT = 3
 SECTOR, IMAGE = chains.SECTOR, chains.FLASH + chains.BBRAM
 KEY_FIELDS, PUBLIC_FIELDS = (0, 4, 20, 52), (0, 4, 8, 24)
+# the code `push 65`, `emit`, `halt`
+CODE = bytes.fromhex("01000000414200")
 # so many trials are given to a process at a time, and a call is given up after so many seconds
 CHUNK, GIVEN_UP = 100, 600
 
@@ -44,8 +52,8 @@ class Command:
 
 @dataclasses.dataclass(frozen=True)
 class Trial:
-    """A call over changed files. It ends with this status and line, or as peers/chains.py predicts. So many of its outputs
-    are written as ever, and where a write fails the one after them may be anything."""
+    """A call over changed files. It ends with this status and line, or as peers/commands.py predicts. So many of its
+    outputs are written as ever, and where a write fails the one after them may be anything."""
 
     command: Command
     changes: tuple = ()
@@ -79,9 +87,28 @@ COUNTERSIGN = Command(
 )
 MIGRATE = Command("migrate image out", (("image", "image"),), (("out", "out"),))
 GENERATE = Command("generate 1 1 new events draws", (), (("image", "new"), ("script", "events"), ("noise", "draws")))
-LEAST_NOISE = {RUN: 32, CUTAT: 32, FACTORY: 48, KEYGEN: 32}
-COMMANDS = RUN, CUTAT, VERIFY, AUDIT, CHAIN, ATTACH, FACTORY, KEYGEN, SIGN, COUNTERSIGN, MIGRATE, GENERATE
-# chains that peers/chains.py judges, of other files
+HSSKEYGEN = Command("hsskeygen noise 2 made public", (("noise", "noise"),), (("key", "made"), ("public", "public")))
+ENDORSE = Command("endorse maker root out", (("key", "maker"), ("root", "root")), (("key", "maker"), ("out", "out")))
+ENDORSED = Command(
+    "endorsed hss root endorsement", (("public", "hss"), ("root", "root"), ("endorsement", "endorsement"))
+)
+TRUST = Command("trust root chain 1 policy", (("root", "root"), ("chain", "chain"), ("policy", "policy")))
+APP = Command("app coded 2 input 100", (("image", "coded"), ("input", "input")))
+ASM = Command("asm text out", (("text", "text"),), (("out", "out"),))
+DISASM = Command("disasm codes out", (("code", "codes"),), (("out", "out"),))
+FLEET = Command(
+    "fleet root register items",
+    (("root", "root"), ("register", "register"), ("items", "items")),
+    (("register", "register"),),
+)
+LEAST_NOISE = {RUN: 32, CUTAT: 32, FACTORY: 48, KEYGEN: 32, HSSKEYGEN: 32}
+# those whose short inputs end as peers/commands.py predicts
+PREDICTED = HSSKEYGEN, ENDORSE, ENDORSED, TRUST, APP, ASM, DISASM, FLEET
+COMMANDS = (
+    *(RUN, CUTAT, VERIFY, AUDIT, CHAIN, ATTACH, FACTORY, KEYGEN, SIGN, COUNTERSIGN, MIGRATE, GENERATE),
+    *PREDICTED,
+)
+# chains of other files
 STATED, LAST, NO_KEY = Command("verify root attached 1"), Command("verify root full 1"), Command("verify root full 9")
 BAD, BAD_AUDIT = Command("verify root bad 1"), Command("audit image root bad 1")
 
@@ -114,7 +141,34 @@ def sample():
         "full": forged.chain(longest().log),
     }
     _, _, written = chains.answer(["attach", "chain", "statement", "attached"], files.get)
-    return files | written
+    return files | written | tools_files(files)
+
+
+def tools_files(files):
+    """The files of the commands on makers' keys, policies, the code of applications, and registers."""
+    maker, root = hss.Maker(hss.seed_of(b"maker".ljust(32, b"\0")), 2), files["root"]
+    code = sha256(b"some code").hex()
+    text = "label again\n" + "push 65\nemit\nget token\n" * 12 + "jump again\ncall 0\nhalt\n"
+    made = {
+        "maker": maker.file(31),
+        "hss": maker.public(),
+        "endorsement": maker.endorse(32, root),
+        "policy": f"# a policy\nset known {code} {code}\nallow all and kind epoch not code 1 known\n".encode(),
+        "coded": coded(files["image"]),
+        "input": b"what the code is given",
+        "text": text.encode(),
+        "register": fleet.spelled({bytes(16): fleet.Row(3, (bytes(32), None, None), (bytes(32), bytes(32)))}),
+        "items": fleet.shows(files["chain"]) + b"\3\1" + b"\2\1" + bytes(32),
+    }
+    return made | {"codes": commands.answer(["asm", "text", "codes"], commands.Folder(made)).written["codes"]}
+
+
+def coded(image):
+    """The image of the device after a load of layer 2 with code that halts."""
+    text = body(f"order load 2\nversion 7\ntrust always\ncode {CODE.hex()}\n")
+    signature = Officer(sha256(b"owner", b"\2")).key.sign(1, signed_text(text))
+    loaded = read_order(order(text, signature))
+    return images.image_of(machine.obey(images.meaning(image), loaded, bytes(32)))
 
 
 @functools.lru_cache(None)
@@ -146,7 +200,7 @@ def calls_fail(files):
             for what in "gone", "folder":
                 yield Trial(command, ((name, what),), (4, f"read failed {role}\n"))
         # before the shortest of these outputs, no more room
-        room = {"key": 10, "image": 1_000, "out": 100}
+        room = {"key": 10, "image": 1_000, "out": 100, "register": 100}
         for number, (role, name) in enumerate(command.writes):
             wanted = 5, f"write failed {role}\n"
             if (role, name) not in command.reads:
@@ -163,36 +217,44 @@ def long_inputs(files):
             yield Trial(command, ((name, "fill", LONGEST + 1),), (3, f"input {role} too long\n"))
             # noise may go on, and is not used there
             done = len(command.writes) if role == "noise" else 0
-            yield Trial(command, ((name, "fill", LONGEST),), ends_of_longest(role), done)
+            yield Trial(command, ((name, "fill", LONGEST),), ends_of_longest(command, role), done)
 
 
-def ends_of_longest(role):
-    """The end of a command whose input goes on to the most bytes, where peers/chains.py does not predict it."""
+def ends_of_longest(command, role):
+    """The end of a command whose input goes on to the most bytes, where peers/commands.py is not asked for it."""
+    if (command, role) == (ENDORSE, "key"):
+        return (3, "input key at 45\n")
     if role in ("key", "root", "owner"):
         return (3, f"input {role} at 56\n")
     if role in ("image", "code"):
         return (3, f"input {role} length\n")
-    lines = {"script": 7, "draft": 7, "order": 2, "statement": 2}
+    lines = {"script": 7, "draft": 7, "order": 2, "statement": 2, "policy": 4, "text": 41}
     return (3, f"input {role} line {lines[role]}\n") if role in lines else None
 
 
 def short_inputs(files):
-    """Each input ends at each of its bytes, and an image where its sectors begin."""
+    """Each input ends near its beginning, near its end and at each so many bytes between; an image where sectors begin."""
     for command in COMMANDS:
         for role, name in command.reads:
-            if role == "code":
-                continue
-            for at in range(0, len(files[name]), step_of(command, role)):
-                yield from short_input(command, role, name, files[name], at)
-    for at in range(len(files["attached"]) - chains.SIGNATURE - 20, len(files["attached"])):
+            for at in offsets_of(role, len(files[name])):
+                if command in PREDICTED:
+                    yield Trial(command, ((name, "cut", at),))
+                else:
+                    yield from short_input(command, role, name, files[name], at)
+    for at in range(len(files["attached"]) - chains.SIGNATURE - 20, len(files["attached"]), 7):
         yield Trial(STATED, (("attached", "cut", at),))
 
 
-def step_of(command, role):
-    """An input of so many bytes ends at each so many of them."""
-    if role == "image":
-        return SECTOR
-    return 7 if role == "chain" and command is not VERIFY else 1
+# inputs of some roles are long, and end at each so many bytes alone
+STEPS = {"image": SECTOR, "chain": 31, "statement": 7, "order": 7, "endorsement": 7, "items": 31}
+NEAR = 40
+
+
+def offsets_of(role, length):
+    """Where an input of this length ends."""
+    step = STEPS.get(role, 1)
+    near = set() if role == "image" else {*range(NEAR), *range(length - NEAR, length)}
+    return sorted({*range(0, length, step)} | {at for at in near if 0 <= at < length})
 
 
 def short_input(command, role, name, bytes_, at):
@@ -209,7 +271,7 @@ def short_input(command, role, name, bytes_, at):
     elif role == "noise":
         if at < LEAST_NOISE[command]:
             yield Trial(command, change, (3, "input noise length\n"))
-    elif is_told(role, bytes_, at):
+    elif role != "code" and is_told(role, bytes_, at):
         line = bytes_[:at].count(b"\n") + 1
         yield Trial(command, change, (3, f"input {role} line {line}\n"))
 
@@ -223,7 +285,7 @@ def is_told(role, text, at):
 
 
 def last_entries(files):
-    """The last of 128 entries ends at each of its bytes, and each byte has a bit turned. peers/chains.py predicts."""
+    """The last of 128 entries ends at each of its bytes, and each byte has a bit turned. peers/commands.py predicts."""
     begins = len(forged.chain(longest().log[:-1])) - 1
     for at in range(begins, len(files["full"])):
         yield Trial(LAST, (("full", "cut", at),))
@@ -310,6 +372,7 @@ class Worker:
                 signal.signal(signal.SIGXFSZ, signal.SIG_IGN)
                 resource.setrlimit(resource.RLIMIT_FSIZE, (trial.limit, trial.limit))
 
+        # a process that is not limited is begun in a faster way
         with open("/dev/full", "wb") as full:
             done = subprocess.run(
                 [self.program, *trial.command.words.split(" ")],
@@ -318,7 +381,7 @@ class Worker:
                 stdout=full if trial.is_full else subprocess.PIPE,
                 stderr=subprocess.PIPE,
                 timeout=GIVEN_UP,
-                preexec_fn=begin,
+                preexec_fn=None if trial.limit is None else begin,
             )
         return done.returncode, ((done.stdout or b"") + done.stderr).decode(errors="replace")
 
@@ -331,18 +394,19 @@ class Worker:
             self.run(dataclasses.replace(trial, limit=None, is_full=False))
             seen = self.seen()
             self.known[key] = {name: seen.get(name) for _, name in trial.command.writes}
-            self.restore()
+            self.restore(seen)
         return self.known[key]
 
     def before(self, changes):
         """Changes the files, and gives what there is then."""
+        there = dict(self.files)
         for name, *change in changes:
-            self.lay(name, changed(self.files.get(name), change))
-        return self.seen()
+            there[name] = changed(self.files.get(name), change)
+            self.lay(name, there[name])
+        return {name: content for name, content in there.items() if content is not None}
 
-    def restore(self):
-        """All files are those of every trial again."""
-        seen = self.seen()
+    def restore(self, seen):
+        """All files are those of every trial again, after these were seen."""
         for name in seen | self.files:
             if seen.get(name) != self.files.get(name):
                 self.lay(name, self.files.get(name))
@@ -353,11 +417,11 @@ class Worker:
         before = self.before(trial.changes)
         try:
             found = self.run(trial)
-            after = self.seen()
         except subprocess.TimeoutExpired:
             return f"{trial.command.words}: no end after {GIVEN_UP} s"
         finally:
-            self.restore()
+            after = self.seen()
+            self.restore(after)
         wanted, free = dict(before), set()
         ends = trial.ends
         outputs = [name for _, name in trial.command.writes]
@@ -365,10 +429,9 @@ class Worker:
             wanted[name] = usual[name]
         if trial.is_torn:
             free = set(outputs[trial.done : trial.done + 1])
-        if ends is None and trial.command.words.split(" ")[0] in chains.COMMANDS:
-            contents = {name: bytes_ for name, bytes_ in before.items() if bytes_ != "folder"}
-            status, line, written = chains.answer(trial.command.words.split(" "), contents.get)
-            ends, wanted = (status, line), wanted | written
+        if ends is None and trial.command is not RUN:
+            answer = commands.answer(trial.command.words.split(" "), commands.Folder(before))
+            ends, wanted = (answer.status, answer.text), wanted | answer.written
         if found != ends and (ends or found[0] != 0):
             return f"{self.told(trial)}: {found[0]}, {found[1][:100]!r}, and not {ends or 0}"
         other = {name for name in after | wanted if name not in free and after.get(name) != wanted.get(name)}
@@ -414,7 +477,7 @@ def main():
     began, files = time.monotonic(), sample()
     if not forged.are_predicted(forged.last_chains(), files):
         return 1
-    folder = tempfile.mkdtemp()
+    folder = tempfile.mkdtemp(dir="/dev/shm" if pathlib.Path("/dev/shm").is_dir() else None)
     try:
         with concurrent.futures.ProcessPoolExecutor(
             words.j, initializer=begin, initargs=(words.program.resolve(), folder, files)
