@@ -217,7 +217,12 @@ class Maker(Tools):
         words, files = self.run()
         lines = files["script"].split(b"\n")
         if chance(rng, 0.9):
-            files["script"] = b"\n".join(line for line in lines if not line.startswith(b"cut "))
+            lines = [line for line in lines if not line.startswith(b"cut ")]
+        writes = b"command ", b"put ", b"drop ", b"sign "
+        writing = [at for at, line in enumerate(lines, 1) if line.startswith(writes)]
+        if writing and chance(rng, 0.7):
+            lines = lines[: rng.choice(writing)]
+        files["script"] = b"\n".join(lines)
         count = rng.choice((*range(1, 25), 1, 2, 3, 65, 100_000))
         fill = rng.choice(("00", "ff", "7e", "01", "A5" * 16))
         if chance(rng, 0.06):
