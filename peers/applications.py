@@ -1,4 +1,4 @@
-"""Application code: its instructions, how a code runs, and its text, written from docs/formats.md alone.
+"""Application code: its instructions, how a code runs, and its text, written from docs/use/formats.md alone.
 
     run(code, input, secrets, steps)     how the code ends, in the words of `app`, and whether it halts
     assemble(text), disassemble(code)    what `asm` and `disasm` write

@@ -44,6 +44,7 @@ commands = map (λ row. (row.0, row.1.now, map (λ word. word.1) row.2.now)) COM
 -- what is done at a command with these arguments, each command's in the order of its words
 abbrev pub command_of : Command → List Argument → Does
 command_of command.Run given = run (run_given given)
+command_of command.Cutat given = cutat (cut_given given)
 command_of command.Verify given = verify (verify_given given)
 command_of command.Audit given = audit (audit_given given)
 command_of command.Trust given = trust (trust_given given)
@@ -61,7 +62,6 @@ command_of command.Migrate given = migrate (migrate_given given)
 command_of command.App given = app (app_given given)
 command_of command.Asm given = asm (asm_given given)
 command_of command.Disasm given = disasm (disasm_given given)
-command_of command.Cutat given = cutat (cut_given given)
 command_of command.Generate given = generate (generate_given given)
 
 -- How the program ends.

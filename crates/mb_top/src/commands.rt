@@ -105,6 +105,7 @@ fn carry_out<H: Host, B: Board, L: Ledger>(
     let given = &call.arguments;
     match call.command {
         Command::Run => run(alloc, &RunNames::of(given), host, board, hashes),
+        Command::Cutat => cutat(alloc, &CutNames::of(given), host, board, hashes),
         Command::Verify => verify(alloc, &VerifyNames::of(given), host),
         Command::Audit => audit(alloc, &AuditNames::of(given), host, hashes),
         Command::Trust => trust(alloc, &TrustNames::of(given), host),
@@ -122,7 +123,6 @@ fn carry_out<H: Host, B: Board, L: Ledger>(
         Command::App => app(alloc, &AppNames::of(given), host, hashes),
         Command::Asm => asm(alloc, &AsmNames::of(given), host),
         Command::Disasm => disasm(alloc, &DisasmNames::of(given), host),
-        Command::Cutat => cutat(alloc, &CutNames::of(given), host, board, hashes),
         Command::Generate => generate(alloc, &GenerateNames::of(given), host, board, hashes),
     }
 }

@@ -13,6 +13,7 @@ use mb_model::CUT_LIMIT;
 #[derive(Clone, Copy)]
 pub enum Command {
     Run,
+    Cutat,
     Verify,
     Audit,
     Trust,
@@ -30,7 +31,6 @@ pub enum Command {
     App,
     Asm,
     Disasm,
-    Cutat,
     Generate,
 }
 
@@ -124,6 +124,15 @@ pub const COMMANDS: [Row; 20] = [
         "
       gives the device of IMAGE the events of SCRIPT, writes the new image over IMAGE, and prints a line
       for each reply",
+    ),
+    (
+        Command::Cutat,
+        "cutat",
+        &[IMAGE, SCRIPT, NOISE, COUNT, FILL],
+        "
+      serves SCRIPT on the device of IMAGE, and cuts power in the write with the number COUNT, 1 to 100,000,
+      of its last event; prints which state that leaves, and writes no file; FILL is what the write leaves,
+      1 to 16 bytes in hexadecimal",
     ),
     (
         Command::Verify,
@@ -253,15 +262,6 @@ pub const COMMANDS: [Row; 20] = [
         &[CODE, OUT],
         "
       lists the code, writes its text, and prints how many lines that has",
-    ),
-    (
-        Command::Cutat,
-        "cutat",
-        &[IMAGE, SCRIPT, NOISE, COUNT, FILL],
-        "
-      serves SCRIPT on the device of IMAGE, and cuts power in the write with the number COUNT, 1 to 100,000,
-      of its last event; prints which state that leaves, and writes no file; FILL is what the write leaves,
-      1 to 16 bytes in hexadecimal",
     ),
     (
         Command::Generate,
