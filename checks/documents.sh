@@ -3,7 +3,7 @@
 # file that is there, and to a heading where it names one; the name in backquotes that a link to definitions or code
 # shows is defined in that file, or is the file's own; each path in backquotes that begins in a folder of the repository
 # is there, and so is each file of code that is named by its end; no line but that of a table has over 120 columns; each
-# row of a crate's page, its README.md (and of docs/believe/proved.md, while it is there), names public calls of the
+# row of a crate's page, its README.md, names public calls of the
 # crate, and clauses that these calls have, and so does what the page has that they do not say; each clause of each
 # public call has a row there, but for those that the table of common clauses in docs/believe/crates.md has; the table
 # of crates in docs/change/architecture.md has a row for each crate and for nothing else, and names those on which each
@@ -221,25 +221,22 @@ def check_unsaid(path, crate):
                 check_call(path, number, crate, calls, called, given)
 
 
-def check_proved(whole, shared):
+def check_proved(shared):
     """Whether each clause of each public call has a row, in the page of its crate."""
     told, common = {}, set()
     crates = sorted(p for p in pathlib.Path("crates").iterdir() if (p / "src").is_dir())
-    if whole.exists():
-        check_rows(whole, None, told, common)
-    else:
-        check_rows(shared, None, told, common)
-        for crate in crates:
-            page = crate / "README.md"
-            if page.exists():
-                check_rows(page, crate.name, told, common)
-                check_unsaid(page, crate.name)
-            else:
-                report(page, 0, "the crate has no page")
+    check_rows(shared, None, told, common)
+    for crate in crates:
+        page = crate / "README.md"
+        if page.exists():
+            check_rows(page, crate.name, told, common)
+            check_unsaid(page, crate.name)
+        else:
+            report(page, 0, "the crate has no page")
     for crate in crates:
         for name, clauses in sorted(calls_of(crate).items()):
             for clause in sorted(clauses - told.get((crate.name, name), set()) - common):
-                report(whole if whole.exists() else crate / "README.md", 0, f"{name} has no row for {clause}")
+                report(crate / "README.md", 0, f"{name} has no row for {clause}")
 
 
 # ---- the table of crates
@@ -310,7 +307,7 @@ documents = [page for folder in (".", "peers") for page in sorted(pathlib.Path(f
 documents += [*sorted(pathlib.Path("docs").rglob("*.md")), *sorted(pathlib.Path("crates").glob("*/README.md"))]
 for document in documents:
     check_links(document)
-check_proved(pathlib.Path("docs/believe/proved.md"), pathlib.Path("docs/believe/crates.md"))
+check_proved(pathlib.Path("docs/believe/crates.md"))
 check_crates(pathlib.Path("docs/change/architecture.md"))
 check_layers(pathlib.Path("docs/figures/layers.py"), pathlib.Path("docs/figures/layers.svg"))
 check_commands(pathlib.Path("docs/use/commands.md"))
