@@ -7,7 +7,7 @@ use mb_top::top;
 use std::alloc::Global;
 use std::test::Fail;
 
-/// The program, which takes its memory of this.
+/// The program, and where its memory is taken.
 #[derive(Drop)]
 pub(crate) struct Miniboot {
     pub(crate) alloc: Global,
@@ -23,19 +23,19 @@ impl Program for Miniboot {
     }
 }
 
-/// The program in this memory.
-pub(crate) fn miniboot(rt: &impl AllocGlobal) -> Miniboot {
+/// The program, which takes its memory of this runtime.
+pub(crate) fn program_of(rt: &impl AllocGlobal) -> Miniboot {
     Miniboot { alloc: rt.alloc() }
 }
 
 /// Each play goes as it says, over a host of its own with these files.
 pub fn perform(rt: &impl AllocGlobal, files: &[Given], plays: &[Play]) -> Result<(), Fail> {
-    mb_test_plays::perform(&miniboot(rt), files, plays)
+    mb_test_plays::perform(&program_of(rt), files, plays)
 }
 
 /// The steps go as they say.
 pub fn go_on(rt: &impl AllocGlobal, host: &mut MemoryHost, steps: &[Step]) -> Result<(), Fail> {
-    mb_test_plays::go_on(&miniboot(rt), host, steps)
+    mb_test_plays::go_on(&program_of(rt), host, steps)
 }
 
 /// The parts go as their steps say, one after another.
@@ -44,7 +44,7 @@ pub fn go_through(
     host: &mut MemoryHost,
     parts: &[&[Step]],
 ) -> Result<(), Fail> {
-    mb_test_plays::go_through(&miniboot(rt), host, parts)
+    mb_test_plays::go_through(&program_of(rt), host, parts)
 }
 
 /// The words end with this status and print these lines.
@@ -55,5 +55,5 @@ pub fn ends(
     status: u8,
     lines: &str,
 ) -> Result<(), Fail> {
-    mb_test_plays::ends(&miniboot(rt), host, words, status, lines)
+    mb_test_plays::ends(&program_of(rt), host, words, status, lines)
 }
