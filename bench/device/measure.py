@@ -138,11 +138,16 @@ def measure_one_boot(table, bench, life, image):
     table.row("  each later one", bench.more(image, ["boot", sign], later, "signed "), len(later), "of 29")
     turns = [sign, other] * 15
     table.row("  by two keys in turn", bench.more(image, ["boot"], turns, "signed "), len(turns), "of 30")
-    first, *rest = (event.line for event in itertools.takewhile(Event.is_order, life.events))
-    begun = life.events[0].image
-    table.row("an order, the first of a boot", bench.more(begun, ["boot"], [first], "done "))
-    names = ", ".join(event.name for event in life.events[1 : len(rest) + 1])
-    table.row("  each later one", bench.more(begun, ["boot", first], rest, "done "), len(rest), f"of {len(rest)}: {names}")
+    first, *rest = itertools.takewhile(Event.is_order, life.events)
+    table.row("an order, the first of a boot", bench.more(first.image, ["boot"], [first.line], "done "))
+    keyless = list(itertools.takewhile(lambda event: not event.name.startswith("newkey "), rest))
+    before = ["boot", first.line]
+    for what, events in ("makes no key", keyless), ("makes one", rest[len(keyless) :]):
+        names = ", ".join(event.name for event in events)
+        lines = [event.line for event in events]
+        seconds = bench.more(first.image, before, lines, "done ")
+        table.row(f"  each later one that {what}", seconds, len(lines), f"of {len(lines)}: {names}")
+        before += lines
 
 
 def turned(line):

@@ -1,16 +1,13 @@
-//! Each command over a hostile world: each of its calls of the host fails in turn, each of its inputs has one byte more
-//! than an input may have, and each of its inputs ends where a field or a word begins. The lines are those that the
-//! rules of the commands and the formats of the inputs give.
+//! Each command over a hostile world: each of its calls of the host fails in turn, and each of its inputs has one byte more
+//! than an input may have. The lines are those that the rules of the commands give. Inputs that end where a field or a
+//! word begins are in `short_files.rt`.
 
 use super::births::owned_device_goes_through;
-use super::short_files::{
-    DEVICES_ARE_SHORT, ORDERS_ARE_SHORT, SHORT_ORDERS_ARE_REFUSED, TOOLS_ARE_SHORT,
-};
 use super::{A_NEW_DEVICE, A_WHOLE_LIFE, Access, Content, Given, Part, Step};
 use std::test::Fail;
 
 /// The files of the tables, of a device whose key 1 made a statement before layers 1 and 3 were loaded.
-const FILES_ARE_MADE: &[Step] = &[
+pub const FILES_ARE_MADE: &[Step] = &[
     Step::Writes("draw", &[Part::Slice("noise", 0, 32)]),
     Step::Writes(
         "events",
@@ -40,7 +37,7 @@ const FILES_ARE_MADE: &[Step] = &[
 /// The files of the tables for the commands that serve no device: a maker of root keys with what it endorses, a policy
 /// that allows key 1, a device whose layer 2 has the code `push 65`, `emit`, `halt`, a text of a code, and a register
 /// with what it is shown and asked.
-const TOOLS_ARE_MADE: &[Step] = &[
+pub const TOOLS_ARE_MADE: &[Step] = &[
     Step::Ends("hsskeygen noise0 2 hss hss_public", 0, "maker *\n"),
     Step::Ends("endorse hss public0 endorsement", 0, "index 0\n"),
     Step::Writes(
@@ -208,16 +205,10 @@ const COMMANDS: &[Access] = &[
     },
 ];
 
-/// Calls fail, of a command that writes several files also after the first was written; and inputs are too long or end
-/// early.
+/// Calls fail, of a command that writes several files also after the first was written.
 const CALLS_FAIL: &[Step] = &[Step::CallsFail(COMMANDS)];
 
-const INPUTS_FAIL: &[Step] = &[
-    Step::InputsAreLong(COMMANDS),
-    Step::InputsAreShort(DEVICES_ARE_SHORT),
-    Step::InputsAreShort(ORDERS_ARE_SHORT),
-    Step::InputsAreShort(TOOLS_ARE_SHORT),
-];
+const INPUTS_ARE_LONG: &[Step] = &[Step::InputsAreLong(COMMANDS)];
 
 #[test]
 fn calls_fail_in_turn(rt: HostRuntime) -> Result<(), Fail> {
@@ -234,7 +225,7 @@ fn calls_fail_in_turn(rt: HostRuntime) -> Result<(), Fail> {
 }
 
 #[test]
-fn inputs_are_long_or_short(rt: HostRuntime) -> Result<(), Fail> {
+fn inputs_are_too_long(rt: HostRuntime) -> Result<(), Fail> {
     owned_device_goes_through(
         &rt,
         &[
@@ -242,8 +233,7 @@ fn inputs_are_long_or_short(rt: HostRuntime) -> Result<(), Fail> {
             A_WHOLE_LIFE,
             FILES_ARE_MADE,
             TOOLS_ARE_MADE,
-            INPUTS_FAIL,
-            SHORT_ORDERS_ARE_REFUSED,
+            INPUTS_ARE_LONG,
         ],
     )
 }

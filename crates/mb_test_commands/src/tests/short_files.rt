@@ -1,7 +1,10 @@
 //! Files that end where a field or a word begins: the offsets at which they end, and the line that tells of it.
 
-use super::{Part, ShortFile, Step, Told};
+use super::births::owned_device_goes_through;
+use super::failures::{FILES_ARE_MADE, TOOLS_ARE_MADE};
+use super::{A_NEW_DEVICE, A_WHOLE_LIFE, Part, ShortFile, Step, Told};
 use mb_model::{FLASH_LENGTH, IMAGE_LENGTH};
+use std::test::Fail;
 
 /// Where the fields of a key file begin.
 const KEY: &[usize] = &[0, 4, 20, 52];
@@ -60,7 +63,7 @@ const TARGETS: &[usize] = &[
 ];
 
 /// Inputs of the commands on devices, chains and statements end early.
-pub const DEVICES_ARE_SHORT: &[ShortFile] = &[
+const DEVICES_ARE_SHORT: &[ShortFile] = &[
     ShortFile {
         words: "run image events draw",
         name: "image",
@@ -239,7 +242,7 @@ pub const DEVICES_ARE_SHORT: &[ShortFile] = &[
 ];
 
 /// Inputs of the commands on keys and orders end early.
-pub const ORDERS_ARE_SHORT: &[ShortFile] = &[
+const ORDERS_ARE_SHORT: &[ShortFile] = &[
     ShortFile {
         words: "factory birth maker public1 code out",
         name: "birth",
@@ -390,7 +393,7 @@ const ENDORSEMENT: &[usize] = &[
 
 /// Inputs of the commands on makers' keys, policies and the code of applications end early. Those of `fleet` stand beside
 /// its registers.
-pub const TOOLS_ARE_SHORT: &[ShortFile] = &[
+const TOOLS_ARE_SHORT: &[ShortFile] = &[
     ShortFile {
         words: "hsskeygen noise0 1 out out",
         name: "noise0",
@@ -534,7 +537,7 @@ pub const TOOLS_ARE_SHORT: &[ShortFile] = &[
 ];
 
 /// Orders that end where a field begins are no orders, for the device.
-pub const SHORT_ORDERS_ARE_REFUSED: &[Step] = &[Step::Serves(
+const SHORT_ORDERS_ARE_REFUSED: &[Step] = &[Step::Serves(
     &[
         Part::Text("boot\ncommand -\n"),
         Part::Slice("order1", 0, 10),
@@ -654,3 +657,52 @@ pub const SHORT_ORDERS_ARE_REFUSED: &[Step] = &[Step::Serves(
         refused 10 text\nrefused 10 text\nrefused 10 text\nrefused 10 text\nrefused 10 text\n\
         refused 10 text\nrefused 10 text\n",
 )];
+
+const DEVICES_END: &[Step] = &[Step::InputsAreShort(DEVICES_ARE_SHORT)];
+
+#[test]
+fn files_of_devices_end_early(rt: HostRuntime) -> Result<(), Fail> {
+    owned_device_goes_through(
+        &rt,
+        &[A_NEW_DEVICE, A_WHOLE_LIFE, FILES_ARE_MADE, DEVICES_END],
+    )
+}
+
+const ORDERS_END: &[Step] = &[Step::InputsAreShort(ORDERS_ARE_SHORT)];
+
+#[test]
+fn files_of_orders_end_early(rt: HostRuntime) -> Result<(), Fail> {
+    owned_device_goes_through(
+        &rt,
+        &[A_NEW_DEVICE, A_WHOLE_LIFE, FILES_ARE_MADE, ORDERS_END],
+    )
+}
+
+#[test]
+fn orders_end_early(rt: HostRuntime) -> Result<(), Fail> {
+    owned_device_goes_through(
+        &rt,
+        &[
+            A_NEW_DEVICE,
+            A_WHOLE_LIFE,
+            FILES_ARE_MADE,
+            SHORT_ORDERS_ARE_REFUSED,
+        ],
+    )
+}
+
+const TOOLS_END: &[Step] = &[Step::InputsAreShort(TOOLS_ARE_SHORT)];
+
+#[test]
+fn files_of_tools_end_early(rt: HostRuntime) -> Result<(), Fail> {
+    owned_device_goes_through(
+        &rt,
+        &[
+            A_NEW_DEVICE,
+            A_WHOLE_LIFE,
+            FILES_ARE_MADE,
+            TOOLS_ARE_MADE,
+            TOOLS_END,
+        ],
+    )
+}
