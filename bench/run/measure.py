@@ -18,8 +18,8 @@ KEYS = 20
 PUTS = 200
 # a power loss is armed for at most this write call
 MOST_WRITES = 100_000
-# the hashes of a public key, and on average of a signature, for which the tree is made, and of verifying one
-TREE, SIGNED, VERIFIED = 34_399, 34_967, 514
+# the hashes of a public key's tree, on average of a signature by a tree, and of verifying a signature
+TREE, SIGNED, VERIFIED = 34_399, 568, 514
 
 
 def spent():
@@ -113,15 +113,23 @@ def kind_of(order):
 
 
 def hashes(lines):
-    """The hashes of the trees and signatures: of the image's device key, of the orders, and of the signatures of layers."""
-    count = TREE
+    """The hashes of the trees and signatures: of the image's device key, of the orders, and of the signatures of layers.
+
+    The tree of the device key is kept from the first order of a boot on, that of a region's key from a signature to the
+    next order or signature of another key.
+    """
+    count, device, region = TREE, False, None
     for word, *words in (line.split(" ") for line in lines):
         if word == "command":
             kind, layer, beside = kind_of(bytes.fromhex(words[0]))
             makes_key = kind == 5 or (kind, layer) == (3, 1)
-            count += VERIFIED * (1 + beside) + SIGNED + TREE * makes_key
+            count += VERIFIED * (1 + beside) + SIGNED + TREE * (makes_key + (not device))
+            device, region = True, None
         elif word == "sign":
-            count += SIGNED
+            count += SIGNED + TREE * (region != words[:2])
+            region = words[:2]
+        elif word in ("boot", "off", "tamper"):
+            device, region = False, None
     return count
 
 
