@@ -148,6 +148,8 @@ def measure_one_boot(table, bench, life, image):
         seconds = bench.more(first.image, before, lines, "done ")
         table.row(f"  each later one that {what}", seconds, len(lines), f"of {len(lines)}: {names}")
         before += lines
+    one, two = (event for event in life.events if event.name in ("load 1 with 2 with 3", "load 1 with 2"))
+    table.row("  a later load of layer 1", bench.more(one.image, ["boot", one.line], [two.line], "done "))
 
 
 def turned(line):
