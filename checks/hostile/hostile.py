@@ -339,6 +339,11 @@ KINDS = {
 # ---- trials
 
 
+def predicted(command, files):
+    """How a command ends over these files, as peers/commands.py says."""
+    return commands.answer(command.words.split(" "), commands.Folder(files))
+
+
 class Worker:
     """A folder with the files, in which the program runs."""
 
@@ -386,15 +391,18 @@ class Worker:
         return done.returncode, ((done.stdout or b"") + done.stderr).decode(errors="replace")
 
     def usual(self, trial):
-        """The files that the command of a trial writes where no call fails."""
+        """The files that the command of a trial writes where no call fails: as peers/commands.py says, but for `run`, whose
+        image it does not tell byte by byte."""
         is_like_others = trial.is_torn or trial.is_full or trial.ends is None
         key = trial.command, () if is_like_others else trial.changes
         if key not in self.known:
-            self.before(key[1])
-            self.run(dataclasses.replace(trial, limit=None, is_full=False))
-            seen = self.seen()
+            before = self.before(key[1])
+            seen = before | predicted(trial.command, before).written
+            if trial.command == RUN:
+                self.run(dataclasses.replace(trial, limit=None, is_full=False))
+                seen = self.seen()
             self.known[key] = {name: seen.get(name) for _, name in trial.command.writes}
-            self.restore(seen)
+            self.restore(self.seen())
         return self.known[key]
 
     def before(self, changes):
@@ -429,8 +437,8 @@ class Worker:
             wanted[name] = usual[name]
         if trial.is_torn:
             free = set(outputs[trial.done : trial.done + 1])
-        if ends is None and trial.command is not RUN:
-            answer = commands.answer(trial.command.words.split(" "), commands.Folder(before))
+        if ends is None and trial.command != RUN:
+            answer = predicted(trial.command, before)
             ends, wanted = (answer.status, answer.text), wanted | answer.written
         if found != ends and (ends or found[0] != 0):
             return f"{self.told(trial)}: {found[0]}, {found[1][:100]!r}, and not {ends or 0}"
