@@ -7,7 +7,7 @@ use Rattle.std.proofs.lemmas.List.{take-append-drop, take_all, take_at, flat_map
 use Rattle.std.proofs.lemmas.List.Elements.{All-nil, All-cons, All-head, All-tail, All-push, All-append, All-weaker}
 use Rattle.std.proofs.lemmas.List.Concat.{flat_map-cons}
 use Rattle.std.proofs.lemmas.List.Sums.{sum_by-cons}
-use Rattle.mb_model.specs.Texts.{ended}
+use Rattle.mb_model.specs.Texts.{line_with_lf}
 use Rattle.mb_model.specs.Lines.{IsLine, text_of}
 use Rattle.mb_appvm.specs.declared.instruction.Instruction.{Instruction}
 use Rattle.mb_appvm.specs.declared.instruction.Instruction.TheVariants as instruction
@@ -52,15 +52,15 @@ map_push f [] x = refl
 map_push {A} {B} f (y ∷ xs) x = ap (λ (l : List B). f y ∷ l) (map_push f xs x)
 
 pub list_one : (code : List ℕ) (place next : ℕ) (i : Instruction) (text more : List ℕ) → IsListedTo code place text → Stands code place i next
-    → more ≡ text ++ ended (instruction_line i) → IsListedTo code next more
+    → more ≡ text ++ line_with_lf (instruction_line i) → IsListedTo code next more
 list_one code place next i text more is stands puts = record {
   listed = is.listed ++ i ∷ [];
   allowed = All-push instruction_format.Allowed is.listed i is.allowed stands.allowed;
   within = stands.within;
   front = take_next code place next i stands ∙ ap (λ (x : List ℕ). x ++ instruction_format.spelling i) is.front
       ∙ flat_map_more instruction_format.spelling [] is.listed i;
-  written = puts ∙ ap (λ (x : List ℕ). x ++ ended (instruction_line i)) is.written
-      ∙ flat_map_more ended [] (map instruction_line is.listed) (instruction_line i)
+  written = puts ∙ ap (λ (x : List ℕ). x ++ line_with_lf (instruction_line i)) is.written
+      ∙ flat_map_more line_with_lf [] (map instruction_line is.listed) (instruction_line i)
       ∙ ap text_of (sym (map_push instruction_line is.listed i));
 }
 

@@ -3,7 +3,7 @@
 ghost use Rattle.std.specs.Prelude.{◌≡◌, ◌≤◌, ◌++◌, length, IfOk};
 ghost use Rattle.std.specs.Fmt.{decimal};
 ghost use Rattle.mb_model.specs.declared.limits.TheConstants.{CODE_LIMIT};
-ghost use Rattle.mb_model.specs.Texts.{ended};
+ghost use Rattle.mb_model.specs.Texts.{line_with_lf};
 ghost use Rattle.mb_bytes.specs.Puts.{Puts};
 ghost use Rattle.mb_appvm.specs.Assembly.{plain_word, operation_word, Assembles};
 ghost use Rattle.mb_appvm.specs.Listing.{instruction_line, DisassemblesTo};
@@ -62,7 +62,7 @@ pub fn disassemble(alloc: Global, code: &[u8]) -> Result<Bytes, DisasmEnd>
 
 /// Appends the line of an instruction and its LF.
 fn put_line(out: &mut Vec<u8>, instruction: &Instruction<'_>) -> Result<(), NoMemory>
-    ensures { Puts (ended (instruction_line instruction.now)) out.old result out.new }
+    ensures { Puts (line_with_lf (instruction_line instruction.now)) out.old result out.new }
 {
     put_words(out, instruction)?;
     put_slice(out, b"\n")

@@ -10,8 +10,8 @@ use Rattle.mb_model.specs.declared.stored.Pending.{Pending}
 use Rattle.mb_model.specs.declared.stored.Root.{Root}
 use Rattle.mb_model.specs.RootFormat.{pending_format, root_format}
 use Rattle.mb_model.specs.Board.{Memory, IsLoaded}
-use Rattle.mb_model.specs.Memory.{IsBlank, current, HoldsRecord}
-use Rattle.mb_model.specs.Meaning.{RootIn, Contents, HoldsContents, meant}
+use Rattle.mb_model.specs.Memory.{IsBlank, area_of_slot, HoldsRecord}
+use Rattle.mb_model.specs.Meaning.{RootIn, Contents, HoldsContents, state_of_contents}
 use Rattle.mb_model.specs.Clean.{root_of}
 use Rattle.mb_model_lemmas.proofs.MeaningLemmas.{one_root}
 use Rattle.mb_model_memory.specs.Commits.{both_done, at_rest}
@@ -37,10 +37,10 @@ none_blank = λ k d less. absurd (omega arith)
 pub one_held : (area : List ℕ) (root any : Root) → IsBytes area → HoldsRecord root_format area root → HoldsRecord root_format area any → any ≡ root
 one_held area root any are holds here = one_root 0xA5 [] area any root are (record { alive = refl; blank = none_blank; holds = here }) (record { alive = refl; blank = none_blank; holds = holds })
 
-pub in_force : (area bbram : List ℕ) (root : Root) → area ≡ current bbram 1 → HoldsRecord root_format area root → HoldsRecord root_format (current bbram 1) root
+pub in_force : (area bbram : List ℕ) (root : Root) → area ≡ area_of_slot bbram 1 → HoldsRecord root_format area root → HoldsRecord root_format (area_of_slot bbram 1) root
 in_force area bbram root same holds = subst (λ (xs : List ℕ). HoldsRecord root_format xs root) same holds
 
-pub some_held : (area : List ℕ) (memory : Memory) → area ≡ current memory.bbram 1 → HasSomeRoot memory → HoldsSomeRoot area
+pub some_held : (area : List ℕ) (memory : Memory) → area ≡ area_of_slot memory.bbram 1 → HasSomeRoot memory → HoldsSomeRoot area
 some_held area memory same some = record { root = some.root; holds = subst (λ (xs : List ℕ). HoldsRecord root_format xs some.root) (sym same) some.holds.holds }
 
 -- ---- writing
@@ -67,7 +67,7 @@ still_room root cleared new (Err e) allowed none room w = absurd (omega (arith, 
 
 -- ---- a slot in force as it was
 
-pub kept_in_force : (before after : Memory) → AgreeBesides 1 before.bbram after.bbram → current after.bbram 1 ≡ current before.bbram 1 → after.flash ≡ before.flash → KeepsContents before after
+pub kept_in_force : (before after : Memory) → AgreeBesides 1 before.bbram after.bbram → area_of_slot after.bbram 1 ≡ area_of_slot before.bbram 1 → after.flash ≡ before.flash → KeepsContents before after
 kept_in_force before after agree same flash = record {
   kept = λ contents holds. contents_agree before.flash before.bbram after.flash after.bbram contents (record {
     life = agree.life;
@@ -81,7 +81,7 @@ kept_in_force before after agree same flash = record {
 
 -- ---- a root put in force
 
-pub root_committed : (root : Root) (before after : Memory) → AgreeBesides 1 before.bbram after.bbram → HoldsRecord root_format (current after.bbram 1) root → after.flash ≡ before.flash → CommitsRoot root before after
+pub root_committed : (root : Root) (before after : Memory) → AgreeBesides 1 before.bbram after.bbram → HoldsRecord root_format (area_of_slot after.bbram 1) root → after.flash ≡ before.flash → CommitsRoot root before after
 root_committed root before after agree own flash = record {
   committed = λ contents codes signed unsigned holds public.
       subst (λ (xs : List ℕ). HoldsContents xs after.bbram (record contents { root = root; codes = codes; signed = signed; unsigned = unsigned })) (sym flash)
@@ -89,29 +89,29 @@ root_committed root before after agree own flash = record {
 }
 
 pub committed_or_kept : (root : Root) (before after : Memory) → AgreeBesides 1 before.bbram after.bbram → after.flash ≡ before.flash
-    → (current after.bbram 1 ≡ current before.bbram 1) ⊎ HoldsRecord root_format (current after.bbram 1) root → KeepsContents before after ⊎ CommitsRoot root before after
+    → (area_of_slot after.bbram 1 ≡ area_of_slot before.bbram 1) ⊎ HoldsRecord root_format (area_of_slot after.bbram 1) root → KeepsContents before after ⊎ CommitsRoot root before after
 committed_or_kept root before after agree flash (inl same) = inl (kept_in_force before after agree same flash)
 committed_or_kept root before after agree flash (inr own) = inr (root_committed root before after agree own flash)
 
-settled_is : (contents : Contents) → settled_root contents.root ≡ root_of (meant contents) (1 - contents.root.area)
-unfolding meant
+settled_is : (contents : Contents) → settled_root contents.root ≡ root_of (state_of_contents contents) (1 - contents.root.area)
+unfolding state_of_contents
 settled_is contents = refl
 
-pub root_finished : (root : Root) (before after : Memory) → ((any : Root) → RootIn before.bbram any → any ≡ root) → AgreeBesides 1 before.bbram after.bbram → HoldsRecord root_format (current after.bbram 1) (settled_root root) → after.flash ≡ before.flash
+pub root_finished : (root : Root) (before after : Memory) → ((any : Root) → RootIn before.bbram any → any ≡ root) → AgreeBesides 1 before.bbram after.bbram → HoldsRecord root_format (area_of_slot after.bbram 1) (settled_root root) → after.flash ≡ before.flash
     → Finishes before after
 root_finished root before after only agree own flash = record {
   finishes = λ contents ready. (
       let same : contents.root ≡ root = only contents.root ready.holds.root in
       let area : ℕ = 1 - contents.root.area in
-      let here : HoldsRecord root_format (current after.bbram 1) (root_of (meant contents) area) =
-      subst (HoldsRecord root_format (current after.bbram 1)) (sym (ap settled_root same) ∙ settled_is contents) own in
+      let here : HoldsRecord root_format (area_of_slot after.bbram 1) (root_of (state_of_contents contents) area) =
+      subst (HoldsRecord root_format (area_of_slot after.bbram 1)) (sym (ap settled_root same) ∙ settled_is contents) own in
       let done : HoldsContents before.flash before.bbram (both_done contents) = subst (HoldsContents before.flash before.bbram) (sym ready.applied) ready.holds in
-      subst (λ (xs : List ℕ). HoldsContents xs after.bbram (at_rest (meant contents) area)) (sym flash)
+      subst (λ (xs : List ℕ). HoldsContents xs after.bbram (at_rest (state_of_contents contents) area)) (sym flash)
       (work_finished before.flash before.bbram after.bbram contents area agree here ready.signed done));
 }
 
 pub finished_or_kept : (root : Root) (before after : Memory) → ((any : Root) → RootIn before.bbram any → any ≡ root) → AgreeBesides 1 before.bbram after.bbram → after.flash ≡ before.flash
-    → (current after.bbram 1 ≡ current before.bbram 1) ⊎ HoldsRecord root_format (current after.bbram 1) (settled_root root) → KeepsContents before after ⊎ Finishes before after
+    → (area_of_slot after.bbram 1 ≡ area_of_slot before.bbram 1) ⊎ HoldsRecord root_format (area_of_slot after.bbram 1) (settled_root root) → KeepsContents before after ⊎ Finishes before after
 finished_or_kept root before after only agree flash (inl same) = inl (kept_in_force before after agree same flash)
 finished_or_kept root before after only agree flash (inr own) = inr (root_finished root before after only agree own flash)
 
@@ -139,7 +139,7 @@ pub committed_means : (root : Root) (before after : Memory) → IsLoaded after �
 committed_means root before after sized commits = record {
   means = λ contents codes signed unsigned holds public index. (
       let next : Contents = record contents { root = root; codes = codes; signed = signed; unsigned = unsigned } in
-      stands_for_meant after.flash after.bbram next (meant next) sized (commits.committed contents codes signed unsigned holds public) index refl);
+      stands_for_meant after.flash after.bbram next (state_of_contents next) sized (commits.committed contents codes signed unsigned holds public) index refl);
 }
 
 pub committed_means_or_kept : (root : Root) (before after : Memory) → IsLoaded after → KeepsContents before after ⊎ CommitsRoot root before after → KeepsOrMeansByRoot root before after
@@ -147,8 +147,8 @@ committed_means_or_kept root before after sized (inl keeps) = inl (contents_keep
 committed_means_or_kept root before after sized (inr commits) = inr (committed_means root before after sized commits)
 
 pub finished_means : (before after : Memory) → IsLoaded after → KeepsOrFinishes before after → MeansAsReady before after
-finished_means before after sized (inl keeps) = record { means = λ contents ready means. (contents_keep before after sized keeps).kept (meant contents) means }
+finished_means before after sized (inl keeps) = record { means = λ contents ready means. (contents_keep before after sized keeps).kept (state_of_contents contents) means }
 finished_means before after sized (inr done) = record {
   means = λ contents ready means.
-      rest_stands after.flash after.bbram (meant contents) (1 - contents.root.area) sized (meant_layers contents) (done.finishes contents ready);
+      rest_stands after.flash after.bbram (state_of_contents contents) (1 - contents.root.area) sized (meant_layers contents) (done.finishes contents ready);
 }

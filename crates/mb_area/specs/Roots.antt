@@ -9,7 +9,7 @@ use Rattle.mb_model.specs.RootFormat.{root_format}
 use Rattle.mb_model.specs.Board.{Memory}
 use Rattle.mb_model.specs.Memory.{HoldsRecord}
 use Rattle.mb_model.specs.Flash.{HoldsPublic}
-use Rattle.mb_model.specs.Meaning.{RootIn, Contents, meant}
+use Rattle.mb_model.specs.Meaning.{RootIn, Contents, state_of_contents}
 use Rattle.mb_model.specs.Clean.{root_of}
 use Rattle.mb_model_memory.specs.Commits.{both_done, at_rest}
 use Rattle.mb_model.specs.StoredLog.{HasIndex}
@@ -40,7 +40,7 @@ pub record MeansByRoot (new_root : Root) (before after : Memory) : Type 0 where
       → HasIndex new_root new_root.pending
       → Means
       after
-      (meant (record contents { root = new_root; codes = codes; signed = signed; unsigned = unsigned }))
+      (state_of_contents (record contents { root = new_root; codes = codes; signed = signed; unsigned = unsigned }))
 
 -- the root record of the same device with nothing pending, and with its header in the other header area
 abbrev pub settled_root : Root → Root
@@ -53,19 +53,19 @@ pub record IsReadyToFinish (memory : Memory) (contents : Contents) : Type 0 wher
   pub applied : both_done contents ≡ contents
   pub signed : HoldsPublic
       memory.flash
-      (root_of (meant contents) (1 - contents.root.area))
+      (root_of (state_of_contents contents) (1 - contents.root.area))
       contents.codes
-      (meant contents).log
+      (state_of_contents contents).log
       []
 
 -- The memory stands for the state for which contents that were ready to be finished stood.
 pub record MeansAsReady (before after : Memory) : Type 0 where
-  pub means : (contents : Contents) → IsReadyToFinish before contents → Means before (meant contents)
-      → Means after (meant contents)
+  pub means : (contents : Contents) → IsReadyToFinish before contents → Means before (state_of_contents contents)
+      → Means after (state_of_contents contents)
 
 -- what the memory holds once that is finished
 abbrev pub finished : Contents → Contents
-finished contents = at_rest (meant contents) (1 - contents.root.area)
+finished contents = at_rest (state_of_contents contents) (1 - contents.root.area)
 
 -- contents that were ready to be finished are finished
 pub record Finishes (before after : Memory) : Type 0 where

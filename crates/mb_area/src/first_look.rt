@@ -3,7 +3,7 @@
 ghost use Rattle.std.specs.Prelude.{◌≡◌, IsOk, IfOk};
 ghost use Rattle.mb_layout.specs.Plans.{SamePlans};
 ghost use Rattle.mb_model.specs.declared.stored.Root.{Root};
-ghost use Rattle.mb_model.specs.Memory.{other};
+ghost use Rattle.mb_model.specs.Memory.{inactive_area_of_slot};
 ghost use Rattle.mb_model.specs.Meaning.{RootIn};
 ghost use Rattle.mb_board.specs.Calls.{IsUp};
 ghost use Rattle.mb_area.specs.Roots.{HasSomeRoot};
@@ -39,7 +39,7 @@ pub fn look<B: Board>(up: Up<R1>, b: &mut B, room: &mut Room) -> Result<Looked, 
     requires root { HasSomeRoot (B.seen b.old).memory }
     ensures ok { IsOk result }
     ensures looked { (root : Root) → RootIn (B.seen b.old).memory.bbram root
-        → IfOk result (λ looked. IsLooked looked root (other (B.seen b.old).memory.bbram 1)) }
+        → IfOk result (λ looked. IsLooked looked root (inactive_area_of_slot (B.seen b.old).memory.bbram 1)) }
     ensures same { B.seen b.new ≡ B.seen b.old }
     ensures plans { SamePlans room.old room.new }
 {

@@ -6,7 +6,7 @@ ghost use Rattle.mb_layout.specs.Plans.{SamePlans};
 ghost use Rattle.mb_model.specs.declared.limits.TheConstants.{AREA_LENGTH, RECORD_LIMIT};
 ghost use Rattle.mb_model.specs.declared.stored.Root.{Root};
 ghost use Rattle.mb_model.specs.RootFormat.{root_format};
-ghost use Rattle.mb_model.specs.Memory.{IsBlank, current, other, HoldsRecord};
+ghost use Rattle.mb_model.specs.Memory.{IsBlank, area_of_slot, inactive_area_of_slot, HoldsRecord};
 ghost use Rattle.mb_model.specs.Meaning.{RootIn};
 ghost use Rattle.mb_board.specs.Calls.{IsUp};
 ghost use Rattle.mb_model_memory.specs.InForce.{AgreeBesides};
@@ -68,11 +68,11 @@ fn store_root<B: Board>(b: &mut B, root: &Root, room: &mut Room) -> Result<(), S
     requires can_use { CanUse (B.seen b.old) 1 }
     requires allowed { root_format.Allowed root.now }
     ensures done { OnOk result (HoldsRecord root_format
-        (current (B.seen b.new).memory.bbram 1) root.now) }
-    ensures either { (current (B.seen b.new).memory.bbram 1 ≡ current (B.seen b.old).memory.bbram 1)
-        ⊎ HoldsRecord root_format (current (B.seen b.new).memory.bbram 1) root.now }
-    ensures left { OnOk result (other (B.seen b.new).memory.bbram 1
-        ≡ current (B.seen b.old).memory.bbram 1) }
+        (area_of_slot (B.seen b.new).memory.bbram 1) root.now) }
+    ensures either { (area_of_slot (B.seen b.new).memory.bbram 1 ≡ area_of_slot (B.seen b.old).memory.bbram 1)
+        ⊎ HoldsRecord root_format (area_of_slot (B.seen b.new).memory.bbram 1) root.now }
+    ensures left { OnOk result (inactive_area_of_slot (B.seen b.new).memory.bbram 1
+        ≡ area_of_slot (B.seen b.old).memory.bbram 1) }
     ensures besides { AgreeBesides 1 (B.seen b.old).memory.bbram (B.seen b.new).memory.bbram }
     ensures ran { RanInSlot 2 1 result (B.seen b.old) (B.seen b.new) }
     ensures plans { SamePlans room.old room.new }
@@ -153,9 +153,9 @@ fn unwiped(u: Unsettled) -> Unwiped {
 #[tactic(auto, using(crate::proofs::Rooted::kept_in_force))]
 pub fn wipe_root<B: Board>(w: Unwiped, b: &mut B) -> Result<Up<R1>, Off>
     requires up { IsUp 1 (B.seen b.old) }
-    ensures blank { OnOk result (IsBlank (other (B.seen b.new).memory.bbram 1)) }
+    ensures blank { OnOk result (IsBlank (inactive_area_of_slot (B.seen b.new).memory.bbram 1)) }
     ensures contents { KeepsContents (B.seen b.old).memory (B.seen b.new).memory }
-    ensures idle { IsBlank (other (B.seen b.old).memory.bbram 1)
+    ensures idle { IsBlank (inactive_area_of_slot (B.seen b.old).memory.bbram 1)
         → IsOk result × ((B.seen b.new).memory ≡ (B.seen b.old).memory)
         × ((B.seen b.new).meter ≡ (B.seen b.old).meter) }
     ensures ran { RanInOther 1 1 result (B.seen b.old) (B.seen b.new) }

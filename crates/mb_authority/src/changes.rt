@@ -2,7 +2,7 @@
 
 ghost use Rattle.std.specs.Prelude.{◌≡◌};
 ghost use Rattle.mb_model.specs.Layers.{trust_for};
-ghost use Rattle.mb_model.specs.Rules.{trusts, admits, is_kept, kept_regions, may_cosign, loaded_layer, placed, layer_after, after};
+ghost use Rattle.mb_model.specs.Rules.{lets_load_in, admits, is_kept, kept_regions, may_cosign, loaded_layer, layer_from_order, layer_after, after};
 
 use crate::kinds::{is_load, is_own_load};
 use crate::layers::{is_in, is_owned, layer_of};
@@ -12,7 +12,7 @@ use sha2::{Digest, Sha256};
 /// Whether a layer with this trust goes along with a load beneath it. `cosigned` says whether the layer's owner has
 /// countersigned the load.
 fn trusts(trust: Trust, cosigned: bool) -> bool
-    ensures { result ≡ trusts trust cosigned }
+    ensures { result ≡ lets_load_in trust cosigned }
 {
     match trust {
         Trust::Always => true,
@@ -86,7 +86,7 @@ fn loaded_layer(old: &Layer, payload: &Payload) -> Layer
 
 /// The layer that an order puts in place of the layer `old`, by what the order does. The code of a load is hashed once.
 pub fn placed(old: &Layer, act: &Act) -> Layer
-    ensures { result ≡ placed old.now act.now }
+    ensures { result ≡ layer_from_order old.now act.now }
 {
     match act {
         Act::Establish { owner, trust } => Layer {

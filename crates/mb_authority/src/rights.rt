@@ -1,7 +1,7 @@
 //! Who has to sign an order, and the state of the layers that it needs.
 
 ghost use Rattle.std.specs.Prelude.{◌≡◌};
-ghost use Rattle.mb_model.specs.Rules.{authority, condition, signing_layer};
+ghost use Rattle.mb_model.specs.Rules.{authority, stands_for_order, signing_layer};
 ghost use Rattle.mb_model.specs.OrderChecks.{change_by};
 
 use crate::kinds::change_by;
@@ -29,7 +29,7 @@ pub fn authority(layers: &Layers, order: &Order) -> Option<PublicKey>
 /// Whether these layers allow an order of the kind, `None` for a new key, for `layer`. It is false for every layer that
 /// an order of the kind cannot be for.
 pub fn condition(layers: &Layers, kind: Option<ChangeKind>, layer: u8) -> bool
-    ensures { result ≡ condition layers.now kind layer }
+    ensures { result ≡ stands_for_order layers.now kind layer }
 {
     let beneath = layer.saturating_sub(1);
     match kind {

@@ -7,7 +7,7 @@ use Rattle.std.proofs.lemmas.List.FromFn.{length-map-range_with_len, map-range_w
 use Rattle.mb_model.specs.declared.event.Tear.{Tear}
 use Rattle.mb_board.specs.declared.fuse.Cut.{Cut}
 use Rattle.mb_model.specs.Pieces.{part}
-use Rattle.mb_model.specs.Board.{put}
+use Rattle.mb_model.specs.Board.{memory_with_bytes}
 use Rattle.mb_model.proofs.Places.{length-part, part-put, put-put}
 use Rattle.mb_board.specs.Cuts.{filling, torn_by, LeavesWhatItKeeps}
 use Rattle.mb_board.specs.Shown.{BankContents}
@@ -30,8 +30,8 @@ length-torn_by tear bytes =
     omega (arith, length-append (take tear.keep bytes) (filling tear (length bytes - tear.keep)), length-take tear.keep bytes, length-filling tear (length bytes - tear.keep))
 
 -- a range whose first bytes stay
-put-kept : (at kept : ℕ) (rest memory : List ℕ) → at + kept ≤ length memory → put at (part at kept memory ++ rest) memory ≡ put (at + kept) rest memory
-unfolding put
+put-kept : (at kept : ℕ) (rest memory : List ℕ) → at + kept ≤ length memory → memory_with_bytes at (part at kept memory ++ rest) memory ≡ memory_with_bytes (at + kept) rest memory
+unfolding memory_with_bytes
 put-kept at kept rest memory within =
     let front : take (at + kept) memory ++ rest ≡ take at memory ++ (part at kept memory ++ rest) =
     ap (λ start. start ++ rest) (take-add at kept memory) ∙ append_assoc (take at memory) (part at kept memory) rest in
@@ -54,26 +54,26 @@ take-part keep count kept at memory least within =
     ]
 
 -- a tear changes the rest of a range that was written alone
-pub put-torn_by : (tear : Tear) (at count kept : ℕ) (memory : List ℕ) → kept ≡ min count tear.keep → at + count ≤ length memory → put (at + kept) (filling tear (count - kept)) memory ≡ put at (torn_by tear (part at count memory)) memory
+pub put-torn_by : (tear : Tear) (at count kept : ℕ) (memory : List ℕ) → kept ≡ min count tear.keep → at + count ≤ length memory → memory_with_bytes (at + kept) (filling tear (count - kept)) memory ≡ memory_with_bytes at (torn_by tear (part at count memory)) memory
 unfolding torn_by
 put-torn_by tear at count kept memory least within =
     let front : take tear.keep (part at count memory) ≡ part at kept memory = take-part tear.keep count kept at memory least within in
     let left : length (part at count memory) - tear.keep ≡ count - kept = omega (arith, length-part at count memory within) in
     let rest : filling tear (length (part at count memory) - tear.keep) ≡ filling tear (count - kept) = ap (filling tear) left in
-    let same : put at (part at kept memory ++ filling tear (count - kept)) memory ≡ put (at + kept) (filling tear (count - kept)) memory =
+    let same : memory_with_bytes at (part at kept memory ++ filling tear (count - kept)) memory ≡ memory_with_bytes (at + kept) (filling tear (count - kept)) memory =
     put-kept at kept (filling tear (count - kept)) memory (omega arith) in
     cc
 
 -- what a tear leaves of a range that was just written
-torn_by-put : (tear : Tear) (at count : ℕ) (bytes memory : List ℕ) → count ≡ length bytes → at + length bytes ≤ length memory → put at (torn_by tear (part at count (put at bytes memory))) (put at bytes memory) ≡ put at (torn_by tear bytes) memory
+torn_by-put : (tear : Tear) (at count : ℕ) (bytes memory : List ℕ) → count ≡ length bytes → at + length bytes ≤ length memory → memory_with_bytes at (torn_by tear (part at count (memory_with_bytes at bytes memory))) (memory_with_bytes at bytes memory) ≡ memory_with_bytes at (torn_by tear bytes) memory
 torn_by-put tear at count bytes memory sized within =
-    let stored : part at count (put at bytes memory) ≡ bytes = part-put at count bytes memory sized (omega arith) in
-    ap (λ range. put at (torn_by tear range) (put at bytes memory)) stored
+    let stored : part at count (memory_with_bytes at bytes memory) ≡ bytes = part-put at count bytes memory sized (omega arith) in
+    ap (λ range. memory_with_bytes at (torn_by tear range) (memory_with_bytes at bytes memory)) stored
     ∙ put-put at (torn_by tear bytes) bytes memory (omega (arith, length-torn_by tear bytes)) (omega arith)
 
-pub torn_write : (tear : Tear) (at count : ℕ) (bytes : List ℕ) (old written new : BankContents) → new ≡ record written { bytes = put at (torn_by tear (part at count written.bytes)) written.bytes } → written ≡ record old { bytes = put at bytes old.bytes } → count ≡ length bytes → at + length bytes ≤ length old.bytes → new ≡ record old { bytes = put at (torn_by tear bytes) old.bytes }
+pub torn_write : (tear : Tear) (at count : ℕ) (bytes : List ℕ) (old written new : BankContents) → new ≡ record written { bytes = memory_with_bytes at (torn_by tear (part at count written.bytes)) written.bytes } → written ≡ record old { bytes = memory_with_bytes at bytes old.bytes } → count ≡ length bytes → at + length bytes ≤ length old.bytes → new ≡ record old { bytes = memory_with_bytes at (torn_by tear bytes) old.bytes }
 torn_write tear at count bytes old written new spoils writes sized within =
-    let spoiled : BankContents → BankContents = λ bank. record bank { bytes = put at (torn_by tear (part at count bank.bytes)) bank.bytes } in
+    let spoiled : BankContents → BankContents = λ bank. record bank { bytes = memory_with_bytes at (torn_by tear (part at count bank.bytes)) bank.bytes } in
     let with_bytes : List ℕ → BankContents = λ all. record old { bytes = all } in
     spoils ∙ (ap spoiled writes ∙ ap with_bytes (torn_by-put tear at count bytes old.bytes sized within))
 

@@ -4,7 +4,7 @@ use Rattle.std.proofs.Common.{◌≡◌, ◌≢◌, ℕ, ◌+◌, ◌*◌, ◌<�
 use Rattle.std.proofs.Math.Seq.{take-add}
 use Rattle.std.proofs.lemmas.Bool.{cases_order}
 use Rattle.std.proofs.lemmas.List.{length-replicate, get_or-replicate}
-use Rattle.mb_model.specs.Board.{put}
+use Rattle.mb_model.specs.Board.{memory_with_bytes}
 use Rattle.mb_model.proofs.Places.{length-part, length-put, take-put_below, part-put, part-put_below, part-put_above}
 use Rattle.mb_board.specs.Kept.{sector_of, IsSameUnchanged}
 
@@ -14,7 +14,7 @@ pub record LiesIn (sector at n : ℕ) : Type 0 where
   pub most : at + n ≤ 4096 * sector + 4096
 
 -- what is put into a sector leaves the others
-sector_of-put_other : (other sector at : ℕ) (bytes memory : List ℕ) → other ≢ sector → LiesIn sector at (length bytes) → at ≤ length memory → sector_of other (put at bytes memory) ≡ sector_of other memory
+sector_of-put_other : (other sector at : ℕ) (bytes memory : List ℕ) → other ≢ sector → LiesIn sector at (length bytes) → at ≤ length memory → sector_of other (memory_with_bytes at bytes memory) ≡ sector_of other memory
 sector_of-put_other other sector at bytes memory differ lies within =
     elim (cases_order other sector) [
       | inl same ↦ absurd (differ same)
@@ -25,10 +25,10 @@ sector_of-put_other other sector at bytes memory differ lies within =
     ]
 
 -- a write into a sector that is marked as changed
-pub same-put : (changed : List Bool) (standing memory : List ℕ) (sector at : ℕ) (bytes : List ℕ) → IsSameUnchanged changed standing memory → sector < length changed → LiesIn sector at (length bytes) → IsSameUnchanged (set changed sector true) standing (put at bytes memory)
+pub same-put : (changed : List Bool) (standing memory : List ℕ) (sector at : ℕ) (bytes : List ℕ) → IsSameUnchanged changed standing memory → sector < length changed → LiesIn sector at (length bytes) → IsSameUnchanged (set changed sector true) standing (memory_with_bytes at bytes memory)
 same-put changed standing memory sector at bytes same known lies =
     let count : length (set changed sector true) ≡ length changed = length-set changed sector true in
-    let size : length (put at bytes memory) ≡ length memory = length-put at bytes memory (omega arith) in
+    let size : length (memory_with_bytes at bytes memory) ≡ length memory = length-put at bytes memory (omega arith) in
     record {
       whole = omega arith;
       sized = same.sized ∙ sym size;
@@ -50,7 +50,7 @@ prefix_more sector standing memory front next =
     cc
 
 -- a sector is copied, and no longer marked
-pub same-copied : (changed : List Bool) (standing memory : List ℕ) (sector : ℕ) → IsSameUnchanged changed standing memory → sector < length changed → IsSameUnchanged (set changed sector false) (put (4096 * sector) (sector_of sector memory) standing) memory
+pub same-copied : (changed : List Bool) (standing memory : List ℕ) (sector : ℕ) → IsSameUnchanged changed standing memory → sector < length changed → IsSameUnchanged (set changed sector false) (memory_with_bytes (4096 * sector) (sector_of sector memory) standing) memory
 same-copied changed standing memory sector same known =
     let count : length (set changed sector false) ≡ length changed = length-set changed sector false in
     let new : List ℕ = sector_of sector memory in
@@ -61,22 +61,22 @@ same-copied changed standing memory sector same known =
       whole = omega arith;
       sized = length-put (4096 * sector) new standing (omega arith) ∙ same.sized;
       same = λ other below is.
-          let unequal : (other ≢ sector) → sector_of other (put (4096 * sector) new standing) ≡ sector_of other memory = λ differ.
+          let unequal : (other ≢ sector) → sector_of other (memory_with_bytes (4096 * sector) new standing) ≡ sector_of other memory = λ differ.
           sector_of-put_other other sector (4096 * sector) new standing differ lies within
           ∙ same.same other (omega arith) (sym (get_or-set_other changed sector other false false differ) ∙ is) in
           elim (cases_order other sector) [
             | inl equal ↦
-                ap (λ i. sector_of i (put (4096 * sector) new standing)) equal
+                ap (λ i. sector_of i (memory_with_bytes (4096 * sector) new standing)) equal
                 ∙ (part-put (4096 * sector) 4096 new standing (sym new_length) within ∙ ap (λ i. sector_of i memory) (sym equal))
             | inr order ↦ unequal (elim order [ inl below ↦ λ equal. omega arith | inr above ↦ λ equal. omega arith ])
           ];
     }
 
-pub prefix-copied : (standing memory : List ℕ) (sector : ℕ) → length standing ≡ length memory → 4096 * sector + 4096 ≤ length memory → take (4096 * sector) standing ≡ take (4096 * sector) memory → take (4096 * (sector + 1)) (put (4096 * sector) (sector_of sector memory) standing) ≡ take (4096 * (sector + 1)) memory
+pub prefix-copied : (standing memory : List ℕ) (sector : ℕ) → length standing ≡ length memory → 4096 * sector + 4096 ≤ length memory → take (4096 * sector) standing ≡ take (4096 * sector) memory → take (4096 * (sector + 1)) (memory_with_bytes (4096 * sector) (sector_of sector memory) standing) ≡ take (4096 * (sector + 1)) memory
 prefix-copied standing memory sector sized within front =
     let new : List ℕ = sector_of sector memory in
     let new_length : length new ≡ 4096 = length-part (4096 * sector) 4096 memory within in
-    prefix_more sector (put (4096 * sector) new standing) memory
+    prefix_more sector (memory_with_bytes (4096 * sector) new standing) memory
     (take-put_below (4096 * sector) (4096 * sector) new standing (omega arith) (omega arith) ∙ front)
     (part-put (4096 * sector) 4096 new standing (sym new_length) (omega arith))
 

@@ -1,7 +1,7 @@
 -- What a write call of a board leaves. What can a power loss do in the middle of a write?
 use Rattle.std.specs.Prelude.{◌≡◌, ℕ, ◌+◌, ◌≤◌, nat_lt, List, length, Bool, true, false, if◌then◌else◌}
 use Rattle.std.specs.Prelude.{Result, Ok, Err, OnErr, None}
-use Rattle.mb_model.specs.Board.{Memory, Ledger, Meter, Held, IsLoaded, phase_at, put}
+use Rattle.mb_model.specs.Board.{Memory, Ledger, Meter, Held, IsLoaded, phase_at, memory_with_bytes}
 
 -- after a stop power is off
 abbrev pub power_of : {A E : Type 0} → Result A E → Bool
@@ -27,7 +27,7 @@ metered (Err stop) meter =
 pub record Torn (at n : ℕ) (before after : List ℕ) : Type 0 where
   pub written : List ℕ
   pub sized : length written ≡ n
-  pub whole : after ≡ put at written before
+  pub whole : after ≡ memory_with_bytes at written before
 
 -- what a board holds, by its power and the level of its ratchet
 abbrev pub held_by : Memory → Bool → ℕ → Meter → Held

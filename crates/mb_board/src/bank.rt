@@ -4,7 +4,7 @@ ghost use Rattle.std.specs.Prelude.{◌≡◌, ◌+◌, ◌*◌, ◌%◌, ◌≤
 ghost use Rattle.mb_format.specs.Format.{IsBytes};
 ghost use Rattle.mb_model.specs.declared.limits.TheConstants.{SECTOR_LENGTH};
 ghost use Rattle.mb_model.specs.Pieces.{part};
-ghost use Rattle.mb_model.specs.Board.{put, erased, zeros};
+ghost use Rattle.mb_model.specs.Board.{memory_with_bytes, erased_bytes, zeros};
 ghost use Rattle.mb_board.specs.Cuts.{HasFill, filling, torn_by};
 ghost use Rattle.mb_board.specs.Kept.{IsSameUnchanged, sector_of};
 ghost use Rattle.mb_board.specs.Shown.{just_kept};
@@ -71,7 +71,7 @@ impl Bank {
         requires some { 0 < length bytes.now }
         requires one_sector { at % SECTOR_LENGTH + length bytes.now ≤ SECTOR_LENGTH }
         requires within { at + length bytes.now ≤ length self.old.bytes }
-        ensures { self.new ≡ record self.old { bytes = put at bytes.now self.old.bytes } }
+        ensures { self.new ≡ record self.old { bytes = memory_with_bytes at bytes.now self.old.bytes } }
     {
         write(&mut self.bytes, at, bytes);
         self.changed[at / SECTOR_LENGTH] = true;
@@ -82,8 +82,8 @@ impl Bank {
         requires { SECTOR_LENGTH * sector + SECTOR_LENGTH ≤ length self.old.bytes }
         ensures { self.new
             ≡ record self.old {
-              bytes = put (SECTOR_LENGTH * sector)
-                  (erased SECTOR_LENGTH) self.old.bytes;
+              bytes = memory_with_bytes (SECTOR_LENGTH * sector)
+                  (erased_bytes SECTOR_LENGTH) self.old.bytes;
             } }
     {
         let sector = sector as usize;
@@ -99,7 +99,7 @@ impl Bank {
         requires one_sector { at % SECTOR_LENGTH + length bytes.now ≤ SECTOR_LENGTH }
         requires within { at + length bytes.now ≤ length self.old.bytes }
         ensures { self.new
-            ≡ record self.old { bytes = put at (torn_by tear.now bytes.now) self.old.bytes } }
+            ≡ record self.old { bytes = memory_with_bytes at (torn_by tear.now bytes.now) self.old.bytes } }
     {
         self.write(at, bytes);
         self.spoil(at, bytes.len(), tear);
@@ -112,8 +112,8 @@ impl Bank {
         requires within { SECTOR_LENGTH * sector + SECTOR_LENGTH ≤ length self.old.bytes }
         ensures { self.new
             ≡ record self.old {
-              bytes = put (SECTOR_LENGTH * sector)
-                  (torn_by tear.now (erased SECTOR_LENGTH)) self.old.bytes;
+              bytes = memory_with_bytes (SECTOR_LENGTH * sector)
+                  (torn_by tear.now (erased_bytes SECTOR_LENGTH)) self.old.bytes;
             } }
     {
         self.erase(sector);
@@ -128,7 +128,7 @@ impl Bank {
         requires within { at + count ≤ length self.old.bytes }
         ensures { self.new
             ≡ record self.old {
-              bytes = put at (torn_by tear.now
+              bytes = memory_with_bytes at (torn_by tear.now
                   (part at count self.old.bytes)) self.old.bytes;
             } }
     {
@@ -153,19 +153,19 @@ impl Bank {
 }
 
 /// Stores bytes in a memory at the offset `at`.
-#[tactic(auto, unfolding(mb_model::specs::Board::put))]
+#[tactic(auto, unfolding(mb_model::specs::Board::memory_with_bytes))]
 fn write(memory: &mut Vec<u8>, at: usize, bytes: &[u8])
     requires { at + length bytes.now ≤ length memory.old.items }
-    ensures { memory.new.items ≡ put at bytes.now memory.old.items }
+    ensures { memory.new.items ≡ memory_with_bytes at bytes.now memory.old.items }
 {
     memory[at..at + bytes.len()].copy_from_slice(bytes);
 }
 
 /// Sets `count` bytes of a memory, from the offset `at` on, to 0xFF.
-#[tactic(auto, unfolding(mb_model::specs::Board::put, mb_model::specs::Board::erased))]
+#[tactic(auto, unfolding(mb_model::specs::Board::memory_with_bytes, mb_model::specs::Board::erased_bytes))]
 fn erase(memory: &mut Vec<u8>, at: usize, count: usize)
     requires { at + count ≤ length memory.old.items }
-    ensures { memory.new.items ≡ put at (erased count) memory.old.items }
+    ensures { memory.new.items ≡ memory_with_bytes at (erased_bytes count) memory.old.items }
 {
     memory[at..at + count].fill(0xFF);
 }
@@ -190,18 +190,18 @@ fn spoil(memory: &mut Vec<u8>, at: usize, count: usize, tear: &Tear)
     requires fill { HasFill tear.now }
     requires within { at + count ≤ length memory.old.items }
     ensures { memory.new.items
-        ≡ put at (torn_by tear.now (part at count memory.old.items)) memory.old.items }
+        ≡ memory_with_bytes at (torn_by tear.now (part at count memory.old.items)) memory.old.items }
 {
     let kept = count.min(tear.keep as usize);
     store_filling(memory, at + kept, count - kept, tear);
 }
 
 /// Stores `count` bytes of the filling of a tear at the offset `at`.
-#[tactic(auto, unfolding(mb_model::specs::Board::put))]
+#[tactic(auto, unfolding(mb_model::specs::Board::memory_with_bytes))]
 fn store_filling(memory: &mut Vec<u8>, at: usize, count: usize, tear: &Tear)
     requires fill { HasFill tear.now }
     requires within { at + count ≤ length memory.old.items }
-    ensures { memory.new.items ≡ put at (filling tear.now count) memory.old.items }
+    ensures { memory.new.items ≡ memory_with_bytes at (filling tear.now count) memory.old.items }
 {
     fill(&mut memory[at..at + count], tear);
 }
@@ -236,7 +236,7 @@ fn copy_sector(standing: &mut Vec<u8>, bytes: &[u8], sector: usize)
     requires sized { length standing.old.items ≡ length bytes.now }
     requires within { SECTOR_LENGTH * sector + SECTOR_LENGTH ≤ length bytes.now }
     ensures { standing.new.items
-        ≡ put (SECTOR_LENGTH * sector) (sector_of sector bytes.now) standing.old.items }
+        ≡ memory_with_bytes (SECTOR_LENGTH * sector) (sector_of sector bytes.now) standing.old.items }
 {
     let start = SECTOR_LENGTH * sector;
     write(standing, start, &bytes[start..start + SECTOR_LENGTH]);

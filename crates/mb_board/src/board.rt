@@ -5,7 +5,7 @@ ghost use Rattle.mb_format.specs.Format.{IsBytes};
 ghost use Rattle.mb_model.specs.declared.limits.TheConstants.{EVENT_LIMIT, IMAGE_LENGTH, SECTOR_LENGTH};
 ghost use Rattle.mb_model.specs.Pieces.{part};
 ghost use Rattle.mb_model.specs.Script.{IsScriptEvent};
-ghost use Rattle.mb_model.specs.Board.{IsLoaded, image_of, put, erased, loaded, power_after, memory_after, armed_after};
+ghost use Rattle.mb_model.specs.Board.{IsLoaded, image_of, memory_with_bytes, erased_bytes, ledger_at_load, power_after, memory_after, armed_after};
 ghost use Rattle.mb_model.specs.Acknowledged.{MayAnswer};
 ghost use Rattle.mb_board.specs.Calls.{power_of, level_of, metered, Torn, Seen, held_in};
 ghost use Rattle.mb_board.specs.Reach.{Reached, Readable};
@@ -38,7 +38,7 @@ pub trait Board: Register {
         requires within { SECTOR_LENGTH * sector + SECTOR_LENGTH ≤ length
             (seen self.old).memory.flash }
         ensures erased { OnOk result ((seen self.new).memory.flash
-            ≡ put (SECTOR_LENGTH * sector) (erased SECTOR_LENGTH) (seen self.old).memory.flash) }
+            ≡ memory_with_bytes (SECTOR_LENGTH * sector) (erased_bytes SECTOR_LENGTH) (seen self.old).memory.flash) }
         ensures torn { Torn (SECTOR_LENGTH * sector) SECTOR_LENGTH (seen self.old).memory.flash
             (seen self.new).memory.flash }
         ensures bbram { (seen self.new).memory.bbram ≡ (seen self.old).memory.bbram }
@@ -55,9 +55,9 @@ pub trait Board: Register {
         requires within { at + length bytes.now ≤ length (seen self.old).memory.flash }
         requires one_sector { at / SECTOR_LENGTH ≡ (at + length bytes.now - 1) / SECTOR_LENGTH }
         requires blank { part at (length bytes.now) (seen self.old).memory.flash
-            ≡ erased (length bytes.now) }
+            ≡ erased_bytes (length bytes.now) }
         ensures stored { OnOk result ((seen self.new).memory.flash
-            ≡ put at bytes.now (seen self.old).memory.flash) }
+            ≡ memory_with_bytes at bytes.now (seen self.old).memory.flash) }
         ensures torn { Torn at (length bytes.now) (seen self.old).memory.flash
             (seen self.new).memory.flash }
         ensures bbram { (seen self.new).memory.bbram ≡ (seen self.old).memory.bbram }
@@ -83,7 +83,7 @@ pub trait Board: Register {
         requires within { at + length bytes.now ≤ length (seen self.old).memory.bbram }
         requires reached { Reached (seen self.old).level at (length bytes.now) }
         ensures stored { OnOk result ((seen self.new).memory.bbram
-            ≡ put at bytes.now (seen self.old).memory.bbram) }
+            ≡ memory_with_bytes at bytes.now (seen self.old).memory.bbram) }
         ensures torn { Torn at (length bytes.now) (seen self.old).memory.bbram
             (seen self.new).memory.bbram }
         ensures flash { (seen self.new).memory.flash ≡ (seen self.old).memory.flash }
@@ -105,7 +105,7 @@ pub trait Board: Register {
         ensures sized { OnOk result (IsLoaded (seen self.new).memory) }
         ensures image { OnOk result (image_of (seen self.new).memory ≡ image.now) }
         ensures ledger { OnOk result ((seen self.new).ledger
-            ≡ loaded (seen self.new).memory events) }
+            ≡ ledger_at_load (seen self.new).memory events) }
         ensures meter { OnOk result ((seen self.new).meter
             ≡ record (seen self.old).meter { armed = false; writes = 0 }) }
         ensures err_memory { OnErr result ((seen self.new).memory ≡ (seen self.old).memory) }

@@ -7,7 +7,7 @@ ghost use Rattle.mb_format.specs.Format.{IsBytes};
 ghost use Rattle.mb_model.specs.declared.limits.TheConstants.{EVENT_LIMIT, IMAGE_LENGTH, SECTOR_LENGTH};
 ghost use Rattle.mb_model.specs.Pieces.{part};
 ghost use Rattle.mb_model.specs.Script.{IsScriptEvent};
-ghost use Rattle.mb_model.specs.Board.{IsLoaded, image_of, loaded, put, erased, power_after, memory_after, armed_after};
+ghost use Rattle.mb_model.specs.Board.{IsLoaded, image_of, ledger_at_load, memory_with_bytes, erased_bytes, power_after, memory_after, armed_after};
 ghost use Rattle.mb_model.specs.Acknowledged.{MayAnswer};
 ghost use Rattle.mb_board.specs.Calls.{Torn, held_by};
 ghost use Rattle.mb_board.specs.Cuts.{unused, passes, left_by, cut_after, meter_of, is_armed};
@@ -96,7 +96,7 @@ impl SimBoard {
     pub fn new(alloc: Global) -> SimBoard
         ensures power { result.power ≡ false }
         ensures memory { result.memory ≡ unloaded }
-        ensures ledger { result.ledger ≡ loaded unloaded [] }
+        ensures ledger { result.ledger ≡ ledger_at_load unloaded [] }
         ensures fuse { result.fuse ≡ unused }
     {
         SimBoard {
@@ -181,8 +181,8 @@ impl Board for SimBoard {
         requires within { SECTOR_LENGTH * sector + SECTOR_LENGTH ≤ length self.old.memory.flash }
         ensures passes { is_ok result ≡ is_ok (passes self.old.fuse) }
         ensures left { self.new.memory ≡ record self.old.memory {
-          flash = put (SECTOR_LENGTH * sector)
-              (left_by (passes self.old.fuse) (erased SECTOR_LENGTH)) self.old.memory.flash;
+          flash = memory_with_bytes (SECTOR_LENGTH * sector)
+              (left_by (passes self.old.fuse) (erased_bytes SECTOR_LENGTH)) self.old.memory.flash;
         } }
         ensures after { self.new ≡ board_after result self.new.memory self.old }
         ensures torn { Torn (SECTOR_LENGTH * sector) SECTOR_LENGTH
@@ -208,10 +208,10 @@ impl Board for SimBoard {
         requires within { at + length bytes.now ≤ length self.old.memory.flash }
         requires one_sector { at / SECTOR_LENGTH ≡ (at + length bytes.now - 1) / SECTOR_LENGTH }
         requires blank { part at (length bytes.now) self.old.memory.flash
-            ≡ erased (length bytes.now) }
+            ≡ erased_bytes (length bytes.now) }
         ensures passes { is_ok result ≡ is_ok (passes self.old.fuse) }
         ensures left { self.new.memory ≡ record self.old.memory {
-          flash = put at (left_by (passes self.old.fuse) bytes.now) self.old.memory.flash;
+          flash = memory_with_bytes at (left_by (passes self.old.fuse) bytes.now) self.old.memory.flash;
         } }
         ensures after { self.new ≡ board_after result self.new.memory self.old }
         ensures torn { Torn at (length bytes.now) self.old.memory.flash self.new.memory.flash }
@@ -242,7 +242,7 @@ impl Board for SimBoard {
         requires reached { Reached self.old.level at (length bytes.now) }
         ensures passes { is_ok result ≡ is_ok (passes self.old.fuse) }
         ensures left { self.new.memory ≡ record self.old.memory {
-          bbram = put at (left_by (passes self.old.fuse) bytes.now) self.old.memory.bbram;
+          bbram = memory_with_bytes at (left_by (passes self.old.fuse) bytes.now) self.old.memory.bbram;
         } }
         ensures after { self.new ≡ board_after result self.new.memory self.old }
         ensures torn { Torn at (length bytes.now) self.old.memory.bbram self.new.memory.bbram }
@@ -270,7 +270,7 @@ impl Board for SimBoard {
         ensures power { self.new.power ≡ false }
         ensures sized { OnOk result (IsLoaded self.new.memory) }
         ensures image { OnOk result (image_of self.new.memory ≡ image.now) }
-        ensures ledger { OnOk result (self.new.ledger ≡ loaded self.new.memory events) }
+        ensures ledger { OnOk result (self.new.ledger ≡ ledger_at_load self.new.memory events) }
         ensures fuse { OnOk result (self.new.fuse
             ≡ record self.old.fuse { cut = None; writes = 0 }) }
         ensures failed { OnErr result (self.new ≡ self.old) }

@@ -7,8 +7,8 @@ use Rattle.mb_ratchet.specs.declared.state.R1.{R1}
 use Rattle.mb_model.specs.declared.state.State.{State}
 use Rattle.mb_model.specs.declared.stored.Root.{Root}
 use Rattle.mb_model.specs.Board.{Memory, Meter, IsLoaded}
-use Rattle.mb_model.specs.Memory.{IsBlank, life_byte, other}
-use Rattle.mb_model.specs.Meaning.{RootIn, Contents, meant, HasMeaning, is_dead, is_live, StandsFor}
+use Rattle.mb_model.specs.Memory.{IsBlank, life_byte, inactive_area_of_slot}
+use Rattle.mb_model.specs.Meaning.{RootIn, Contents, state_of_contents, HasMeaning, is_dead, is_live, StandsFor}
 use Rattle.mb_model.specs.Clean.{root_of}
 use Rattle.mb_model.specs.Valid.{Valid}
 use Rattle.mb_model_memory.specs.Commits.{at_rest}
@@ -28,7 +28,7 @@ use Rattle.mb_boot.proofs.Settled.{some_root}
 
 -- ---- what is found
 
-pub found_as : (what : Looked) (bbram : List ℕ) → ((root : Root) → RootIn bbram root → IsLooked what root (other bbram 1)) → IsFoundAs what bbram
+pub found_as : (what : Looked) (bbram : List ℕ) → ((root : Root) → RootIn bbram root → IsLooked what root (inactive_area_of_slot bbram 1)) → IsFoundAs what bbram
 found_as what bbram found = record { found = found }
 
 -- with nothing pending, a memory is at rest
@@ -36,7 +36,7 @@ at_rest_by : (memory : Memory) (state : State) → Means memory state → ((root
 at_rest_by memory state means none =
     let live = live_contents memory.flash memory.bbram state means in
     let contents : Contents = live.contents in
-    let same : contents ≡ at_rest (meant contents) contents.root.area = nothing_pending contents (none contents.root live.holds.root) live.holds.public.counted in
+    let same : contents ≡ at_rest (state_of_contents contents) contents.root.area = nothing_pending contents (none contents.root live.holds.root) live.holds.public.counted in
     record {
       area = contents.root.area;
       holds = subst (λ (s : State). Holds memory (at_rest s contents.root.area)) (sym live.means) (subst (Holds memory) same live.holds);
@@ -51,13 +51,13 @@ already_rests up memory live is =
 rest_kept : (before after : Memory) (state : State) → KeepsContents before after → IsAtRest before state → IsAtRest after state
 rest_kept before after state kept rest = record { area = rest.area; holds = kept.kept (at_rest state rest.area) rest.holds }
 
-pub wiped_rests : (unwiped : Unwiped) (before after : Memory) → IsFoundAs (looked.Unwiped unwiped) before.bbram → KeepsContents before after → IsBlank (other after.bbram 1) → Rests before after
+pub wiped_rests : (unwiped : Unwiped) (before after : Memory) → IsFoundAs (looked.Unwiped unwiped) before.bbram → KeepsContents before after → IsBlank (inactive_area_of_slot after.bbram 1) → Rests before after
 wiped_rests unwiped before after is kept blank = record {
   rests = λ state means. rest_kept before after state kept (at_rest_by before state means (λ root has. (is.found root has).0));
   blank = blank;
 }
 
-pub settled_rests : (first between after : Memory) → Settles first between → KeepsContents between after → IsBlank (other after.bbram 1) → Rests first after
+pub settled_rests : (first between after : Memory) → Settles first between → KeepsContents between after → IsBlank (inactive_area_of_slot after.bbram 1) → Rests first after
 settled_rests first between after settles kept blank = record { rests = λ state means. rest_kept between after state kept (settles.settled state means); blank = blank }
 
 -- ---- nothing is written to a clean memory
@@ -88,19 +88,19 @@ keeps_all memory = record { kept = λ state means. means }
 pub contents_then : (before between after : Memory) → KeepsContents before between → KeepsContents between after → KeepsContents before after
 contents_then before between after first second = record { kept = λ contents holds. second.kept contents (first.kept contents holds) }
 
-pub two_leaves_root : (before after : List ℕ) → length before ≡ 28672 → IsSameButOther 2 before after → other after 1 ≡ other before 1
+pub two_leaves_root : (before after : List ℕ) → length before ≡ 28672 → IsSameButOther 2 before after → inactive_area_of_slot after 1 ≡ inactive_area_of_slot before 1
 two_leaves_root before after sized same = other_other 2 1 before after (omega arith) (omega arith) (omega arith) (omega arith) (λ e. omega (arith, e)) sized (but_other 2 before after same)
 
-pub three_leaves_root : (before after : List ℕ) → length before ≡ 28672 → IsSameButOther 3 before after → other after 1 ≡ other before 1
+pub three_leaves_root : (before after : List ℕ) → length before ≡ 28672 → IsSameButOther 3 before after → inactive_area_of_slot after 1 ≡ inactive_area_of_slot before 1
 three_leaves_root before after sized same = other_other 3 1 before after (omega arith) (omega arith) (omega arith) (omega arith) (λ e. omega (arith, e)) sized (but_other 3 before after same)
 
-pub both_wiped : (before after : List ℕ) → length before ≡ 28672 → IsSameButOther 3 before after → IsBlank (other before 2) → IsBlank (other after 3) → IsWiped after
+pub both_wiped : (before after : List ℕ) → length before ≡ 28672 → IsSameButOther 3 before after → IsBlank (inactive_area_of_slot before 2) → IsBlank (inactive_area_of_slot after 3) → IsWiped after
 both_wiped before after sized same two three =
-    let stays : other after 2 ≡ other before 2 = other_other 3 2 before after (omega arith) (omega arith) (omega arith) (omega arith) (λ e. omega (arith, e)) sized (but_other 3 before after same) in
+    let stays : inactive_area_of_slot after 2 ≡ inactive_area_of_slot before 2 = other_other 3 2 before after (omega arith) (omega arith) (omega arith) (omega arith) (λ e. omega (arith, e)) sized (but_other 3 before after same) in
     record { two = subst IsBlank (sym stays) two; three = three }
 
 -- a memory at rest with all of these areas wiped is clean
-pub cleaned : (first between after : Memory) → Rests first between → KeepsContents between after → other after.bbram 1 ≡ other between.bbram 1 → IsWiped after.bbram → IsLoaded after → Cleans first after
+pub cleaned : (first between after : Memory) → Rests first between → KeepsContents between after → inactive_area_of_slot after.bbram 1 ≡ inactive_area_of_slot between.bbram 1 → IsWiped after.bbram → IsLoaded after → Cleans first after
 cleaned first between after rests kept root wiped sized = record {
   cleans = λ state means. (
       let rest = rest_kept between after state kept (rests.rests state means) in
@@ -131,7 +131,7 @@ live_state memory known stands valid (is_dead blank none) alive =
     let clash : (0 == 0) ≡ false = subst (λ (n : ℕ). (n == 0) ≡ false) zero alive in
     absurd (cc)
 live_state memory known stands valid (is_live contents holds index live) alive = record {
-  state = meant contents;
+  state = state_of_contents contents;
   means = subst (StandsFor memory.flash memory.bbram) live stands;
   valid = subst Valid live valid;
 }

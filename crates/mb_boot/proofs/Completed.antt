@@ -14,13 +14,13 @@ use Rattle.mb_model.specs.declared.stored.Header.{Header}
 use Rattle.mb_model.specs.declared.stored.Outgoing.{Outgoing}
 use Rattle.mb_model.specs.declared.stored.Root.{Root}
 use Rattle.mb_model.specs.EntryFormat.{entry_format}
-use Rattle.mb_model.specs.HeaderFormat.{entry_bytes_format, most_unsigned, unsigned_format, header_format, log_format}
+use Rattle.mb_model.specs.HeaderFormat.{entry_bytes_format, unsigned_limit, unsigned_format, header_format, log_format}
 use Rattle.mb_model.specs.Sectors.{BeginsAs}
 use Rattle.mb_model.specs.Flash.{AreBytesOf}
 use Rattle.mb_model.specs.Signing.{signature_of}
 use Rattle.mb_model.specs.SignedTexts.{entry_text}
-use Rattle.mb_model.specs.OrderEffects.{signed_by}
-use Rattle.mb_model.specs.StoredLog.{signed_for}
+use Rattle.mb_model.specs.OrderEffects.{entry_signed_by}
+use Rattle.mb_model.specs.StoredLog.{entries_signed_for}
 use Rattle.mb_model.proofs.FormatBounds.{header_short, log_short}
 use Rattle.mb_model.proofs.HeaderFormatLaws.{header_exact}
 use Rattle.mb_model_lemmas.proofs.HeldSegments.{small_header, room_for_unsigned}
@@ -37,7 +37,7 @@ pub one_begun : (bytes : List ℕ) (a b : Header) → IsBytes bytes → BeginsAs
 one_begun bytes a b are one other =
     ((IsClear-from_exact header_exact).one_value bytes 0 a b one.after other.after (record { are_bytes = are; within = omega arith }) one.spelled other.spelled).0
 
-count_few : (signed : ℕ) (first second : Option (List ℕ)) → (unsigned_format signed).Allowed (first, second) → count_of first + count_of second ≤ most_unsigned signed
+count_few : (signed : ℕ) (first second : Option (List ℕ)) → (unsigned_format signed).Allowed (first, second) → count_of first + count_of second ≤ unsigned_limit signed
 unfolding unsigned_format
 count_few signed None None is = omega arith
 count_few signed None (Some second) is = absurd is
@@ -162,7 +162,7 @@ log_some text signature = omega arith
 -- the text of an entry and the signature of that text are what its sector holds
 log_of_text : (signer : Signer) (text signature bytes : List ℕ) → log_format.Allowed (text, signature) → signature ≡ signature_of signer.key signer.index (3 ∷ text)
     → bytes ≡ log_format.spelling (text, signature) → IsSignedSector signer text bytes
-unfolding signed_by entry_text
+unfolding entry_signed_by entry_text
 log_of_text signer text signature bytes allowed made is = record {
   spelled = λ entry spells. (
       let own : signature ≡ signature_of signer.key signer.index (3 ∷ entry_format.spelling entry) =
@@ -194,18 +194,18 @@ log_put signer text signature cleared new result some short made empty none room
 
 -- the entry at a place with its signature
 abbrev pub made_at : KeySeed → ℕ → Option Outgoing → ℕ → Entry → SignedEntry
-made_at device uses outgoing place entry = signed_by (signer_by device uses outgoing place).key (signer_by device uses outgoing place).index entry
+made_at device uses outgoing place entry = entry_signed_by (signer_by device uses outgoing place).key (signer_by device uses outgoing place).index entry
 
-made_none : (device : KeySeed) (uses : ℕ) (outgoing : Option Outgoing) → signed_for device uses outgoing [] ≡ []
+made_none : (device : KeySeed) (uses : ℕ) (outgoing : Option Outgoing) → entries_signed_for device uses outgoing [] ≡ []
 made_none device uses None = refl
 made_none device uses (Some outgoing) = refl
 
-made_one : (device : KeySeed) (uses : ℕ) (outgoing : Option Outgoing) (one : Entry) → signed_for device uses outgoing (one ∷ []) ≡ made_at device uses outgoing 0 one ∷ []
+made_one : (device : KeySeed) (uses : ℕ) (outgoing : Option Outgoing) (one : Entry) → entries_signed_for device uses outgoing (one ∷ []) ≡ made_at device uses outgoing 0 one ∷ []
 made_one device uses None one = refl
 made_one device uses (Some outgoing) one = refl
 
 made_two : (device : KeySeed) (uses : ℕ) (outgoing : Option Outgoing) (one two : Entry)
-    → signed_for device uses outgoing (one ∷ two ∷ []) ≡ made_at device uses outgoing 0 one ∷ made_at device uses outgoing 1 two ∷ []
+    → entries_signed_for device uses outgoing (one ∷ two ∷ []) ≡ made_at device uses outgoing 0 one ∷ made_at device uses outgoing 1 two ∷ []
 made_two device uses None one two = refl
 made_two device uses (Some outgoing) one two = refl
 
@@ -217,7 +217,7 @@ pub record IsNext (device : KeySeed) (uses : ℕ) (outgoing : Option Outgoing) (
   pub next : take (place + 1) more ≡ take place more ++ made_at device uses outgoing place entry ∷ []
 
 next_by : (device : KeySeed) (uses : ℕ) (outgoing : Option Outgoing) (place : ℕ) (first second : Option (List ℕ)) (unsigned : List Entry) (text : List ℕ) → place ≤ 1
-    → AreBytesOf first second unsigned → (if place == 0 then first else second) ≡ Some text → IsNext device uses outgoing place text (signed_for device uses outgoing unsigned)
+    → AreBytesOf first second unsigned → (if place == 0 then first else second) ≡ Some text → IsNext device uses outgoing place text (entries_signed_for device uses outgoing unsigned)
 next_by device uses outgoing zero None None [] text low are is = absurd (cc)
 next_by device uses outgoing zero None None (u ∷ us) text low are is = absurd are
 next_by device uses outgoing zero None (Some second) us text low are is = absurd are
@@ -243,11 +243,11 @@ next_by device uses outgoing (suc zero) (Some first) (Some second) (u ∷ v ∷ 
 next_by device uses outgoing (suc (suc n)) first second us text low are is = absurd (omega (arith, low))
 
 pub next_is : (device : KeySeed) (uses : ℕ) (outgoing : Option Outgoing) (place : ℕ) (header : Header) (unsigned : List Entry) (text : List ℕ) → place ≤ 1
-    → AreBytesOf header.first header.second unsigned → text_at_place header place ≡ Some text → IsNext device uses outgoing place text (signed_for device uses outgoing unsigned)
+    → AreBytesOf header.first header.second unsigned → text_at_place header place ≡ Some text → IsNext device uses outgoing place text (entries_signed_for device uses outgoing unsigned)
 next_is device uses outgoing place header unsigned text low are is = next_by device uses outgoing place header.first header.second unsigned text low are is
 
 ends_by : (device : KeySeed) (uses : ℕ) (outgoing : Option Outgoing) (place : ℕ) (first second : Option (List ℕ)) (unsigned : List Entry) → place ≤ 1
-    → AreBytesOf first second unsigned → (if place == 0 then first else second) ≡ None → take (place + 1) (signed_for device uses outgoing unsigned) ≡ take place (signed_for device uses outgoing unsigned)
+    → AreBytesOf first second unsigned → (if place == 0 then first else second) ≡ None → take (place + 1) (entries_signed_for device uses outgoing unsigned) ≡ take place (entries_signed_for device uses outgoing unsigned)
 ends_by device uses outgoing zero (Some first) second us low are is = absurd (cc)
 ends_by device uses outgoing zero None (Some second) us low are is = absurd are
 ends_by device uses outgoing zero None None (u ∷ us) low are is = absurd are
@@ -263,12 +263,12 @@ ends_by device uses outgoing (suc (suc n)) first second us low are is = absurd (
 -- if a header has no text at a place, there is no more to be signed from there on
 pub none_next : (device : KeySeed) (uses : ℕ) (outgoing : Option Outgoing) (place : ℕ) (header : Header) (unsigned : List Entry) → place ≤ 1
     → AreBytesOf header.first header.second unsigned → text_at_place header place ≡ None
-    → take (place + 1) (signed_for device uses outgoing unsigned) ≡ take place (signed_for device uses outgoing unsigned)
+    → take (place + 1) (entries_signed_for device uses outgoing unsigned) ≡ take place (entries_signed_for device uses outgoing unsigned)
 none_next device uses outgoing place header unsigned low are is = ends_by device uses outgoing place header.first header.second unsigned low are is
 
 -- two are all of them
 pub two_are_all : (device : KeySeed) (uses : ℕ) (outgoing : Option Outgoing) (first second : Option (List ℕ)) (unsigned : List Entry) → AreBytesOf first second unsigned
-    → take 2 (signed_for device uses outgoing unsigned) ≡ signed_for device uses outgoing unsigned
+    → take 2 (entries_signed_for device uses outgoing unsigned) ≡ entries_signed_for device uses outgoing unsigned
 two_are_all device uses outgoing None None [] are = subst (λ (xs : List SignedEntry). take 2 xs ≡ xs) (sym (made_none device uses outgoing)) refl
 two_are_all device uses outgoing None None (u ∷ us) are = absurd are
 two_are_all device uses outgoing None (Some second) us are = absurd are

@@ -14,8 +14,8 @@ use Rattle.mb_model.specs.Board.{Memory, IsLoaded}
 use Rattle.mb_model.specs.Memory.{IsBlank, HoldsRecord}
 use Rattle.mb_model.specs.Sectors.{header_sector, log_sector, BeginsAs}
 use Rattle.mb_model.specs.Flash.{sector, HoldsHeader, HoldsLog, HoldsPublic}
-use Rattle.mb_model.specs.StoredLog.{outgoing_of, completed}
-use Rattle.mb_model.specs.Meaning.{RootIn, Contents, meant, fated, fate_of_two, fate_of_three}
+use Rattle.mb_model.specs.StoredLog.{outgoing_of, log_completed_by}
+use Rattle.mb_model.specs.Meaning.{RootIn, Contents, state_of_contents, region_after_fate, fate_of_two, fate_of_three}
 use Rattle.mb_model.specs.Clean.{root_of}
 use Rattle.mb_model.specs.Valid.{IsValidState}
 use Rattle.mb_model_lemmas.proofs.HeldSegments.{begins_with, segments_fit}
@@ -91,14 +91,14 @@ three_root_still bbram after root agree is = only_moved bbram after 3 root (λ e
 -- ---- the regions
 
 -- the regions of the state that is meant can be stored
-stored_two : (memory : Memory) (state : State) (contents : Contents) → state ≡ meant contents → Means memory state → IsValidState state → CanBeWritten (fated (fate_of_two contents.root.pending) contents.two)
-unfolding meant
+stored_two : (memory : Memory) (state : State) (contents : Contents) → state ≡ state_of_contents contents → Means memory state → IsValidState state → CanBeWritten (region_after_fate (fate_of_two contents.root.pending) contents.two)
+unfolding state_of_contents
 stored_two memory state contents same means valid =
     let storable : IsStorableState state = stands_storable memory.flash memory.bbram state means valid in
     subst CanBeWritten (ap (λ (s : State). s.two) same) (region_written state.two storable.two)
 
-stored_three : (memory : Memory) (state : State) (contents : Contents) → state ≡ meant contents → Means memory state → IsValidState state → CanBeWritten (fated (fate_of_three contents.root.pending) contents.three)
-unfolding meant
+stored_three : (memory : Memory) (state : State) (contents : Contents) → state ≡ state_of_contents contents → Means memory state → IsValidState state → CanBeWritten (region_after_fate (fate_of_three contents.root.pending) contents.three)
+unfolding state_of_contents
 stored_three memory state contents same means valid =
     let storable : IsStorableState state = stands_storable memory.flash memory.bbram state means valid in
     subst CanBeWritten (ap (λ (s : State). s.three) same) (region_written state.three storable.three)
@@ -111,7 +111,7 @@ two_is_pending memory root fate is live only =
       contents = held.contents;
       holds = held.holds;
       pending = own;
-      stored = subst (λ (f : Fate). CanBeWritten (fated f held.contents.two)) (own held.contents held.holds) (stored_two memory live.state held.contents held.means live.means live.valid);
+      stored = subst (λ (f : Fate). CanBeWritten (region_after_fate f held.contents.two)) (own held.contents held.holds) (stored_two memory live.state held.contents held.means live.means live.valid);
     }
 
 pub three_is_pending : (memory : Memory) (root : Root) (fate : Fate) → fate ≡ fate_of_three root.pending → IsLive memory → IsOnlyRoot memory.bbram root → IsPending 3 fate memory
@@ -122,7 +122,7 @@ three_is_pending memory root fate is live only =
       contents = held.contents;
       holds = held.holds;
       pending = own;
-      stored = subst (λ (f : Fate). CanBeWritten (fated f held.contents.three)) (own held.contents held.holds) (stored_three memory live.state held.contents held.means live.means live.valid);
+      stored = subst (λ (f : Fate). CanBeWritten (region_after_fate f held.contents.three)) (own held.contents held.holds) (stored_three memory live.state held.contents held.means live.means live.valid);
     }
 
 pub both_applied : (before between after : Memory) (root : Root) (two three : Fate) → IsOnlyRoot before.bbram root → two ≡ fate_of_two root.pending → three ≡ fate_of_three root.pending
@@ -132,14 +132,14 @@ both_applied before between after root two three only is_two is_three first seco
       let root_is : contents.root ≡ root = only.only contents.root holds.root in
       let own_two : two ≡ fate_of_two contents.root.pending = is_two ∙ sym (ap (λ (r : Root). fate_of_two r.pending) root_is) in
       let own_three : three ≡ fate_of_three contents.root.pending = is_three ∙ sym (ap (λ (r : Root). fate_of_three r.pending) root_is) in
-      let now : Holds between (two_done contents) = subst (λ (f : Fate). Holds between (record contents { two = fated f contents.two })) own_two (first.applied contents holds) in
-      subst (λ (f : Fate). Holds after (record (two_done contents) { three = fated f contents.three })) own_three (second.applied (two_done contents) now));
+      let now : Holds between (two_done contents) = subst (λ (f : Fate). Holds between (record contents { two = region_after_fate f contents.two })) own_two (first.applied contents holds) in
+      subst (λ (f : Fate). Holds after (record (two_done contents) { three = region_after_fate f contents.three })) own_three (second.applied (two_done contents) now));
 }
 
 -- ---- the header in force
 
-log_is : (contents : Contents) → (meant contents).log ≡ contents.signed ++ signed_anew contents
-unfolding meant completed
+log_is : (contents : Contents) → (state_of_contents contents).log ≡ contents.signed ++ signed_anew contents
+unfolding state_of_contents log_completed_by
 log_is contents = refl
 
 -- what the area of the header in force holds begins with the header of any contents
@@ -324,10 +324,10 @@ log_counted before after root bytes room only is settled kept agree written spar
       (λ n less not_zero not_one. spared contents.root header holds.root was n less (record { not_header = not_either area n not_zero not_one; not_code = inr (inr settled.layer) }))
       (subst (HoldsLog before.flash) (log_is contents) log)
       in
-      let done = log_settled after.flash contents.root (root_of (meant contents) (1 - area)) contents.codes contents.signed more contents.unsigned now.public whole
+      let done = log_settled after.flash contents.root (root_of (state_of_contents contents) (1 - area)) contents.codes contents.signed more contents.unsigned now.public whole
       (subst (λ (n : ℕ). HoldsHeader after.flash (1 - area) (header_settled header n)) count stands) refl
       in
-      subst (λ (log : List SignedEntry). HoldsPublic after.flash (root_of (meant contents) (1 - area)) contents.codes log []) (sym (log_is contents)) done);
+      subst (λ (log : List SignedEntry). HoldsPublic after.flash (root_of (state_of_contents contents) (1 - area)) contents.codes log []) (sym (log_is contents)) done);
 }
 
 pub record_signed : (first between last : Memory) → KeepsContents first between → CompletesLog first between → CountsLog between last → SignsRecord first last
@@ -365,7 +365,7 @@ settled first applied written last fates kept signs finish = record {
       let now : Contents = both_done contents in
       let holds : Holds applied now = fates.applied contents live.holds in
       let ready : IsReadyToFinish written now = record { holds = kept.kept now holds; applied = done_again contents; signed = signs.signed now holds } in
-      let same : meant now ≡ state = both_done_means contents ∙ sym live.means in
+      let same : state_of_contents now ≡ state = both_done_means contents ∙ sym live.means in
       record { area = 1 - contents.root.area; holds = subst (λ (s : State). Holds last (at_rest s (1 - contents.root.area))) same (finish.finishes now ready) });
 }
 

@@ -3,7 +3,7 @@ use Rattle.std.specs.Prelude.{◌≡◌, ℕ, List, Bool, true, false, Option, S
 use Rattle.mb_model.specs.declared.state.State.{State}
 use Rattle.mb_model.specs.declared.stored.Root.{Root}
 use Rattle.mb_model.specs.Board.{Memory, Meter}
-use Rattle.mb_model.specs.Memory.{IsBlank, other}
+use Rattle.mb_model.specs.Memory.{IsBlank, inactive_area_of_slot}
 use Rattle.mb_model.specs.Meaning.{RootIn, StandsFor}
 use Rattle.mb_model.specs.Clean.{Clean}
 use Rattle.mb_model.specs.Valid.{Valid}
@@ -27,17 +27,17 @@ pub record KeepsState (before after : Memory) : Type 0 where
 
 -- the work found is the work that is left, by the current root record and the root's inactive area
 pub record IsFoundAs (looked : Looked) (bbram : List ℕ) : Type 0 where
-  pub found : (root : Root) → RootIn bbram root → IsLooked looked root (other bbram 1)
+  pub found : (root : Root) → RootIn bbram root → IsLooked looked root (inactive_area_of_slot bbram 1)
 
 -- the memory holds whatever state it stood for, with nothing pending, and the root's inactive area is all zero
 pub record Rests (before after : Memory) : Type 0 where
   pub rests : (state : State) → Means before state → IsAtRest after state
-  pub blank : IsBlank (other after.bbram 1)
+  pub blank : IsBlank (inactive_area_of_slot after.bbram 1)
 
 -- the inactive areas of both regions are all zero
 pub record IsWiped (bbram : List ℕ) : Type 0 where
-  pub two : IsBlank (other bbram 2)
-  pub three : IsBlank (other bbram 3)
+  pub two : IsBlank (inactive_area_of_slot bbram 2)
+  pub three : IsBlank (inactive_area_of_slot bbram 3)
 
 -- the memory is clean for whatever state it stood for
 pub record Cleans (before after : Memory) : Type 0 where

@@ -11,7 +11,7 @@ use Rattle.mb_model.specs.declared.stored.Root.{Root}
 use Rattle.mb_model.specs.EntryFormat.{entry_format}
 use Rattle.mb_model.specs.HeaderFormat.{header_format}
 use Rattle.mb_model.specs.Sectors.{BeginsAs}
-use Rattle.mb_model.specs.OrderEffects.{signed_by}
+use Rattle.mb_model.specs.OrderEffects.{entry_signed_by}
 use Rattle.mb_model.specs.StoredLog.{outgoing_of}
 use Rattle.mb_model_lemmas.specs.SegmentLaws.{SpellsLog}
 use Rattle.mb_boot.specs.declared.pending.Signer.{Signer}
@@ -54,7 +54,7 @@ signer_of root place = signer_by root.device root.uses (outgoing_of root.pending
 -- sector has room for them.
 pub record IsSignedSector (signer : Signer) (text bytes : List ℕ) : Type 0 where
   pub spelled : (entry : Entry) → Spells entry_format text entry
-      → SpellsLog bytes (signed_by signer.key signer.index entry)
+      → SpellsLog bytes (entry_signed_by signer.key signer.index entry)
   pub some : 1 ≤ length bytes
   pub short : length bytes ≤ SECTOR_LENGTH
 

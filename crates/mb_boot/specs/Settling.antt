@@ -5,8 +5,8 @@ use Rattle.mb_model.specs.declared.state.State.{State}
 use Rattle.mb_model.specs.declared.stored.Root.{Root}
 use Rattle.mb_model.specs.Board.{Memory}
 use Rattle.mb_model.specs.Flash.{HoldsLog, HoldsPublic}
-use Rattle.mb_model.specs.StoredLog.{signed_for, outgoing_of}
-use Rattle.mb_model.specs.Meaning.{RootIn, Contents, meant}
+use Rattle.mb_model.specs.StoredLog.{entries_signed_for, outgoing_of}
+use Rattle.mb_model.specs.Meaning.{RootIn, Contents, state_of_contents}
 use Rattle.mb_model.specs.Clean.{root_of}
 use Rattle.mb_model.specs.Valid.{IsValidState}
 use Rattle.mb_model_memory.specs.Commits.{both_done, at_rest}
@@ -30,7 +30,7 @@ pub record AppliesBoth (before after : Memory) : Type 0 where
 -- the entries of these contents that are not signed yet, with the signatures that they will have
 abbrev pub signed_anew : Contents → List SignedEntry
 signed_anew contents =
-    signed_for contents.root.device contents.root.uses (outgoing_of contents.root.pending) contents.unsigned
+    entries_signed_for contents.root.device contents.root.uses (outgoing_of contents.root.pending) contents.unsigned
 
 -- the log of these contents, and as many of the entries that are not signed yet
 abbrev pub log_until : ℕ → Contents → List SignedEntry
@@ -43,17 +43,17 @@ pub record AddsToLog (place : ℕ) (before after : Memory) : Type 0 where
 
 -- the flash holds the log of whatever the memory held, with every entry signed
 pub record CompletesLog (before after : Memory) : Type 0 where
-  pub whole : (contents : Contents) → Holds before contents → HoldsLog after.flash (meant contents).log
+  pub whole : (contents : Contents) → Holds before contents → HoldsLog after.flash (state_of_contents contents).log
 
 -- If the flash held the log with every entry signed, the inactive header area counts all of it, and names the codes of
 -- whatever the memory held.
 pub record CountsLog (before after : Memory) : Type 0 where
-  pub counted : (contents : Contents) → Holds before contents → HoldsLog before.flash (meant contents).log
+  pub counted : (contents : Contents) → Holds before contents → HoldsLog before.flash (state_of_contents contents).log
       → HoldsPublic
       after.flash
-      (root_of (meant contents) (1 - contents.root.area))
+      (root_of (state_of_contents contents) (1 - contents.root.area))
       contents.codes
-      (meant contents).log
+      (state_of_contents contents).log
       []
 
 -- for whatever the memory held, the inactive header area of the flash names the codes and counts every entry as signed
@@ -61,9 +61,9 @@ pub record SignsRecord (before after : Memory) : Type 0 where
   pub signed : (contents : Contents) → Holds before contents
       → HoldsPublic
       after.flash
-      (root_of (meant contents) (1 - contents.root.area))
+      (root_of (state_of_contents contents) (1 - contents.root.area))
       contents.codes
-      (meant contents).log
+      (state_of_contents contents).log
       []
 
 -- the memory holds this state with nothing pending

@@ -3,7 +3,7 @@
 ghost use Rattle.std.specs.Prelude.{◌≡◌, ◌+◌, ◌≤◌, ◌==◌, OnOk, Option, true, false, ◌*◌};
 ghost use Rattle.std.specs.Option.{is_none};
 ghost use Rattle.mb_model.specs.declared.state.State.{State};
-ghost use Rattle.mb_model.specs.Memory.{life_byte, other};
+ghost use Rattle.mb_model.specs.Memory.{life_byte, inactive_area_of_slot};
 ghost use Rattle.mb_model.specs.Meaning.{StandsFor};
 ghost use Rattle.mb_board.specs.Calls.{IsPowered, IsUp, Ran, KeepsEvents, RanOnBbram, IsSwitched};
 ghost use Rattle.mb_model_memory.specs.FlashInForce.{SparesSectors};
@@ -97,7 +97,7 @@ fn bring_to_rest<B: Board, L: Ledger>(
 fn wipe_regions<B: Board>(up: Up<R1>, b: &mut B) -> Result<Up<R1>, Off>
     requires up { IsUp 1 (B.seen b.old) }
     ensures wiped { OnOk result (IsWiped (B.seen b.new).memory.bbram) }
-    ensures root { other (B.seen b.new).memory.bbram 1 ≡ other (B.seen b.old).memory.bbram 1 }
+    ensures root { inactive_area_of_slot (B.seen b.new).memory.bbram 1 ≡ inactive_area_of_slot (B.seen b.old).memory.bbram 1 }
     ensures contents { KeepsContents (B.seen b.old).memory (B.seen b.new).memory }
     ensures idle { IsWiped (B.seen b.old).memory.bbram
         → ((B.seen b.new).memory ≡ (B.seen b.old).memory)

@@ -26,7 +26,7 @@ use Rattle.mb_model.specs.KeyFormat.{tree_rows, chains_rows, public_key_format}
 use Rattle.mb_model.specs.LayerFormat.{trust_byte, trust_rows, trust_format}
 use Rattle.mb_model.specs.EntryFormat.{key_kind_byte, key_kind_rows, key_kind_format}
 use Rattle.mb_model.specs.Rules.{kind_of, least_layer}
-use Rattle.mb_model.specs.OrderFormat.{TargetTag, serial_tag, length_tag, owner_tag, code_tag, target_byte, target_rows, target_tag, demanded_serial, demanded_length, demanded_owner, demanded_code, target_by, target_format, form_byte, form_rows, form, other_rows, given_trusts, establish_in, load_in, emergency_in, made_in, payload_format, act_by, Body, body_by, sized_signature_format, Climb, countersignature_format, climbed, most_countersigned, countersignatures_format}
+use Rattle.mb_model.specs.OrderFormat.{TargetTag, serial_tag, length_tag, owner_tag, code_tag, target_byte, target_rows, target_tag, demanded_serial, demanded_length, demanded_owner, demanded_code, target_by, target_format, form_byte, form_rows, form, other_rows, given_trusts, establish_in, load_in, emergency_in, made_in, payload_format, act_by, Body, body_by, sized_signature_format, Climb, countersignature_format, climb_after, countersignature_limit, countersignatures_format}
 use Rattle.mb_model.proofs.OrderFormatLaws.{target_exact, target_keyed, form_list, act_by-exact}
 use Rattle.mb_command.specs.Beginnings.{IsInhabited}
 use Rattle.mb_command.specs.Surveys.{countersignatures_above}
@@ -209,22 +209,22 @@ next_inhabited n climb can = byte_inhabited (climb.below + 1) (4 - climb.left) (
 countersignature_inhabited : (n : ℕ) (climb : Climb) → HasRoom (suc n) climb → IsInhabited (countersignature_format climb)
 countersignature_inhabited n climb can = some.as_record_inhabited _ _ (λ a h. refl) (some.pair_inhabited (next_inhabited n climb can) signature_inhabited)
 
-climbs_on : (n : ℕ) (climb : Climb) (c : Countersignature) → HasRoom (suc n) climb → (countersignature_format climb).Allowed c → HasRoom n (climbed climb c)
+climbs_on : (n : ℕ) (climb : Climb) (c : Countersignature) → HasRoom (suc n) climb → (countersignature_format climb).Allowed c → HasRoom n (climb_after climb c)
 climbs_on n climb c can h = record { left = omega (arith, can.left); room = omega (arith, h.0.1, can.left, can.room) }
 
 -- the countersignatures still to come have room
-pub climb_inhabited : (n : ℕ) (climb : Climb) → HasRoom n climb → IsInhabited (items countersignature_format climbed n climb)
-climb_inhabited n climb can = some.items_inhabited climbed HasRoom n climb can countersignature_inhabited climbs_on
+pub climb_inhabited : (n : ℕ) (climb : Climb) → HasRoom n climb → IsInhabited (items countersignature_format climb_after n climb)
+climb_inhabited n climb can = some.items_inhabited climb_after HasRoom n climb can countersignature_inhabited climbs_on
 
 -- and those after the next
-pub later_inhabited : (n : ℕ) (climb : Climb) (c : Countersignature) → HasRoom (suc n) climb → (countersignature_format climb).Allowed c → IsInhabited (items countersignature_format climbed n (climbed climb c))
-later_inhabited n climb c can h = climb_inhabited n (climbed climb c) (climbs_on n climb c can h)
+pub later_inhabited : (n : ℕ) (climb : Climb) (c : Countersignature) → HasRoom (suc n) climb → (countersignature_format climb).Allowed c → IsInhabited (items countersignature_format climb_after n (climb_after climb c))
+later_inhabited n climb c can h = climb_inhabited n (climb_after climb c) (climbs_on n climb c can h)
 
 -- a layer is at most 3, and no more countersign it than layers are above
-pub begins_climb : (order : OrderKind) (layer n : ℕ) → layer ≤ 3 → n ≤ most_countersigned order layer → HasRoom n (record { below = layer; left = n })
+pub begins_climb : (order : OrderKind) (layer n : ℕ) → layer ≤ 3 → n ≤ countersignature_limit order layer → HasRoom n (record { below = layer; left = n })
 begins_climb order layer n most le = record { left = refl; room = layers order layer n most le }
   where
-    layers : (order : OrderKind) (layer n : ℕ) → layer ≤ 3 → n ≤ most_countersigned order layer → layer + n ≤ 3
+    layers : (order : OrderKind) (layer n : ℕ) → layer ≤ 3 → n ≤ countersignature_limit order layer → layer + n ≤ 3
     layers kind.Establish layer n most le = omega arith
     layers kind.Surrender layer n most le = omega arith
     layers kind.Load layer n most le = omega arith

@@ -5,7 +5,7 @@ use Rattle.mb_model.specs.declared.order.Act.{Act}
 use Rattle.mb_model.specs.declared.order.Act.TheVariants.{Establish, Surrender, Load, Emergency, NewKey}
 use Rattle.mb_model.specs.declared.order.Countersignature.{Countersignature}
 use Rattle.mb_model.specs.declared.order.Order.{Order}
-use Rattle.mb_model.specs.OrderFormat.{differs_in, payload_format, act_by, body_of, body_format, sized_signature_format, Climb, countersignature_format, climbed, countersignatures_format, order_format}
+use Rattle.mb_model.specs.OrderFormat.{differs_in, payload_format, act_by, body_of, body_format, sized_signature_format, Climb, countersignature_format, climb_after, countersignatures_format, order_format}
 use Rattle.mb_model.specs.Rules.{kind_of}
 use Rattle.mb_model.proofs.FormatBounds.{most_two}
 use Rattle.mb_command.specs.Writing.{HasShortCode, HasShortSignature, IsSizedOrder}
@@ -18,12 +18,12 @@ short_code (Load payload) h = h.1.1.0.1
 short_code (Emergency payload) h = h.1.1.0.1
 short_code (NewKey kind) h = tt
 
-short_signature : (n : ℕ) (climb : Climb) (cs : List Countersignature) → (items countersignature_format climbed n climb).Allowed cs → (k : ℕ) (d : Countersignature) → k < length cs → HasShortSignature (get_or cs k d)
+short_signature : (n : ℕ) (climb : Climb) (cs : List Countersignature) → (items countersignature_format climb_after n climb).Allowed cs → (k : ℕ) (d : Countersignature) → k < length cs → HasShortSignature (get_or cs k d)
 unfolding items sized_signature_format
 short_signature zero climb cs h k d lt = absurd (omega (arith, ap length h, lt))
 short_signature (suc n) climb [] h k d lt = absurd h
 short_signature (suc n) climb (c ∷ cs) h zero d lt = h.0.1.0.1
-short_signature (suc n) climb (c ∷ cs) h (suc k) d lt = short_signature n (climbed climb c) cs h.1 k d (omega arith)
+short_signature (suc n) climb (c ∷ cs) h (suc k) d lt = short_signature n (climb_after climb c) cs h.1 k d (omega arith)
 
 pub sized_of : (order : Order) → order_format.Allowed order → IsSizedOrder order
 unfolding order_format body_format sized_signature_format countersignatures_format

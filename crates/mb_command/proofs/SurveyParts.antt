@@ -23,7 +23,7 @@ use Rattle.mb_model.specs.Layers.{equal_trusts}
 use Rattle.mb_model.specs.LayerFormat.{trust_byte, trust_format}
 use Rattle.mb_model.specs.EntryFormat.{key_kind_format}
 use Rattle.mb_model.specs.Rules.{kind_of, least_layer}
-use Rattle.mb_model.specs.OrderFormat.{establish_in, load_in, emergency_in, made_in, form_of, body_of, target_tag, TargetTag, serial_tag, length_tag, owner_tag, code_tag, target_rows, target_byte, demanded_serial, demanded_length, demanded_owner, demanded_code, target_by, target_format, form_rows, form_byte, other_rows, differing_trusts, given_trusts, payload_format, act_by, Body, body_by, body_format, sized_signature_format, Climb, countersignature_format, climbed, most_countersigned, countersignatures_format, order_format}
+use Rattle.mb_model.specs.OrderFormat.{establish_in, load_in, emergency_in, made_in, form_of, body_of, target_tag, TargetTag, serial_tag, length_tag, owner_tag, code_tag, target_rows, target_byte, demanded_serial, demanded_length, demanded_owner, demanded_code, target_by, target_format, form_rows, form_byte, other_rows, differing_trusts, given_trusts, payload_format, act_by, Body, body_by, body_format, sized_signature_format, Climb, countersignature_format, climb_after, countersignature_limit, countersignatures_format, order_format}
 use Rattle.mb_model.proofs.KeyFormatLaws.{tree_table, chains_table, public_key_exact, trust_exact}
 use Rattle.mb_model.proofs.OrderFormatLaws.{target_table, target_exact, target_by-exact, given_exact, act_by-exact, body_by-exact, body_exact, sized_signature_exact, below_four, countersignature_exact, most_small, countersignatures_exact}
 use Rattle.mb_command.specs.declared.stuck.Stuck.{Stuck}
@@ -277,16 +277,16 @@ climb_found climb layer old middle new p q = record {
   told = p.told;
 }
 
-pub above_stuck : (order : OrderKind) (layer : ℕ) (old new : Cursor) (e : Stuck) → layer ≤ 3 → IsStuck (between w8 0 (most_countersigned order layer)) old e new → IsStuck (countersignatures_above order layer) old e new
+pub above_stuck : (order : OrderKind) (layer : ℕ) (old new : Cursor) (e : Stuck) → layer ≤ 3 → IsStuck (between w8 0 (countersignature_limit order layer)) old e new → IsStuck (countersignatures_above order layer) old e new
 above_stuck order layer old new e most s =
-    led_stuck (between w8 0 (most_countersigned order layer)) (λ n. items countersignature_format climbed n (record { below = layer; left = n })) old new e (between_exact wide8 (most_small order layer))
-    (λ n h. items_exact climbed n (record { below = layer; left = n }) countersignature_exact)
+    led_stuck (between w8 0 (countersignature_limit order layer)) (λ n. items countersignature_format climb_after n (record { below = layer; left = n })) old new e (between_exact wide8 (most_small order layer))
+    (λ n h. items_exact climb_after n (record { below = layer; left = n }) countersignature_exact)
     (λ n h. part.climb_inhabited n (record { below = layer; left = n }) (part.begins_climb order layer n most h.1)) s
 
-pub above_surveys : (order : OrderKind) (layer n : ℕ) (old middle new : Cursor) (r : Result (Unit {0}) Stuck) → IsFound (between w8 0 (most_countersigned order layer)) old middle (IsTold n)
-    → Surveys NothingTold (items countersignature_format climbed n (record { below = layer; left = n })) middle r new → Surveys NothingTold (countersignatures_above order layer) old r new
+pub above_surveys : (order : OrderKind) (layer n : ℕ) (old middle new : Cursor) (r : Result (Unit {0}) Stuck) → IsFound (between w8 0 (countersignature_limit order layer)) old middle (IsTold n)
+    → Surveys NothingTold (items countersignature_format climb_after n (record { below = layer; left = n })) middle r new → Surveys NothingTold (countersignatures_above order layer) old r new
 above_surveys order layer n old middle new r p s =
-    led_surveys (between w8 0 (most_countersigned order layer)) (λ n. items countersignature_format climbed n (record { below = layer; left = n })) n old middle new r (between_exact wide8 (most_small order layer)) p s
+    led_surveys (between w8 0 (countersignature_limit order layer)) (λ n. items countersignature_format climb_after n (record { below = layer; left = n })) n old middle new r (between_exact wide8 (most_small order layer)) p s
 
 -- ---- orders
 

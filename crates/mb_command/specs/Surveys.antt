@@ -6,7 +6,7 @@ use Rattle.mb_format.specs.Combinators.{between, items, led}
 use Rattle.std.specs.Int.{w8}
 use Rattle.mb_model.specs.declared.order.Countersignature.{Countersignature}
 use Rattle.mb_model.specs.declared.order.OrderKind.{OrderKind}
-use Rattle.mb_model.specs.OrderFormat.{Body, countersignature_format, climbed, most_countersigned, order_format}
+use Rattle.mb_model.specs.OrderFormat.{Body, countersignature_format, climb_after, countersignature_limit, order_format}
 use Rattle.mb_model.specs.Rules.{kind_of}
 use Rattle.mb_bytes.specs.declared.cursor.Cursor.{Cursor}
 use Rattle.mb_bytes.specs.Reads.{SameBytes}
@@ -52,8 +52,8 @@ IsLayerOf layer c = c.layer ≡ layer
 
 -- the countersignatures of an order of this kind for this layer
 abbrev pub countersignatures_above : OrderKind → ℕ → Format (List Countersignature)
-countersignatures_above kind layer = led (between w8 0 (most_countersigned kind layer)) length
-    (λ n. items countersignature_format climbed n (record { below = layer; left = n }))
+countersignatures_above kind layer = led (between w8 0 (countersignature_limit kind layer)) length
+    (λ n. items countersignature_format climb_after n (record { below = layer; left = n }))
 
 -- what is settled of bytes: the offset at which they fail whatever follows, or that they can become an order
 abbrev pub IsSettled : List ℕ → Option ℕ → Type 0

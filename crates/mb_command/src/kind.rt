@@ -4,7 +4,7 @@ ghost use Rattle.std.specs.Prelude.{◌≡◌, ◌≤◌};
 ghost use Rattle.std.specs.Int.{w8};
 ghost use Rattle.mb_format.specs.Combinators.{listed};
 ghost use Rattle.mb_model.specs.Rules.{kind_of, least_layer};
-ghost use Rattle.mb_model.specs.OrderFormat.{order_byte, form_byte, form, form_rows, differs_in, form_of, most_countersigned};
+ghost use Rattle.mb_model.specs.OrderFormat.{order_byte, form_byte, form, form_rows, differs_in, form_of, countersignature_limit};
 ghost use Rattle.mb_bytes.specs.Reads.{bad_at, Reads};
 
 use mb_bytes::Cursor;
@@ -105,7 +105,7 @@ pub fn least_layer(kind: OrderKind) -> u8
 /// How many countersignatures an order of the kind for the layer may have: one of each layer above, for loads.
 pub fn most_countersigned(kind: OrderKind, layer: u8) -> u8
     requires { layer ≤ 3 }
-    ensures { result ≡ most_countersigned kind layer }
+    ensures { result ≡ countersignature_limit kind layer }
 {
     match kind {
         OrderKind::Load | OrderKind::Emergency => 3 - layer,

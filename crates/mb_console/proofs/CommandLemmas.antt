@@ -3,7 +3,7 @@ use Rattle.std.proofs.Common.{◌≡◌, ℕ, true, false, List, ◌++◌, codes
 use Rattle.mb_model.specs.declared.event.Answered.{Answered}
 use Rattle.mb_model.specs.Outside.{Outside, read_once, WritesFile, FailsToWrite, Prints, FailsToPrint}
 use Rattle.mb_model.specs.Board.{Held}
-use Rattle.mb_model.specs.Commands.{Input, Output, Command, read, find, either_command, serve, rehearse, write, print, refuse, lack, Past, SaysLine, Stops, WantsMemory, too_long, faulty, not_read, no_room, printed, not_printed, CommandEnds, input_line, role_word, place_words}
+use Rattle.mb_model.specs.Commands.{Input, Output, Command, read, find, either_command, serve, rehearse, write, print, refuse, lack, Past, SaysLine, Stops, WantsMemory, input_is_too_long, input_is_faulty, input_is_not_read, memory_lacks, text_is_printed, text_is_not_printed, CommandEnds, input_line, role_word, place_words}
 use Rattle.mb_console.specs.declared.end.End.{End}
 use Rattle.mb_console.specs.declared.end.End.TheVariants as end
 use Rattle.mb_console.specs.Ending.{end_status, RefusesWith, ended_at, CarriesOutRest, HasInput, StopsAt}
@@ -27,15 +27,15 @@ unfolding CarriesOutRest CommandEnds
 input_carried_out input rest past answered final before now (end.TooLong other) none same (is, held, now_is) = λ after says.
     let moved : SaysLine (input_line input.role (codes "too long")) (read_once before) after =
     subst (λ o. SaysLine (input_line input.role (codes "too long")) o after) now_is (subst (λ r. SaysLine (input_line r (codes "too long")) now after) is says) in
-    inl (too_long held (stopped (input_line input.role (codes "too long")) 3 past answered final (read_once before) after same moved))
+    inl (input_is_too_long held (stopped (input_line input.role (codes "too long")) 3 past answered final (read_once before) after same moved))
 input_carried_out input rest past answered final before now (end.Faulty other place) none same has = λ after says.
     let moved : SaysLine (input_line input.role (place_words place)) (read_once before) after =
     subst (λ o. SaysLine (input_line input.role (place_words place)) o after) has.now_is (subst (λ r. SaysLine (input_line r (place_words place)) now after) has.role_is says) in
-    inl (faulty has.bytes has.read place has.fault (stopped (input_line input.role (place_words place)) 3 past answered final (read_once before) after same moved))
+    inl (input_is_faulty has.bytes has.read place has.fault (stopped (input_line input.role (place_words place)) 3 past answered final (read_once before) after same moved))
 input_carried_out input rest past answered final before now (end.NotRead other) none same (is, fails) = λ after says.
-    inl (not_read now fails (stopped _ 4 past answered final now after same (subst (λ r. SaysLine (codes "read failed " ++ role_word r) now after) is says)))
+    inl (input_is_not_read now fails (stopped _ 4 past answered final now after same (subst (λ r. SaysLine (codes "read failed " ++ role_word r) now after) is says)))
 input_carried_out input rest past answered final before now end.NoMemory none same now_is = λ after says.
-    inl (no_room (wanted past answered final (read_once before) after none same (subst (λ o. SaysLine (codes "no memory") o after) now_is says)))
+    inl (memory_lacks (wanted past answered final (read_once before) after none same (subst (λ o. SaysLine (codes "no memory") o after) now_is says)))
 input_carried_out input rest past answered final before now end.Words none same stops = absurd stops
 input_carried_out input rest past answered final before now (end.NotWritten other) none same stops = absurd stops
 input_carried_out input rest past answered final before now end.NotPrinted none same stops = absurd stops
@@ -153,13 +153,13 @@ write_stops output rest past answered final before mid same fails = λ after say
 pub print_goes : (text : List ℕ) (past : Past) (answered : List Answered) (final : Held) (before now : Outside)
     → answered ≡ past.answered → Prints text before now → CarriesOutRest (print text) past answered final before (Ok tt) now
 unfolding CarriesOutRest CommandEnds
-print_goes text past answered final before now same prints = inl (printed prints same refl)
+print_goes text past answered final before now same prints = inl (text_is_printed prints same refl)
 
 pub print_stops : (text : List ℕ) (past : Past) (answered : List Answered) (final : Held) (before mid : Outside)
     → answered ≡ past.answered → FailsToPrint text before mid → CarriesOutRest (print text) past answered final before (Err end.NotPrinted) mid
 unfolding CarriesOutRest CommandEnds
 print_stops text past answered final before mid same fails = λ after says.
-    inl (not_printed mid fails (stopped _ 5 past answered final mid after same says))
+    inl (text_is_not_printed mid fails (stopped _ 5 past answered final mid after same says))
 
 -- ---- memory that was wanted while events were served
 

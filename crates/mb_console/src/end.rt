@@ -1,7 +1,7 @@
 //! The ends of commands that are not done, and their lines and exit statuses.
 
 ghost use Rattle.std.specs.Prelude.{◌≡◌, ◌+◌, ◌≤◌, ◌++◌, length, decimal, codes, List, ℕ, vec_len, vec_capacity, ◌<◌, IfOk};
-ghost use Rattle.mb_model.specs.Texts.{ended};
+ghost use Rattle.mb_model.specs.Texts.{line_with_lf};
 ghost use Rattle.mb_model.specs.Commands.{SaysLine, input_line, role_word, place_words};
 ghost use Rattle.mb_console.specs.Ending.{after_space, end_line, end_status, RefusesWith};
 
@@ -45,7 +45,7 @@ impl LongLine {
 
     /// The line with its LF.
     fn into_text(self) -> Vec<u8>
-        ensures { result.items ≡ ended self }
+        ensures { result.items ≡ line_with_lf self }
     {
         let mut text = self.line;
         let _ = text.push(b'\n');
@@ -163,7 +163,7 @@ fn say_line<H: Host>(host: &mut H, first: &str, second: &str)
 
 /// Prints a line with its LF.
 fn say_text<H: Host>(host: &mut H, text: &[u8])
-    ensures { (line : List ℕ) → text.now ≡ ended line → SaysLine line (H.outside host.old) (H.outside host.new) }
+    ensures { (line : List ℕ) → text.now ≡ line_with_lf line → SaysLine line (H.outside host.old) (H.outside host.new) }
 {
     let _ = host.print(text);
 }

@@ -11,11 +11,11 @@ use Rattle.mb_model.specs.declared.reply.Reply.TheVariants as reply
 use Rattle.mb_model.specs.declared.state.State.{State}
 use Rattle.mb_model.specs.Board.{Memory, Meter, phase_at}
 use Rattle.mb_model.specs.Clean.{Clean}
-use Rattle.mb_model.specs.Machine.{Phase, off, dead, ratchet, World, Machine, answered, lacks_memory}
+use Rattle.mb_model.specs.Machine.{Phase, off, dead, ratchet, World, Machine, machine_step, lacks_memory}
 use Rattle.mb_model.specs.Meaning.{StandsFor, HasMeaning, is_dead, is_live}
 use Rattle.mb_model.specs.Memory.{IsBlank}
 use Rattle.mb_model.specs.declared.reply.Refusal.TheVariants.{Zeroised}
-use Rattle.mb_model.specs.Refusals.{refused}
+use Rattle.mb_model.specs.Refusals.{refusal_reply}
 use Rattle.mb_model.specs.Valid.{Valid}
 use Rattle.mb_board.specs.Calls.{held_by}
 use Rattle.mb_model_memory.specs.Holding.{Means, IsReady}
@@ -82,7 +82,7 @@ module _ (state : Off) (before : Memory) (power : Bool) (level : ℕ) (meter : M
       subst (λ (w : World). Steps w event.Boot reply.Booted (device.One up running) (held_by after on high counted)) (sym same)
       (record {
         next = live_world 1 booted.state counted.armed;
-        step = answered (boot_live (record { state = Some booted.state; phase = off; armed = counted.armed }) booted.state refl refl);
+        step = machine_step (boot_live (record { state = Some booted.state; phase = off; armed = counted.armed }) booted.state refl refl);
         sound = live_sound (device.One up running) 1 after on high counted booted.state booted.ready is_on is_high (omega arith)
             (record { phase = refl; state = booted.state; live = refl; knows = knows booted.state booted.ready });
       })
@@ -97,7 +97,7 @@ module _ (state : Off) (before : Memory) (power : Bool) (level : ℕ) (meter : M
       (boot_live world live.0 sound.fits live.1) (sound.shown.armed ∙ armed) refl (inl refl) (kept.kept world.state sound.shown.stands) sound.valid gone disarmed
 
   -- it was found dead
-  pub boot_found_dead : (corpse : Dead) (answer : Reply) (after : Memory) (on : Bool) (high : ℕ) (counted : Meter) → answer ≡ refused Zeroised → after ≡ before
+  pub boot_found_dead : (corpse : Dead) (answer : Reply) (after : Memory) (on : Bool) (high : ℕ) (counted : Meter) → answer ≡ refusal_reply Zeroised → after ≡ before
       → ((o : Option State) → StandsFor before.flash before.bbram o → true ≡ is_none o) → on ≡ true → high ≡ 0 → counted ≡ meter
       → Steps world event.Boot answer (device.Dead corpse) (held_by after on high counted)
   boot_found_dead corpse answer after on high counted is same found is_on is_low counts =
@@ -105,7 +105,7 @@ module _ (state : Off) (before : Memory) (power : Bool) (level : ℕ) (meter : M
       let stands : StandsFor after.flash after.bbram world.state = subst (λ (m : Memory). StandsFor m.flash m.bbram world.state) (sym same) sound.shown.stands in
       record {
         next = record world { phase = dead };
-        step = answered (subst (λ (a : Reply). Machine world event.Boot a (record world { phase = dead })) (sym is) (boot_none world sound.fits none));
+        step = machine_step (subst (λ (a : Reply). Machine world event.Boot a (record world { phase = dead })) (sym is) (boot_none world sound.fits none));
         sound = record {
           shown = record { stands = stands; phase = sym (at_dead on high is_on is_low); armed = sound.shown.armed ∙ sym (ap (λ (m : Meter). m.armed) counts) };
           valid = sound.valid;

@@ -9,7 +9,7 @@ use Rattle.mb_model.specs.declared.event.Event.TheVariants as event
 use Rattle.mb_model.specs.declared.reply.Reply.{Reply}
 use Rattle.mb_model.specs.declared.reply.Reply.TheVariants as reply
 use Rattle.mb_model.specs.declared.state.State.{State}
-use Rattle.mb_model.specs.Acknowledged.{HoldsNoOther, HasToBeClean, powered, zeroed, left, AreWiping}
+use Rattle.mb_model.specs.Acknowledged.{HoldsNoOther, HasToBeClean, power_is_on, device_was_tampered, nothing_was_left, AreWiping}
 use Rattle.mb_model.specs.Board.{Memory, Held, AreBytes, memory_after}
 use Rattle.mb_model.specs.Clean.{Clean}
 use Rattle.mb_model.specs.Machine.{World, Step, may_be_cut}
@@ -86,9 +86,9 @@ left_clean held stepped state clean same bytes stands =
 
 pub clean_after : (world : World) (e : Event) (answer : Reply) (device : Device) (held stepped : Held) (done : Steps world e answer device stepped) → IsFramed held e answer stepped
     → HasToBeClean held stepped e answer → Clean stepped.memory.bbram done.next.state
-clean_after world e answer device held stepped done framed (powered on) = done.sound.clean on
-clean_after world e answer device held stepped done framed (zeroed is) = tampered_clean world e answer device stepped done is
-clean_after world e answer device held stepped done framed (left clean unstopped) = by (may_have_written answer) refl (zeroed_or_left e)
+clean_after world e answer device held stepped done framed (power_is_on on) = done.sound.clean on
+clean_after world e answer device held stepped done framed (device_was_tampered is) = tampered_clean world e answer device stepped done is
+clean_after world e answer device held stepped done framed (nothing_was_left clean unstopped) = by (may_have_written answer) refl (zeroed_or_left e)
   where
     by : (wrote : Bool) → may_have_written answer ≡ wrote → (e ≡ event.Tamper) ⊎ ((memory : Memory) → memory_after (Some e) memory ≡ memory)
         → Clean stepped.memory.bbram done.next.state

@@ -7,7 +7,7 @@ use Rattle.mb_model.specs.declared.reply.Reply.{Reply}
 use Rattle.mb_model.specs.declared.reply.Reply.TheVariants as reply
 use Rattle.mb_model.specs.declared.state.State.{State}
 use Rattle.mb_model.specs.Board.{Memory, Meter}
-use Rattle.mb_model.specs.Machine.{World, Machine, answered}
+use Rattle.mb_model.specs.Machine.{World, Machine, machine_step}
 use Rattle.mb_model.specs.OrderStep.{OrderStep, spells_none, fails_check, is_obeyed}
 use Rattle.mb_model.specs.Valid.{Valid}
 use Rattle.mb_model_lemmas.proofs.ValidSteps.{machine_valid}
@@ -46,7 +46,7 @@ module _ (before : Device) (running : Running) (text draw : List ℕ) (old : Mem
       let armed : world.armed ≡ meter_new.armed = sound.shown.armed ∙ sym same_armed in
       record {
         next = live_world 1 next meter_new.armed;
-        step = answered (subst (λ (b : Bool). Machine world (event.Command text draw) answer (live_world 1 next b)) armed (order_so next answer step));
+        step = machine_step (subst (λ (b : Bool). Machine world (event.Command text draw) answer (live_world 1 next b)) armed (order_so next answer step));
         sound = live_sound after 1 new power_new level_new meter_new next ready (same_power ∙ on) (same_level ∙ at) (omega arith)
             (fits (live_world 1 next meter_new.armed) (record { phase = refl; state = next; live = refl; knows = knows }));
       }

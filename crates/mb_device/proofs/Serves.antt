@@ -6,7 +6,7 @@ use Rattle.std.proofs.lemmas.List.Elements.{All-head, All-tail}
 use Rattle.mb_model.specs.declared.event.Event.{Event}
 use Rattle.mb_model.specs.declared.event.Answered.{Answered}
 use Rattle.mb_model.specs.declared.reply.Reply.{Reply}
-use Rattle.mb_model.specs.Acknowledged.{Shows, HasToBeClean, powered, zeroed, left, AreWiping, MayAnswer}
+use Rattle.mb_model.specs.Acknowledged.{Shows, HasToBeClean, power_is_on, device_was_tampered, nothing_was_left, AreWiping, MayAnswer}
 use Rattle.mb_model.specs.Board.{Held, Ledger, AreBytes}
 use Rattle.mb_model.specs.Clean.{Clean}
 use Rattle.mb_model.specs.Machine.{World, Step, Run, may_be_cut}
@@ -91,10 +91,10 @@ may_answer start first at_first device next ledger out kept held stepped e rest 
 still_clean : {device : Device} (world : World) (e : Event) (reply : Reply) (next : Device) (held stepped : Held) (done : Steps world e reply next stepped) (more : List Answered)
     → IsSoundDevice device held world → (AreWiping more → Clean held.memory.bbram world.state) → WipesLast more (record { event = e; reply = reply }) → HasToBeClean held stepped e reply
 still_clean world e reply next held stepped done more sound wiped (at_boot booted) =
-    powered (λ dark. written_is_on world e reply done.next done.step (ap may_be_cut booted) (done.sound.shown.phase ∙ dark))
-still_clean world e reply next held stepped done more sound wiped (at_tamper tampered) = zeroed tampered
+    power_is_on (λ dark. written_is_on world e reply done.next done.step (ap may_be_cut booted) (done.sound.shown.phase ∙ dark))
+still_clean world e reply next held stepped done more sound wiped (at_tamper tampered) = device_was_tampered tampered
 still_clean world e reply next held stepped done more sound wiped (before wiping unstopped) =
-    left (record { world = world; shown = sound.shown; clean = wiped wiping }) unstopped
+    nothing_was_left (record { world = world; shown = sound.shown; clean = wiped wiping }) unstopped
 
 -- an event is taken, stepped and answered
 pub serves_more : (start : Ledger) (first : Device) (at_first : Held) (device next : Device) (ledger out kept after : Ledger) (held stepped now : Held) (e : Event) (rest : List Event) (reply : Reply)

@@ -8,10 +8,10 @@ use Rattle.mb_model.specs.declared.reply.Reply.TheVariants as reply
 use Rattle.mb_model.specs.declared.state.State.{State}
 use Rattle.mb_model.specs.Board.{Memory, Meter, Held}
 use Rattle.mb_model.specs.Clean.{Clean}
-use Rattle.mb_model.specs.Machine.{Phase, off, ratchet, World, Machine, may_want_memory, may_be_cut, answered, lacks_memory, loses_power}
+use Rattle.mb_model.specs.Machine.{Phase, off, ratchet, World, Machine, may_want_memory, may_be_cut, machine_step, lacks_memory, loses_power}
 use Rattle.mb_model.specs.Meaning.{StandsFor}
 use Rattle.mb_model.specs.declared.reply.Refusal.{Refusal}
-use Rattle.mb_model.specs.Refusals.{refused}
+use Rattle.mb_model.specs.Refusals.{refusal_reply}
 use Rattle.mb_model.specs.Valid.{Valid}
 use Rattle.mb_board.specs.Calls.{held_by}
 use Rattle.mb_model_memory.specs.Holding.{IsReady}
@@ -74,12 +74,12 @@ pub stays : (before after : Device) (held : Held) (world : World) (e : Event) (a
     → Steps world e answer after held
 stays before after held world e answer machine sound fits = record {
   next = world;
-  step = answered machine;
+  step = machine_step machine;
   sound = record { shown = sound.shown; valid = sound.valid; clean = sound.clean; fits = fits };
 }
 
 -- a refusal by which nothing changes
-pub refuses : (before after : Device) (held : Held) (world : World) (e : Event) (answer : Reply) (refusal : Refusal) → answer ≡ refused refusal → Machine world e (refused refusal) world
+pub refuses : (before after : Device) (held : Held) (world : World) (e : Event) (answer : Reply) (refusal : Refusal) → answer ≡ refusal_reply refusal → Machine world e (refusal_reply refusal) world
     → IsSoundDevice before held world → Fits after world → Steps world e answer after held
 refuses before after held world e answer refusal is machine sound fits = stays before after held world e answer (subst (λ (a : Reply). Machine world e a world) (sym is) machine) sound fits
 
@@ -113,8 +113,8 @@ cut_short state world e told whole left memory power level meter machine armed w
 }
 
 -- a refusal of a device that is as it was
-pub refuses_as : (before after : Device) (held : Held) (world : World) (e : Event) (answer : Reply) (refusal : Refusal) → before ≡ after → answer ≡ refused refusal
-    → IsSoundDevice before held world → (Fits after world → Machine world e (refused refusal) world) → Steps world e answer after held
+pub refuses_as : (before after : Device) (held : Held) (world : World) (e : Event) (answer : Reply) (refusal : Refusal) → before ≡ after → answer ≡ refusal_reply refusal
+    → IsSoundDevice before held world → (Fits after world → Machine world e (refusal_reply refusal) world) → Steps world e answer after held
 refuses_as before after held world e answer refusal same is sound machine =
     let own : IsSoundDevice after held world = subst (λ (d : Device). IsSoundDevice d held world) same sound in
     refuses after after held world e answer refusal is (machine own.fits) own own.fits

@@ -7,7 +7,7 @@ use Rattle.mb_model.specs.declared.event.Event.TheVariants as event
 use Rattle.mb_model.specs.declared.event.Tear.{Tear}
 use Rattle.mb_model.specs.declared.reply.Reply.TheVariants as reply
 use Rattle.mb_model.specs.Board.{Memory, Meter, Held, phase_at, zeros, power_after, memory_after, armed_after}
-use Rattle.mb_model.specs.Machine.{Phase, off, World, answered}
+use Rattle.mb_model.specs.Machine.{Phase, off, World, machine_step}
 use Rattle.mb_model.specs.Meaning.{is_dead}
 use Rattle.mb_model.specs.Memory.{IsBlank}
 use Rattle.mb_board.specs.Calls.{held_by}
@@ -51,7 +51,7 @@ off_fits (device.Three state running) world is at = absurd is
 pub goes_off : (before after : Device) (held now : Held) (world : World) → IsSoundDevice before held world → IsOff after → now ≡ taken event.Off held → Steps world event.Off reply.Off after now
 goes_off before after held now world sound is_off same = record {
   next = record world { phase = off };
-  step = answered (refl, refl);
+  step = machine_step (refl, refl);
   sound = subst (λ (h : Held). IsSoundDevice after h (record world { phase = off })) (sym same) (record {
     shown = record { stands = sound.shown.stands; phase = refl; armed = sound.shown.armed };
     valid = sound.valid;
@@ -77,7 +77,7 @@ is_tampered before after held now world sound is_off same =
     let memory : Memory = memory_after (Some event.Tamper) held.memory in
     record {
       next = next;
-      step = answered (refl, refl);
+      step = machine_step (refl, refl);
       sound = subst (λ (h : Held). IsSoundDevice after h next) (sym same) (record {
         shown = record {
           stands = record {
@@ -109,7 +109,7 @@ pub is_armed : (device : Device) (held now : Held) (world : World) (count : ℕ)
     → Steps world (event.Cut count tear) reply.Armed device now
 is_armed device held now world count tear sound same = record {
   next = record world { armed = true };
-  step = answered (refl, refl);
+  step = machine_step (refl, refl);
   sound = subst (λ (h : Held). IsSoundDevice device h (record world { armed = true })) (sym same) (record {
     shown = record { stands = sound.shown.stands; phase = sound.shown.phase; armed = refl };
     valid = sound.valid;

@@ -11,10 +11,10 @@ use Rattle.mb_model.specs.declared.entry.SignedEntry.{SignedEntry}
 use Rattle.mb_model.specs.Board.{Memory, Meter}
 use Rattle.mb_model.specs.Layers.{is_runnable}
 use Rattle.mb_model.specs.Log.{entries_of, number_of}
-use Rattle.mb_model.specs.Machine.{ratchet, World, Told, awake_in, status_of, status_event, Machine, answered}
+use Rattle.mb_model.specs.Machine.{ratchet, World, Told, running_state_in, status_of, status_event, Machine, machine_step}
 use Rattle.mb_model.specs.declared.reply.Refusal.{Refusal}
 use Rattle.mb_model.specs.declared.reply.Refusal.TheVariants.{WrongLayer}
-use Rattle.mb_model.specs.Refusals.{refused}
+use Rattle.mb_model.specs.Refusals.{refusal_reply}
 use Rattle.mb_model.specs.Valid.{Valid, IsValidState}
 use Rattle.mb_board.specs.Calls.{held_by}
 use Rattle.mb_model_memory.specs.Holding.{IsReady}
@@ -46,7 +46,7 @@ status_is known state knows valid =
     rw (serial, number, size, layers) refl
 
 pub status_told : (world : World) (r : ℕ) (running : Running) (answer : Reply) → answer ≡ status_known running.known → IsRunning r running world → Valid world.state
-    → ◌≡◌ {A = Told} (answer, world) (status_event world (awake_in world))
+    → ◌≡◌ {A = Told} (answer, world) (status_event world (running_state_in world))
 status_told world r running answer is own valid =
     let told : answer ≡ status_of own.state = is ∙ status_is running.known own.state own.knows (subst Valid own.live valid) in
     subst (λ (on : Result (ℕ × State) Refusal). ◌≡◌ {A = Told} (answer, world) (status_event world on)) (sym (awake_at world r own.state own.phase own.live))
@@ -68,7 +68,7 @@ goes_on before after r running memory new power power_new level level_new meter 
     ∙ ap (λ (b : Bool). let w : World = live_world (r + 1) own.state b in w) armed in
     record {
       next = next;
-      step = answered (subst (λ (w : World). Machine world event.Go (reply.At (r + 1)) w) there machine);
+      step = machine_step (subst (λ (w : World). Machine world event.Go (reply.At (r + 1)) w) there machine);
       sound = live_sound after (r + 1) new power_new level_new meter_new own.state (subst (λ (m : Memory). IsReady m own.state) (sym same) ready) on at (omega arith)
           (fits next (record { phase = refl; state = own.state; live = refl; knows = own.knows }));
     }
@@ -82,8 +82,8 @@ pub third_runs : (world : World) (running : Running) → (own : IsRunning 2 runn
     → Machine world event.Go (reply.At 3) (record world { phase = ratchet 3 })
 third_runs world running own valid runs = go_third world own.state (awake_at world 2 own.state own.phase own.live) (known_runs running.known own.state 3 true own.knows (subst Valid own.live valid) runs)
 
-pub no_second : (world : World) (running : Running) → (own : IsRunning 1 running world) → Valid world.state → is_runnable running.known.figures.layers 2 ≡ false → Machine world event.Go (refused WrongLayer) world
+pub no_second : (world : World) (running : Running) → (own : IsRunning 1 running world) → Valid world.state → is_runnable running.known.figures.layers 2 ≡ false → Machine world event.Go (refusal_reply WrongLayer) world
 no_second world running own valid runs = go_no_second world own.state (awake_at world 1 own.state own.phase own.live) (known_runs running.known own.state 2 false own.knows (subst Valid own.live valid) runs)
 
-pub no_third : (world : World) (running : Running) → (own : IsRunning 2 running world) → Valid world.state → is_runnable running.known.figures.layers 3 ≡ false → Machine world event.Go (refused WrongLayer) world
+pub no_third : (world : World) (running : Running) → (own : IsRunning 2 running world) → Valid world.state → is_runnable running.known.figures.layers 3 ≡ false → Machine world event.Go (refusal_reply WrongLayer) world
 no_third world running own valid runs = go_no_third world own.state (awake_at world 2 own.state own.phase own.live) (known_runs running.known own.state 3 false own.knows (subst Valid own.live valid) runs)

@@ -18,11 +18,11 @@ use Rattle.mb_model.specs.Board.{Memory, Meter, Held}
 use Rattle.mb_model.specs.Layers.{is_runnable, is_upper}
 use Rattle.mb_model.specs.LayerEvents.{Outcome, put_event, get_event, drop_event, sign_event, sign_with, value_reply, has_name, has_number, with_secret, with_use, statement_of}
 use Rattle.mb_model.specs.Log.{entries_of, number_of}
-use Rattle.mb_model.specs.Machine.{ratchet, World, Told, awake_in, region_event, Machine, answered, may_want_memory}
+use Rattle.mb_model.specs.Machine.{ratchet, World, Told, running_state_in, region_event, Machine, machine_step, may_want_memory}
 use Rattle.mb_model.specs.Regions.{region_of, with_region}
 use Rattle.mb_model.specs.declared.reply.Refusal.{Refusal}
 use Rattle.mb_model.specs.declared.reply.Refusal.TheVariants.{WrongLayer, RegionFull, KeySpent}
-use Rattle.mb_model.specs.Refusals.{refused}
+use Rattle.mb_model.specs.Refusals.{refusal_reply}
 use Rattle.mb_model.specs.Script.{IsScriptEvent}
 use Rattle.mb_model.specs.Valid.{Valid, IsValidState}
 use Rattle.mb_board.specs.Calls.{held_by, held_in, IsMetered, IsUp, Seen}
@@ -63,17 +63,17 @@ region_machine r L state armed e is named here runs =
 
 -- control is past it, or it may not run
 pub region_barred : (r L : ℕ) (state : State) (armed : Bool) (e : Event) → IsLayerEvent e → L ≡ region_named e → (nat_lt L r || not (is_runnable state.layers L)) ≡ true
-    → Machine (live_world r state armed) e (refused WrongLayer) (live_world r state armed)
+    → Machine (live_world r state armed) e (refusal_reply WrongLayer) (live_world r state armed)
 region_barred r L state armed e is named barred_so =
-    by_region (live_world r state armed) e (refused WrongLayer) (live_world r state armed) is
-    (subst (λ (m : ℕ). ◌≡◌ {A = Told} (refused WrongLayer, live_world r state armed) (region_event (live_world r state armed) m (layer_outcome m e) (Ok (r, state)))) named
+    by_region (live_world r state armed) e (refusal_reply WrongLayer) (live_world r state armed) is
+    (subst (λ (m : ℕ). ◌≡◌ {A = Told} (refusal_reply WrongLayer, live_world r state armed) (region_event (live_world r state armed) m (layer_outcome m e) (Ok (r, state)))) named
     (rw barred_so refl))
 
 pub cannot_run : (b : Bool) (past : Bool) → b ≡ false → (past || not b) ≡ true
 cannot_run b past e = rw e (or-true past)
 
 -- a use that a running device refuses
-pub use_refused : (after : Device) (r L : ℕ) (running : Running) (held : Held) (world : World) (e : Event) (answer : Reply) → IsLayerEvent e → L ≡ region_named e → answer ≡ refused WrongLayer
+pub use_refused : (after : Device) (r L : ℕ) (running : Running) (held : Held) (world : World) (e : Event) (answer : Reply) → IsLayerEvent e → L ≡ region_named e → answer ≡ refusal_reply WrongLayer
     → IsSoundDevice after held world → (own : IsRunning r running world) → Fits after world → (nat_lt L r ≡ true) ⊎ (is_runnable running.known.figures.layers L ≡ false) → Steps world e answer after held
 use_refused after r L running held world e answer is named told sound own fits why =
     let valid : IsValidState own.state = subst Valid own.live sound.valid in
@@ -83,8 +83,8 @@ use_refused after r L running held world e answer is named told sound own fits w
       | inr still ↦ cannot_run (is_runnable state.layers L) (nat_lt L r) (known_runs running.known state L false own.knows valid still)
     ] in
     let same : world ≡ live_world r state world.armed = the_world world r state own.phase own.live in
-    let machine : Machine world e (refused WrongLayer) world =
-    subst (λ (w : World). Machine w e (refused WrongLayer) w) (sym same) (region_barred r L state world.armed e is named past) in
+    let machine : Machine world e (refusal_reply WrongLayer) world =
+    subst (λ (w : World). Machine w e (refusal_reply WrongLayer) w) (sym same) (region_barred r L state world.armed e is named past) in
     refuses after after held world e answer WrongLayer told machine sound fits
 
 -- ---- a use that is answered
@@ -198,7 +198,7 @@ module _ (r L : ℕ) (before : Device) (running : Running) (e : Event) (old : Me
       let armed : world.armed ≡ meter_new.armed = use_is.sound.shown.armed ∙ sym same_armed in
       record {
         next = live_world r next meter_new.armed;
-        step = answered (subst (λ (a : Reply). Machine world e a (live_world r next meter_new.armed)) (sym told)
+        step = machine_step (subst (λ (a : Reply). Machine world e a (live_world r next meter_new.armed)) (sym told)
             (subst (λ (b : Bool). Machine world e (layer_outcome L e use_is.own.state).0 (live_world r next b)) armed use_machine));
         sound = live_sound after r new power_new level_new meter_new next ready (same_power ∙ on) (same_level ∙ at) use_is.some
             (fits (live_world r next meter_new.armed) (record { phase = refl; state = next; live = refl; knows = knows }));
@@ -220,10 +220,10 @@ module _ (r L : ℕ) (before : Device) (running : Running) (e : Event) (old : Me
       ]
 
 -- a device that is not awake refuses it
-pub use_asleep : (world : World) (e : Event) (refusal : Refusal) → IsLayerEvent e → awake_in world ≡ Err refusal → Machine world e (refused refusal) world
+pub use_asleep : (world : World) (e : Event) (refusal : Refusal) → IsLayerEvent e → running_state_in world ≡ Err refusal → Machine world e (refusal_reply refusal) world
 use_asleep world e refusal is asleep =
-    by_region world e (refused refusal) world is
-    (subst (λ (on : Result (ℕ × State) Refusal). ◌≡◌ {A = Told} (refused refusal, world) (region_event world (region_named e) (layer_outcome (region_named e) e) on)) (sym asleep) refl)
+    by_region world e (refusal_reply refusal) world is
+    (subst (λ (on : Result (ℕ × State) Refusal). ◌≡◌ {A = Told} (refusal_reply refusal, world) (region_event world (region_named e) (layer_outcome (region_named e) e) on)) (sym asleep) refl)
 
 -- ---- what is counted
 
@@ -240,7 +240,7 @@ unfolding put_event
 put_goes_on L name value state =
     let region : Region = region_of state L in
     let new : Secret = record { name = name; value = value; born = number_of (entries_of state.log) } in
-    picked_goes_on (not (list_any (has_name name) region.secrets) && nat_le 22 (length region.secrets)) (refused RegionFull, state)
+    picked_goes_on (not (list_any (has_name name) region.secrets) && nat_le 22 (length region.secrets)) (refusal_reply RegionFull, state)
     (reply.Kept, with_region state L (record region { secrets = with_secret new region.secrets })) refl refl
 
 get_goes_on : (L : ℕ) (name : List ℕ) (state : State) → stop_told (get_event L name state).0 ≡ Ok tt
@@ -258,7 +258,7 @@ sign_with_goes_on : (L : ℕ) (key : Option RegionKey) (message : List ℕ) (sta
 sign_with_goes_on L None message state = refl
 sign_with_goes_on L (Some key) message state =
     let region : Region = region_of state L in
-    picked_goes_on (nat_le 32 key.uses) (refused KeySpent, state)
+    picked_goes_on (nat_le 32 key.uses) (refusal_reply KeySpent, state)
     (reply.Signed key.number key.uses (statement_format.spelling (statement_of state key message)), with_region state L (record region { keys = with_use key.number region.keys })) refl refl
 
 sign_goes_on : (L number : ℕ) (message : List ℕ) (state : State) → stop_told (sign_event L number message state).0 ≡ Ok tt

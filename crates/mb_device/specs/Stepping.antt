@@ -4,7 +4,7 @@ use Rattle.mb_model.specs.declared.event.Event.{Event}
 use Rattle.mb_model.specs.declared.event.Event.TheVariants as event
 use Rattle.mb_model.specs.declared.reply.Reply.{Reply}
 use Rattle.mb_model.specs.declared.reply.Reply.TheVariants as reply
-use Rattle.mb_model.specs.Layers.{standing}
+use Rattle.mb_model.specs.Layers.{layer_standing}
 use Rattle.mb_model.specs.Board.{Memory, Meter}
 use Rattle.mb_model_memory.specs.Answering.{may_have_written}
 use Rattle.mb_device_orders.specs.declared.remembering.Known.{Known}
@@ -15,9 +15,9 @@ use Rattle.mb_device.specs.declared.device.Device.TheVariants as device
 abbrev pub status_known : Known → Reply
 status_known known =
     let layers = known.figures.layers in
-    let one = standing layers 1 in
-    let two = standing layers 2 in
-    let three = standing layers 3 in
+    let one = layer_standing layers 1 in
+    let two = layer_standing layers 2 in
+    let three = layer_standing layers 3 in
     reply.Status known.serial known.figures.number known.figures.length one two three
 
 -- whether power failed in an event that was answered so

@@ -1,8 +1,8 @@
 //! The status of a device.
 
 ghost use Rattle.std.specs.Prelude.{◌≡◌, ◌≤◌, Ok};
-ghost use Rattle.mb_model.specs.Layers.{standing};
-ghost use Rattle.mb_model.specs.Machine.{World, status_event, awake_in};
+ghost use Rattle.mb_model.specs.Layers.{layer_standing};
+ghost use Rattle.mb_model.specs.Machine.{World, status_event, running_state_in};
 ghost use Rattle.mb_model.specs.Valid.{Valid};
 ghost use Rattle.mb_device.specs.Sound.{Fits};
 ghost use Rattle.mb_device.specs.Stepping.{status_known, stop_told};
@@ -15,7 +15,7 @@ use mb_model::{Layers, Refusal, Reply, Standing};
 fn standing(layers: &Layers, layer: u8) -> Standing
     requires least { 1 ≤ layer }
     requires most { layer ≤ 3 }
-    ensures { result ≡ standing layers.now layer }
+    ensures { result ≡ layer_standing layers.now layer }
 {
     if !is_owned(layers, layer) {
         Standing::Unowned
@@ -49,7 +49,7 @@ impl Device {
     /// Answers `status`, from what the device remembers.
     pub(crate) fn status(&self) -> Reply
         ensures told { (world : World) → Fits self.now world → Valid world.state
-            → (result, world) ≡ status_event world (awake_in world) }
+            → (result, world) ≡ status_event world (running_state_in world) }
         ensures goes_on { stop_told result ≡ Ok tt }
     {
         match self {

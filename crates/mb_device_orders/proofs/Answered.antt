@@ -8,7 +8,7 @@ use Rattle.mb_model.specs.declared.state.State.{State}
 use Rattle.mb_model.specs.declared.stored.Root.{Root}
 use Rattle.mb_model.specs.Board.{Memory}
 use Rattle.mb_model.specs.Log.{entries_of, figures_of, number_of}
-use Rattle.mb_model.specs.OrderEffects.{obeyed}
+use Rattle.mb_model.specs.OrderEffects.{state_after_order}
 use Rattle.mb_model.specs.OrderStep.{OrderStep, is_obeyed}
 use Rattle.mb_model.specs.declared.state.Figures.{Figures}
 use Rattle.mb_model_memory.specs.Holding.{Means, IsReady}
@@ -56,27 +56,27 @@ done_is figures next are =
     ap (λ (n : ℕ). reply.Done n figures.length) (ap (λ (f : Figures). f.number) are)
     ∙ ap (λ (n : ℕ). reply.Done (number_of (entries_of next.log)) n) (ap (λ (f : Figures). f.length) are ∙ length-map next.log (λ (signed : SignedEntry). signed.entry))
 
-obeyed_step : (state : State) (text draw : List ℕ) (judged : Judged) (figures : Figures) → PassesAs state text draw judged → figures ≡ figures_of (entries_of (obeyed state judged.order draw).log)
-    → OrderStep state text draw (reply.Done figures.number figures.length) (obeyed state judged.order draw)
+obeyed_step : (state : State) (text draw : List ℕ) (judged : Judged) (figures : Figures) → PassesAs state text draw judged → figures ≡ figures_of (entries_of (state_after_order state judged.order draw).log)
+    → OrderStep state text draw (reply.Done figures.number figures.length) (state_after_order state judged.order draw)
 obeyed_step state text draw judged figures passed are = is_obeyed (record {
   order = judged.order;
   spelled = passed.spelled;
   passes = passed.passes;
   follows = refl;
-  answered = done_is figures (obeyed state judged.order draw) are;
+  answered = done_is figures (state_after_order state judged.order draw) are;
 })
 
-pub answered_done : (before after : Memory) (state : State) (text draw : List ℕ) (judged : Judged) (known : Known) → PassesAs state text draw judged → IsReady after (obeyed state judged.order draw) → Knows known (obeyed state judged.order draw)
+pub answered_done : (before after : Memory) (state : State) (text draw : List ℕ) (judged : Judged) (known : Known) → PassesAs state text draw judged → IsReady after (state_after_order state judged.order draw) → Knows known (state_after_order state judged.order draw)
     → IsOrderAnswered state text draw known (reply.Done known.figures.number known.figures.length) before after
 answered_done before after state text draw judged known passed ready knows =
-    answer_tells (obeyed state judged.order draw) (obeyed_step state text draw judged known.figures passed knows.figures) ready knows
+    answer_tells (state_after_order state judged.order draw) (obeyed_step state text draw judged known.figures passed knows.figures) ready knows
 
-pub order_cut : (after : Memory) (state : State) (text draw : List ℕ) (judged : Judged) (figures : Figures) → PassesAs state text draw judged → figures ≡ figures_of (entries_of (obeyed state judged.order draw).log)
-    → Means after state ⊎ Means after (obeyed state judged.order draw) → IsOrderCut state text draw after
+pub order_cut : (after : Memory) (state : State) (text draw : List ℕ) (judged : Judged) (figures : Figures) → PassesAs state text draw judged → figures ≡ figures_of (entries_of (state_after_order state judged.order draw).log)
+    → Means after state ⊎ Means after (state_after_order state judged.order draw) → IsOrderCut state text draw after
 order_cut after state text draw judged figures passed are counts = record {
   number = figures.number;
   size = figures.length;
-  next = obeyed state judged.order draw;
+  next = state_after_order state judged.order draw;
   step = obeyed_step state text draw judged figures passed are;
   counts = counts;
 }

@@ -11,7 +11,7 @@ use Rattle.mb_model.specs.Clean.{root_of}
 use Rattle.mb_model.specs.Flash.{sector, HoldsHeader, HoldsPublic}
 use Rattle.mb_model.specs.HeaderFormat.{header_format}
 use Rattle.mb_model.specs.Meaning.{RootIn}
-use Rattle.mb_model.specs.OrderEffects.{obeyed}
+use Rattle.mb_model.specs.OrderEffects.{state_after_order}
 use Rattle.mb_model.specs.RootFormat.{root_format}
 use Rattle.mb_model.specs.Sectors.{header_sector, log_sector}
 use Rattle.mb_model.specs.StoredLog.{AreCounted}
@@ -103,7 +103,7 @@ module _ (before between : Memory) (root : Root) (room : Room) (state : State) (
       (begins_with header_format (sector between.flash (header_sector (1 - is.area))) room.header.items _ is.header w.header.begins)
 
   -- once both are written, the flash holds for the root what the order leaves
-  pub held_public : IsLoaded before → Written before between room → HoldsPublic between.flash root (obeyed state order draw).codes state.log (new_entries state order draw)
+  pub held_public : IsLoaded before → Written before between room → HoldsPublic between.flash root (state_after_order state order draw).codes state.log (new_entries state order draw)
   held_public sized written =
       let w = written (root_of state is.area) is.holds.public.header is.holds.root is.holds.public.begins in
       let layer = order_layer order is.allowed in
@@ -119,9 +119,9 @@ unfolding committed
 holds_committed before between after root room state order draw is sized kept written commits =
     let public = held_public before between root room state order draw is sized written in
     subst
-    (λ (r : Root). Holds after (record (at_rest state is.area) { root = r; codes = (obeyed state order draw).codes; signed = state.log; unsigned = new_entries state order draw }))
+    (λ (r : Root). Holds after (record (at_rest state is.area) { root = r; codes = (state_after_order state order draw).codes; signed = state.log; unsigned = new_entries state order draw }))
     is.root_is
-    (commits.committed (at_rest state is.area) (obeyed state order draw).codes state.log (new_entries state order draw) (kept.kept (at_rest state is.area) is.holds) public)
+    (commits.committed (at_rest state is.area) (state_after_order state order draw).codes state.log (new_entries state order draw) (kept.kept (at_rest state is.area) is.holds) public)
 
 -- what was there before the writes, and what each of them left
 pub record IsCommitted (before between after : Memory) (root : Root) (room : Room) : Type 0 where
@@ -131,14 +131,14 @@ pub record IsCommitted (before between after : Memory) (root : Root) (room : Roo
   pub commits : CommitsRoot root between after
   pub sized_after : IsLoaded after
 
-pub means_committed : (before between after : Memory) (root : Root) (room : Room) (state : State) (order : Order) (draw : List ℕ) → IsCommit before root room state order draw → IsCommitted before between after root room → Means after (obeyed state order draw)
+pub means_committed : (before between after : Memory) (root : Root) (room : Room) (state : State) (order : Order) (draw : List ℕ) → IsCommit before root room state order draw → IsCommitted before between after root room → Means after (state_after_order state order draw)
 means_committed before between after root room state order draw is done =
     commit_stands after.flash after.bbram state order draw (1 - is.area) done.sized_after is.ready.valid is.allowed is.passes
     (holds_committed before between after root room state order draw is done.sized done.kept done.written done.commits)
 
 pub live_committed : (before between after : Memory) (root : Root) (room : Room) → HasCommit before root room → IsCommitted before between after root room → IsLive after
 live_committed before between after root room has done = record {
-  state = obeyed has.state has.order has.draw;
+  state = state_after_order has.state has.order has.draw;
   means = means_committed before between after root room has.state has.order has.draw has.commit done;
   valid = obeyed_valid has.state has.order has.draw has.commit.ready.valid has.commit.allowed has.commit.passes;
 }
@@ -154,20 +154,20 @@ pub means_old : (before between : Memory) (root : Root) (room : Room) (state : S
 means_old before between root room state order draw is kept sized = (contents_keep before between sized kept).kept state is.ready.means
 
 pub means_either : (before between after : Memory) (root : Root) (room : Room) (state : State) (order : Order) (draw : List ℕ) → IsCommit before root room state order draw → IsLoaded before
-    → KeepsContents before between → IsLoaded between → Written before between room → IsLoaded after → KeepsContents between after ⊎ CommitsRoot root between after → Means after state ⊎ Means after (obeyed state order draw)
+    → KeepsContents before between → IsLoaded between → Written before between room → IsLoaded after → KeepsContents between after ⊎ CommitsRoot root between after → Means after state ⊎ Means after (state_after_order state order draw)
 means_either before between after root room state order draw is sized kept first written last (inl stays) =
     inl ((contents_keep between after last stays).kept state (means_old before between root room state order draw is kept first))
 means_either before between after root room state order draw is sized kept first written last (inr commits) =
     inr (means_committed before between after root room state order draw is (record { sized = sized; kept = kept; written = written; commits = commits; sized_after = last }))
 
 pub ready_committed : (before between after last : Memory) (root : Root) (room : Room) (state : State) (order : Order) (draw : List ℕ) → IsCommit before root room state order draw
-    → IsCommitted before between after root room → KeepsMeaning after last → Cleans after last → IsReady last (obeyed state order draw)
+    → IsCommitted before between after root room → KeepsMeaning after last → Cleans after last → IsReady last (state_after_order state order draw)
 ready_committed before between after last root room state order draw is done keeps cleans =
-    let means : Means after (obeyed state order draw) = means_committed before between after root room state order draw is done in
+    let means : Means after (state_after_order state order draw) = means_committed before between after root room state order draw is done in
     record {
-      means = keeps.kept (obeyed state order draw) means;
+      means = keeps.kept (state_after_order state order draw) means;
       valid = obeyed_valid state order draw is.ready.valid is.allowed is.passes;
-      clean = cleans.cleans (obeyed state order draw) means;
+      clean = cleans.cleans (state_after_order state order draw) means;
     }
 
 -- ---- the signed log, and the sectors that hold nothing

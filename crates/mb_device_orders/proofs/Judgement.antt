@@ -18,8 +18,8 @@ use Rattle.mb_model.specs.declared.state.View.{View}
 use Rattle.mb_model.specs.declared.stored.Root.{Root}
 use Rattle.mb_model.specs.Board.{Memory}
 use Rattle.mb_model.specs.Clean.{root_of}
-use Rattle.mb_model.specs.Log.{entries_of, number_of, used, made}
-use Rattle.mb_model.specs.Memory.{current}
+use Rattle.mb_model.specs.Log.{entries_of, number_of, uses_of_device_key, keys_made_by}
+use Rattle.mb_model.specs.Memory.{area_of_slot}
 use Rattle.mb_model.specs.OrderFormat.{order_format}
 use Rattle.mb_model.specs.declared.reply.Refusal.{Refusal}
 use Rattle.mb_model.specs.OrderChecks.{view_of}
@@ -63,10 +63,10 @@ none_step state text draw answer (inr none) = inr (spells_none (record { none = 
 
 -- ---- regions
 
-pub region_two : (known : Known) (memory : Memory) → IsRemembered known memory → HoldsSomeRegion (current memory.bbram 2)
+pub region_two : (known : Known) (memory : Memory) → IsRemembered known memory → HoldsSomeRegion (area_of_slot memory.bbram 2)
 region_two known memory is = record { region = is.state.two; holds = is.ready.clean.two }
 
-pub region_three : (known : Known) (memory : Memory) → IsRemembered known memory → HoldsSomeRegion (current memory.bbram 3)
+pub region_three : (known : Known) (memory : Memory) → IsRemembered known memory → HoldsSomeRegion (area_of_slot memory.bbram 3)
 region_three known memory is = record { region = is.state.three; holds = is.ready.clean.three }
 
 -- ---- what an order is judged by
@@ -88,9 +88,9 @@ view_is memory state known root two three ready knows only is_two is_three =
     let layers : known.figures.layers ≡ state.layers = ap (λ (f : Figures). f.layers) knows.figures ∙ sym ready.valid.layers in
     let size : known.figures.length ≡ length state.log = ap (λ (f : Figures). f.length) knows.figures ∙ length-map state.log (λ (signed : SignedEntry). signed.entry) in
     let number : known.figures.number ≡ number_of (entries_of state.log) = ap (λ (f : Figures). f.number) knows.figures in
-    let keys : known.figures.keys_made ≡ made (entries_of state.log) = ap (λ (f : Figures). f.keys_made) knows.figures in
+    let keys : known.figures.keys_made ≡ keys_made_by (entries_of state.log) = ap (λ (f : Figures). f.keys_made) knows.figures in
     let device : root.device ≡ state.device = sym (ap (λ (r : Root). r.device) (only.only (root_of state ready.clean.area) ready.clean.root)) in
-    let uses : known.figures.uses ≡ used (entries_of state.log) = ap (λ (f : Figures). f.uses) knows.figures in
+    let uses : known.figures.uses ≡ uses_of_device_key (entries_of state.log) = ap (λ (f : Figures). f.uses) knows.figures in
     cc
 
 storable : (known : Known) (memory : Memory) (is : IsRemembered known memory) → IsStorableState is.state

@@ -28,11 +28,11 @@ use Rattle.mb_model.specs.Flash.{sector, HoldsHeader, AreBytesOf}
 use Rattle.mb_model.specs.HeaderFormat.{first_text, second_text, header_format}
 use Rattle.mb_model.specs.Log.{figures_of, entries_of}
 use Rattle.mb_model.specs.OrderChecks.{view_of, needs_succession, Passes}
-use Rattle.mb_model.specs.OrderEffects.{signed_by, succeeded, changed, keyed, ready_for, codes_after, carried_out, obeyed}
+use Rattle.mb_model.specs.OrderEffects.{entry_signed_by, state_after_succession, state_after_change, state_after_new_key, ready_for, codes_after, state_after_act, state_after_order}
 use Rattle.mb_model.specs.OrderFormat.{body_format, order_format}
 use Rattle.mb_model.specs.Rules.{kind_of, least_layer, MayBeFor}
 use Rattle.mb_model.specs.Sectors.{header_sector, BeginsAs}
-use Rattle.mb_model.specs.StoredLog.{signed_for, outgoing_of, completed}
+use Rattle.mb_model.specs.StoredLog.{entries_signed_for, outgoing_of, log_completed_by}
 use Rattle.mb_model.specs.Valid.{IsValidState}
 use Rattle.mb_model.specs.Work.{pending_for}
 use Rattle.mb_orders.specs.declared.plan.Plan.{Plan}
@@ -75,20 +75,20 @@ same_codes old k kind =
     ∙ ap (λ (x : Option (List ℕ)). codes_of old.one x (if k == 3 then old.three else old.three)) (either_same (k == 2) old.two)
     ∙ ap (λ (x : Option (List ℕ)). codes_of old.one old.two x) (either_same (k == 3) old.three)
 
-carried_codes : (ready : State) (order : Order) (a : Act) (draw : List ℕ) → order.act ≡ a → (carried_out ready order a draw).codes ≡ codes_after ready.codes order.layer order.act
-unfolding changed keyed
+carried_codes : (ready : State) (order : Order) (a : Act) (draw : List ℕ) → order.act ≡ a → (state_after_act ready order a draw).codes ≡ codes_after ready.codes order.layer order.act
+unfolding state_after_change state_after_new_key
 carried_codes ready order (act.Establish owner trust) draw e = refl
 carried_codes ready order act.Surrender draw e = refl
 carried_codes ready order (act.Load payload) draw e = refl
 carried_codes ready order (act.Emergency payload) draw e = refl
 carried_codes ready order (act.NewKey kind) draw e = sym (ap (codes_after ready.codes order.layer) e ∙ same_codes ready.codes order.layer kind)
 
-succeeded_codes : (state : State) (draw : List ℕ) → (succeeded state draw).codes ≡ state.codes
-unfolding succeeded
+succeeded_codes : (state : State) (draw : List ℕ) → (state_after_succession state draw).codes ≡ state.codes
+unfolding state_after_succession
 succeeded_codes state draw = refl
 
-pub obeyed_codes : (state : State) (order : Order) (draw : List ℕ) → (obeyed state order draw).codes ≡ codes_after state.codes order.layer order.act
-unfolding obeyed
+pub obeyed_codes : (state : State) (order : Order) (draw : List ℕ) → (state_after_order state order draw).codes ≡ codes_after state.codes order.layer order.act
+unfolding state_after_order
 obeyed_codes state order draw =
     carried_codes (ready_for state order draw) order order.act draw refl
     ∙ ap (λ (codes : Codes). codes_after codes order.layer order.act) (kept_ready (λ (s : State). s.codes) state order draw (succeeded_codes state draw))
@@ -110,24 +110,24 @@ new_few : (state : State) (order : Order) (draw : List ℕ) → length (new_entr
 unfolding root_for pending_for
 new_few state order draw = few_by (needs_succession (view_of state) order) _ (commit_counted state order draw 0).counted
 
-mapped_entries : (key : KeySeed) (index : ℕ) (unsigned : List Entry) → entries_of (map (signed_by key index) unsigned) ≡ unsigned
-unfolding signed_by
+mapped_entries : (key : KeySeed) (index : ℕ) (unsigned : List Entry) → entries_of (map (entry_signed_by key index) unsigned) ≡ unsigned
+unfolding entry_signed_by
 mapped_entries key index [] = refl
 mapped_entries key index (entry ∷ more) = ap (λ (xs : List Entry). entry ∷ xs) (mapped_entries key index more)
 
-signed_entries : (device : KeySeed) (uses : ℕ) (outgoing : Option Outgoing) (unsigned : List Entry) → entries_of (signed_for device uses outgoing unsigned) ≡ unsigned
-unfolding signed_by
+signed_entries : (device : KeySeed) (uses : ℕ) (outgoing : Option Outgoing) (unsigned : List Entry) → entries_of (entries_signed_for device uses outgoing unsigned) ≡ unsigned
+unfolding entry_signed_by
 signed_entries device uses None unsigned = mapped_entries device (uses - 1) unsigned
 signed_entries device uses (Some outgoing) [] = refl
 signed_entries device uses (Some outgoing) (first ∷ rest) = ap (λ (xs : List Entry). first ∷ xs) (mapped_entries device 0 rest)
 
-completed_entries : (root : Root) (signed : List SignedEntry) (unsigned : List Entry) → entries_of (completed root signed unsigned) ≡ entries_of signed ++ unsigned
-unfolding completed
+completed_entries : (root : Root) (signed : List SignedEntry) (unsigned : List Entry) → entries_of (log_completed_by root signed unsigned) ≡ entries_of signed ++ unsigned
+unfolding log_completed_by
 completed_entries root signed unsigned =
-    map-append (λ (s : SignedEntry). s.entry) signed (signed_for root.device root.uses (outgoing_of root.pending) unsigned)
+    map-append (λ (s : SignedEntry). s.entry) signed (entries_signed_for root.device root.uses (outgoing_of root.pending) unsigned)
     ∙ ap (λ (xs : List Entry). entries_of signed ++ xs) (signed_entries root.device root.uses (outgoing_of root.pending) unsigned)
 
-obeyed_entries : (state : State) (order : Order) (draw : List ℕ) → IsValidState state → entries_of (obeyed state order draw).log ≡ entries_of state.log ++ new_entries state order draw
+obeyed_entries : (state : State) (order : Order) (draw : List ℕ) → IsValidState state → entries_of (state_after_order state order draw).log ≡ entries_of state.log ++ new_entries state order draw
 obeyed_entries state order draw valid =
     ap entries_of (sym (committed_log state order draw 0 valid)) ∙ completed_entries (root_for state order draw 0) state.log (new_entries state order draw)
 
@@ -146,17 +146,17 @@ record NewEntriesFit (state : State) (order : Order) (draw : List ℕ) : Type 0 
 
 new_fit : (state : State) (order : Order) (draw : List ℕ) → IsValidState state → IsStorableState state → order_format.Allowed order → Passes (view_of state) order → NewEntriesFit state order draw
 new_fit state order draw valid is allowed passes =
-    let after : IsStorableState (obeyed state order draw) = obeyed_storable state order draw allowed passes is in
-    let are : entries_of (obeyed state order draw).log ≡ entries_of state.log ++ new_entries state order draw = obeyed_entries state order draw valid in
+    let after : IsStorableState (state_after_order state order draw) = obeyed_storable state order draw allowed passes is in
+    let are : entries_of (state_after_order state order draw).log ≡ entries_of state.log ++ new_entries state order draw = obeyed_entries state order draw valid in
     record {
-      new_allowed = all_back (entries_of state.log) (new_entries state order draw) (subst (All entry_format.Allowed) are (entries_allowed (obeyed state order draw).log after.log));
+      new_allowed = all_back (entries_of state.log) (new_entries state order draw) (subst (All entry_format.Allowed) are (entries_allowed (state_after_order state order draw).log after.log));
       together = omega (
         arith,
         after.few,
         ap length are,
         length-append (entries_of state.log) (new_entries state order draw),
         length-map state.log (λ (signed : SignedEntry). signed.entry),
-        length-map (obeyed state order draw).log (λ (signed : SignedEntry). signed.entry),
+        length-map (state_after_order state order draw).log (λ (signed : SignedEntry). signed.entry),
       );
     }
 
@@ -222,7 +222,7 @@ root_planned state order draw root plan unsigned is_root is_plan size =
     ∙ ap (λ (n : ℕ). root_with root planned n) counted
     ∙ ap (λ (serial : List ℕ). let r : Root = record (root_with root planned unsigned_by) { serial = serial } in r) (ap (λ (r : Root). r.serial) is_root)
     ∙ ap (λ (device : KeySeed). let r : Root = record (root_with root planned unsigned_by) { serial = state.serial; device = device } in r) (device_is state order draw)
-    ∙ ap (λ (uses : ℕ). let r : Root = record (root_with root planned unsigned_by) { serial = state.serial; device = (obeyed state order draw).device; uses = uses } in r) (uses_are state order draw)
+    ∙ ap (λ (uses : ℕ). let r : Root = record (root_with root planned unsigned_by) { serial = state.serial; device = (state_after_order state order draw).device; uses = uses } in r) (uses_are state order draw)
 
 pub planned_few : (memory : Memory) (judged : Judged) → HasPassed memory judged → length judged.plan.bodies.entries ≤ 2
 planned_few memory judged has =
@@ -232,7 +232,7 @@ planned_few memory judged has =
 
 pub figures_next : (memory : Memory) (state : State) (text draw : List ℕ) (judged : Judged) (known : Known) (next : Figures) → IsReady memory state → Knows known state → PassesAs state text draw judged
     → (added : List Entry) → added ≡ judged.plan.bodies.entries → ((log : List Entry) → length log + length added ≤ 1000 → known.figures ≡ figures_of log → next ≡ figures_of (log ++ added))
-    → next ≡ figures_of (entries_of (obeyed state judged.order draw).log)
+    → next ≡ figures_of (entries_of (state_after_order state judged.order draw).log)
 figures_next memory state text draw judged known next ready knows passed added same counts =
     let entries : added ≡ new_entries state judged.order draw = same ∙ planned_entries state text draw judged passed in
     let storable : IsStorableState state = stands_storable memory.flash memory.bbram state ready.means ready.valid in
@@ -242,20 +242,20 @@ figures_next memory state text draw judged known next ready knows passed added s
     ∙ ap figures_of (sym (obeyed_entries state judged.order draw ready.valid))
 
 -- what is remembered once the order is done, where no tree is kept of a region's key
-pub knows_next : (state : State) (order : Order) (draw : List ℕ) (known next : Known) → Knows known state → next.serial ≡ known.serial → next.figures ≡ figures_of (entries_of (obeyed state order draw).log)
-    → next.trees.value.region ≡ None → IsDeviceTree next.trees.value.device (obeyed state order draw) → Knows next (obeyed state order draw)
+pub knows_next : (state : State) (order : Order) (draw : List ℕ) (known next : Known) → Knows known state → next.serial ≡ known.serial → next.figures ≡ figures_of (entries_of (state_after_order state order draw).log)
+    → next.trees.value.region ≡ None → IsDeviceTree next.trees.value.device (state_after_order state order draw) → Knows next (state_after_order state order draw)
 knows_next state order draw known next knows serial figures none device = record {
   serial = serial ∙ knows.serial ∙ sym (obeyed_serial state order draw);
   figures = figures;
   trees = record {
     device = device;
-    region = subst (λ (kept : Option RegionTree). IsKeptIn kept (obeyed state order draw)) (sym none) tt;
+    region = subst (λ (kept : Option RegionTree). IsKeptIn kept (state_after_order state order draw)) (sym none) tt;
   };
 }
 
 -- the root that commits has the device key of the state afterwards
 pub device_committed : (root : Root) (state : State) (order : Order) (draw : List ℕ) (area : ℕ) (kept : Option KeptTree) → root ≡ root_for state order draw area → IfSome kept (IsTreeOf root.device)
-    → IsDeviceTree kept (obeyed state order draw)
+    → IsDeviceTree kept (state_after_order state order draw)
 unfolding root_for
 device_committed root state order draw area kept is its = subst (λ (seed : KeySeed). IfSome kept (IsTreeOf seed)) (ap (λ (r : Root). r.device) is) its
 

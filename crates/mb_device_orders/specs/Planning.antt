@@ -20,7 +20,7 @@ use Rattle.mb_model.specs.OrderFormat.{order_format}
 use Rattle.mb_model.specs.Sectors.{BeginsAs}
 use Rattle.mb_model.specs.declared.reply.Refusal.{Refusal}
 use Rattle.mb_model.specs.declared.reply.Refusal.TheVariants.{BadText}
-use Rattle.mb_model.specs.Refusals.{refused}
+use Rattle.mb_model.specs.Refusals.{refusal_reply}
 use Rattle.mb_model.specs.OrderChecks.{view_of, Passes}
 use Rattle.mb_model.specs.OrderStep.{OrderStep}
 use Rattle.mb_orders.specs.Judging.{plan_by}
@@ -36,14 +36,15 @@ use Rattle.mb_device_orders.specs.declared.judging.Judged.{Judged}
 
 -- the answer to an order that is not obeyed: a refusal, or that an allocation failed
 abbrev pub reply_for : Option Refusal → Reply
-reply_for (Some refusal) = refused refusal
+reply_for (Some refusal) = refusal_reply refusal
 reply_for None = reply.NoMemory
 
 -- the order that the bytes spell; else they spell none and are refused for that, or an allocation failed
 abbrev pub ReadsText : List ℕ → Result Order Reply → Type 0
 ReadsText text (Ok order) = Spells order_format text order
 ReadsText text (Err answer) =
-    (answer ≡ reply.NoMemory) ⊎ ((answer ≡ refused BadText) × ((order : Order) → Spells order_format text order → ⊥))
+    (answer ≡ reply.NoMemory)
+    ⊎ ((answer ≡ refusal_reply BadText) × ((order : Order) → Spells order_format text order → ⊥))
 
 -- the bytes spell an order that passes in this state, and this is its effect
 pub record PassesAs (state : State) (text draw : List ℕ) (judged : Judged) : Type 0 where

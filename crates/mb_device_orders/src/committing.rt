@@ -3,7 +3,7 @@
 ghost use Rattle.std.specs.Prelude.{◌≡◌, ℕ, ◌≤◌, ◌+◌, ◌⊎◌, List, OnOk, ◌*◌};
 ghost use Rattle.mb_model.specs.declared.order.Order.{Order};
 ghost use Rattle.mb_model.specs.declared.state.State.{State};
-ghost use Rattle.mb_model.specs.OrderEffects.{obeyed};
+ghost use Rattle.mb_model.specs.OrderEffects.{state_after_order};
 ghost use Rattle.mb_board.specs.Calls.{IsUp, Ran};
 ghost use Rattle.mb_model_memory.specs.FlashInForce.{SparesSectors};
 ghost use Rattle.mb_model_memory.specs.Holding.{Means, IsReady};
@@ -37,11 +37,11 @@ pub fn commit<B: Board, L: Ledger>(
     requires commit { HasCommit (B.seen b.old).memory root.now room.old }
     ensures done { (state : State) (order : Order) (draw : List ℕ)
         → IsCommit (B.seen b.old).memory root.now room.old state order draw
-        → OnOk result (IsReady (B.seen b.new).memory (obeyed state order draw)) }
+        → OnOk result (IsReady (B.seen b.new).memory (state_after_order state order draw)) }
     ensures counts { (state : State) (order : Order) (draw : List ℕ)
         → IsCommit (B.seen b.old).memory root.now room.old state order draw
         → Means (B.seen b.new).memory state
-        ⊎ Means (B.seen b.new).memory (obeyed state order draw) }
+        ⊎ Means (B.seen b.new).memory (state_after_order state order draw) }
     ensures spared { SparesSectors (B.seen b.old).memory (B.seen b.new).memory }
     ensures ran { Ran 35 result (B.seen b.old) (B.seen b.new) }
     ensures cost { hashes.new ≤ hashes.old + 2 * SIGNING_HASHES }

@@ -7,7 +7,7 @@ ghost use Rattle.mb_model.specs.declared.order.Order.{Order};
 ghost use Rattle.mb_model.specs.declared.state.State.{State};
 ghost use Rattle.mb_model.specs.Clean.{root_of};
 ghost use Rattle.mb_model.specs.OrderChecks.{view_of};
-ghost use Rattle.mb_model.specs.OrderEffects.{obeyed};
+ghost use Rattle.mb_model.specs.OrderEffects.{state_after_order};
 ghost use Rattle.mb_model.specs.Log.{figures_of, entries_of};
 ghost use Rattle.mb_board.specs.Calls.{IsPowered};
 ghost use Rattle.mb_orders.specs.Judging.{plan_by};
@@ -94,7 +94,7 @@ pub fn plan_commit<B: Board>(
         → IsReady (B.seen b.now).memory state
         → Knows known.now state → PassesAs state text draw judged
         → IfOk result (λ planned. planned.figures
-        ≡ figures_of (entries_of (obeyed state judged.order draw).log)) }
+        ≡ figures_of (entries_of (state_after_order state judged.order draw).log)) }
 {
     let Judged { order, plan, root } = judged;
     read_header(b, root.area, room);

@@ -13,7 +13,7 @@ use Rattle.mb_model.specs.LayerEvents.{Outcome, has_name, value_reply, put_event
 use Rattle.mb_model.specs.Log.{entries_of, number_of}
 use Rattle.mb_model.specs.Regions.{region_of, with_region}
 use Rattle.mb_model.specs.declared.reply.Refusal.TheVariants.{RegionFull}
-use Rattle.mb_model.specs.Refusals.{refused}
+use Rattle.mb_model.specs.Refusals.{refusal_reply}
 use Rattle.mb_model.specs.RegionFormat.{secret_format, CanBeWritten}
 use Rattle.mb_model.specs.Script.{IsName, FitsMessage}
 use Rattle.mb_model.specs.Valid.{IsValidState}
@@ -68,16 +68,16 @@ dropped_as old new read name same is = subst (λ (n : List ℕ). IsDropped old n
 
 -- ---- a put
 
-put_full : (L : ℕ) (name value : List ℕ) (state : State) → is_full_for name (region_of state L) ≡ true → put_event L name value state ≡ (refused RegionFull, state)
+put_full : (L : ℕ) (name value : List ℕ) (state : State) → is_full_for name (region_of state L) ≡ true → put_event L name value state ≡ (refusal_reply RegionFull, state)
 unfolding put_event
 put_full L name value state full =
-    ap (λ (b : Bool). let o : Outcome = if b then (refused RegionFull, state) else (reply.Kept, with_region state L (region_with_secret (secret_of name value (number_of (entries_of state.log))) (region_of state L))) in o) full
+    ap (λ (b : Bool). let o : Outcome = if b then (refusal_reply RegionFull, state) else (reply.Kept, with_region state L (region_with_secret (secret_of name value (number_of (entries_of state.log))) (region_of state L))) in o) full
 
 put_kept : (L : ℕ) (name value : List ℕ) (state : State) → is_full_for name (region_of state L) ≡ false
     → put_event L name value state ≡ (reply.Kept, with_region state L (region_with_secret (secret_of name value (number_of (entries_of state.log))) (region_of state L)))
 unfolding put_event
 put_kept L name value state room =
-    ap (λ (b : Bool). let o : Outcome = if b then (refused RegionFull, state) else (reply.Kept, with_region state L (region_with_secret (secret_of name value (number_of (entries_of state.log))) (region_of state L))) in o) room
+    ap (λ (b : Bool). let o : Outcome = if b then (refusal_reply RegionFull, state) else (reply.Kept, with_region state L (region_with_secret (secret_of name value (number_of (entries_of state.log))) (region_of state L))) in o) room
 
 put_outcome : (L : ℕ) (name value : List ℕ) (number : ℕ) (state : State) (new : Region) → IsPut (region_of state L) (secret_of name value number) new → number ≡ number_of (entries_of state.log)
     → put_event L name value state ≡ (reply.Kept, with_region state L new)
@@ -94,7 +94,7 @@ put_valid L name value number state new is same runs valid =
     valid_with state L now valid (λ upper. valid_over_put (entries_of state.log) state.layers L name value (region_of state L) (valid_is_ruled state valid) upper runs (region_is_valid state L upper valid)) in
     subst (λ (r : Region). IsValidState (with_region state L r)) (ap (λ (n : ℕ). region_with_secret (secret_of name value n) (region_of state L)) (sym same) ∙ sym is.is) next
 
-pub put_refused : (L : ℕ) (name value : List ℕ) (state : State) (answer : Reply) (memory : Memory) → answer ≡ refused RegionFull → is_full_for name (region_of state L) ≡ true → IsReady memory state
+pub put_refused : (L : ℕ) (name value : List ℕ) (state : State) (answer : Reply) (memory : Memory) → answer ≡ refusal_reply RegionFull → is_full_for name (region_of state L) ≡ true → IsReady memory state
     → IsAnswered (put_event L name value state) answer memory memory
 put_refused L name value state answer memory told full ready = answered_as (put_full L name value state full) (tells told ready)
 

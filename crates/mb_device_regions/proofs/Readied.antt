@@ -11,7 +11,7 @@ use Rattle.mb_model.specs.Clean.{root_of}
 use Rattle.mb_model.specs.Layers.{is_upper}
 use Rattle.mb_model.specs.Log.{entries_of}
 use Rattle.mb_model.specs.Meaning.{Contents, HoldsRegion, fate_of_two, fate_of_three}
-use Rattle.mb_model.specs.Memory.{IsBlank, current, other}
+use Rattle.mb_model.specs.Memory.{IsBlank, area_of_slot, inactive_area_of_slot}
 use Rattle.mb_model.specs.Regions.{region_of, with_region}
 use Rattle.mb_model.specs.Valid.{IsValidRegion, IsValidState}
 use Rattle.mb_model_lemmas.proofs.MeaningLemmas.{one_root_in}
@@ -33,9 +33,9 @@ pub upper_slot : (L : ℕ) → IsRegionSlot L → IsTrue (is_upper L)
 upper_slot L (inl same) = subst (λ (n : ℕ). IsTrue (is_upper n)) (sym same) refl
 upper_slot L (inr same) = subst (λ (n : ℕ). IsTrue (is_upper n)) (sym same) refl
 
-pub region_held : (L : ℕ) (memory : Memory) (state : State) → IsRegionSlot L → IsReady memory state → HoldsRegion (current memory.bbram L) (region_of state L)
-region_held L memory state (inl same) ready = subst (λ (n : ℕ). HoldsRegion (current memory.bbram n) (region_of state n)) (sym same) ready.clean.two
-region_held L memory state (inr same) ready = subst (λ (n : ℕ). HoldsRegion (current memory.bbram n) (region_of state n)) (sym same) ready.clean.three
+pub region_held : (L : ℕ) (memory : Memory) (state : State) → IsRegionSlot L → IsReady memory state → HoldsRegion (area_of_slot memory.bbram L) (region_of state L)
+region_held L memory state (inl same) ready = subst (λ (n : ℕ). HoldsRegion (area_of_slot memory.bbram n) (region_of state n)) (sym same) ready.clean.two
+region_held L memory state (inr same) ready = subst (λ (n : ℕ). HoldsRegion (area_of_slot memory.bbram n) (region_of state n)) (sym same) ready.clean.three
 
 pub region_valid : (L : ℕ) (state : State) → IsRegionSlot L → IsValidState state → IsValidRegion (entries_of state.log) state.layers L (region_of state L)
 region_valid L state which valid = region_is_valid state L (upper_slot L which) valid
@@ -65,30 +65,30 @@ EditsRegion L edit before after = (contents : Contents) → Holds before content
 
 -- the areas that are not in force are blank, where that of the slot is
 record AreBlank (bbram : List ℕ) : Type 0 where
-  root : IsBlank (other bbram 1)
-  two : IsBlank (other bbram 2)
-  three : IsBlank (other bbram 3)
+  root : IsBlank (inactive_area_of_slot bbram 1)
+  two : IsBlank (inactive_area_of_slot bbram 2)
+  three : IsBlank (inactive_area_of_slot bbram 3)
 
-still_blank : (L : ℕ) (before after : Memory) (state : State) → IsRegionSlot L → IsLoaded before → IsReady before state → IsBlank (other after.bbram L) → IsSameBut L before.bbram after.bbram → AreBlank after.bbram
+still_blank : (L : ℕ) (before after : Memory) (state : State) → IsRegionSlot L → IsLoaded before → IsReady before state → IsBlank (inactive_area_of_slot after.bbram L) → IsSameBut L before.bbram after.bbram → AreBlank after.bbram
 still_blank L before after state (inl same) loaded ready blank rest =
-    let stays : (m : ℕ) → 1 ≤ m → m ≤ 3 → m ≢ L → other after.bbram m ≡ other before.bbram m =
+    let stays : (m : ℕ) → 1 ≤ m → m ≤ 3 → m ≢ L → inactive_area_of_slot after.bbram m ≡ inactive_area_of_slot before.bbram m =
     λ m least most apart. other_other L m before.bbram after.bbram (omega (arith, same)) (omega (arith, same)) least most apart loaded.bbram rest in
     record {
       root = subst IsBlank (sym (stays 1 (omega arith) (omega arith) (λ e. omega (arith, e, same)))) ready.clean.other_root;
-      two = subst (λ (n : ℕ). IsBlank (other after.bbram n)) same blank;
+      two = subst (λ (n : ℕ). IsBlank (inactive_area_of_slot after.bbram n)) same blank;
       three = subst IsBlank (sym (stays 3 (omega arith) (omega arith) (λ e. omega (arith, e, same)))) ready.clean.other_three;
     }
 still_blank L before after state (inr same) loaded ready blank rest =
-    let stays : (m : ℕ) → 1 ≤ m → m ≤ 3 → m ≢ L → other after.bbram m ≡ other before.bbram m =
+    let stays : (m : ℕ) → 1 ≤ m → m ≤ 3 → m ≢ L → inactive_area_of_slot after.bbram m ≡ inactive_area_of_slot before.bbram m =
     λ m least most apart. other_other L m before.bbram after.bbram (omega (arith, same)) (omega (arith, same)) least most apart loaded.bbram rest in
     record {
       root = subst IsBlank (sym (stays 1 (omega arith) (omega arith) (λ e. omega (arith, e, same)))) ready.clean.other_root;
       two = subst IsBlank (sym (stays 2 (omega arith) (omega arith) (λ e. omega (arith, e, same)))) ready.clean.other_two;
-      three = subst (λ (n : ℕ). IsBlank (other after.bbram n)) same blank;
+      three = subst (λ (n : ℕ). IsBlank (inactive_area_of_slot after.bbram n)) same blank;
     }
 
 pub ready_edited : (L : ℕ) (edit : Region → Region) (before after : Memory) (state : State) → IsRegionSlot L → IsBytes before.bbram → IsLoaded before → IsReady before state → IsLoaded after
-    → EditsRegion L edit before after → IsBlank (other after.bbram L) → IsSameBut L before.bbram after.bbram
+    → EditsRegion L edit before after → IsBlank (inactive_area_of_slot after.bbram L) → IsSameBut L before.bbram after.bbram
     → IsValidState (with_region state L (edit (region_of state L))) → IsReady after (with_region state L (edit (region_of state L)))
 ready_edited L edit before after state which are loaded ready sized edits blank rest valid =
     let area : ℕ = ready.clean.area in
@@ -127,7 +127,7 @@ no_fate L memory state are ready = record {
 -- ---- the region replaced
 
 pub replaced_ready : {A E : Type 0} (result : Result A E) (L : ℕ) (region : Region) (before after : Memory) (state : State) → IsRegionSlot L → IsBytes before.bbram → IsLoaded before → IsReady before state → IsLoaded after
-    → OnOk result (ReplacesRegion L region before after) → OnOk result (IsBlank (other after.bbram L)) → IsSameBut L before.bbram after.bbram
+    → OnOk result (ReplacesRegion L region before after) → OnOk result (IsBlank (inactive_area_of_slot after.bbram L)) → IsSameBut L before.bbram after.bbram
     → IsValidState (with_region state L region) → OnOk result (IsReady after (with_region state L region))
 replaced_ready (Ok value) L region before after state which are loaded ready sized replaces blank rest valid =
     ready_edited L (λ r. region) before after state which are loaded ready sized replaces.replaced blank rest valid

@@ -13,10 +13,10 @@ use Rattle.mb_model.specs.ChainFormat.{statement_format}
 use Rattle.mb_model.specs.Layers.{Runnable}
 use Rattle.mb_model.specs.LayerEvents.{Outcome, has_number, statement_of, sign_with, sign_event}
 use Rattle.mb_model.specs.Log.{entries_of, number_of}
-use Rattle.mb_model.specs.Memory.{IsBlank, current, other}
+use Rattle.mb_model.specs.Memory.{IsBlank, area_of_slot, inactive_area_of_slot}
 use Rattle.mb_model.specs.Regions.{region_of, with_region}
 use Rattle.mb_model.specs.declared.reply.Refusal.TheVariants.{NoSuchKey, KeySpent}
-use Rattle.mb_model.specs.Refusals.{refused}
+use Rattle.mb_model.specs.Refusals.{refusal_reply}
 use Rattle.mb_model.specs.Valid.{IsValidState}
 use Rattle.mb_model_lemmas.proofs.FateLemmas.{keys_increase}
 use Rattle.mb_model_lemmas.proofs.ValidStates.{valid_is_ruled, region_is_valid, valid_with}
@@ -34,7 +34,7 @@ use Rattle.mb_device_regions.proofs.Outcomes.{answered_as, cut_as}
 use Rattle.mb_device_regions.proofs.Readied.{region_held, region_valid, ready_edited, no_fate}
 
 -- the keys of the region of a ready device stand in the order of their numbers
-pub held_ordered : (L : ℕ) (memory : Memory) → IsRegionSlot L → HasReady memory → HoldsOrdered (current memory.bbram L)
+pub held_ordered : (L : ℕ) (memory : Memory) → IsRegionSlot L → HasReady memory → HoldsOrdered (area_of_slot memory.bbram L)
 held_ordered L memory which has = record {
   region = region_of has.state L;
   holds = region_held L memory has.state which has.ready;
@@ -43,7 +43,7 @@ held_ordered L memory which has = record {
 
 -- ---- refusals
 
-no_key : (L number : ℕ) (message : List ℕ) (state : State) → find (has_number number) (region_of state L).keys ≡ None → sign_event L number message state ≡ (refused NoSuchKey, state)
+no_key : (L number : ℕ) (message : List ℕ) (state : State) → find (has_number number) (region_of state L).keys ≡ None → sign_event L number message state ≡ (refusal_reply NoSuchKey, state)
 unfolding sign_event
 no_key L number message state none = ap (λ (found : Option RegionKey). sign_with L found message state) none
 
@@ -51,21 +51,21 @@ abbrev after_use : ℕ → RegionKey → List ℕ → State → Outcome
 after_use L key message state =
     (reply.Signed key.number key.uses (statement_format.spelling (statement_of state key message)), with_region state L (region_with_use key.number (region_of state L)))
 
-spent_key : (L number : ℕ) (message : List ℕ) (state : State) → IsSpent (region_of state L) number → sign_event L number message state ≡ (refused KeySpent, state)
+spent_key : (L number : ℕ) (message : List ℕ) (state : State) → IsSpent (region_of state L) number → sign_event L number message state ≡ (refusal_reply KeySpent, state)
 unfolding sign_event
 spent_key L number message state is =
     ap (λ (found : Option RegionKey). sign_with L found message state) is.found
-    ∙ ap (λ (b : Bool). let o : Outcome = if b then (refused KeySpent, state) else after_use L is.key message state in o) (le-leb 32 is.key.uses is.spent)
+    ∙ ap (λ (b : Bool). let o : Outcome = if b then (refusal_reply KeySpent, state) else after_use L is.key message state in o) (le-leb 32 is.key.uses is.spent)
 
 -- nothing was written
 still_ready : (before after : Memory) (state : State) → after ≡ before → IsReady before state → IsReady after state
 still_ready before after state same ready = subst (λ (m : Memory). IsReady m state) (sym same) ready
 
-pub no_key_told : (L number : ℕ) (message : List ℕ) (state : State) (answer : Reply) (before after : Memory) → answer ≡ refused NoSuchKey → find (has_number number) (region_of state L).keys ≡ None → after ≡ before → IsReady before state
+pub no_key_told : (L number : ℕ) (message : List ℕ) (state : State) (answer : Reply) (before after : Memory) → answer ≡ refusal_reply NoSuchKey → find (has_number number) (region_of state L).keys ≡ None → after ≡ before → IsReady before state
     → IsAnswered (sign_event L number message state) answer before after
 no_key_told L number message state answer before after told none same ready = answered_as (no_key L number message state none) (tells told (still_ready before after state same ready))
 
-pub spent_told : (L number : ℕ) (message : List ℕ) (state : State) (answer : Reply) (before after : Memory) → answer ≡ refused KeySpent → IsSpent (region_of state L) number → after ≡ before → IsReady before state
+pub spent_told : (L number : ℕ) (message : List ℕ) (state : State) (answer : Reply) (before after : Memory) → answer ≡ refusal_reply KeySpent → IsSpent (region_of state L) number → after ≡ before → IsReady before state
     → IsAnswered (sign_event L number message state) answer before after
 spent_told L number message state answer before after told is same ready = answered_as (spent_key L number message state is) (tells told (still_ready before after state same ready))
 
@@ -82,7 +82,7 @@ used_outcome : (L number : ℕ) (message : List ℕ) (state : State) (key : Regi
 unfolding sign_event
 used_outcome L number message state key has =
     ap (λ (found : Option RegionKey). sign_with L found message state) has.found
-    ∙ ap (λ (b : Bool). let o : Outcome = if b then (refused KeySpent, state) else after_use L key message state in o) (left_one key.uses has.left)
+    ∙ ap (λ (b : Bool). let o : Outcome = if b then (refusal_reply KeySpent, state) else after_use L key message state in o) (left_one key.uses has.left)
 
 -- the bytes are those of the statement
 stated_as : (state : State) (key : RegionKey) (number right : ℕ) (seed : KeySeed) (serial : List ℕ) (configuration : ℕ) (message : List ℕ) → key.number ≡ number → right ≡ key.uses → seed ≡ key.seed
@@ -110,7 +110,7 @@ pub record UsesKey (L number : ℕ) (before after : Memory) : Type 0 where
   pub loaded : IsLoaded before
   pub sized : IsLoaded after
   pub stores : StoresUse L number before after
-  pub blank : IsBlank (other after.bbram L)
+  pub blank : IsBlank (inactive_area_of_slot after.bbram L)
   pub rest : IsSameBut L before.bbram after.bbram
 
 use_ready : (L number : ℕ) (before after : Memory) (state : State) → IsRegionSlot L → UsesKey L number before after → Runnable state.layers L → IsReady before state

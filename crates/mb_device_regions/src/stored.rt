@@ -5,7 +5,7 @@ ghost use Rattle.mb_format.specs.Format.{IsBytes};
 ghost use Rattle.mb_layout.specs.Plans.{SamePlans};
 ghost use Rattle.mb_model.specs.declared.region.Region.{Region};
 ghost use Rattle.mb_model.specs.declared.state.State.{State};
-ghost use Rattle.mb_model.specs.Memory.{IsBlank, other};
+ghost use Rattle.mb_model.specs.Memory.{IsBlank, inactive_area_of_slot};
 ghost use Rattle.mb_model.specs.Regions.{region_of, with_region};
 ghost use Rattle.mb_model.specs.Valid.{IsValidState};
 ghost use Rattle.mb_board.specs.Calls.{IsUp, RanOnBbram};
@@ -52,7 +52,7 @@ fn exchange<S: Reaches<L>, L: Named, B: Board>(
         (B.seen b.new).memory) }
     ensures either { KeepsOrReplaces L.place region.now (B.seen b.old).memory
         (B.seen b.new).memory }
-    ensures blank { OnOk result (IsBlank (other (B.seen b.new).memory.bbram L.place)) }
+    ensures blank { OnOk result (IsBlank (inactive_area_of_slot (B.seen b.new).memory.bbram L.place)) }
     ensures ran { RanInSlot 3 L.place result (B.seen b.old) (B.seen b.new) }
     ensures plans { SamePlans room.old room.new }
 {

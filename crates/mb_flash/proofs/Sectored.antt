@@ -3,7 +3,7 @@ use Rattle.std.proofs.Common.{◌≡◌, ℕ, ◌+◌, ◌*◌, ◌<◌, ◌≤�
 use Rattle.std.proofs.Math.Seq.{take-add, take-append_seam, drop-append_seam}
 use Rattle.std.proofs.lemmas.List.{take-take, take-replicate, drop-drop, drop-take, append-nil}
 use Rattle.mb_model.specs.Pieces.{part}
-use Rattle.mb_model.specs.Board.{Memory, IsLoaded, put, erased}
+use Rattle.mb_model.specs.Board.{Memory, IsLoaded, memory_with_bytes, erased_bytes}
 use Rattle.mb_model.proofs.Places.{length-erased, part-put}
 use Rattle.mb_board.specs.Calls.{Torn}
 use Rattle.mb_slot.specs.Slots.{IsOutside, IsSameOutside}
@@ -40,19 +40,19 @@ sized_still at n before after loaded within torn same = record {
 
 -- an erased sector begins with erased bytes
 pub erased_start : (sector n : ℕ) (before after : List ℕ) → sector < 256 → n ≤ 4096 → length before ≡ 1048576
-    → after ≡ put (4096 * sector) (erased 4096) before → part (4096 * sector) n after ≡ erased n
-unfolding erased
+    → after ≡ memory_with_bytes (4096 * sector) (erased_bytes 4096) before → part (4096 * sector) n after ≡ erased_bytes n
+unfolding erased_bytes
 erased_start sector n before after less few sized whole =
     let at : ℕ = 4096 * sector in
-    let all : part at 4096 (put at (erased 4096) before) ≡ erased 4096 = part-put at 4096 (erased 4096) before (sym (length-erased 4096)) (omega arith) in
+    let all : part at 4096 (memory_with_bytes at (erased_bytes 4096) before) ≡ erased_bytes 4096 = part-put at 4096 (erased_bytes 4096) before (sym (length-erased 4096)) (omega arith) in
     ap (part at n) whole
-    ∙ sym (take-take n 4096 (drop at (put at (erased 4096) before)) few)
+    ∙ sym (take-take n 4096 (drop at (memory_with_bytes at (erased_bytes 4096) before)) few)
     ∙ ap (take n) all
     ∙ take-replicate n 4096 0xFF few
 
 -- what was put at the start of a sector stands there
 pub put_start : (sector : ℕ) (before after bytes : List ℕ) → sector < 256 → length before ≡ 1048576
-    → after ≡ put (4096 * sector) bytes before → part (4096 * sector) (length bytes) after ≡ bytes
+    → after ≡ memory_with_bytes (4096 * sector) bytes before → part (4096 * sector) (length bytes) after ≡ bytes
 put_start sector before after bytes less sized whole =
     ap (part (4096 * sector) (length bytes)) whole ∙ part-put (4096 * sector) (length bytes) bytes before refl (omega arith)
 

@@ -3,7 +3,7 @@
 ghost use Rattle.std.specs.Prelude.{◌≡◌, ℕ, ◌+◌, ◌*◌, ◌<◌, ◌≤◌, ◌++◌, ◌⊎◌, ◌↔◌, length, IsTrue, OnOk, Ok};
 ghost use Rattle.mb_model.specs.declared.limits.TheConstants.{SECTOR_COUNT, SECTOR_LENGTH};
 ghost use Rattle.mb_model.specs.Pieces.{part};
-ghost use Rattle.mb_model.specs.Board.{erased};
+ghost use Rattle.mb_model.specs.Board.{erased_bytes};
 ghost use Rattle.mb_board.specs.Calls.{IsPowered, RanOnFlash};
 ghost use Rattle.mb_slot.specs.Slots.{IsSameOutside};
 ghost use Rattle.mb_flash.specs.Sectors.{sectors_for};
@@ -30,7 +30,7 @@ fn erase<B: Board>(b: &mut B, sector: u16) -> Result<(), Stopped>
     requires powered { IsPowered (B.seen b.old) }
     requires sector { sector < SECTOR_COUNT }
     ensures blank { OnOk result ((n : ℕ) → n ≤ SECTOR_LENGTH
-        → part (SECTOR_LENGTH * sector) n (B.seen b.new).memory.flash ≡ erased n) }
+        → part (SECTOR_LENGTH * sector) n (B.seen b.new).memory.flash ≡ erased_bytes n) }
     ensures same { IsSameOutside (SECTOR_LENGTH * sector) SECTOR_LENGTH (B.seen b.old).memory.flash
         (B.seen b.new).memory.flash }
     ensures ran { RanOnFlash 1 result (B.seen b.old) (B.seen b.new) }
@@ -45,7 +45,7 @@ fn program<B: Board>(b: &mut B, sector: u16, bytes: &[u8]) -> Result<(), Stopped
     requires some { 0 < length bytes.now }
     requires bytes { length bytes.now ≤ SECTOR_LENGTH }
     requires blank { part (SECTOR_LENGTH * sector) (length bytes.now) (B.seen b.old).memory.flash
-        ≡ erased (length bytes.now) }
+        ≡ erased_bytes (length bytes.now) }
     ensures written { OnOk result (part (SECTOR_LENGTH * sector) (length bytes.now)
         (B.seen b.new).memory.flash ≡ bytes.now) }
     ensures same { IsSameOutside (SECTOR_LENGTH * sector) SECTOR_LENGTH (B.seen b.old).memory.flash

@@ -5,9 +5,9 @@ use Rattle.std.specs.Global.{Vec}
 use Rattle.std.proofs.lemmas.List.{take_more, take_all, take-append-drop}
 use Rattle.mb_model.specs.declared.key.PublicKey.{PublicKey}
 use Rattle.mb_model.specs.declared.memory.NoMemory.{NoMemory}
-use Rattle.mb_model.specs.Texts.{ended}
+use Rattle.mb_model.specs.Texts.{line_with_lf}
 use Rattle.mb_model.specs.Lines.{text_of}
-use Rattle.mb_model.specs.VerifyCommand.{refused_line}
+use Rattle.mb_model.specs.VerifyCommand.{chain_refusal_line}
 use Rattle.mb_model.specs.Acceptance.{ChainRefusal}
 use Rattle.mb_bytes.specs.Puts.{Puts}
 use Rattle.mb_verifier.specs.Ends.{chain_refusal_of}
@@ -86,7 +86,7 @@ on_ok_weaker (Ok u) weaker holds = weaker holds
 on_ok_weaker (Err e) weaker holds = tt
 
 module _ (maker : PublicKey) (rows : List Row) (bytes old new : List ℕ) (after : List Row) where
-  pub answer_step : (answer : Answer) → IsChainAnswered maker rows bytes answer after → new ≡ old ++ ended (answer_line answer) → AppendsStep maker rows (Show bytes) old new after
+  pub answer_step : (answer : Answer) → IsChainAnswered maker rows bytes answer after → new ≡ old ++ line_with_lf (answer_line answer) → AppendsStep maker rows (Show bytes) old new after
   answer_step answer answered put = record {
     lines = answer_line answer ∷ [];
     step = (answer, answered, refl);
@@ -97,14 +97,14 @@ told : (P : ChainRefusal → Type 0) (o : Option ChainRefusal) (why : ChainRefus
 told P o why is holds = subst (λ (p : Option ChainRefusal). IfSome p P) is holds
 
 pub answer_put : (maker : PublicKey) (rows : List Row) (bytes : List ℕ) (old new : Vec ℕ) (after : List Row) (answer : Answer) (r : Result (Unit {0}) NoMemory)
-    → IsChainAnswered maker rows bytes answer after → Puts (ended (answer_line answer)) old r new → OnOk r (AppendsStep maker rows (Show bytes) old.items new.items after)
+    → IsChainAnswered maker rows bytes answer after → Puts (line_with_lf (answer_line answer)) old r new → OnOk r (AppendsStep maker rows (Show bytes) old.items new.items after)
 answer_put maker rows bytes old new after answer (Ok u) answered puts = answer_step maker rows bytes old.items new.items after answer answered puts.items
 answer_put maker rows bytes old new after answer (Err e) answered puts = tt
 
 module _ (maker : PublicKey) (rows : List Row) (bytes : List ℕ) (old new : Vec ℕ) (after : List Row) (r : Result (Unit {0}) NoMemory) where
   pub end_put : (e : FleetEnd) → AnswersChain maker rows bytes (Err e) after → TellsEnd e old r new → OnOk r (AppendsStep maker rows (Show bytes) old.items new.items after)
   end_put (end.Chain refusal) answers tells = answer_put maker rows bytes old new after (chain_refused answers.0) r answers.2
-      (told (λ why. Puts (ended (refused_line why)) old r new) (chain_refusal_of refusal) answers.0 answers.1 tells)
+      (told (λ why. Puts (line_with_lf (chain_refusal_line why)) old r new) (chain_refusal_of refusal) answers.0 answers.1 tells)
   end_put (end.Older serial have) answers tells = answer_put maker rows bytes old new after (older serial have) r answers tells
   end_put (end.Fork serial place) answers tells = answer_put maker rows bytes old new after (forked serial place) r answers tells
   end_put end.Full answers tells = answer_put maker rows bytes old new after full r answers tells

@@ -3,22 +3,22 @@ use Rattle.std.proofs.Common.{◌≡◌, ◌<◌, ◌≤◌, ◌+◌, ℕ, List,
 use Rattle.std.proofs.lemmas.List.{take_more, take_all, map-append}
 use Rattle.std.proofs.lemmas.List.Concat.{flat_map-cons}
 use Rattle.std.proofs.lemmas.Grind.{flat_map-append}
-use Rattle.mb_model.specs.Texts.{ended}
+use Rattle.mb_model.specs.Texts.{line_with_lf}
 use Rattle.mb_model.specs.Lines.{text_of}
 
-pub text_of_one : (line : List ℕ) → text_of (line ∷ []) ≡ ended line
-text_of_one line = flat_map-cons ended line [] ∙ append-nil (ended line)
+pub text_of_one : (line : List ℕ) → text_of (line ∷ []) ≡ line_with_lf line
+text_of_one line = flat_map-cons line_with_lf line [] ∙ append-nil (line_with_lf line)
 
 pub text_join : (a b : List (List ℕ)) → text_of (a ++ b) ≡ text_of a ++ text_of b
-text_join a b = flat_map-append ended a b
+text_join a b = flat_map-append line_with_lf a b
 
 -- one line more
 pub lines_more : {A : Type 0} (line : A → List ℕ) (xs : List A) (i : ℕ) (d : A) (old now after : List ℕ) → i < length xs
-    → now ≡ old ++ text_of (map line (take i xs)) → after ≡ now ++ ended (line (get_or xs i d)) → after ≡ old ++ text_of (map line (take (i + 1) xs))
+    → now ≡ old ++ text_of (map line (take i xs)) → after ≡ now ++ line_with_lf (line (get_or xs i d)) → after ≡ old ++ text_of (map line (take (i + 1) xs))
 lines_more line xs i d old now after within is put =
     let front = map line (take i xs) in
     let last = line (get_or xs i d) in
-    put ∙ ap (λ (t : List ℕ). t ++ ended last) is ∙ append_assoc old (text_of front) (ended last)
+    put ∙ ap (λ (t : List ℕ). t ++ line_with_lf last) is ∙ append_assoc old (text_of front) (line_with_lf last)
     ∙ ap (λ (t : List ℕ). old ++ (text_of front ++ t)) (sym (text_of_one last))
     ∙ ap (λ (t : List ℕ). old ++ t) (sym (text_join front (last ∷ [])))
     ∙ ap (λ (ls : List (List ℕ)). old ++ text_of ls) (sym (map-append line (take i xs) (get_or xs i d ∷ [])))
@@ -26,9 +26,9 @@ lines_more line xs i d old now after within is put =
 
 -- all lines, after a first one
 pub lines_ended : {A : Type 0} (line : A → List ℕ) (xs : List A) (i : ℕ) (first old middle now : List ℕ) → length xs ≤ i
-    → middle ≡ old ++ ended first → now ≡ middle ++ text_of (map line (take i xs)) → now ≡ old ++ text_of (first ∷ map line xs)
+    → middle ≡ old ++ line_with_lf first → now ≡ middle ++ text_of (map line (take i xs)) → now ≡ old ++ text_of (first ∷ map line xs)
 lines_ended line xs i first old middle now over begun is =
     is ∙ ap (λ (ys : List _). middle ++ text_of (map line ys)) (take_all i xs over)
     ∙ ap (λ (t : List ℕ). t ++ text_of (map line xs)) begun
-    ∙ append_assoc old (ended first) (text_of (map line xs))
-    ∙ ap (λ (t : List ℕ). old ++ t) (sym (flat_map-cons ended first (map line xs)))
+    ∙ append_assoc old (line_with_lf first) (text_of (map line xs))
+    ∙ ap (λ (t : List ℕ). old ++ t) (sym (flat_map-cons line_with_lf first (map line xs)))

@@ -6,9 +6,9 @@ use Rattle.std.specs.Fmt.{decimal}
 use Rattle.mb_model.specs.declared.key.PublicKey.{PublicKey}
 use Rattle.mb_model.specs.declared.limits.TheConstants.{FILE_LIMIT}
 use Rattle.mb_model.specs.declared.memory.NoMemory.{NoMemory}
-use Rattle.mb_model.specs.Texts.{ended}
+use Rattle.mb_model.specs.Texts.{line_with_lf}
 use Rattle.mb_model.specs.Lines.{text_of}
-use Rattle.mb_model.specs.VerifyCommand.{refused_line}
+use Rattle.mb_model.specs.VerifyCommand.{chain_refusal_line}
 use Rattle.mb_model.specs.Acceptance.{ChainRefusal}
 use Rattle.mb_bytes.specs.Puts.{Puts}
 use Rattle.mb_verifier.specs.declared.refusal.ChainRefusal as verifier
@@ -83,10 +83,10 @@ refused_place_words (Some place) = codes " " ++ decimal place
 -- the line that tells of this end is appended; want of memory has no line
 abbrev pub TellsEnd : FleetEnd → Vec ℕ → Result (Unit {0}) NoMemory → Vec ℕ → Type 0
 TellsEnd (end.Chain refusal) old result new =
-    IfSome (chain_refusal_of refusal) (λ reason. Puts (ended (refused_line reason)) old result new)
-TellsEnd (end.Older serial have) old result new = Puts (ended (answer_line (older serial have))) old result new
-TellsEnd (end.Fork serial place) old result new = Puts (ended (answer_line (forked serial place))) old result new
-TellsEnd end.Full old result new = Puts (ended (answer_line full)) old result new
+    IfSome (chain_refusal_of refusal) (λ reason. Puts (line_with_lf (chain_refusal_line reason)) old result new)
+TellsEnd (end.Older serial have) old result new = Puts (line_with_lf (answer_line (older serial have))) old result new
+TellsEnd (end.Fork serial place) old result new = Puts (line_with_lf (answer_line (forked serial place))) old result new
+TellsEnd end.Full old result new = Puts (line_with_lf (answer_line full)) old result new
 TellsEnd end.NoMemory old result new = OnOk result ⊥
 
 -- an item is served, and the lines of its answer are appended to a text

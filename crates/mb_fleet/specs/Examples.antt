@@ -3,7 +3,7 @@ use Rattle.std.specs.Prelude.{◌≡◌, ℕ, ◌+◌, List, [], ◌∷◌, leng
 use Rattle.mb_format.specs.Format.{Spells, FailsWhole}
 use Rattle.mb_model.specs.declared.limits.TheConstants.{FILE_LIMIT}
 use Rattle.mb_model.specs.declared.key.PublicKey.{PublicKey}
-use Rattle.mb_model.specs.Texts.{ended}
+use Rattle.mb_model.specs.Texts.{line_with_lf}
 use Rattle.mb_model.specs.Acceptance.{bad_form}
 use Rattle.mb_fleet.specs.declared.row.Row.{Row}
 use Rattle.mb_fleet.specs.declared.item.Item.TheVariants.{Show, Codes}
@@ -98,7 +98,7 @@ pub record QuestionExamples : Type 0 where
   pub other_layer : serials_with 1 (replicate 32 9) two_rows ≡ []
   pub other_code : serials_with 2 (replicate 32 8) two_rows ≡ []
   pub no_codes : AreCounts 1 two_rows []
-  pub answered : (maker : PublicKey) → AreServed maker two_rows (Codes 1 ∷ []) (ended (codes "codes 0")) two_rows
+  pub answered : (maker : PublicKey) → AreServed maker two_rows (Codes 1 ∷ []) (line_with_lf (codes "codes 0")) two_rows
 
 pub record QuestionCounterExamples : Type 0 where
   -- not one device alone, and not in descending order
@@ -109,7 +109,8 @@ pub record QuestionCounterExamples : Type 0 where
   pub counted_once : AreCounts 2 two_rows (record { hash = replicate 32 9; count = 1 } ∷ []) → ⊥
   pub counted_for_none : AreCounts 1 two_rows (record { hash = replicate 32 9; count = 0 } ∷ []) → ⊥
   -- no items have no answer, and are not too long
-  pub unasked : (maker : PublicKey) (after : List Row) → AreServed maker two_rows [] (ended (codes "codes 0")) after → ⊥
+  pub unasked : (maker : PublicKey) (after : List Row)
+      → AreServed maker two_rows [] (line_with_lf (codes "codes 0")) after → ⊥
   pub questions_change_nothing : (maker : PublicKey) (text : List ℕ)
       → AreServed maker two_rows (Codes 1 ∷ []) text [] → ⊥
   pub not_too_long : (maker : PublicKey) → IsTooLong maker two_rows [] → ⊥

@@ -2,8 +2,8 @@
 use Rattle.std.specs.Prelude.{◌≡◌, ℕ, ◌<◌, ◌≤◌, List, [], ◌∷◌, ◌++◌, length, map, codes}
 use Rattle.std.specs.Fmt.{decimal}
 use Rattle.mb_model.specs.declared.key.PublicKey.{PublicKey}
-use Rattle.mb_model.specs.Lines.{spaced, hex_word, text_of}
-use Rattle.mb_model.specs.VerifyCommand.{refused_line}
+use Rattle.mb_model.specs.Lines.{spaced_words, hex_word, text_of}
+use Rattle.mb_model.specs.VerifyCommand.{chain_refusal_line}
 use Rattle.mb_fleet.specs.declared.limits.TheConstants.{TEXT_LIMIT}
 use Rattle.mb_fleet.specs.declared.row.Row.{Row}
 use Rattle.mb_fleet.specs.declared.item.Item.{Item}
@@ -17,30 +17,30 @@ use Rattle.mb_fleet.specs.Questions.{serials_with, AreCounts}
 
 -- words, the serial of a device, and a number
 abbrev pub device_line : List ℕ → List ℕ → ℕ → List ℕ
-device_line words serial n = spaced (words ∷ hex_word serial ∷ decimal n ∷ [])
+device_line words serial n = spaced_words (words ∷ hex_word serial ∷ decimal n ∷ [])
 
 abbrev pub answer_line : Answer → List ℕ
 answer_line (newly_added serial n) = device_line (codes "added") serial n
 answer_line (same serial n) = device_line (codes "same") serial n
 answer_line (extended serial n) = device_line (codes "extended") serial n
-answer_line (chain_refused why) = refused_line why
+answer_line (chain_refused why) = chain_refusal_line why
 answer_line (older serial have) = device_line (codes "refused 31 older") serial have
 answer_line (forked serial place) = device_line (codes "refused 30 fork") serial place
 answer_line full = codes "refused 32 full"
 
 abbrev pub serial_line : List ℕ → List ℕ
-serial_line serial = spaced (codes "serial" ∷ hex_word serial ∷ [])
+serial_line serial = spaced_words (codes "serial" ∷ hex_word serial ∷ [])
 
 abbrev pub count_line : CodeCount → List ℕ
-count_line count = spaced (codes "code" ∷ hex_word count.hash ∷ decimal count.count ∷ [])
+count_line count = spaced_words (codes "code" ∷ hex_word count.hash ∷ decimal count.count ∷ [])
 
 -- how many were found, and each of them
 abbrev pub found_lines : List (List ℕ) → List (List ℕ)
-found_lines serials = spaced (codes "found" ∷ decimal (length serials) ∷ []) ∷ map serial_line serials
+found_lines serials = spaced_words (codes "found" ∷ decimal (length serials) ∷ []) ∷ map serial_line serials
 
 -- how many codes there are, and each of them
 abbrev pub count_lines : List CodeCount → List (List ℕ)
-count_lines counts = spaced (codes "codes" ∷ decimal (length counts) ∷ []) ∷ map count_line counts
+count_lines counts = spaced_words (codes "codes" ∷ decimal (length counts) ∷ []) ∷ map count_line counts
 
 -- ---- items
 

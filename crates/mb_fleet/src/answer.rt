@@ -3,9 +3,9 @@
 
 ghost use Rattle.std.specs.Prelude.{◌≡◌, ◌<◌, ◌*◌, ◌++◌, ◌∷◌, [], IfSome, OnOk, codes};
 ghost use Rattle.std.specs.Fmt.{decimal};
-ghost use Rattle.mb_model.specs.Texts.{ended};
-ghost use Rattle.mb_model.specs.Lines.{hex_word, spaced, text_of};
-ghost use Rattle.mb_model.specs.VerifyCommand.{refused_line};
+ghost use Rattle.mb_model.specs.Texts.{line_with_lf};
+ghost use Rattle.mb_model.specs.Lines.{hex_word, spaced_words, text_of};
+ghost use Rattle.mb_model.specs.VerifyCommand.{chain_refusal_line};
 ghost use Rattle.mb_bytes.specs.Puts.{Puts};
 ghost use Rattle.mb_verifier.specs.Ends.{chain_refusal_of};
 ghost use Rattle.mb_fleet.specs.Ends.{answer_of, refused_place_words, TellsEnd};
@@ -19,7 +19,7 @@ use mb_verifier::ChainRefusal;
 
 /// Appends the line of a chain that was taken.
 pub(crate) fn put_added(out: &mut Vec<u8>, added: &Added) -> Result<(), NoMemory>
-    ensures { Puts (ended (answer_line (answer_of added.now))) out.old result out.new }
+    ensures { Puts (line_with_lf (answer_line (answer_of added.now))) out.old result out.new }
 {
     match added {
         Added::Added { serial, length } => put_device(out, b"added", serial, *length),
@@ -70,7 +70,7 @@ fn put_device(
     serial: &[u8; 16],
     number: u32,
 ) -> Result<(), NoMemory>
-    ensures { Puts (ended (device_line words.now serial.now number)) out.old result out.new }
+    ensures { Puts (line_with_lf (device_line words.now serial.now number)) out.old result out.new }
 {
     put_device_words(out, words, serial, number)?;
     put_slice(out, b"\n")
@@ -92,7 +92,7 @@ fn put_device_words(
 
 /// Appends the line of a chain that the verifier refuses.
 fn put_refused(out: &mut Vec<u8>, refusal: &ChainRefusal) -> Result<(), NoMemory>
-    ensures { IfSome (chain_refusal_of refusal.now) (λ why. Puts (ended (refused_line why)) out.old result out.new) }
+    ensures { IfSome (chain_refusal_of refusal.now) (λ why. Puts (line_with_lf (chain_refusal_line why)) out.old result out.new) }
 {
     match *refusal {
         ChainRefusal::Form { at } => put_code(out, 20, Some(at)),
@@ -109,7 +109,7 @@ fn put_refused(out: &mut Vec<u8>, refusal: &ChainRefusal) -> Result<(), NoMemory
 
 /// Appends the line of a refusal with this number, and where the chain is wrong, if it is in one place.
 fn put_code(out: &mut Vec<u8>, code: u8, place: Option<u32>) -> Result<(), NoMemory>
-    ensures { Puts (ended (codes "refused " ++ decimal code ++ refused_place_words place)) out.old result out.new }
+    ensures { Puts (line_with_lf (codes "refused " ++ decimal code ++ refused_place_words place)) out.old result out.new }
 {
     put_code_words(out, code, place)?;
     put_slice(out, b"\n")
@@ -136,7 +136,7 @@ fn put_refused_place(out: &mut Vec<u8>, place: Option<u32>) -> Result<(), NoMemo
 
 /// Appends the line of a word and a count.
 fn put_counted(out: &mut Vec<u8>, word: &[u8], count: usize) -> Result<(), NoMemory>
-    ensures { Puts (ended (spaced (word.now ∷ decimal count ∷ []))) out.old result out.new }
+    ensures { Puts (line_with_lf (spaced_words (word.now ∷ decimal count ∷ []))) out.old result out.new }
 {
     put_counted_words(out, word, count)?;
     put_slice(out, b"\n")
@@ -144,7 +144,7 @@ fn put_counted(out: &mut Vec<u8>, word: &[u8], count: usize) -> Result<(), NoMem
 
 /// Appends a word and a count.
 fn put_counted_words(out: &mut Vec<u8>, word: &[u8], count: usize) -> Result<(), NoMemory>
-    ensures { Puts (spaced (word.now ∷ decimal count ∷ [])) out.old result out.new }
+    ensures { Puts (spaced_words (word.now ∷ decimal count ∷ [])) out.old result out.new }
 {
     put_slice(out, word)?;
     put_number(out, count)
@@ -152,7 +152,7 @@ fn put_counted_words(out: &mut Vec<u8>, word: &[u8], count: usize) -> Result<(),
 
 /// Appends the line of a serial.
 fn put_serial(out: &mut Vec<u8>, serial: &[u8; 16]) -> Result<(), NoMemory>
-    ensures { Puts (ended (serial_line serial.now)) out.old result out.new }
+    ensures { Puts (line_with_lf (serial_line serial.now)) out.old result out.new }
 {
     put_serial_words(out, serial)?;
     put_slice(out, b"\n")
@@ -168,7 +168,7 @@ fn put_serial_words(out: &mut Vec<u8>, serial: &[u8; 16]) -> Result<(), NoMemory
 
 /// Appends the line of a code.
 fn put_count(out: &mut Vec<u8>, count: &CodeCount) -> Result<(), NoMemory>
-    ensures { Puts (ended (count_line count.now)) out.old result out.new }
+    ensures { Puts (line_with_lf (count_line count.now)) out.old result out.new }
 {
     put_count_words(out, count)?;
     put_slice(out, b"\n")

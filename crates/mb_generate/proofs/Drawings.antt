@@ -8,7 +8,7 @@ use Rattle.std.specs.List.{AllZip, concat}
 use Rattle.std.specs.Int.{w32, to_be_bytes, div_ceil}
 use Rattle.rand_core.specs.Steps.{first_words}
 use Rattle.rand_chacha.specs.ChaCha.{ChaCha, next_word, of_seed}
-use Rattle.mb_model.specs.Workload.{generated, DrawnBytes, DrawnSized, DrawnCode, DrawnRound, RoundDraws, Draws}
+use Rattle.mb_model.specs.Workload.{generator_words, DrawnBytes, DrawnSized, DrawnCode, DrawnRound, RoundDraws, Draws}
 use Rattle.std.specs.Prelude.{All}
 use Rattle.std.proofs.lemmas.List.Elements.{All-nil, All-cons}
 use Rattle.mb_generate.specs.Orders.{RoundFits, DrawsFit}
@@ -148,7 +148,7 @@ pub all_drawn : (number rounds : ℕ) {g a b c d e f h i j k : ChaCha} (draws : 
     → IsDrawn DrawnCode e draws.code_one f → IsDrawn DrawnCode f draws.code_two h → IsDrawn DrawnCode h draws.code_three i
     → IsDrawn (DrawnRounds rounds) i draws.rounds j → IsDrawn (DrawnBytes (32 * (5 + rounds))) j draws.noise k
     → AreDraws number rounds draws
-unfolding generated
+unfolding generator_words
 all_drawn number rounds {g} {a} {b} {c} {d} {e} {f} {h} {i} {j} {k} draws start root one two three device code_one code_two code_three each noise =
     let keys : List ℕ = root.words ++ one.words ++ two.words ++ three.words in
     let given_keys : Gives g keys d =

@@ -11,13 +11,13 @@ use Rattle.mb_model.specs.declared.order.Order.{Order}
 use Rattle.mb_model.specs.declared.tools.Keyfile.{Keyfile}
 use Rattle.mb_model.specs.Layers.{equal_trusts}
 use Rattle.mb_model.specs.Signing.{public_of}
-use Rattle.mb_model.specs.SignedOrders.{used_once, signed_order}
-use Rattle.mb_model.specs.Texts.{ended}
+use Rattle.mb_model.specs.SignedOrders.{keyfile_after_use, signed_order}
+use Rattle.mb_model.specs.Texts.{line_with_lf}
 use Rattle.mb_model.specs.Lines.{text_of}
 use Rattle.mb_model.specs.OrderLines.{order_line}
 use Rattle.mb_model.specs.Script.{with_before}
 use Rattle.mb_model_lemmas.proofs.DrawLemmas.{with_before-push, length-with_before}
-use Rattle.mb_model.specs.Workload.{RoundDraws, Draws, Plan, plan_payload, key_of_officer, first_plans, round_plan, plans, signed, signed_orders, put_line, round_lines, workload_lines}
+use Rattle.mb_model.specs.Workload.{RoundDraws, Draws, Plan, plan_payload, key_of_officer, first_plans, round_plan, plans, signed_plan, signed_orders, put_line, round_lines, workload_lines}
 use Rattle.mb_generate.specs.Orders.{keyfile_after, AreOfficers, targeted, RoundFits}
 use Rattle.mb_generate.specs.Drawing.{round_of}
 use Rattle.mb_generate.specs.declared.draws.RoundDrawn.{RoundDrawn}
@@ -28,7 +28,7 @@ use Rattle.mb_generate.specs.declared.officers.Officers.{Officers}
 
 -- the line of an order that an officer signs
 abbrev pub line_by : Keyfile → Order → List ℕ
-line_by k order = ended (order_line (signed_order k order))
+line_by k order = line_with_lf (order_line (signed_order k order))
 
 -- what gives a layer the officer n as its owner
 abbrev pub gives : Draws → ℕ → Act
@@ -37,8 +37,8 @@ gives draws n = act.Establish (public_of (key_of_officer draws n)) (equal_trusts
 first_text : (draws : Draws) → first_orders_text draws
     ≡ line_by (keyfile_after draws [] 1) (targeted 2 1 (gives draws 2))
     ++ (line_by (keyfile_after draws [] 2) (targeted 3 2 (gives draws 3))
-    ++ (line_by (used_once (keyfile_after draws [] 1)) (targeted 2 3 (act.Emergency (plan_payload 1 draws.code_two)))
-    ++ (line_by (used_once (keyfile_after draws [] 2)) (targeted 3 4 (act.Emergency (plan_payload 1 draws.code_three)))
+    ++ (line_by (keyfile_after_use (keyfile_after draws [] 1)) (targeted 2 3 (act.Emergency (plan_payload 1 draws.code_two)))
+    ++ (line_by (keyfile_after_use (keyfile_after draws [] 2)) (targeted 3 4 (act.Emergency (plan_payload 1 draws.code_three)))
     ++ (line_by (keyfile_after draws [] 3) (targeted 3 5 (act.NewKey kinds.Epoch)) ++ []))))
 unfolding with_before
 first_text draws = refl
@@ -50,7 +50,7 @@ five_put old s1 s2 s3 s4 s5 a b c d e t1 t2 t3 t4 t5 = grind (arith, common_step
 
 -- the orders before the rounds are written
 pub first_put : (draws : Draws) (old s1 s2 s3 s4 s5 : List ℕ) (one two three once twice : Keyfile) (o1 o2 o3 o4 o5 : Order)
-    → one ≡ keyfile_after draws [] 1 → two ≡ keyfile_after draws [] 2 → three ≡ keyfile_after draws [] 3 → once ≡ used_once one → twice ≡ used_once two
+    → one ≡ keyfile_after draws [] 1 → two ≡ keyfile_after draws [] 2 → three ≡ keyfile_after draws [] 3 → once ≡ keyfile_after_use one → twice ≡ keyfile_after_use two
     → o1 ≡ targeted 2 1 (act.Establish (public_of two.seed) (equal_trusts Countersigned)) → o2 ≡ targeted 3 2 (act.Establish (public_of three.seed) (equal_trusts Countersigned))
     → o3 ≡ targeted 2 3 (act.Emergency (plan_payload 1 draws.code_two)) → o4 ≡ targeted 3 4 (act.Emergency (plan_payload 1 draws.code_three)) → o5 ≡ targeted 3 5 (act.NewKey kinds.Epoch)
     → s1 ≡ old ++ line_by one o1 → s2 ≡ s1 ++ line_by two o2 → s3 ≡ s2 ++ line_by once o3 → s4 ≡ s3 ++ line_by twice o4 → s5 ≡ s4 ++ line_by three o5
@@ -60,10 +60,10 @@ first_put draws old s1 s2 s3 s4 s5 one two three once twice o1 o2 o3 o4 o5 is_on
     λ i. line_by (is_one i) ((e1 ∙ ap (λ (k : Keyfile). targeted 2 1 (act.Establish (public_of k.seed) (equal_trusts Countersigned))) is_two) i) in
     let l2 : line_by two o2 ≡ line_by (keyfile_after draws [] 2) (targeted 3 2 (gives draws 3)) =
     λ i. line_by (is_two i) ((e2 ∙ ap (λ (k : Keyfile). targeted 3 2 (act.Establish (public_of k.seed) (equal_trusts Countersigned))) is_three) i) in
-    let l3 : line_by once o3 ≡ line_by (used_once (keyfile_after draws [] 1)) (targeted 2 3 (act.Emergency (plan_payload 1 draws.code_two))) =
-    λ i. line_by ((is_once ∙ ap used_once is_one) i) (e3 i) in
-    let l4 : line_by twice o4 ≡ line_by (used_once (keyfile_after draws [] 2)) (targeted 3 4 (act.Emergency (plan_payload 1 draws.code_three))) =
-    λ i. line_by ((is_twice ∙ ap used_once is_two) i) (e4 i) in
+    let l3 : line_by once o3 ≡ line_by (keyfile_after_use (keyfile_after draws [] 1)) (targeted 2 3 (act.Emergency (plan_payload 1 draws.code_two))) =
+    λ i. line_by ((is_once ∙ ap keyfile_after_use is_one) i) (e3 i) in
+    let l4 : line_by twice o4 ≡ line_by (keyfile_after_use (keyfile_after draws [] 2)) (targeted 3 4 (act.Emergency (plan_payload 1 draws.code_three))) =
+    λ i. line_by ((is_twice ∙ ap keyfile_after_use is_two) i) (e4 i) in
     let l5 : line_by three o5 ≡ line_by (keyfile_after draws [] 3) (targeted 3 5 (act.NewKey kinds.Epoch)) = λ i. line_by (is_three i) (e5 i) in
     five_put old s1 s2 s3 s4 s5 _ _ _ _ _ (t1 ∙ ap (λ (xs : List ℕ). old ++ xs) l1) (t2 ∙ ap (λ (xs : List ℕ). s1 ++ xs) l2) (t3 ∙ ap (λ (xs : List ℕ). s2 ++ xs) l3)
     (t4 ∙ ap (λ (xs : List ℕ). s3 ++ xs) l4) (t5 ∙ ap (λ (xs : List ℕ). s4 ++ xs) l5)
@@ -75,22 +75,22 @@ pub puts_none : (n : ℕ) → puts_text n [] ≡ []
 unfolding with_before
 puts_none n = refl
 
-pub puts_more : (n : ℕ) (values : List (List ℕ)) (value : List ℕ) → puts_text n (values ++ value ∷ []) ≡ puts_text n values ++ ended (put_line (n + length values) value)
+pub puts_more : (n : ℕ) (values : List (List ℕ)) (value : List ℕ) → puts_text n (values ++ value ∷ []) ≡ puts_text n values ++ line_with_lf (put_line (n + length values) value)
 puts_more n values value =
     let each : List (List ℕ) × List ℕ → List ℕ = λ at. put_line (n + length at.0) at.1 in
     ap (λ ats. text_of (map each ats)) (with_before-push values value)
     ∙ ap text_of (map_push each (with_before values) (values, value))
-    ∙ flat_map-append ended (map each (with_before values)) (each (values, value) ∷ [])
-    ∙ ap (λ (xs : List ℕ). puts_text n values ++ xs) (append-nil (ended (each (values, value))))
+    ∙ flat_map-append line_with_lf (map each (with_before values)) (each (values, value) ∷ [])
+    ∙ ap (λ (xs : List ℕ). puts_text n values ++ xs) (append-nil (line_with_lf (each (values, value))))
 
 -- one secret more is written
 pub secret_put : (n k number : ℕ) (values : List (List ℕ)) (value d : List ℕ) (old now new : List ℕ) → k < length values → value ≡ get_or values k d → number ≡ n + k
-    → now ≡ old ++ puts_text n (take k values) → new ≡ now ++ ended (put_line number value) → new ≡ old ++ puts_text n (take (k + 1) values)
+    → now ≡ old ++ puts_text n (take k values) → new ≡ now ++ line_with_lf (put_line number value) → new ≡ old ++ puts_text n (take (k + 1) values)
 secret_put n k number values value d old now new within is counted was more =
     let before : List (List ℕ) = take k values in
     let place : number ≡ n + length before = omega (arith, counted, length-take k values, within) in
-    let line : ended (put_line number value) ≡ ended (put_line (n + length before) (get_or values k d)) = λ i. ended (put_line (place i) (is i)) in
-    more ∙ ap (λ (xs : List ℕ). xs ++ ended (put_line number value)) was ∙ append_assoc old (puts_text n before) (ended (put_line number value))
+    let line : line_with_lf (put_line number value) ≡ line_with_lf (put_line (n + length before) (get_or values k d)) = λ i. line_with_lf (put_line (place i) (is i)) in
+    more ∙ ap (λ (xs : List ℕ). xs ++ line_with_lf (put_line number value)) was ∙ append_assoc old (puts_text n before) (line_with_lf (put_line number value))
     ∙ ap (λ (xs : List ℕ). old ++ (puts_text n before ++ xs)) line
     ∙ ap (λ (xs : List ℕ). old ++ xs) (sym (puts_more n before (get_or values k d)) ∙ ap (puts_text n) (sym (take_more values k d within)))
 
@@ -98,15 +98,15 @@ secret_put n k number values value d old now new within is counted was more =
 
 round_text : (n : ℕ) (order : Order) (round : RoundDraws) → text_of (round_lines n order round)
     ≡ (codes "off" ++ 10 ∷ codes "boot" ++ 10 ∷ [])
-    ++ (ended (order_line order) ++ ((codes "go" ++ 10 ∷ codes "go" ++ 10 ∷ []) ++ (puts_text (4 * n) round.values ++ (ended (sign_line round.message) ++ []))))
+    ++ (line_with_lf (order_line order) ++ ((codes "go" ++ 10 ∷ codes "go" ++ 10 ∷ []) ++ (puts_text (4 * n) round.values ++ (line_with_lf (sign_line round.message) ++ []))))
 round_text n order round =
-    ap (λ (xs : List ℕ). (codes "off" ++ 10 ∷ codes "boot" ++ 10 ∷ []) ++ (ended (order_line order) ++ ((codes "go" ++ 10 ∷ codes "go" ++ 10 ∷ []) ++ xs)))
-    (flat_map-append ended (map (λ at. put_line (4 * n + length at.0) at.1) (with_before round.values)) (sign_line round.message ∷ []))
+    ap (λ (xs : List ℕ). (codes "off" ++ 10 ∷ codes "boot" ++ 10 ∷ []) ++ (line_with_lf (order_line order) ++ ((codes "go" ++ 10 ∷ codes "go" ++ 10 ∷ []) ++ xs)))
+    (flat_map-append line_with_lf (map (λ at. put_line (4 * n + length at.0) at.1) (with_before round.values)) (sign_line round.message ∷ []))
 
 -- the lines of a round are written
 pub lines_put : (n : ℕ) (order : Order) (round : RoundDraws) (old s1 s2 s3 s4 s5 : List ℕ)
-    → s1 ≡ old ++ (codes "off" ++ 10 ∷ codes "boot" ++ 10 ∷ []) → s2 ≡ s1 ++ ended (order_line order) → s3 ≡ s2 ++ (codes "go" ++ 10 ∷ codes "go" ++ 10 ∷ [])
-    → s4 ≡ s3 ++ puts_text (4 * n) round.values → s5 ≡ s4 ++ ended (sign_line round.message) → s5 ≡ old ++ text_of (round_lines n order round)
+    → s1 ≡ old ++ (codes "off" ++ 10 ∷ codes "boot" ++ 10 ∷ []) → s2 ≡ s1 ++ line_with_lf (order_line order) → s3 ≡ s2 ++ (codes "go" ++ 10 ∷ codes "go" ++ 10 ∷ [])
+    → s4 ≡ s3 ++ puts_text (4 * n) round.values → s5 ≡ s4 ++ line_with_lf (sign_line round.message) → s5 ≡ old ++ text_of (round_lines n order round)
 lines_put n order round old s1 s2 s3 s4 s5 t1 t2 t3 t4 t5 =
     five_put old s1 s2 s3 s4 s5 _ _ _ _ _ t1 t2 t3 t4 t5 ∙ ap (λ (xs : List ℕ). old ++ xs) (sym (round_text n order round))
 
@@ -128,11 +128,11 @@ plans_long draws rounds =
     ∙ ap (λ n. 5 + n) (length-map (with_before rounds) planned ∙ length-with_before rounds)
 
 abbrev signs : Draws → List Plan × Plan → Order
-signs draws at = signed draws at.0 at.1
+signs draws at = signed_plan draws at.0 at.1
 
 orders_more : (draws : Draws) (rounds : List RoundDraws) (round : RoundDraws)
     → signed_orders (with_rounds draws (rounds ++ round ∷ []))
-    ≡ signed_orders (with_rounds draws rounds) ++ signed draws (plans (with_rounds draws rounds)) (round_plan (length rounds + 1) round.code) ∷ []
+    ≡ signed_orders (with_rounds draws rounds) ++ signed_plan draws (plans (with_rounds draws rounds)) (round_plan (length rounds + 1) round.code) ∷ []
 unfolding signed_orders
 orders_more draws rounds round =
     let before : List Plan = plans (with_rounds draws rounds) in
@@ -163,11 +163,11 @@ lines_at at = round_lines (length at.0) at.1.0 at.1.1
 pub lines_more : (draws : Draws) (rounds : List RoundDraws) (round : RoundDraws)
     → lines_before_end (with_rounds draws (rounds ++ round ∷ []))
     ≡ lines_before_end (with_rounds draws rounds)
-    ++ round_lines (length rounds) (signed draws (plans (with_rounds draws rounds)) (round_plan (length rounds + 1) round.code)) round
+    ++ round_lines (length rounds) (signed_plan draws (plans (with_rounds draws rounds)) (round_plan (length rounds + 1) round.code)) round
 unfolding lines_before_end
 lines_more draws rounds round =
     let orders : List Order = signed_orders (with_rounds draws rounds) in
-    let order : Order = signed draws (plans (with_rounds draws rounds)) (round_plan (length rounds + 1) round.code) in
+    let order : Order = signed_plan draws (plans (with_rounds draws rounds)) (round_plan (length rounds + 1) round.code) in
     let long = orders_long draws rounds in
     let left : length (drop 5 orders) ≡ length rounds = omega (arith, length-drop 5 orders, long) in
     let pairs : List (Order × RoundDraws) = zip (drop 5 orders) rounds in
@@ -192,19 +192,19 @@ text_begins draws = refl
 
 -- one round more is written
 pub round_put : (draws : Draws) (rounds : List RoundDraws) (round : RoundDraws) (old new : List ℕ) → old ≡ text_of (lines_before_end (with_rounds draws rounds))
-    → new ≡ old ++ text_of (round_lines (length rounds) (signed draws (plans (with_rounds draws rounds)) (round_plan (length rounds + 1) round.code)) round)
+    → new ≡ old ++ text_of (round_lines (length rounds) (signed_plan draws (plans (with_rounds draws rounds)) (round_plan (length rounds + 1) round.code)) round)
     → new ≡ text_of (lines_before_end (with_rounds draws (rounds ++ round ∷ [])))
 round_put draws rounds round old new was more =
-    let lines = round_lines (length rounds) (signed draws (plans (with_rounds draws rounds)) (round_plan (length rounds + 1) round.code)) round in
+    let lines = round_lines (length rounds) (signed_plan draws (plans (with_rounds draws rounds)) (round_plan (length rounds + 1) round.code)) round in
     more ∙ ap (λ (xs : List ℕ). xs ++ text_of lines) was
-    ∙ sym (flat_map-append ended (lines_before_end (with_rounds draws rounds)) lines)
+    ∙ sym (flat_map-append line_with_lf (lines_before_end (with_rounds draws rounds)) lines)
     ∙ ap text_of (sym (lines_more draws rounds round))
 
 -- and with the last line it is the whole script
-pub text_ends : (draws : Draws) → text_of (workload_lines draws) ≡ text_of (lines_before_end draws) ++ ended (codes "off")
+pub text_ends : (draws : Draws) → text_of (workload_lines draws) ≡ text_of (lines_before_end draws) ++ line_with_lf (codes "off")
 unfolding workload_lines lines_before_end
 text_ends draws =
-    flat_map-append ended (lines_before_end draws) (codes "off" ∷ []) ∙ ap (λ (xs : List ℕ). text_of (lines_before_end draws) ++ xs) (append-nil (ended (codes "off")))
+    flat_map-append line_with_lf (lines_before_end draws) (codes "off" ∷ []) ∙ ap (λ (xs : List ℕ). text_of (lines_before_end draws) ++ xs) (append-nil (line_with_lf (codes "off")))
 
 pub officers_more : (draws : Draws) (rounds : List RoundDraws) (round : RoundDraws) (officers : Officers)
     → AreOfficers draws (plans (with_rounds draws rounds) ++ round_plan (length rounds + 1) round.code ∷ []) officers
@@ -234,7 +234,7 @@ one_longer k drawn round within is =
 
 pub text_goes_on : (draws : Draws) (k number : ℕ) (drawn : List RoundDrawn) (round : RoundDrawn) (old new : List ℕ) → k < length drawn → round ≡ get_or drawn k round → number ≡ k + 1
     → old ≡ text_of (lines_before_end (with_rounds draws (first_rounds k drawn)))
-    → new ≡ old ++ text_of (round_lines (number - 1) (signed draws (plans (with_rounds draws (first_rounds k drawn))) (round_plan number round.code)) (round_of round))
+    → new ≡ old ++ text_of (round_lines (number - 1) (signed_plan draws (plans (with_rounds draws (first_rounds k drawn))) (round_plan number round.code)) (round_of round))
     → new ≡ text_of (lines_before_end (with_rounds draws (first_rounds (k + 1) drawn)))
 text_goes_on draws k number drawn round old new within is counted was more =
     let rounds : List RoundDraws = first_rounds k drawn in
@@ -242,7 +242,7 @@ text_goes_on draws k number drawn round old new within is counted was more =
     let long = rounds_long k drawn (omega (arith, within)) in
     let place : number ≡ length rounds + 1 = omega (arith, long, counted) in
     let less : number - 1 ≡ length rounds = omega (arith, long, counted) in
-    round_put draws rounds (round_of round) old new was (more ∙ (λ i. old ++ text_of (round_lines (less i) (signed draws before (round_plan (place i) round.code)) (round_of round))))
+    round_put draws rounds (round_of round) old new was (more ∙ (λ i. old ++ text_of (round_lines (less i) (signed_plan draws before (round_plan (place i) round.code)) (round_of round))))
     ∙ ap (λ (rs : List RoundDraws). text_of (lines_before_end (with_rounds draws rs))) (sym (one_longer k drawn round within is))
 
 pub officers_go_on : (draws : Draws) (k number : ℕ) (drawn : List RoundDrawn) (round : RoundDrawn) (officers : Officers) → k < length drawn → round ≡ get_or drawn k round → number ≡ k + 1
@@ -261,8 +261,8 @@ round_fits k drawn round within is fit =
 
 -- all rounds were written
 pub text_is_whole : (draws : Draws) (k : ℕ) (drawn : List RoundDrawn) (old new : List ℕ) → length drawn ≤ k → draws.rounds ≡ map round_of drawn
-    → old ≡ text_of (lines_before_end (with_rounds draws (first_rounds k drawn))) → new ≡ old ++ ended (codes "off") → new ≡ text_of (workload_lines draws)
+    → old ≡ text_of (lines_before_end (with_rounds draws (first_rounds k drawn))) → new ≡ old ++ line_with_lf (codes "off") → new ≡ text_of (workload_lines draws)
 text_is_whole draws k drawn old new most rounds was more =
     let all : first_rounds k drawn ≡ draws.rounds = ap (map round_of) (take_all k drawn most) ∙ sym rounds in
-    more ∙ ap (λ (xs : List ℕ). xs ++ ended (codes "off")) (was ∙ ap (λ (rs : List RoundDraws). text_of (lines_before_end (with_rounds draws rs))) all)
+    more ∙ ap (λ (xs : List ℕ). xs ++ line_with_lf (codes "off")) (was ∙ ap (λ (rs : List RoundDraws). text_of (lines_before_end (with_rounds draws rs))) all)
     ∙ sym (text_ends draws)

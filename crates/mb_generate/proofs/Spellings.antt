@@ -15,7 +15,7 @@ use Rattle.mb_model.specs.declared.order.Act.TheVariants as act
 use Rattle.mb_model.specs.declared.order.Target.TheVariants as target
 use Rattle.mb_model.specs.declared.order.Countersignature.{Countersignature}
 use Rattle.mb_model.specs.declared.order.Order.{Order}
-use Rattle.mb_model.specs.Winternitz.{chain_step, steps_from}
+use Rattle.mb_model.specs.Winternitz.{chain_step, value_after_count}
 use Rattle.mb_model.specs.Merkle.{leaf_node, inner_node}
 use Rattle.mb_model.specs.Signing.{private_value, randomizer_of, node_above, node_of, public_of, signed_values, path_from, signature_of}
 use Rattle.mb_model.specs.Born.{officer_key}
@@ -24,9 +24,9 @@ use Rattle.mb_model.specs.Layers.{equal_trusts}
 use Rattle.mb_model.specs.LayerFormat.{trust_format}
 use Rattle.mb_model.specs.EntryFormat.{key_kind_format}
 use Rattle.mb_model.specs.Rules.{kind_of}
-use Rattle.mb_model.specs.OrderFormat.{form_byte, form_of, differs_in, target_format, payload_format, act_by, body_format, order_body, sized_signature_format, Climb, countersignature_format, climbed, countersignatures_format, order_format}
+use Rattle.mb_model.specs.OrderFormat.{form_byte, form_of, differs_in, target_format, payload_format, act_by, body_format, order_body, sized_signature_format, Climb, countersignature_format, climb_after, countersignatures_format, order_format}
 use Rattle.mb_model.specs.Script.{with_before}
-use Rattle.mb_model.specs.Workload.{DrawnBytes, DrawnCode, DrawnValue, DrawnRound, RoundDraws, Draws, Plan, plan, plan_payload, key_of_officer, first_plans, round_plan, plans, unsigned_order, countersignature_by, signed, signed_orders}
+use Rattle.mb_model.specs.Workload.{DrawnBytes, DrawnCode, DrawnValue, DrawnRound, RoundDraws, Draws, Plan, plan, plan_payload, key_of_officer, first_plans, round_plan, plans, unsigned_order, countersignature_by, signed_plan, signed_orders}
 use Rattle.mb_generate.specs.Drawing.{AreDraws}
 use Rattle.mb_generate.proofs.Drawings.{each_drawn}
 
@@ -94,8 +94,8 @@ unfolding node_above leaf_node inner_node
 node_bytes key zero r = hashed _
 node_bytes key (suc n) r = hashed _
 
-stepped : (id : List ℕ) (q i a n : ℕ) (x : List ℕ) → BytesUpTo 32 x → BytesUpTo 32 (steps_from id q i a n x)
-unfolding steps_from chain_step
+stepped : (id : List ℕ) (q i a n : ℕ) (x : List ℕ) → BytesUpTo 32 x → BytesUpTo 32 (value_after_count id q i a n x)
+unfolding value_after_count chain_step
 stepped id q i a zero x is = is
 stepped id q i a (suc n) x is = hashed _
 
@@ -142,13 +142,13 @@ unfolding sized_signature_format number_bytes
 sized_spelled signature is = joined (numbered w16 (length signature)) is
 
 countersignatures_spelled : (climb : Climb) (list : List Countersignature) → All (λ c. BytesUpTo 2348 c.signature) list
-    → BytesUpTo (2351 * length list) ((items countersignature_format climbed (length list) climb).spelling list)
+    → BytesUpTo (2351 * length list) ((items countersignature_format climb_after (length list) climb).spelling list)
 unfolding items number_bytes
 countersignatures_spelled climb [] all = none
 countersignatures_spelled climb (c ∷ list) all =
     let is_spelled = λ (other : Countersignature). BytesUpTo 2348 other.signature in
     let first = joined (numbered w8 c.layer) (sized_spelled c.signature (All-head is_spelled c list all)) in
-    wider (joined first (countersignatures_spelled (climbed climb c) list (All-tail is_spelled c list all))) (omega arith)
+    wider (joined first (countersignatures_spelled (climb_after climb c) list (All-tail is_spelled c list all))) (omega arith)
 
 -- what a planned order does is spelled in bytes, and at most two officers countersign it
 record CanBeSigned (planned : Plan) : Type 0 where
@@ -159,10 +159,10 @@ record CanBeSigned (planned : Plan) : Type 0 where
 abbrev pub IsSpelled : Order → Type 0
 IsSpelled order = BytesUpTo 65535 (order_format.spelling order)
 
-order_spelled : (draws : Draws) (before : List Plan) (planned : Plan) → CanBeSigned planned → IsSpelled (signed draws before planned)
+order_spelled : (draws : Draws) (before : List Plan) (planned : Plan) → CanBeSigned planned → IsSpelled (signed_plan draws before planned)
 unfolding order_format countersignatures_format number_bytes
 order_spelled draws before planned can =
-    let whole : Order = signed draws before planned in
+    let whole : Order = signed_plan draws before planned in
     let is_spelled = λ (c : Countersignature). BytesUpTo 2348 c.signature in
     let few : length whole.countersignatures ≤ 2 = omega (arith, can.few, length-map planned.countersigners (countersignature_by draws before (order_body (unsigned_order before planned)))) in
     let all : All is_spelled whole.countersignatures =
@@ -273,6 +273,6 @@ all_can draws are =
 pub orders_spelled : (draws : Draws) → DrawsBytes draws → All IsSpelled (signed_orders draws)
 unfolding signed_orders
 orders_spelled draws are =
-    All-map IsSpelled (λ at. signed draws at.0 at.1) (with_before (plans draws))
-    (All-weaker (λ (at : List Plan × Plan). CanBeSigned at.1) (λ at. IsSpelled (signed draws at.0 at.1))
+    All-map IsSpelled (λ at. signed_plan draws at.0 at.1) (with_before (plans draws))
+    (All-weaker (λ (at : List Plan × Plan). CanBeSigned at.1) (λ at. IsSpelled (signed_plan draws at.0 at.1))
     (λ at can. order_spelled draws at.0 at.1 can) (with_before (plans draws)) (all_before CanBeSigned (plans draws) (all_can draws are)))

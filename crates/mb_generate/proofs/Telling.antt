@@ -16,8 +16,8 @@ use Rattle.mb_model.specs.declared.event.Event.{Event}
 use Rattle.mb_model.specs.declared.event.Event.TheVariants as event
 use Rattle.mb_model.specs.declared.order.Order.{Order}
 use Rattle.mb_model.specs.declared.tools.Workload.{Workload}
-use Rattle.mb_model.specs.Texts.{ended, IsHex}
-use Rattle.mb_model.specs.Lines.{IsLine, text_of, spaced, hex_word}
+use Rattle.mb_model.specs.Texts.{line_with_lf, IsHex}
+use Rattle.mb_model.specs.Lines.{IsLine, text_of, spaced_words, hex_word}
 use Rattle.mb_model.specs.OrderFormat.{order_format}
 use Rattle.mb_model.specs.OrderLines.{order_line}
 use Rattle.mb_model.specs.Script.{IsName, SaysEvent, is_skipped, with_before, commands_in}
@@ -66,7 +66,7 @@ tells line e most plain counted says few = record {
   said = (says, tt);
   few = omega arith;
   few_commands = omega arith;
-  short = omega (arith, few, length-append (ended line) [], length-append line (10 ∷ []));
+  short = omega (arith, few, length-append (line_with_lf line) [], length-append line (10 ∷ []));
 }
 
 said_both : (a b : List (List ℕ)) (es fs : List Event) → AllZip SaysEvent a es → AllZip SaysEvent b fs → AllZip SaysEvent (a ++ b) (es ++ fs)
@@ -83,7 +83,7 @@ tells_both {a} {b} first second = record {
   said = said_both a b first.events second.events first.said second.said;
   few = omega (arith, length-append first.events second.events, first.few, second.few);
   few_commands = omega (arith, commands_in-append first.events second.events, first.few_commands, second.few_commands);
-  short = omega (arith, ap length (flat_map-append ended a b), length-append (text_of a) (text_of b), first.short, second.short);
+  short = omega (arith, ap length (flat_map-append line_with_lf a b), length-append (text_of a) (text_of b), first.short, second.short);
 }
 
 tells_more : {lines : List (List ℕ)} {m n c d s t : ℕ} → Tells lines m c s → m ≤ n → c ≤ d → s ≤ t → Tells lines n d t
@@ -188,7 +188,7 @@ tells_put n value is =
     (All-append (isnt 10) (secret_name n) (32 ∷ hex_word value) (name_plain n)
     (All-cons (isnt 10) 32 (hex_word value) (λ lf. omega (arith, lf)) (hex_plain (hex_word value) value word))))
     refl
-    (refl, named n, is.few, (hex_word value, word, λ i. spaced (codes "put" ∷ three i ∷ secret_name n ∷ hex_word value ∷ [])))
+    (refl, named n, is.few, (hex_word value, word, λ i. spaced_words (codes "put" ∷ three i ∷ secret_name n ∷ hex_word value ∷ [])))
     (omega (arith, length-append (codes "put 3 ") (secret_name n ++ 32 ∷ hex_word value), hex_long value, is.few))
 
 tells_sign : (message : List ℕ) → BytesUpTo 32 message → Tells (sign_line message ∷ []) 1 0 75
@@ -198,7 +198,7 @@ tells_sign message is =
     tells (sign_line message) (event.Sign 3 1 message) 74
     (All-append (isnt 10) (codes "sign 3 1 ") (hex_word message) (tested (codes "sign 3 1 ") refl) (hex_plain (hex_word message) message word))
     refl
-    (refl, omega arith, omega (arith, is.few), (hex_word message, word, λ i. spaced (codes "sign" ∷ three i ∷ one i ∷ hex_word message ∷ [])))
+    (refl, omega arith, omega (arith, is.few), (hex_word message, word, λ i. spaced_words (codes "sign" ∷ three i ∷ one i ∷ hex_word message ∷ [])))
     (omega (arith, length-append (codes "sign 3 1 ") (hex_word message), hex_long message, is.few))
 
 tells_boot : Tells (codes "boot" ∷ []) 1 0 5

@@ -2,7 +2,7 @@
 use Rattle.std.specs.Prelude.{◌≡◌, ℕ, List, [], ◌∷◌, length, map}
 use Rattle.std.specs.List.{AllZip, concat}
 use Rattle.rand_chacha.specs.ChaCha.{ChaCha, next_word}
-use Rattle.mb_model.specs.Workload.{generated, DrawnValue, RoundDraws, DrawnRound, Draws, DrawnInOrder}
+use Rattle.mb_model.specs.Workload.{generator_words, DrawnValue, RoundDraws, DrawnRound, Draws, DrawnInOrder}
 use Rattle.mb_generate.specs.declared.draws.RoundDrawn.{RoundDrawn}
 use Rattle.mb_generate.specs.declared.draws.Drawn.{Drawn}
 
@@ -56,5 +56,5 @@ draws_of drawn = record {
 -- these are the draws of a workload
 pub record AreDraws (number rounds : ℕ) (draws : Draws) : Type 0 where
   pub words : List ℕ
-  pub first : words ≡ generated number (length words)
+  pub first : words ≡ generator_words number (length words)
   pub drawn : DrawnInOrder words rounds draws

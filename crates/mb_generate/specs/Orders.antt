@@ -8,7 +8,7 @@ use Rattle.mb_model.specs.declared.order.Order.{Order}
 use Rattle.mb_model.specs.declared.tools.Keyfile.{Keyfile}
 use Rattle.mb_model.specs.Rules.{kind_of, MayBeFor}
 use Rattle.mb_model.specs.OrderFormat.{differs_in, act_by}
-use Rattle.mb_model.specs.Workload.{RoundDraws, Draws, Plan, key_of_officer, signatures_by, signed}
+use Rattle.mb_model.specs.Workload.{RoundDraws, Draws, Plan, key_of_officer, signatures_by, signed_plan}
 use Rattle.mb_generate.specs.declared.officers.Officers.{Officers}
 
 -- ---- officers
@@ -55,7 +55,7 @@ abbrev pub SignsPlan : {E : Type 0} → ℕ → Plan → Officers → Result Ord
 SignsPlan count planned old result new =
     IfOk result
     (λ order. (draws : Draws) (before : List Plan) → AreOfficers draws before old → count ≡ length before + 1
-    → (order ≡ signed draws before planned) × AreOfficers draws (before ++ planned ∷ []) new)
+    → (order ≡ signed_plan draws before planned) × AreOfficers draws (before ++ planned ∷ []) new)
 
 -- the code of a round is not too long for an order, and its secrets are no more than four
 pub record RoundFits (round : RoundDraws) : Type 0 where

@@ -1,9 +1,9 @@
 -- How a script grows, round by round. Is each line written once, and in its place?
 use Rattle.std.specs.Prelude.{◌≡◌, ℕ, ◌+◌, ◌-◌, List, [], ◌∷◌, ◌++◌, length, map, take, drop, codes, zip, flat_map}
-use Rattle.mb_model.specs.Lines.{text_of, spaced, hex_word}
+use Rattle.mb_model.specs.Lines.{text_of, spaced_words, hex_word}
 use Rattle.mb_model.specs.OrderLines.{order_line}
 use Rattle.mb_model.specs.Script.{with_before}
-use Rattle.mb_model.specs.Workload.{RoundDraws, Draws, Plan, first_plans, round_plan, signed}
+use Rattle.mb_model.specs.Workload.{RoundDraws, Draws, Plan, first_plans, round_plan, signed_plan}
 use Rattle.mb_model.specs.Workload.{signed_orders, put_line, round_lines}
 use Rattle.mb_generate.specs.declared.officers.Officers.{Officers}
 use Rattle.mb_generate.specs.Orders.{AreOfficers}
@@ -15,7 +15,7 @@ puts_text n values = text_of (map (λ at. put_line (n + length at.0) at.1) (with
 -- the orders before the rounds
 abbrev pub first_orders_text : Draws → List ℕ
 first_orders_text draws =
-    text_of (map order_line (map (λ at. signed draws at.0 at.1) (with_before (first_plans draws))))
+    text_of (map order_line (map (λ at. signed_plan draws at.0 at.1) (with_before (first_plans draws))))
 
 -- the draws with these rounds
 abbrev pub with_rounds : Draws → List RoundDraws → Draws
@@ -34,7 +34,7 @@ lines_before_end draws =
 abbrev pub AppendsRound : ℕ → RoundDraws → Officers → List ℕ → List ℕ → Type 0
 AppendsRound number round officers old new =
     (draws : Draws) (before : List Plan) → AreOfficers draws before officers → 5 + number ≡ length before + 1
-    → new ≡ old ++ text_of (round_lines (number - 1) (signed draws before (round_plan number round.code)) round)
+    → new ≡ old ++ text_of (round_lines (number - 1) (signed_plan draws before (round_plan number round.code)) round)
 
 -- and their keys are as after that order
 abbrev pub SignsRound : ℕ → RoundDraws → Officers → Officers → Type 0
@@ -44,4 +44,4 @@ SignsRound number round old new =
 
 -- the line by which the key with number 1 states a message
 abbrev pub sign_line : List ℕ → List ℕ
-sign_line message = spaced (codes "sign" ∷ codes "3" ∷ codes "1" ∷ hex_word message ∷ [])
+sign_line message = spaced_words (codes "sign" ∷ codes "3" ∷ codes "1" ∷ hex_word message ∷ [])

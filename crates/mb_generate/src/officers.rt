@@ -7,7 +7,7 @@ ghost use Rattle.mb_model.specs.Layers.{equal_trusts};
 ghost use Rattle.mb_model.specs.declared.order.Act.TheVariants as act;
 ghost use Rattle.mb_model.specs.Layers.{is_upper};
 ghost use Rattle.mb_model.specs.OrderFormat.{order_format};
-ghost use Rattle.mb_model.specs.SignedOrders.{used_once, signed_order, countersigned_order, IsCountersignable};
+ghost use Rattle.mb_model.specs.SignedOrders.{keyfile_after_use, signed_order, countersigned_order, IsCountersignable};
 ghost use Rattle.mb_model.specs.Workload.{plan, plan_payload, round_plan};
 ghost use Rattle.mb_generate.specs.Orders.{HaveUsed, layers_above, targeted, CanBeOrdered, SignsPlan};
 ghost use Rattle.mb_lms.specs.declared.hash_count.TheConstants.{SIGNING_HASHES};
@@ -129,7 +129,7 @@ pub(crate) fn sign<L: Ledger>(
     requires left { officer.old.next < KEY_USES }
     requires spelled { order_format.Allowed order.old }
     ensures signed { OnOk result (order.new ≡ signed_order officer.old order.old) }
-    ensures used { OnOk result (officer.new ≡ used_once officer.old) }
+    ensures used { OnOk result (officer.new ≡ keyfile_after_use officer.old) }
     ensures spelled { OnOk result (order_format.Allowed order.new) }
     ensures cost { hashes.new ≤ hashes.old + SIGNING_HASHES }
 {
@@ -154,7 +154,7 @@ fn agree<L: Ledger>(
     requires layer { IsTrue (is_upper layer) }
     requires able { IsCountersignable order.old layer }
     ensures signed { OnOk result (order.new ≡ countersigned_order officer.old layer order.old) }
-    ensures used { OnOk result (officer.new ≡ used_once officer.old) }
+    ensures used { OnOk result (officer.new ≡ keyfile_after_use officer.old) }
     ensures spelled { OnOk result (order_format.Allowed order.new) }
     ensures cost { hashes.new ≤ hashes.old + SIGNING_HASHES }
 {

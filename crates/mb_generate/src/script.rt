@@ -6,11 +6,11 @@ ghost use Rattle.mb_model.specs.declared.key.Trust.TheVariants.{Countersigned};
 ghost use Rattle.mb_model.specs.Layers.{equal_trusts};
 ghost use Rattle.mb_model.specs.declared.order.Act.TheVariants as act;
 ghost use Rattle.mb_model.specs.Signing.{public_of};
-ghost use Rattle.mb_model.specs.Texts.{ended};
+ghost use Rattle.mb_model.specs.Texts.{line_with_lf};
 ghost use Rattle.mb_model.specs.Lines.{text_of};
 ghost use Rattle.mb_model.specs.OrderFormat.{order_format};
 ghost use Rattle.mb_model.specs.OrderLines.{order_line};
-ghost use Rattle.mb_model.specs.SignedOrders.{used_once, signed_order};
+ghost use Rattle.mb_model.specs.SignedOrders.{keyfile_after_use, signed_order};
 ghost use Rattle.mb_model.specs.Workload.{first_plans, put_line, workload_lines};
 ghost use Rattle.mb_generate.specs.Drawing.{round_of, draws_of};
 ghost use Rattle.mb_generate.specs.Orders.{AreOfficers, HaveUsed, DrawsFit};
@@ -122,8 +122,8 @@ fn put_order<L: Ledger>(
 ) -> Result<(), NoMemory>
     requires left { officer.old.next < KEY_USES }
     requires spelled { order_format.Allowed order }
-    ensures text { OnOk result (script.new.items ≡ script.old.items ++ ended (order_line (signed_order officer.old order))) }
-    ensures used { OnOk result (officer.new ≡ used_once officer.old) }
+    ensures text { OnOk result (script.new.items ≡ script.old.items ++ line_with_lf (order_line (signed_order officer.old order))) }
+    ensures used { OnOk result (officer.new ≡ keyfile_after_use officer.old) }
     ensures cost { hashes.new ≤ hashes.old + SIGNING_HASHES }
 {
     let mut order = order;
@@ -182,7 +182,7 @@ fn put_secrets(
 
 /// Appends the line of a secret that is put after n others.
 fn put_secret(alloc: Global, n: u32, value: &[u8], script: &mut Vec<u8>) -> Result<(), NoMemory>
-    ensures { OnOk result (script.new.items ≡ script.old.items ++ ended (put_line n value.now)) }
+    ensures { OnOk result (script.new.items ≡ script.old.items ++ line_with_lf (put_line n value.now)) }
 {
     let word = hex_word(alloc, value)?;
     let digits = [b'0' + (n % 16 / 10) as u8, b'0' + (n % 16 % 10) as u8];
@@ -196,7 +196,7 @@ fn put_secret(alloc: Global, n: u32, value: &[u8], script: &mut Vec<u8>) -> Resu
 
 /// Appends the line by which the key with number 1 signs the message.
 fn put_statement(alloc: Global, message: &[u8], script: &mut Vec<u8>) -> Result<(), NoMemory>
-    ensures { OnOk result (script.new.items ≡ script.old.items ++ ended (sign_line message.now)) }
+    ensures { OnOk result (script.new.items ≡ script.old.items ++ line_with_lf (sign_line message.now)) }
 {
     let word = hex_word(alloc, message)?;
     script.extend_from_slice(b"sign 3 1 ")?;

@@ -3,7 +3,7 @@ use Rattle.std.specs.Prelude.{◌≡◌, ◌≢◌, ◌==◌, ℕ, Bool, List, [
 use Rattle.std.specs.List.{find, list_any}
 use Rattle.std.specs.Str.{bytes_eq}
 use Rattle.mb_model.specs.declared.items.File.{File}
-use Rattle.mb_model.specs.Outside.{Outside, raised}
+use Rattle.mb_model.specs.Outside.{Outside, count_after_call}
 
 -- if two files have one name, the first counts
 pub record HostShown : Type 0 where
@@ -40,7 +40,7 @@ next_fails host = list_any (λ number. number == host.calls) host.failing
 
 -- Reads, writes and prints are numbered together: a call takes the next number, and the list stays.
 pub record IsNumbered (before after : HostShown) : Type 0 where
-  pub next : after.calls ≡ raised before.calls
+  pub next : after.calls ≡ count_after_call before.calls
   pub list : after.failing ≡ before.failing
 
 -- the file has this name

@@ -1,6 +1,6 @@
 -- A host with contents that no contract sees, and how its counts change.
 use Rattle.std.specs.Prelude.{ℕ, List, Option, None, Result, Ok, Err}
-use Rattle.mb_model.specs.Outside.{Outside, raised}
+use Rattle.mb_model.specs.Outside.{Outside, count_after_call}
 use Rattle.mb_host.specs.declared.faults.Faults.{Faults}
 use Rattle.mb_host.specs.declared.whole.ReadCounts.{ReadCounts}
 use Rattle.mb_host.specs.declared.whole.WriteCounts.{WriteCounts}
@@ -20,7 +20,7 @@ untold reads writes = record {
 
 -- one fault more
 abbrev pub one_fault_more : Faults → Faults
-one_fault_more faults = record { count = raised faults.count }
+one_fault_more faults = record { count = count_after_call faults.count }
 
 -- what is known of what was opened
 abbrev pub known : {S E : Type 0} → (S → Option (List ℕ)) → Result S E → Option (List ℕ)

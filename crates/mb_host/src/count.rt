@@ -1,10 +1,10 @@
 //! Counts that saturate.
 
 ghost use Rattle.std.specs.Prelude.{◌≡◌};
-ghost use Rattle.mb_model.specs.Outside.{raised as raised_count};
+ghost use Rattle.mb_model.specs.Outside.{count_after_call as raised_count};
 
 // One more than the count; saturates at its last value.
-#[tactic(auto, unfolding(mb_model::specs::Outside::raised))]
+#[tactic(auto, unfolding(mb_model::specs::Outside::count_after_call))]
 pub(crate) fn raised(count: u64) -> u64
     ensures { result ≡ raised_count count }
 {

@@ -3,7 +3,7 @@
 ghost use Rattle.std.specs.Prelude.{◌≡◌, ℕ, ◌<◌, ◌≤◌, IfOk, IfSome, IsErr, IsErrOf, OnErr, OnOk, length, take, vec_len};
 ghost use Rattle.std.specs.Io.KnownBytes.{Appends, Consumes, IsAtEnd};
 ghost use Rattle.mb_model.specs.declared.limits.TheConstants.{FILE_LIMIT};
-ghost use Rattle.mb_model.specs.Outside.{raised as raised_count};
+ghost use Rattle.mb_model.specs.Outside.{count_after_call as raised_count};
 ghost use Rattle.mb_host.specs.Real.{one_fault_more, known};
 
 use crate::count::raised;

@@ -14,7 +14,7 @@ use Rattle.mb_model.specs.declared.region.RegionKey.{RegionKey}
 use Rattle.mb_model.specs.Layers.{is_upper, is_in}
 use Rattle.mb_model.specs.Rules.{admits}
 use Rattle.mb_model.specs.Log.{number_of, layers_of, RuledLog}
-use Rattle.mb_model.specs.Lives.{ends, Alive, MadeKey, alive_keys}
+use Rattle.mb_model.specs.Lives.{ends_keys, Alive, MadeKey, alive_keys}
 use Rattle.mb_model.specs.Regions.{AdmittedSince, KeyAdmitted}
 use Rattle.mb_model.specs.Valid.{as_made}
 use Rattle.mb_model_lemmas.proofs.LogLemmas.{number_of-append, number_of-push}
@@ -114,7 +114,7 @@ stands_after log before later before' later' position number n L key_kind key ve
 
 -- a change that does not end a key is one that its layer admits
 goes_along : (key_kind : KeyKind) (L : ℕ) (version position number : ℕ) (kind : ChangeKind) (k : ℕ) (cosigned : Pair) (layers : Layers) (kept : Pair) (next : Option PublicKey)
-    → ends key_kind L (Change version position number kind k cosigned layers kept next) ≡ false → k ≤ L → is_in L kept ≡ true
+    → ends_keys key_kind L (Change version position number kind k cosigned layers kept next) ≡ false → k ≤ L → is_in L kept ≡ true
 goes_along kinds.Epoch L version position number kind k cosigned layers kept next lasts beneath = not_false (is_in L kept) lasts
   where
     not_false : (b : Bool) → not b ≡ false → b ≡ true
@@ -135,7 +135,7 @@ alive_is_admitted log n L key_kind key upper ruled alive = record {
   admitted = λ before later version position number kind k cosigned layers kept next split above beneath.
       let change : Entry = Change version position number kind k cosigned layers kept next in
       let after = stands_after log alive.before alive.later before later alive.position alive.number n L key_kind key version position number kind k cosigned layers kept next ruled alive.split split above in
-      let lasts : ends key_kind L change ≡ false = All-split (λ (e : Entry). ends key_kind L e ≡ false) after.0 change later (subst (All (λ (e : Entry). ends key_kind L e ≡ false)) after.1 alive.lasts) in
+      let lasts : ends_keys key_kind L change ≡ false = All-split (λ (e : Entry). ends_keys key_kind L e ≡ false) after.0 change later (subst (All (λ (e : Entry). ends_keys key_kind L e ≡ false)) after.1 alive.lasts) in
       either (nat_lt L k) (admits (layers_of before) kind k cosigned L) (is_in L kept)
       (kept_is log before later version position number kind k cosigned layers kept next L upper ruled split)
       (le-ltb L k beneath)

@@ -2,7 +2,7 @@
 use Rattle.std.proofs.Common.{◌≡◌, ◌≤◌, ℕ, ◌+◌, ◌-◌, ◌*◌, List, Bool, true, false, refl, sym, ap, subst, ◌∙◌, arith, take, drop}
 use Rattle.std.specs.Prelude.{◌%◌, ◌==◌, slice_index, if◌then◌else◌}
 use Rattle.mb_model.specs.Pieces.{part}
-use Rattle.mb_model.specs.Memory.{selector_of, first_area, second_area, current}
+use Rattle.mb_model.specs.Memory.{selector_of, first_area, second_area, area_of_slot}
 
 -- what holds of 1, 2 and 3 holds of the number of each slot
 at_slot : (P : ℕ → Type 0) (slot : ℕ) → 1 ≤ slot → slot ≤ 3 → P 1 → P 2 → P 3 → P slot
@@ -21,20 +21,20 @@ abbrev pub begins_at : Bool → ℕ → ℕ
 begins_at even slot = if even then 4096 + (slot - 1) * 2 * 4096 else 4096 + (slot - 1) * 2 * 4096 + 4096
 
 abbrev IsAt : List ℕ → ℕ → Type 0
-IsAt bbram slot = (even : Bool) → (selector_of bbram slot % 2 == 0) ≡ even → part (begins_at even slot) 4096 bbram ≡ current bbram slot
+IsAt bbram slot = (even : Bool) → (selector_of bbram slot % 2 == 0) ≡ even → part (begins_at even slot) 4096 bbram ≡ area_of_slot bbram slot
 
 one_at : (bbram : List ℕ) → IsAt bbram 1
-unfolding current first_area second_area
+unfolding area_of_slot first_area second_area
 one_at bbram true e = sym (ap (λ b. if b then part 4096 4096 bbram else part 8192 4096 bbram) e)
 one_at bbram false e = sym (ap (λ b. if b then part 4096 4096 bbram else part 8192 4096 bbram) e)
 
 two_at : (bbram : List ℕ) → IsAt bbram 2
-unfolding current first_area second_area
+unfolding area_of_slot first_area second_area
 two_at bbram true e = sym (ap (λ b. if b then part 12288 4096 bbram else part 16384 4096 bbram) e)
 two_at bbram false e = sym (ap (λ b. if b then part 12288 4096 bbram else part 16384 4096 bbram) e)
 
 three_at : (bbram : List ℕ) → IsAt bbram 3
-unfolding current first_area second_area
+unfolding area_of_slot first_area second_area
 three_at bbram true e = sym (ap (λ b. if b then part 20480 4096 bbram else part 24576 4096 bbram) e)
 three_at bbram false e = sym (ap (λ b. if b then part 20480 4096 bbram else part 24576 4096 bbram) e)
 
@@ -43,7 +43,7 @@ selector_is bbram slot low high = at_slot (λ n. slice_index bbram n ≡ selecto
 
 -- the area in force, by where it begins
 pub area_at : (bbram : List ℕ) (slot start : ℕ) (even : Bool) → 1 ≤ slot → slot ≤ 3 → (slice_index bbram slot % 2 == 0) ≡ even
-    → start ≡ begins_at even slot → take (start + 4096 - start) (drop start bbram) ≡ current bbram slot
+    → start ≡ begins_at even slot → take (start + 4096 - start) (drop start bbram) ≡ area_of_slot bbram slot
 area_at bbram slot start even low high parity begins =
     let long : start + 4096 - start ≡ 4096 = omega arith in
     ap (λ n. take n (drop start bbram)) long

@@ -6,20 +6,20 @@ use Rattle.mb_model.specs.declared.entry.SignedEntry.{SignedEntry}
 use Rattle.mb_model.specs.declared.state.Codes.{Codes}
 use Rattle.mb_model.specs.declared.state.State.{State}
 use Rattle.mb_model.specs.declared.stored.Root.{Root}
-use Rattle.mb_model.specs.StoredLog.{signed_for, outgoing_of, completed}
+use Rattle.mb_model.specs.StoredLog.{entries_signed_for, outgoing_of, log_completed_by}
 use Rattle.mb_model.specs.Flash.{HoldsPublic}
 use Rattle.mb_model.specs.Memory.{IsImage, IsBlank}
-use Rattle.mb_model.specs.Meaning.{Contents, meant, RootIn, HasMeaning, is_dead, is_live, StandsFor}
+use Rattle.mb_model.specs.Meaning.{Contents, state_of_contents, RootIn, HasMeaning, is_dead, is_live, StandsFor}
 use Rattle.mb_model.specs.GenerateCommand.{log_length}
 use Rattle.mb_model_lemmas.proofs.MeaningLemmas.{one_root_in, not_blank}
 use Rattle.mb_model_lemmas.proofs.FaultLemmas.{image_parts}
 use Rattle.mb_model_lemmas.proofs.PublicLemmas.{length-signed_for}
 
 -- the log that contents mean has an entry for each that is stored
-meant_length : (contents : Contents) → length (meant contents).log ≡ length contents.signed + length contents.unsigned
-unfolding meant completed
+meant_length : (contents : Contents) → length (state_of_contents contents).log ≡ length contents.signed + length contents.unsigned
+unfolding state_of_contents log_completed_by
 meant_length contents =
-    let later = signed_for contents.root.device contents.root.uses (outgoing_of contents.root.pending) contents.unsigned in
+    let later = entries_signed_for contents.root.device contents.root.uses (outgoing_of contents.root.pending) contents.unsigned in
     length-append contents.signed later
     ∙ ap (λ n. length contents.signed + n) (length-signed_for contents.root.device contents.root.uses (outgoing_of contents.root.pending) contents.unsigned)
 

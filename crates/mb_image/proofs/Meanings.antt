@@ -9,10 +9,10 @@ use Rattle.mb_model.specs.declared.state.State.{State}
 use Rattle.mb_model.specs.declared.stored.Outgoing.{Outgoing}
 use Rattle.mb_model.specs.EntryFormat.{entry_format}
 use Rattle.mb_model.specs.Log.{entries_of, layers_of}
-use Rattle.mb_model.specs.OrderEffects.{signed_by}
-use Rattle.mb_model.specs.StoredLog.{HasIndex, signed_for, outgoing_of, completed}
+use Rattle.mb_model.specs.OrderEffects.{entry_signed_by}
+use Rattle.mb_model.specs.StoredLog.{HasIndex, entries_signed_for, outgoing_of, log_completed_by}
 use Rattle.mb_model.specs.Memory.{IsImage}
-use Rattle.mb_model.specs.Meaning.{Contents, FlashForm, HoldsContentsBy, meant, is_live, IsWellFormedBy}
+use Rattle.mb_model.specs.Meaning.{Contents, FlashForm, HoldsContentsBy, state_of_contents, is_live, IsWellFormedBy}
 use Rattle.mb_model.specs.Faults.{AreSound, IsFaultyBy, HasFaultBy}
 use Rattle.mb_model.specs.Signing.{public_of}
 use Rattle.mb_model.specs.Valid.{IsValidState}
@@ -25,55 +25,55 @@ use Rattle.mb_image.specs.Stored.{CanBeCompleted}
 abbrev pub IsSpelled : SignedEntry → Type 0
 IsSpelled signed = entry_format.Allowed signed.entry
 
-signed_by_spelled : (key : KeySeed) (index : ℕ) (entry : Entry) → entry_format.Allowed entry → IsSpelled (signed_by key index entry)
-unfolding signed_by
+signed_by_spelled : (key : KeySeed) (index : ℕ) (entry : Entry) → entry_format.Allowed entry → IsSpelled (entry_signed_by key index entry)
+unfolding entry_signed_by
 signed_by_spelled key index entry allowed = allowed
 
-all_by_spelled : (key : KeySeed) (index : ℕ) (entries : List Entry) → All entry_format.Allowed entries → All IsSpelled (map (signed_by key index) entries)
+all_by_spelled : (key : KeySeed) (index : ℕ) (entries : List Entry) → All entry_format.Allowed entries → All IsSpelled (map (entry_signed_by key index) entries)
 all_by_spelled key index [] are = All-nil IsSpelled
 all_by_spelled key index (entry ∷ more) are =
-    All-cons IsSpelled (signed_by key index entry) (map (signed_by key index) more) (signed_by_spelled key index entry (All-head entry_format.Allowed entry more are)) (all_by_spelled key index more (All-tail entry_format.Allowed entry more are))
+    All-cons IsSpelled (entry_signed_by key index entry) (map (entry_signed_by key index) more) (signed_by_spelled key index entry (All-head entry_format.Allowed entry more are)) (all_by_spelled key index more (All-tail entry_format.Allowed entry more are))
 
-signed_for_spelled : (device : KeySeed) (uses : ℕ) (outgoing : Option Outgoing) (unsigned : List Entry) → All entry_format.Allowed unsigned → All IsSpelled (signed_for device uses outgoing unsigned)
+signed_for_spelled : (device : KeySeed) (uses : ℕ) (outgoing : Option Outgoing) (unsigned : List Entry) → All entry_format.Allowed unsigned → All IsSpelled (entries_signed_for device uses outgoing unsigned)
 signed_for_spelled device uses None unsigned are = all_by_spelled device _ unsigned are
 signed_for_spelled device uses (Some outgoing) [] are = All-nil IsSpelled
 signed_for_spelled device uses (Some outgoing) (first ∷ rest) are =
-    All-cons IsSpelled (signed_by outgoing.seed _ first) (map (signed_by device 0) rest) (signed_by_spelled outgoing.seed _ first (All-head entry_format.Allowed first rest are)) (all_by_spelled device 0 rest (All-tail entry_format.Allowed first rest are))
+    All-cons IsSpelled (entry_signed_by outgoing.seed _ first) (map (entry_signed_by device 0) rest) (signed_by_spelled outgoing.seed _ first (All-head entry_format.Allowed first rest are)) (all_by_spelled device 0 rest (All-tail entry_format.Allowed first rest are))
 
 -- each entry of the completed log has a spelling
-pub meant_spelled : (contents : Contents) (state : State) → CanBeCompleted contents → state ≡ meant contents → All IsSpelled state.log
-unfolding meant completed
+pub meant_spelled : (contents : Contents) (state : State) → CanBeCompleted contents → state ≡ state_of_contents contents → All IsSpelled state.log
+unfolding state_of_contents log_completed_by
 meant_spelled c state can is =
     subst (λ (s : State). All IsSpelled s.log) (sym is)
-    (All-append IsSpelled c.signed (signed_for c.root.device c.root.uses (outgoing_of c.root.pending) c.unsigned) can.signed_spelled
+    (All-append IsSpelled c.signed (entries_signed_for c.root.device c.root.uses (outgoing_of c.root.pending) c.unsigned) can.signed_spelled
     (signed_for_spelled c.root.device c.root.uses (outgoing_of c.root.pending) c.unsigned can.unsigned_spelled))
 
 -- there are few
-pub meant_short : (contents : Contents) (state : State) → CanBeCompleted contents → state ≡ meant contents → length state.log ≤ 128
-unfolding meant completed
+pub meant_short : (contents : Contents) (state : State) → CanBeCompleted contents → state ≡ state_of_contents contents → length state.log ≤ 128
+unfolding state_of_contents log_completed_by
 meant_short c state can is =
-    let signed : List SignedEntry = signed_for c.root.device c.root.uses (outgoing_of c.root.pending) c.unsigned in
+    let signed : List SignedEntry = entries_signed_for c.root.device c.root.uses (outgoing_of c.root.pending) c.unsigned in
     let whole : length state.log ≡ length (c.signed ++ signed) = ap (λ (s : State). length s.log) is in
     omega (arith, whole, can.few, length-append c.signed signed, length-signed_for c.root.device c.root.uses (outgoing_of c.root.pending) c.unsigned)
 
-pub meant_layers : (contents : Contents) (state : State) → state ≡ meant contents → state.layers ≡ layers_of (entries_of state.log)
-unfolding meant
+pub meant_layers : (contents : Contents) (state : State) → state ≡ state_of_contents contents → state.layers ≡ layers_of (entries_of state.log)
+unfolding state_of_contents
 meant_layers c state is = ap (λ (s : State). s.layers) is ∙ sym (ap (λ (s : State). layers_of (entries_of s.log)) is)
 
-pub meant_device : (contents : Contents) (state : State) → state ≡ meant contents → public_of contents.root.device ≡ public_of state.device
-unfolding meant
+pub meant_device : (contents : Contents) (state : State) → state ≡ state_of_contents contents → public_of contents.root.device ≡ public_of state.device
+unfolding state_of_contents
 meant_device c state is = sym (ap (λ (s : State). public_of s.device) is)
 
 -- a valid state is what sound contents mean
-pub sound_where : (contents : Contents) (state : State) → HasIndex contents.root contents.root.pending → state ≡ meant contents → IsValidState state → AreSound contents × (state ≡ meant contents)
+pub sound_where : (contents : Contents) (state : State) → HasIndex contents.root contents.root.pending → state ≡ state_of_contents contents → IsValidState state → AreSound contents × (state ≡ state_of_contents contents)
 sound_where c state index is valid = ((index, subst IsValidState is valid), is)
 
-pub not_sound : (contents : Contents) (state : State) → state ≡ meant contents → (IsValidState state → ⊥) → AreSound contents → ⊥
+pub not_sound : (contents : Contents) (state : State) → state ≡ state_of_contents contents → (IsValidState state → ⊥) → AreSound contents → ⊥
 not_sound c state is fails sound = fails (subst IsValidState (sym is) sound.1)
 
 -- a live image
 pub live_image : (Form : FlashForm) (image flash bbram : List ℕ) (contents : Contents) (state : State) → IsImage image flash bbram → HoldsContentsBy Form flash bbram contents
-    → AreSound contents → state ≡ meant contents → IsWellFormedBy Form image (Some state)
+    → AreSound contents → state ≡ state_of_contents contents → IsWellFormedBy Form image (Some state)
 live_image Form image flash bbram c state parts holds sound is = record {
   flash = flash;
   bbram = bbram;

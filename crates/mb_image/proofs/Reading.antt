@@ -8,7 +8,7 @@ use Rattle.mb_model.specs.declared.stored.Root.{Root}
 use Rattle.mb_model.specs.EntryFormat.{entry_format, signed_entry_format}
 use Rattle.mb_model.specs.RootFormat.{root_format}
 use Rattle.mb_model.specs.Meaning.{RootIn, HoldsRegion, Contents, FlashForm, HoldsContentsBy}
-use Rattle.mb_model.specs.Memory.{IsBlank, life_byte, spare, current, HoldsRecord}
+use Rattle.mb_model.specs.Memory.{IsBlank, life_byte, spare_bytes, area_of_slot, HoldsRecord}
 use Rattle.mb_model.specs.Faults.{SomeRegion}
 use Rattle.mb_layout.specs.Found.{FindsBy}
 use Rattle.mb_model_lemmas.specs.FormLaws.{PublicPartsFit, HoldsFittingParts}
@@ -54,7 +54,7 @@ matched P Q found x is holds = subst (λ o. MatchOption o P Q) is holds
 -- ---- the root
 
 -- the root that is found where the memory is alive
-pub root_found : (bbram area : List ℕ) (found : Option Root) → area ≡ current bbram 1 → life_byte bbram ≡ 0xA5 → IsBlank (spare bbram)
+pub root_found : (bbram area : List ℕ) (found : Option Root) → area ≡ area_of_slot bbram 1 → life_byte bbram ≡ 0xA5 → IsBlank (spare_bytes bbram)
     → FindsBy (λ (root : Root). root) (HoldsRecord root_format area) found
     → MatchOption found ((root : Root) → RootIn bbram root → ⊥) (λ root. RootIn bbram root)
 root_found bbram area None is alive blank finds = λ root has. finds root (subst (λ (a : List ℕ). HoldsRecord root_format a root) (sym is) has.holds)

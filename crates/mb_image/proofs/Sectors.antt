@@ -17,7 +17,7 @@ use Rattle.mb_model.specs.declared.stored.Root.{Root}
 use Rattle.mb_model.specs.EntryFormat.{entry_format}
 use Rattle.mb_model.specs.HeaderFormat.{code_length_format, slot_format, entry_bytes_format, unsigned_format, header_format, log_format}
 use Rattle.mb_model.specs.Sectors.{code_sector, log_sector, BeginsAs}
-use Rattle.mb_model.specs.StoredLog.{unsigned_by, CanSign}
+use Rattle.mb_model.specs.StoredLog.{how_many_unsigned, CanSign}
 use Rattle.mb_model.specs.Flash.{sector, code_slot, HoldsHeader, HoldsCode, HoldsEntry, HoldsLog, AreBytesOf, HoldsPublic}
 use Rattle.mb_model.specs.Faults.{SomePublic}
 use Rattle.mb_model.proofs.EntryFormatLaws.{entry_exact}
@@ -182,7 +182,7 @@ module _ (flash : List ℕ) (root : Root) (header : Header) (are : IsBytes flash
       omega (arith, signed_same, unsigned_same)
 
   -- nothing is held where the texts are not as many as the root says
-  pub none_counted : (text_count header ≡ unsigned_by root.pending → CanSign root.pending → ⊥) → SomePublic flash root → ⊥
+  pub none_counted : (text_count header ≡ how_many_unsigned root.pending → CanSign root.pending → ⊥) → SomePublic flash root → ⊥
   none_counted never some =
       let holds = some.3 in
       let same : holds.header ≡ header = only_header flash root.area header are begins holds.header holds.begins in
@@ -202,7 +202,7 @@ module _ (flash : List ℕ) (root : Root) (header : Header) (are : IsBytes flash
 
   -- what was read is held
   pub all_held : (codes : Codes) (signed : List SignedEntry) (unsigned : List Entry) → HoldsCode flash 1 header.one codes.one → HoldsCode flash 2 header.two codes.two → HoldsCode flash 3 header.three codes.three
-      → IsLogOf flash header.signed signed → AreBytesOf header.first header.second unsigned → text_count header ≡ unsigned_by root.pending → CanSign root.pending → HoldsPublic flash root codes signed unsigned
+      → IsLogOf flash header.signed signed → AreBytesOf header.first header.second unsigned → text_count header ≡ how_many_unsigned root.pending → CanSign root.pending → HoldsPublic flash root codes signed unsigned
   all_held codes signed unsigned one two three log texts counted can = record {
     header = header;
     begins = begins;

@@ -10,7 +10,7 @@ use Rattle.mb_model.specs.declared.region.Region.{Region}
 use Rattle.mb_model.specs.declared.region.Secret.{Secret}
 use Rattle.mb_model.specs.declared.state.State.{State}
 use Rattle.mb_model.specs.Layers.{layer_of, is_upper}
-use Rattle.mb_model.specs.Log.{figures_of, entries_of, number_of, layers_of, device_of, serial_of, used, RuledLog}
+use Rattle.mb_model.specs.Log.{figures_of, entries_of, number_of, layers_of, device_of, serial_of, uses_of_device_key, RuledLog}
 use Rattle.mb_model.specs.Lives.{alive_keys}
 use Rattle.mb_model.specs.Regions.{empty_region, AdmittedSince}
 use Rattle.mb_model.specs.Signing.{public_of}
@@ -76,7 +76,7 @@ valid_where log layers number L region alive result upper ruled number_is may fe
 -- serial, device key and uses
 abbrev pub IsDevice : State → Type 0
 IsDevice state =
-    (serial_of (entries_of state.log) ≡ Some state.serial) × (device_of (entries_of state.log) ≡ Some (public_of state.device)) × (state.uses ≡ used (entries_of state.log))
+    (serial_of (entries_of state.log) ≡ Some state.serial) × (device_of (entries_of state.log) ≡ Some (public_of state.device)) × (state.uses ≡ uses_of_device_key (entries_of state.log))
 
 -- of a state of which all else holds, region 3 decides
 pub state_where : (state : State) (layers : Layers) (result : Bool) → state.layers ≡ layers_of (entries_of state.log) → layers ≡ layers_of (entries_of state.log)
@@ -114,7 +114,7 @@ and_with result a same flag =
 -- a log as it was read, with its figures
 pub state_by : (state : State) (log : List SignedEntry) (device : PublicKey) (figures : Figures) (result : Bool) → log ≡ state.log → device ≡ public_of state.device
     → state.layers ≡ layers_of (entries_of state.log) → EachFollows log × (figures ≡ figures_of (entries_of log))
-    → (serial_of (entries_of log) ≡ Some state.serial) × (device_of (entries_of log) ≡ Some device) × (state.uses ≡ used (entries_of log))
+    → (serial_of (entries_of log) ≡ Some state.serial) × (device_of (entries_of log) ≡ Some device) × (state.uses ≡ uses_of_device_key (entries_of log))
     → AreNamed state.layers state.codes → IsValidRegion (entries_of log) figures.layers 2 state.two
     → (IsTrue result ↔ IsValidRegion (entries_of log) figures.layers 3 state.three) → (IsTrue result ↔ IsValidState state)
 state_by state log device figures result log_is device_is layers_are reads own named two three =
@@ -123,7 +123,7 @@ state_by state log device figures result log_is device_is layers_are reads own n
     let mine : IsDevice state = (
       ap (λ (l : List SignedEntry). serial_of (entries_of l)) (sym log_is) ∙ own.0,
       ap (λ (l : List SignedEntry). device_of (entries_of l)) (sym log_is) ∙ own.1 ∙ ap Some device_is,
-      own.2 ∙ ap (λ (l : List SignedEntry). used (entries_of l)) log_is,
+      own.2 ∙ ap (λ (l : List SignedEntry). uses_of_device_key (entries_of l)) log_is,
     ) in
     state_where state figures.layers result layers_are (figures_layers figures (entries_of state.log) figures_are) each mine named
     (subst (λ (l : List SignedEntry). IsValidRegion (entries_of l) figures.layers 2 state.two) log_is two)

@@ -4,7 +4,7 @@ use Rattle.std.specs.Global.{Vec}
 use Rattle.std.specs.Vec.{vec_len}
 use Rattle.std.proofs.lemmas.List.{take_all, take_more, take-append-drop}
 use Rattle.mb_model.specs.declared.entry.SignedEntry.{SignedEntry}
-use Rattle.mb_model.specs.Board.{erased}
+use Rattle.mb_model.specs.Board.{erased_bytes}
 use Rattle.mb_model.specs.WrittenFlash.{in_sectors, entry_in_log, sectors_of}
 use Rattle.mb_model_lemmas.proofs.WrittenLemmas.{sectors_split}
 use Rattle.mb_bytes.specs.Puts.{Appends, StopsShort, Puts}
@@ -12,11 +12,11 @@ use Rattle.mb_bytes.proofs.Putting.{item_at, puts_then, puts_stop, puts_stop_lat
 
 -- bytes in sectors, and erased bytes up to the end of these
 pub padded : {E : Type 0} (n : ℕ) (bytes : List ℕ) (old middle new : Vec ℕ) (result : Result (Unit {0}) E) (count : ℕ) → Appends bytes old middle → count ≡ 4096 * n - (vec_len middle - vec_len old)
-    → Puts (erased count) middle result new → Puts (in_sectors n bytes) old result new
+    → Puts (erased_bytes count) middle result new → Puts (in_sectors n bytes) old result new
 unfolding in_sectors
 padded n bytes old middle new result count put is more =
     let same : count ≡ 4096 * n - length bytes = omega (arith, is, put.len) in
-    puts_both (erased (4096 * n - length bytes)) new result put (subst (λ (k : ℕ). Puts (erased k) middle result new) same more)
+    puts_both (erased_bytes (4096 * n - length bytes)) new result put (subst (λ (k : ℕ). Puts (erased_bytes k) middle result new) same more)
 
 -- ---- the sectors of a log
 

@@ -1,7 +1,7 @@
 //! The keys that are alive by a log.
 
 ghost use Rattle.std.specs.Prelude.{◌≡◌, ◌++◌, IfOk, OnOk, filter, option_to_list};
-ghost use Rattle.mb_model.specs.Lives.{ends, alive_keys};
+ghost use Rattle.mb_model.specs.Lives.{ends_keys, alive_keys};
 ghost use Rattle.mb_model.specs.Log.{entries_of};
 ghost use Rattle.mb_model_lemmas.specs.AliveLaws.{goes_on, made_by};
 ghost use Rattle.mb_image.specs.Keys.{listed_keys};

@@ -3,8 +3,8 @@
 ghost use Rattle.std.specs.Prelude.{◌≡◌, ℕ, ◌+◌, ◌*◌, ◌≤◌, ◌++◌, length, map, All, Some, IfOk, OnOk, IfSome};
 ghost use Rattle.mb_model.specs.declared.limits.TheConstants.{KEY_USES, LAST_INDEX};
 ghost use Rattle.mb_model.specs.EntryFormat.{entry_format};
-ghost use Rattle.mb_model.specs.OrderEffects.{signed_by};
-ghost use Rattle.mb_model.specs.StoredLog.{signed_for, outgoing_of, completed};
+ghost use Rattle.mb_model.specs.OrderEffects.{entry_signed_by};
+ghost use Rattle.mb_model.specs.StoredLog.{entries_signed_for, outgoing_of, log_completed_by};
 ghost use Rattle.mb_signer.specs.Tree.{IsTreeOf};
 ghost use Rattle.mb_lms.specs.declared.hash_count.TheConstants.{LEAF_HASHES, TREE_HASHES};
 
@@ -18,7 +18,7 @@ use std::sync::ledger::Ledger;
 
 /// The log that the entries of a memory mean. The unsigned entries, at most two, get their signatures by the outgoing
 /// key and by the device key; `tree` is the tree of the device key.
-#[tactic(auto, unfolding(mb_model::specs::StoredLog::completed))]
+#[tactic(auto, unfolding(mb_model::specs::StoredLog::log_completed_by))]
 pub(crate) fn completed<L: Ledger>(
     alloc: Global,
     root: &Root,
@@ -31,7 +31,7 @@ pub(crate) fn completed<L: Ledger>(
     requires uses { root.now.uses ≤ KEY_USES }
     requires outgoing { IfSome (outgoing_of root.now.pending) (λ outgoing. outgoing.uses ≤ KEY_USES) }
     requires spelled { All entry_format.Allowed unsigned.now }
-    ensures log { IfOk result (λ log. log ≡ completed root.now signed unsigned.now) }
+    ensures log { IfOk result (λ log. log ≡ log_completed_by root.now signed unsigned.now) }
     ensures cost { hashes.new ≤ hashes.old + TREE_HASHES + LEAF_HASHES * length unsigned.now }
 {
     let mut log = signed;
@@ -79,7 +79,7 @@ fn push_handed_over<L: Ledger>(
     requires tree { IsTreeOf device.now tree.now }
     requires uses { outgoing.now.uses ≤ KEY_USES }
     requires spelled { All entry_format.Allowed entries.now }
-    ensures log { (uses : ℕ) → OnOk result (log.new ≡ log.old ++ signed_for device.now uses (Some outgoing.now) entries.now) }
+    ensures log { (uses : ℕ) → OnOk result (log.new ≡ log.old ++ entries_signed_for device.now uses (Some outgoing.now) entries.now) }
     ensures cost { hashes.new ≤ hashes.old + TREE_HASHES + LEAF_HASHES * length entries.now }
 {
     if entries.is_empty() {
@@ -105,7 +105,7 @@ fn push_signed<L: Ledger>(
     requires tree { IsTreeOf key.now tree.now }
     requires index { index ≤ LAST_INDEX }
     requires spelled { All entry_format.Allowed entries.now }
-    ensures log { OnOk result (log.new ≡ log.old ++ map (signed_by key.now index) entries.now) }
+    ensures log { OnOk result (log.new ≡ log.old ++ map (entry_signed_by key.now index) entries.now) }
     ensures cost { hashes.new ≤ hashes.old + LEAF_HASHES * length entries.now }
 {
     for entry in entries {
@@ -115,7 +115,7 @@ fn push_signed<L: Ledger>(
 }
 
 /// The entry signed by the key at the index; `tree` is the tree of the key.
-#[tactic(auto, unfolding(mb_model::specs::OrderEffects::signed_by, mb_model::specs::SignedTexts::entry_text))]
+#[tactic(auto, unfolding(mb_model::specs::OrderEffects::entry_signed_by, mb_model::specs::SignedTexts::entry_text))]
 fn signed_by<L: Ledger>(
     alloc: Global,
     key: &KeySeed,
@@ -127,7 +127,7 @@ fn signed_by<L: Ledger>(
     requires tree { IsTreeOf key.now tree.now }
     requires index { index ≤ LAST_INDEX }
     requires spelled { entry_format.Allowed entry.now }
-    ensures signed { IfOk result (λ signed. signed ≡ signed_by key.now index entry.now) }
+    ensures signed { IfOk result (λ signed. signed ≡ entry_signed_by key.now index entry.now) }
     ensures cost { hashes.new ≤ hashes.old + LEAF_HASHES }
 {
     let mut spelling = Vec::new(alloc);

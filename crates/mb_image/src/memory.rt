@@ -4,7 +4,7 @@ ghost use Rattle.std.specs.Prelude.{◌≡◌, ◌≢◌, ◌≤◌, length, Mat
 ghost use Rattle.mb_model.specs.declared.limits.TheConstants.{BBRAM_LENGTH, IMAGE_LENGTH};
 ghost use Rattle.mb_model.specs.declared.stored.Root.{Root};
 ghost use Rattle.mb_model.specs.Meaning.{RootIn};
-ghost use Rattle.mb_model.specs.Memory.{IsImage, spare, current};
+ghost use Rattle.mb_model.specs.Memory.{IsImage, spare_bytes, area_of_slot};
 
 use mb_layout::{is_blank, root_in};
 use mb_model::{AREA_LENGTH, FLASH_LENGTH, IMAGE_LENGTH, Root};
@@ -29,10 +29,10 @@ pub(crate) fn memories(image: &[u8]) -> Option<(&[u8], &[u8])>
 }
 
 /// The bytes between the selectors and the first area of a battery-backed memory.
-#[tactic(auto, unfolding(mb_model::specs::Memory::spare))]
+#[tactic(auto, unfolding(mb_model::specs::Memory::spare_bytes))]
 pub(crate) fn spare(bbram: &[u8]) -> &[u8]
     requires { length bbram.now ≡ BBRAM_LENGTH }
-    ensures { result.now ≡ spare bbram.now }
+    ensures { result.now ≡ spare_bytes bbram.now }
 {
     &bbram[SPARE_AT..AREAS_AT]
 }
@@ -43,7 +43,7 @@ pub(crate) fn current_area(bbram: &[u8], slot: usize) -> &[u8]
     requires sized { length bbram.now ≡ BBRAM_LENGTH }
     requires first { 1 ≤ slot }
     requires last { slot ≤ 3 }
-    ensures { result.now ≡ current bbram.now slot }
+    ensures { result.now ≡ area_of_slot bbram.now slot }
 {
     let first = AREAS_AT + (slot - 1) * 2 * AREA_LENGTH;
     let start = if bbram[slot] % 2 == 0 {

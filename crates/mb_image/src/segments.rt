@@ -7,7 +7,7 @@ ghost use Rattle.mb_model.specs.declared.limits.TheConstants.{CODE_LIMIT, ENTRY_
 ghost use Rattle.mb_model.specs.EntryFormat.{entry_format};
 ghost use Rattle.mb_model.specs.HeaderFormat.{header_format};
 ghost use Rattle.mb_model.specs.Sectors.{header_sector, log_sector};
-ghost use Rattle.mb_model.specs.StoredLog.{unsigned_by, CanSign};
+ghost use Rattle.mb_model.specs.StoredLog.{how_many_unsigned, CanSign};
 ghost use Rattle.mb_model.specs.Flash.{sector, HoldsCode, HoldsEntry, AreBytesOf, HoldsPublic};
 ghost use Rattle.mb_model.specs.Faults.{SomePublic};
 ghost use Rattle.mb_model_lemmas.specs.SegmentLaws.{HoldsNoEntry};
@@ -63,7 +63,7 @@ pub(crate) fn text_count(header: &StoredHeader<'_>) -> u16
 
 /// Whether as many entries are unsigned as the pending work says, with an outgoing key if they are two.
 fn are_counted(pending: &Option<Pending>, count: u16) -> bool
-    ensures { IsTrue result ↔ ((count ≡ unsigned_by pending.now) × CanSign pending.now) }
+    ensures { IsTrue result ↔ ((count ≡ how_many_unsigned pending.now) × CanSign pending.now) }
 {
     match pending {
         None => count == 0,

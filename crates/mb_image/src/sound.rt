@@ -3,7 +3,7 @@
 ghost use Rattle.std.specs.Prelude.{◌≡◌, ◌↔◌, ◌+◌, ◌≤◌, IfOk, IsTrue, MatchOption};
 ghost use Rattle.mb_model.specs.Log.{layers_of};
 ghost use Rattle.mb_model.specs.StoredLog.{HasIndex};
-ghost use Rattle.mb_model.specs.Meaning.{meant};
+ghost use Rattle.mb_model.specs.Meaning.{state_of_contents};
 ghost use Rattle.mb_model.specs.Faults.{AreSound};
 ghost use Rattle.mb_signer.specs.Tree.{IsTreeOf};
 ghost use Rattle.mb_image.specs.Stored.{contents_of, CanBeCompleted};
@@ -27,7 +27,7 @@ pub(crate) fn sound_state<L: Ledger>(
     hashes: &mut HashCount<L>,
 ) -> Result<Option<State>, NoMemory>
     requires { CanBeCompleted (contents_of stored) }
-    ensures state { IfOk result (λ state. MatchOption state (AreSound (contents_of stored) → ⊥) (λ s. AreSound (contents_of stored) × (s ≡ meant (contents_of stored)))) }
+    ensures state { IfOk result (λ state. MatchOption state (AreSound (contents_of stored) → ⊥) (λ s. AreSound (contents_of stored) × (s ≡ state_of_contents (contents_of stored)))) }
     ensures cost { hashes.new ≤ hashes.old + 621330 }
 {
     if !has_index(&stored.root) {
@@ -54,7 +54,7 @@ fn has_index(root: &Root) -> bool
 }
 
 /// The state that stored contents mean, by the tree of the device key.
-#[tactic(auto, unfolding(mb_model::specs::Meaning::meant))]
+#[tactic(auto, unfolding(mb_model::specs::Meaning::state_of_contents))]
 fn state_of<L: Ledger>(
     alloc: Global,
     stored: Stored,
@@ -63,7 +63,7 @@ fn state_of<L: Ledger>(
 ) -> Result<State, NoMemory>
     requires contents { CanBeCompleted (contents_of stored) }
     requires tree { IsTreeOf stored.root.device tree.now }
-    ensures state { IfOk result (λ state. state ≡ meant (contents_of stored)) }
+    ensures state { IfOk result (λ state. state ≡ state_of_contents (contents_of stored)) }
     ensures cost { hashes.new ≤ hashes.old + 36547 }
 {
     let Stored {

@@ -2,7 +2,7 @@
 
 ghost use Rattle.std.specs.Prelude.{◌≡◌, ◌↔◌, ◌+◌, ◌≤◌, ◌-◌, ◌^◌, ◌<◌, length, All, IfOk, IsTrue, Some};
 ghost use Rattle.mb_model.specs.EntryFormat.{entry_format};
-ghost use Rattle.mb_model.specs.Log.{figures_of, entries_of, layers_of, device_of, serial_of, used};
+ghost use Rattle.mb_model.specs.Log.{figures_of, entries_of, layers_of, device_of, serial_of, uses_of_device_key};
 ghost use Rattle.mb_model.specs.Signing.{public_of};
 ghost use Rattle.mb_model.specs.Valid.{IsValidState};
 
@@ -47,7 +47,7 @@ pub(crate) fn is_valid<L: Ledger>(
 /// log. `figures` are the figures of the log.
 fn is_device(log: &[SignedEntry], figures: &Figures, state: &State, device: &PublicKey) -> bool
     requires { figures.now ≡ figures_of (entries_of log.now) }
-    ensures { IsTrue result ↔ ((serial_of (entries_of log.now) ≡ Some state.now.serial) × (device_of (entries_of log.now) ≡ Some device.now) × (state.now.uses ≡ used (entries_of log.now))) }
+    ensures { IsTrue result ↔ ((serial_of (entries_of log.now) ≡ Some state.now.serial) × (device_of (entries_of log.now) ≡ Some device.now) × (state.now.uses ≡ uses_of_device_key (entries_of log.now))) }
 {
     serial_of(log) == Some(state.serial)
         && figures.device == Some(*device)

@@ -3,7 +3,7 @@
 ghost use Rattle.std.specs.Prelude.{◌≡◌, ◌≤◌, ◌*◌, ◌∷◌, [], length, replicate, IfOk, IfSome};
 ghost use Rattle.std.specs.Vec.{vec_len, vec_capacity};
 ghost use Rattle.mb_model.specs.declared.limits.TheConstants.{CODE_LIMIT, FLASH_LENGTH, IMAGE_LENGTH, RECORD_LIMIT, SECTOR_LENGTH};
-ghost use Rattle.mb_model.specs.Board.{erased, zeros};
+ghost use Rattle.mb_model.specs.Board.{erased_bytes, zeros};
 ghost use Rattle.mb_model.specs.EntryFormat.{signed_entry_format};
 ghost use Rattle.mb_model.specs.HeaderFormat.{header_format};
 ghost use Rattle.mb_model.specs.RegionFormat.{CanBeWritten, written_region};
@@ -238,10 +238,10 @@ fn put_in_sectors(out: &mut Vec<u8>, count: usize, bytes: &[u8]) -> Result<(), N
 }
 
 /// Appends erased bytes of the flash, at most 1,048,576.
-#[tactic(auto, unfolding(mb_model::specs::Board::erased))]
+#[tactic(auto, unfolding(mb_model::specs::Board::erased_bytes))]
 fn put_erased(out: &mut Vec<u8>, count: usize) -> Result<(), NoMemory>
     requires { count ≤ FLASH_LENGTH }
-    ensures { Puts (erased count) out.old result out.new }
+    ensures { Puts (erased_bytes count) out.old result out.new }
 {
     put_filled(out, count, ERASED)
 }

@@ -2,7 +2,7 @@
 use Rattle.std.proofs.Common.{◌≡◌, ℕ, suc, ◌+◌, ◌<◌, ◌≤◌, Bool, true, false, cond, Some, None, List, [], ◌∷◌, length, filter, ◌++◌, find, take, drop, refl, sym, ap, ◌∙◌, lit≤, arith}
 use Rattle.std.specs.List.{list_any}
 use Rattle.mb_model.specs.declared.stored.Fate.TheVariants.{AddKey}
-use Rattle.mb_model.specs.Meaning.{fated_keys}
+use Rattle.mb_model.specs.Meaning.{keys_after_fate}
 use Rattle.std.proofs.lemmas.List.{length-take-le, drop_all}
 use Rattle.std.specs.Prelude.{if◌then◌else◌}
 use Rattle.mb_model.specs.declared.region.RegionKey.{RegionKey}
@@ -40,12 +40,12 @@ find_none p xs i le =
 
 -- ---- a key more
 
-pub added_there : (key : RegionKey) {keys slice : List RegionKey} → slice ≡ keys → true ≡ list_any (has_number key.number) slice → keys ≡ fated_keys (AddKey key) keys
+pub added_there : (key : RegionKey) {keys slice : List RegionKey} → slice ≡ keys → true ≡ list_any (has_number key.number) slice → keys ≡ keys_after_fate (AddKey key) keys
 added_there key {keys} {slice} s e =
     let there : list_any (has_number key.number) keys ≡ true = ap (list_any (has_number key.number)) (sym s) ∙ sym e in
     rw there refl
 
-pub added_new : (key : RegionKey) {keys slice row : List RegionKey} → slice ≡ keys → false ≡ list_any (has_number key.number) slice → row ≡ keys ++ key ∷ [] → row ≡ fated_keys (AddKey key) keys
+pub added_new : (key : RegionKey) {keys slice row : List RegionKey} → slice ≡ keys → false ≡ list_any (has_number key.number) slice → row ≡ keys ++ key ∷ [] → row ≡ keys_after_fate (AddKey key) keys
 added_new key {keys} {slice} {row} s e put =
     let new : list_any (has_number key.number) keys ≡ false = ap (list_any (has_number key.number)) (sym s) ∙ sym e in
     rw new put

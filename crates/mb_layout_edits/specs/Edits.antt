@@ -6,7 +6,7 @@ use Rattle.mb_model.specs.declared.region.Region.{Region}
 use Rattle.mb_model.specs.declared.region.RegionKey.{RegionKey}
 use Rattle.mb_model.specs.declared.stored.Fate.{Fate}
 use Rattle.mb_model.specs.LayerEvents.{has_number, with_use}
-use Rattle.mb_model.specs.Meaning.{fated}
+use Rattle.mb_model.specs.Meaning.{region_after_fate}
 use Rattle.mb_model.specs.RegionFormat.{SpellsRegion, CanBeWritten, written_region}
 use Rattle.mb_layout_edits.specs.declared.usage.NotUsed.{NotUsed}
 use Rattle.mb_layout_edits.specs.declared.usage.NotUsed.TheVariants.{NoKey, Spent}
@@ -15,8 +15,8 @@ use Rattle.mb_layout_edits.specs.declared.usage.NotUsed.TheVariants.{NoKey, Spen
 -- be written.
 abbrev pub IsFated : Fate → List ℕ → List ℕ → Type 0
 IsFated fate old new =
-    (region : Region) → SpellsRegion old region → CanBeWritten (fated fate region)
-    → new ≡ written_region (fated fate region)
+    (region : Region) → SpellsRegion old region → CanBeWritten (region_after_fate fate region)
+    → new ≡ written_region (region_after_fate fate region)
 
 -- the region with one more use of the key of this number
 abbrev pub region_with_use : ℕ → Region → Region

@@ -3,7 +3,7 @@
 ghost use Rattle.std.specs.Prelude.{◌≡◌, ◌≤◌, length, vec_capacity};
 ghost use Rattle.mb_model.specs.declared.limits.TheConstants.{FILE_LIMIT, KEY_LIMIT, REGION_LIMIT};
 ghost use Rattle.mb_model.specs.declared.region.Region.{Region};
-ghost use Rattle.mb_model.specs.Meaning.{fated, fated_keys};
+ghost use Rattle.mb_model.specs.Meaning.{region_after_fate, keys_after_fate};
 ghost use Rattle.mb_model.specs.RegionFormat.{SpellsRegion, CanBeWritten};
 ghost use Rattle.mb_layout_edits.specs.StoredRegion.{IsStoredAs};
 ghost use Rattle.mb_layout_edits.specs.Edits.{IsFated};
@@ -14,8 +14,8 @@ use mb_model::{Fate, KEY_LIMIT, RegionKey};
 
 /// Appends the key, if none has its number and there is room.
 fn with_key(keys: KeyRow, key: &RegionKey) -> KeyRow
-    ensures { length (fated_keys (Fate.AddKey key.now) keys) ≤ KEY_LIMIT
-        → result ≡ fated_keys (Fate.AddKey key.now) keys }
+    ensures { length (keys_after_fate (Fate.AddKey key.now) keys) ≤ KEY_LIMIT
+        → result ≡ keys_after_fate (Fate.AddKey key.now) keys }
 {
     if has_key(keys.as_slice(), key.number) {
         return keys;
@@ -28,11 +28,11 @@ fn with_key(keys: KeyRow, key: &RegionKey) -> KeyRow
     row
 }
 
-#[tactic(auto, unfolding(mb_model::specs::Meaning::fated))]
+#[tactic(auto, unfolding(mb_model::specs::Meaning::region_after_fate))]
 fn fated_region<'a>(fate: &Fate, stored: StoredRegion<'a>) -> StoredRegion<'a>
     ensures { (region : Region) → IsStoredAs stored.entry region
-        → length (fated fate.now region).keys ≤ KEY_LIMIT
-        → IsStoredAs result (fated fate.now region) }
+        → length (region_after_fate fate.now region).keys ≤ KEY_LIMIT
+        → IsStoredAs result (region_after_fate fate.now region) }
 {
     match fate {
         Fate::Keep => stored,
@@ -58,7 +58,7 @@ pub fn fate_record(bytes: &[u8], fate: &Fate, out: &mut Vec<u8>)
     requires short { length bytes.now ≤ FILE_LIMIT }
     ensures fated { IsFated fate.now bytes.now out.new.items }
     ensures capacity { (region : Region) → SpellsRegion bytes.now region
-        → CanBeWritten (fated fate.now region)
+        → CanBeWritten (region_after_fate fate.now region)
         → vec_capacity out.old ≤ vec_capacity out.new }
 {
     out.clear();

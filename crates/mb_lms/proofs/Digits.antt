@@ -3,7 +3,7 @@ use Rattle.std.proofs.Common.{◌≡◌, ℕ, ◌+◌, ◌-◌, ◌^◌, List, �
 use Rattle.std.specs.Int.{w16, w32, to_be_bytes}
 use Rattle.std.proofs.lemmas.Nat.{and_le_l}
 use Rattle.sha2.specs.Sha256.{sha256}
-use Rattle.mb_model.specs.Winternitz.{coef, shortfall, chain_step, steps_from, steps, value_at, chain_ends}
+use Rattle.mb_model.specs.Winternitz.{coef, shortfall, chain_step, value_after_count, value_after_steps, value_at, chain_ends}
 
 pub ruleset digit_rules = and_le_l
 
@@ -17,13 +17,13 @@ shortfall_next s w n = rw add-one refl
 
 pub ruleset shortfall_rules = (shortfall_none, shortfall_next)
 
-pub steps_none : (id : List ℕ) (q i a : ℕ) (x : List ℕ) → steps_from id q i a 0 x ≡ x
-unfolding steps_from
+pub steps_none : (id : List ℕ) (q i a : ℕ) (x : List ℕ) → value_after_count id q i a 0 x ≡ x
+unfolding value_after_count
 steps_none id q i a x = refl
 
 pub steps_next : (id : List ℕ) (q i a n : ℕ) (x : List ℕ) →
-    steps_from id q i a (n + 1) x ≡ sha256 (id ++ to_be_bytes w32 q ++ to_be_bytes w16 i ++ (a + n) ∷ steps_from id q i a n x)
-unfolding steps_from chain_step
+    value_after_count id q i a (n + 1) x ≡ sha256 (id ++ to_be_bytes w32 q ++ to_be_bytes w16 i ++ (a + n) ∷ value_after_count id q i a n x)
+unfolding value_after_count chain_step
 steps_next id q i a n x = rw add-one refl
 
 pub ruleset chain_rules = (steps_none, steps_next)
@@ -35,7 +35,7 @@ unfolding chain_ends
 ends_begun start id q w digits values = sym (append-nil start)
 
 pub ends_grown : (start id : List ℕ) (q w : ℕ) (digits values : List ℕ) (n : ℕ) (end : List ℕ) →
-    end ≡ steps id q n (coef digits n w) (2 ^ w - 1) (value_at values n) →
+    end ≡ value_after_steps id q n (coef digits n w) (2 ^ w - 1) (value_at values n) →
     (start ++ chain_ends id q w digits values n) ++ end ≡ start ++ chain_ends id q w digits values (n + 1)
 unfolding chain_ends
 ends_grown start id q w digits values n end e =

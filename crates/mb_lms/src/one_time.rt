@@ -4,7 +4,7 @@ ghost use Rattle.std.specs.Prelude.{◌≡◌, ℕ, ◌+◌, ◌-◌, ◌*◌, �
 ghost use Rattle.std.specs.Int.{w16, w32, to_be_bytes};
 ghost use Rattle.sha2.specs.Sha256.{sha256};
 ghost use Rattle.mb_model.specs.Key.{digit_bits, chain_count};
-ghost use Rattle.mb_model.specs.Winternitz.{coef, shortfall, checksum, digits_of, steps, one_time_key};
+ghost use Rattle.mb_model.specs.Winternitz.{coef, shortfall, checksum, digits_of, value_after_steps, one_time_key};
 
 use crate::bytes::{begun, value_at};
 use crate::parameters::{chain_count, greatest_digit, hash_digits};
@@ -95,7 +95,7 @@ fn chain_step(prefix: &[u8; 22], step: u8, value: &[u8; 32]) -> [u8; 32]
 #[tactic(auto, using(crate::proofs::Digits::chain_rules))]
 fn chain_end(prefix: &[u8; 22], first: u8, last: u8, value: [u8; 32]) -> [u8; 32]
     requires { first ≤ last }
-    ensures { (id : List ℕ) (q chain : ℕ) → prefix.now ≡ id ++ to_be_bytes w32 q ++ to_be_bytes w16 chain → result ≡ steps id q chain first last value }
+    ensures { (id : List ℕ) (q chain : ℕ) → prefix.now ≡ id ++ to_be_bytes w32 q ++ to_be_bytes w16 chain → result ≡ value_after_steps id q chain first last value }
 {
     let mut link = value;
     for n in 0..last - first {

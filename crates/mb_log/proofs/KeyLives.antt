@@ -9,7 +9,7 @@ use Rattle.mb_model.specs.declared.entry.Entry.{Entry}
 use Rattle.mb_model.specs.declared.entry.Entry.TheVariants.{Birth, Change, NewKey, Succession}
 use Rattle.mb_model.specs.declared.state.Configuration.{Configuration}
 use Rattle.mb_model.specs.Log.{figures_of, number_of, layers_of, last_of, RuledLog}
-use Rattle.mb_model.specs.Lives.{ends, configuration, opened_by, lives_of}
+use Rattle.mb_model.specs.Lives.{ends_keys, configuration, configurations_opened_by, lives_of}
 use Rattle.mb_model.specs.Acceptance.{KeyEntry, key_in, key_of, is_alive}
 use Rattle.mb_model_lemmas.proofs.ReaderLemmas.{no_lives_unmade, first_sight, first_lives, first_alive, stays_made, stays_alive, lives_on}
 use Rattle.mb_model_lemmas.proofs.Splits.{some_same, none_is_some}
@@ -115,12 +115,12 @@ is_born before entry figures position number key_number n layer kind key life fi
 pub goes_on : (before : List Entry) (entry : Entry) (n : ℕ) (life next : Life) (born : BornKey) → RuledLog (before ++ entry ∷ []) → life.born ≡ Some born → IsLifeOf before n life
     → next.number ≡ life.number
     → next.born ≡ life.born
-    → next.alive ≡ (life.alive && not (ends born.kind born.layer entry))
-    → next.lives ≡ life.lives ++ (if life.alive && not (ends born.kind born.layer entry) then opened_by born.layer entry else [])
+    → next.alive ≡ (life.alive && not (ends_keys born.kind born.layer entry))
+    → next.lives ≡ life.lives ++ (if life.alive && not (ends_keys born.kind born.layer entry) then configurations_opened_by born.layer entry else [])
     → IsLifeOf (before ++ entry ∷ []) n next
 goes_on before entry n life next born ruled was is number_is born_is alive_is lives_are =
     let made : KeyEntry = as_entry born in
-    let on : Bool = not (ends born.kind born.layer entry) in
+    let on : Bool = not (ends_keys born.kind born.layer entry) in
     let named : key_of before n ≡ Some made = is.born ∙ ap (option_map as_entry) was in
     let still : key_of (before ++ entry ∷ []) n ≡ Some made = stays_made before entry n made ruled named in
     let flag : life.alive ≡ is_alive before n born.layer = is.alive made named in
@@ -134,8 +134,8 @@ goes_on before entry n life next born ruled was is number_is born_is alive_is li
           ∙ ap (λ (m : KeyEntry). is_alive (before ++ entry ∷ []) n m.layer) (some_same made other (sym still ∙ e));
       lives =
           lives_are
-          ∙ ap (λ cs. cs ++ (if life.alive && on then opened_by born.layer entry else [])) is.lives
-          ∙ ap (λ b. lives_of before n ++ (if b && on then opened_by born.layer entry else [])) flag
+          ∙ ap (λ cs. cs ++ (if life.alive && on then configurations_opened_by born.layer entry else [])) is.lives
+          ∙ ap (λ b. lives_of before n ++ (if b && on then configurations_opened_by born.layer entry else [])) flag
           ∙ sym (lives_on before entry n made ruled named);
     }
 

@@ -8,7 +8,7 @@ use Rattle.mb_model.specs.declared.key.PublicKey.{PublicKey}
 use Rattle.mb_model.specs.declared.layer.Layers.{Layers}
 use Rattle.mb_model.specs.declared.entry.Entry.{Entry}
 use Rattle.mb_model.specs.Layers.{unowned_layers}
-use Rattle.mb_model.specs.Log.{figures_of, is_change, is_version_two, layers_in, device_in, keys_in, last_of, number_of, layers_of, device_of, used, made, has_version_two}
+use Rattle.mb_model.specs.Log.{figures_of, is_change, is_version_two, layers_in, device_in, keys_in, last_of, number_of, layers_of, device_of, uses_of_device_key, keys_made_by, has_version_two}
 use Rattle.mb_model_lemmas.proofs.LogLemmas.{number_of-push, layers_of-push, device_of-push, used-push, made-push, has_version_two-push, number_of-le-length, made-le-length}
 use Rattle.mb_model.specs.declared.state.Figures.{Figures}
 
@@ -26,12 +26,12 @@ with_entry figures entry = record {
 
 -- the figures of no entries
 pub figures_nil : figures_of [] ≡ record { length = 0; number = 0; layers = unowned_layers; device = None; uses = 0; keys_made = 0; version_two = false }
-unfolding number_of layers_of device_of last_of used made has_version_two
+unfolding number_of layers_of device_of last_of uses_of_device_key keys_made_by has_version_two
 figures_nil = refl
 
 -- no more entries stand after the last key than there are
-used-le-length : (log : List Entry) → used log ≤ length log
-unfolding used
+used-le-length : (log : List Entry) → uses_of_device_key log ≤ length log
+unfolding uses_of_device_key
 used-le-length log =
     omega (arith, length-reverse log, length-take (prefix_len (λ e. is_none (device_in e)) (reverse log)) (reverse log))
 
@@ -56,8 +56,8 @@ figures_more before entry few =
     let number_is : number_of log ≡ min (number_of before + (if is_change entry then 1 else 0)) (2 ^ 32 - 1) =
     still (number_of log) _ (number_of-push before entry) (omega (arith, number_of-le-length log))
     in
-    let uses_is : used log ≡ (if is_some (device_in entry) then 0 else min (used before + 1) (2 ^ 32 - 1)) =
-    used_still (is_some (device_in entry)) (used before) (used log) (omega (arith, used-le-length before)) (used-push before entry)
+    let uses_is : uses_of_device_key log ≡ (if is_some (device_in entry) then 0 else min (uses_of_device_key before + 1) (2 ^ 32 - 1)) =
+    used_still (is_some (device_in entry)) (uses_of_device_key before) (uses_of_device_key log) (omega (arith, used-le-length before)) (used-push before entry)
     in
-    let made_is : made log ≡ min (made before + keys_in entry) (2 ^ 32 - 1) = still (made log) _ (made-push before entry) (omega (arith, made-le-length log)) in
+    let made_is : keys_made_by log ≡ min (keys_made_by before + keys_in entry) (2 ^ 32 - 1) = still (keys_made_by log) _ (made-push before entry) (omega (arith, made-le-length log)) in
     same_figures _ _ _ _ _ _ _ _ _ _ _ _ _ _ length_is number_is (layers_of-push before entry) (device_of-push before entry) uses_is made_is (has_version_two-push before entry)

@@ -3,7 +3,7 @@
 ghost use Rattle.std.specs.Prelude.{◌≡◌, ◌+◌, ◌<◌, ◌≤◌, [], ◌∷◌, ◌++◌, IfOk, IsSome, OnErr, vec_len, vec_capacity, if◌then◌else◌, ◌*◌, true, false};
 ghost use Rattle.mb_model.specs.declared.limits.TheConstants.{LAST_INDEX, ENTRY_LIMIT};
 ghost use Rattle.mb_model.specs.Signing.{public_of};
-ghost use Rattle.mb_model.specs.OrderEffects.{names_next, next_key, named_next, entry_of, device_after, uses_after};
+ghost use Rattle.mb_model.specs.OrderEffects.{names_next, next_key, next_device_key, entry_of, device_after, uses_after};
 ghost use Rattle.mb_model.specs.Work.{ready_by, first_by, key_by, outgoing_by, bodies_by};
 ghost use Rattle.mb_log.specs.Additions.{needed_with, HasRoomFor, IsInRange};
 ghost use Rattle.mb_signer.specs.Benches.{HasTree};
@@ -175,7 +175,7 @@ fn device_after<L: Ledger>(
     hashes: &mut HashCount<L>,
 ) -> DeviceKey
     requires { view.now.uses ≤ LAST_INDEX }
-    ensures named { result.named ≡ named_next names_next view.now draw.now }
+    ensures named { result.named ≡ next_device_key names_next view.now draw.now }
     ensures seed { result.seed ≡ (if names_next then next_key view.now draw.now else view.now.device) }
     ensures uses { result.uses ≡ (if names_next then 0 else view.now.uses + 1) }
     ensures at_hand { names_next ≡ true → HasTree bench.new result.seed }

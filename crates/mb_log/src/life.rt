@@ -6,7 +6,7 @@ ghost use Rattle.std.specs.Option.{option_to_list};
 ghost use Rattle.mb_model.specs.declared.limits.TheConstants.{ENTRY_LIMIT};
 ghost use Rattle.mb_model.specs.declared.entry.Entry.{Entry};
 ghost use Rattle.mb_model.specs.Log.{figures_of, entries_of, RuledLog};
-ghost use Rattle.mb_model.specs.Lives.{ends, layers_upto, configuration, opened_by, lives_of};
+ghost use Rattle.mb_model.specs.Lives.{ends_keys, layers_upto, configuration, configurations_opened_by, lives_of};
 ghost use Rattle.mb_log.specs.KeyLife.{IsLifeOf};
 
 use crate::figures::{add_entry, no_figures};
@@ -92,8 +92,8 @@ impl Life {
 
     /// Adds the next entry, after the one that made the key.
     fn live_on(&mut self, born: &BornKey, entry: &Entry) -> Result<(), NoMemory>
-        ensures alive { OnOk result (self.new.alive ≡ (self.old.alive && not (ends born.now.kind born.now.layer entry.now))) }
-        ensures lives { OnOk result (self.new.lives ≡ self.old.lives ++ (if self.old.alive && not (ends born.now.kind born.now.layer entry.now) then opened_by born.now.layer entry.now else [])) }
+        ensures alive { OnOk result (self.new.alive ≡ (self.old.alive && not (ends_keys born.now.kind born.now.layer entry.now))) }
+        ensures lives { OnOk result (self.new.lives ≡ self.old.lives ++ (if self.old.alive && not (ends_keys born.now.kind born.now.layer entry.now) then configurations_opened_by born.now.layer entry.now else [])) }
         ensures number { self.new.number ≡ self.old.number }
         ensures born { self.new.born ≡ self.old.born }
         ensures err { OnErr result (self.new ≡ self.old) }
@@ -132,7 +132,7 @@ pub fn lives(alloc: Global, log: &[SignedEntry], key: u32) -> Result<Lives, NoMe
 /// Whether the entry ends each key of this kind and layer that was born before it. A change ends an epoch key if it
 /// does not keep the region, and a configuration key if it is at the layer or beneath.
 pub fn ends(kind: KeyKind, layer: u8, entry: &Entry) -> bool
-    ensures { result ≡ ends kind layer entry.now }
+    ensures { result ≡ ends_keys kind layer entry.now }
 {
     let Entry::Change {
         layer: changed,
@@ -150,7 +150,7 @@ pub fn ends(kind: KeyKind, layer: u8, entry: &Entry) -> bool
 
 /// The configuration that the entry opens for a key of the layer, if it is a change at the layer or beneath.
 fn opened_by(layer: u8, entry: &Entry) -> Option<Configuration>
-    ensures { option_to_list result ≡ opened_by layer entry.now }
+    ensures { option_to_list result ≡ configurations_opened_by layer entry.now }
 {
     match entry {
         Entry::Change {

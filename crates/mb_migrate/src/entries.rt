@@ -4,7 +4,7 @@ ghost use Rattle.std.specs.Prelude.{◌≡◌, ◌↔◌, List, IfOk, IsTrue, Ma
 ghost use Rattle.mb_model.specs.declared.entry.Entry.{Entry};
 ghost use Rattle.mb_model.specs.declared.entry.SignedEntry.{SignedEntry};
 ghost use Rattle.mb_model.specs.OldFlash.{with_signature, without_signature};
-ghost use Rattle.mb_model.specs.StoredLog.{unsigned_by, CanSign};
+ghost use Rattle.mb_model.specs.StoredLog.{how_many_unsigned, CanSign};
 ghost use Rattle.mb_migrate.specs.Entries.{IsSplitLog};
 
 use mb_model::{Entries, Items, Log, NoMemory, Pending, PublicEntry, SignedEntry};
@@ -45,7 +45,7 @@ pub(crate) fn split_entries(
 
 /// The number of unsigned entries by the pending work.
 fn unsigned_by(pending: &Option<Pending>) -> usize
-    ensures { result ≡ unsigned_by pending.now }
+    ensures { result ≡ how_many_unsigned pending.now }
 {
     match pending {
         None => 0,

@@ -16,12 +16,12 @@ use Rattle.mb_model.specs.declared.order.OrderKind.{OrderKind}
 use Rattle.mb_model.specs.declared.order.OrderKind.TheVariants as kind
 use Rattle.mb_model.specs.declared.order.OrderForm.{OrderForm}
 use Rattle.mb_model.specs.Rules.{kind_of, least_layer}
-use Rattle.mb_model.specs.OrderFormat.{TargetTag, serial_tag, length_tag, owner_tag, code_tag, target_byte, target_rows, target_tag, demanded_serial, demanded_length, demanded_owner, demanded_code, target_by, target_format, form_byte, form_rows, other_rows, given_trusts, establish_in, load_in, emergency_in, made_in, payload_format, act_by, Body, body_by, body_format, sized_signature_format, Climb, countersignature_format, climbed, most_countersigned, countersignatures_format, order_format}
+use Rattle.mb_model.specs.OrderFormat.{TargetTag, serial_tag, length_tag, owner_tag, code_tag, target_byte, target_rows, target_tag, demanded_serial, demanded_length, demanded_owner, demanded_code, target_by, target_format, form_byte, form_rows, other_rows, given_trusts, establish_in, load_in, emergency_in, made_in, payload_format, act_by, Body, body_by, body_format, sized_signature_format, Climb, countersignature_format, climb_after, countersignature_limit, countersignatures_format, order_format}
 use Rattle.mb_model.specs.ChainFormat.{statement_format, chain_word, chain_format}
-use Rattle.mb_model.specs.RootFormat.{region_key_format, outgoing_format, FateTag, keep_tag, empty_tag, drop_tag, add_tag, fate_byte, fate_rows, fate_tag, added_in, fate_by, fate_format, pending_format, root_format}
+use Rattle.mb_model.specs.RootFormat.{region_key_format, outgoing_format, FateTag, keep_tag, empty_tag, drop_tag, add_tag, fate_byte, fate_rows, fate_tag, key_added_by, fate_by, fate_format, pending_format, root_format}
 use Rattle.mb_model.specs.RegionFormat.{is_name, secret_format, most_secrets, secrets_format, least_keys, keys_format, region_by, region_format}
 use Rattle.mb_model.specs.PublicRecord.{code_format, codes_format, public_entry_format, public_format}
-use Rattle.mb_model.specs.HeaderFormat.{code_length_format, slot_format, entry_bytes_format, most_unsigned, unsigned_format, header_word, header_format, log_format}
+use Rattle.mb_model.specs.HeaderFormat.{code_length_format, slot_format, entry_bytes_format, unsigned_limit, unsigned_format, header_word, header_format, log_format}
 use Rattle.mb_model.proofs.HeaderFormatLaws.{few_unsigned}
 use Rattle.mb_model.proofs.RecordFormatLaws.{few_secrets}
 
@@ -186,11 +186,11 @@ countersignature_short : (climb : Climb) → IsShort (countersignature_format cl
 countersignature_short climb = bounds.as_record_short _ _ (bounds.pair_short (bounds.between_short (climb.below + 1) (4 - climb.left) wide8) sized_signature_short)
 
 -- at most two owners may countersign, since a body's layer is 1 at least
-pub most_two : (body : Body) → body_format.Allowed body → most_countersigned (kind_of body.act) body.layer ≤ 2
+pub most_two : (body : Body) → body_format.Allowed body → countersignature_limit (kind_of body.act) body.layer ≤ 2
 unfolding body_format
 most_two body h = of_kind (kind_of body.act) body.layer h.1.0.0
   where
-    of_kind : (order : OrderKind) (n : ℕ) → least_layer order ≤ n → most_countersigned order n ≤ 2
+    of_kind : (order : OrderKind) (n : ℕ) → least_layer order ≤ n → countersignature_limit order n ≤ 2
     of_kind kind.Establish n le = lit≤ tt
     of_kind kind.Surrender n le = lit≤ tt
     of_kind kind.Load n le = omega arith
@@ -200,8 +200,8 @@ most_two body h = of_kind (kind_of body.act) body.layer h.1.0.0
 countersignatures_short : (body : Body) → body_format.Allowed body → IsShort (countersignatures_format body) 18655
 unfolding countersignatures_format
 countersignatures_short body h =
-    bounds.led_short {n = 18654} length (bounds.between_short 0 (most_countersigned (kind_of body.act) body.layer) wide8)
-    (λ n g. (let two = most_two body h in bounds.short_more (bounds.items_short climbed n (record { below = body.layer; left = n }) countersignature_short) (omega (arith, g.1, two))))
+    bounds.led_short {n = 18654} length (bounds.between_short 0 (countersignature_limit (kind_of body.act) body.layer) wide8)
+    (λ n g. (let two = most_two body h in bounds.short_more (bounds.items_short climb_after n (record { below = body.layer; left = n }) countersignature_short) (omega (arith, g.1, two))))
 
 pub order_short : IsShort order_format 61034
 unfolding order_format
@@ -221,7 +221,7 @@ fate_by-short : (tag : FateTag) → IsShort (fate_by tag) 54
 fate_by-short keep_tag = bounds.short_more bounds.nothing_short (lit≤ tt)
 fate_by-short empty_tag = bounds.short_more bounds.nothing_short (lit≤ tt)
 fate_by-short drop_tag = bounds.short_more bounds.nothing_short (lit≤ tt)
-fate_by-short add_tag = bounds.as_value_short AddKey added_in region_key_short
+fate_by-short add_tag = bounds.as_value_short AddKey key_added_by region_key_short
 
 fate_short : IsShort fate_format 55
 unfolding fate_format
@@ -285,7 +285,7 @@ entry_bytes_short = bounds.sized_short 1 400 wide16
 
 unsigned_short : (signed : ℕ) → IsShort (unsigned_format signed) 805
 unfolding unsigned_format
-unsigned_short signed = bounds.as_value_short _ _ (bounds.short_more (bounds.counted_short 0 (most_unsigned signed) wide8 entry_bytes_short) (omega (arith, few_unsigned signed)))
+unsigned_short signed = bounds.as_value_short _ _ (bounds.short_more (bounds.counted_short 0 (unsigned_limit signed) wide8 entry_bytes_short) (omega (arith, few_unsigned signed)))
 
 pub header_short : IsShort header_format 826
 unfolding header_format

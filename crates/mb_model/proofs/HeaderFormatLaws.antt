@@ -8,7 +8,7 @@ use Rattle.mb_format.specs.Combinators.{limit}
 use Rattle.mb_format.proofs.Rules.{exactly}
 use Rattle.mb_format.proofs.Fields.{wide8, between_exact}
 use Rattle.mb_format.proofs.Compositions.{either_exact, as_value_exact, counted_exact}
-use Rattle.mb_model.specs.HeaderFormat.{code_length_format, slot_format, entry_bytes_format, most_unsigned, first_text, second_text, texts_in, unsigned_format, header_format, log_format}
+use Rattle.mb_model.specs.HeaderFormat.{code_length_format, slot_format, entry_bytes_format, unsigned_limit, first_text, second_text, texts_in, unsigned_format, header_format, log_format}
 
 pub code_length_exact : (which : ℕ) → IsExact (code_length_format which)
 unfolding code_length_format
@@ -28,16 +28,16 @@ most_by : (b : Bool) (signed : ℕ) → nat_le (signed + 2) 128 ≡ b → (if b 
 most_by true signed e = lit≤ tt
 most_by false signed e = omega (arith, leb-false (signed + 2) 128 e)
 
-pub few_unsigned : (signed : ℕ) → most_unsigned signed ≤ 2
+pub few_unsigned : (signed : ℕ) → unsigned_limit signed ≤ 2
 few_unsigned signed = most_by (nat_le (signed + 2) 128) signed refl
 
-most_small : (signed : ℕ) → most_unsigned signed < limit w8
+most_small : (signed : ℕ) → unsigned_limit signed < limit w8
 most_small signed =
     let most : 2 < limit w8 = lit< tt in
     omega (arith, few_unsigned signed, most)
 
 -- the first and the second of at most two are all of them
-texts_again : (signed : ℕ) (texts : List (List ℕ)) → length texts ≤ most_unsigned signed → texts_in (first_text texts) (second_text texts) ≡ Some texts
+texts_again : (signed : ℕ) (texts : List (List ℕ)) → length texts ≤ unsigned_limit signed → texts_in (first_text texts) (second_text texts) ≡ Some texts
 texts_again signed [] few = refl
 texts_again signed (a ∷ []) few = refl
 texts_again signed (a ∷ b ∷ []) few = refl

@@ -20,7 +20,7 @@ use Rattle.mb_model.specs.declared.order.OrderKind.TheVariants as kind
 use Rattle.mb_model.specs.declared.order.OrderForm.{OrderForm}
 use Rattle.mb_model.specs.declared.order.Payload.{Payload}
 use Rattle.mb_model.specs.declared.order.Countersignature.{Countersignature}
-use Rattle.mb_model.specs.OrderFormat.{TargetTag, serial_tag, length_tag, owner_tag, code_tag, target_byte, target_rows, target_tag, demanded_serial, demanded_length, demanded_owner, demanded_code, target_by, target_format, form_byte, form, form_rows, form_of, other_rows, differing_trusts, given_trusts, establish_in, load_in, emergency_in, made_in, payload_format, act_by, Body, body_by, body_format, sized_signature_format, Climb, countersignature_format, climbed, most_countersigned, countersignatures_format, order_format}
+use Rattle.mb_model.specs.OrderFormat.{TargetTag, serial_tag, length_tag, owner_tag, code_tag, target_byte, target_rows, target_tag, demanded_serial, demanded_length, demanded_owner, demanded_code, target_by, target_format, form_byte, form, form_rows, form_of, other_rows, differing_trusts, given_trusts, establish_in, load_in, emergency_in, made_in, payload_format, act_by, Body, body_by, body_format, sized_signature_format, Climb, countersignature_format, climb_after, countersignature_limit, countersignatures_format, order_format}
 use Rattle.mb_model.specs.Layers.{is_same_trust, are_equal}
 use Rattle.mb_model.specs.LayerFormat.{trust_byte, trust_format}
 use Rattle.mb_model.proofs.KeyFormatLaws.{public_key_exact, trust_exact, one_trust_exact}
@@ -217,15 +217,15 @@ below_four n = omega arith
 pub countersignature_exact : (climb : Climb) → IsExact (countersignature_format climb)
 countersignature_exact climb = search (exactly, below_four, sized_signature_exact) depth 20
 
-pub most_small : (order : OrderKind) (n : ℕ) → most_countersigned order n < limit w8
+pub most_small : (order : OrderKind) (n : ℕ) → countersignature_limit order n < limit w8
 most_small kind.Establish n = omega arith
 most_small kind.Surrender n = omega arith
 most_small kind.Load n = omega arith
 most_small kind.Emergency n = omega arith
 most_small kind.NewKey n = omega arith
 
-announced : (body : Body) (n : ℕ) (cs : List Countersignature) → (items countersignature_format climbed n (record { below = body.layer; left = n })).Allowed cs → length cs ≡ n
-announced body n cs h = items_length countersignature_format climbed n (record { below = body.layer; left = n }) cs h
+announced : (body : Body) (n : ℕ) (cs : List Countersignature) → (items countersignature_format climb_after n (record { below = body.layer; left = n })).Allowed cs → length cs ≡ n
+announced body n cs h = items_length countersignature_format climb_after n (record { below = body.layer; left = n }) cs h
 
 pub countersignatures_exact : (body : Body) → IsExact (countersignatures_format body)
 unfolding countersignatures_format
@@ -237,7 +237,7 @@ pub countersignatures_spelling : (body : Body) (cs : List Countersignature) (cli
 unfolding countersignatures_format
 countersignatures_spelling body cs climb =
     ap (λ (xs : List ℕ). (number w8).spelling (length cs) ++ xs)
-    (items_spelling countersignature_format climbed (length cs) (record { below = body.layer; left = length cs }) (countersignature_format climb).spelling cs (λ s c. refl) refl
+    (items_spelling countersignature_format climb_after (length cs) (record { below = body.layer; left = length cs }) (countersignature_format climb).spelling cs (λ s c. refl) refl
     ∙ sym (times_spelling (countersignature_format climb) (length cs) cs refl))
 
 pub order_exact : IsExact order_format

@@ -16,7 +16,7 @@ use Rattle.mb_model.specs.declared.order.OrderKind.{OrderKind}
 use Rattle.mb_model.specs.declared.order.OrderKind.TheVariants as kind
 use Rattle.mb_model.specs.declared.order.OrderForm.{OrderForm}
 use Rattle.mb_model.specs.Rules.{kind_of, least_layer}
-use Rattle.mb_model.specs.OrderFormat.{TargetTag, serial_tag, length_tag, owner_tag, code_tag, target_byte, target_rows, target_tag, demanded_serial, demanded_length, demanded_owner, demanded_code, target_by, target_format, form_byte, form_rows, other_rows, given_trusts, establish_in, load_in, emergency_in, made_in, payload_format, act_by, Body, body_by, body_format, sized_signature_format, Climb, countersignature_format, climbed, most_countersigned, countersignatures_format, order_format}
+use Rattle.mb_model.specs.OrderFormat.{TargetTag, serial_tag, length_tag, owner_tag, code_tag, target_byte, target_rows, target_tag, demanded_serial, demanded_length, demanded_owner, demanded_code, target_by, target_format, form_byte, form_rows, other_rows, given_trusts, establish_in, load_in, emergency_in, made_in, payload_format, act_by, Body, body_by, body_format, sized_signature_format, Climb, countersignature_format, climb_after, countersignature_limit, countersignatures_format, order_format}
 use Rattle.mb_model.proofs.KeyFormatLaws.{tree_table, chains_table, public_key_exact, trust_exact}
 use Rattle.mb_model.proofs.OrderFormatLaws.{target_table, target_exact, form_list, given_exact, body_exact, below_four, most_small, sized_signature_exact, countersignature_exact}
 use Rattle.mb_model.proofs.FormatBounds.{most_two}
@@ -85,8 +85,8 @@ countersignature_local climb = bounds.as_record_local _ _
 countersignatures_local : (body : Body) → body_format.Allowed body → IsLocal (countersignatures_format body) 18655
 unfolding countersignatures_format
 countersignatures_local body h =
-    bounds.led_local {n = 18654} length (between_exact wide8 (most_small (kind_of body.act) body.layer)) (bounds.between_local w8 0 (most_countersigned (kind_of body.act) body.layer))
-    (λ n g. (let two = most_two body h in bounds.local_more (bounds.items_local climbed n (record { below = body.layer; left = n }) countersignature_exact countersignature_local) (omega (arith, g.1, two))))
+    bounds.led_local {n = 18654} length (between_exact wide8 (most_small (kind_of body.act) body.layer)) (bounds.between_local w8 0 (countersignature_limit (kind_of body.act) body.layer))
+    (λ n g. (let two = most_two body h in bounds.local_more (bounds.items_local climb_after n (record { below = body.layer; left = n }) countersignature_exact countersignature_local) (omega (arith, g.1, two))))
 
 pub order_local : IsLocal order_format 61034
 unfolding order_format

@@ -8,7 +8,7 @@ use Rattle.mb_format.proofs.Compositions.{both_exact, as_record_exact, counted_e
 use Rattle.mb_model.specs.declared.region.RegionKey.{RegionKey}
 use Rattle.mb_model.specs.declared.stored.Fate.{Fate}
 use Rattle.mb_model.specs.declared.stored.Fate.TheVariants.{AddKey}
-use Rattle.mb_model.specs.RootFormat.{region_key_format, outgoing_format, FateTag, keep_tag, empty_tag, drop_tag, add_tag, fate_byte, fate_rows, fate_tag, added_in, fate_by, fate_format, pending_format, root_format}
+use Rattle.mb_model.specs.RootFormat.{region_key_format, outgoing_format, FateTag, keep_tag, empty_tag, drop_tag, add_tag, fate_byte, fate_rows, fate_tag, key_added_by, fate_by, fate_format, pending_format, root_format}
 use Rattle.mb_model.specs.RegionFormat.{secret_format, most_secrets, secrets_format, least_keys, keys_format, region_by, region_format}
 use Rattle.mb_model.specs.PublicRecord.{code_format, codes_format, public_entry_format, public_format}
 use Rattle.mb_model.proofs.KeyFormatLaws.{key_seed_exact}
@@ -27,7 +27,7 @@ outgoing_exact = search (exactly, key_seed_exact) depth 20
 pub fate_table : IsTable w8 fate_rows fate_byte
 fate_table = record { rows_are = search rules; back = elim [ keep_tag ↦ refl | empty_tag ↦ refl | drop_tag ↦ refl | add_tag ↦ refl ] }
 
-added_only : (fate : Fate) (key : RegionKey) → added_in fate ≡ Some key → AddKey key ≡ fate
+added_only : (fate : Fate) (key : RegionKey) → key_added_by fate ≡ Some key → AddKey key ≡ fate
 added_only fate key e = grind arith
 
 pub fate_by-exact : (tag : FateTag) → IsExact (fate_by tag)

@@ -40,9 +40,9 @@ pub data ChainRefusal : Type 0 where
 -- the number by which it is told
 abbrev pub refusal_code : ChainRefusal → ℕ
 refusal_code (bad_form offset) = 20
-refusal_code (bad_signature i) = 21
-refusal_code (bad_order i) = 22
-refusal_code (breaks_rules i) = 23
+refusal_code (bad_signature index) = 21
+refusal_code (bad_order index) = 22
+refusal_code (breaks_rules index) = 23
 refusal_code key_unknown = 24
 refusal_code bad_statement = 25
 refusal_code (wrong_number named last) = 26
@@ -73,16 +73,16 @@ AreGood maker log =
     (before : List SignedEntry) (signed : SignedEntry) (rest : List SignedEntry) → log ≡ before ++ signed ∷ rest
     → IsGood maker (figures_of (entries_of before)) signed
 
--- entry i of a list, where all before it are good
+-- the entry at this place of a list, where all before it are good
 pub record IsNext
     (maker : PublicKey)
     (log : List SignedEntry)
-    (i : ℕ)
+    (place : ℕ)
     (before : List SignedEntry)
     (signed : SignedEntry) : Type 0 where
   pub rest : List SignedEntry
   pub split : log ≡ before ++ signed ∷ rest
-  pub index : i ≡ length before
+  pub index : place ≡ length before
   pub good : AreGood maker before
 
 -- the maker signed the birth
@@ -100,36 +100,36 @@ pub record KeyEntry : Type 0 where
   pub key : PublicKey
 
 abbrev pub key_in : ℕ → Entry → Option KeyEntry
-key_in n (Birth version serial key layers) = None
-key_in n (Change version position number kind layer cosigned layers kept next) = None
-key_in n (NewKey position number key_number layer kind key) =
-    if key_number == n then Some (record { layer = layer; kind = kind; key = key }) else None
-key_in n (Succession position key) = None
+key_in asked (Birth version serial key layers) = None
+key_in asked (Change version position number kind layer cosigned layers kept next) = None
+key_in asked (NewKey position number key_number layer kind key) =
+    if key_number == asked then Some (record { layer = layer; kind = kind; key = key }) else None
+key_in asked (Succession position key) = None
 
 -- the region's key with this number, of which no good chain has two
 unfoldable pub key_of : List Entry → ℕ → Option KeyEntry
-key_of log n = last_of (key_in n) log
+key_of log key_number = last_of (key_in key_number) log
 
 -- the region's key with this number is alive by the log: it is one of the keys that are
 unfoldable pub is_alive : List Entry → ℕ → ℕ → Bool
-is_alive log n L = list_any (λ made. made.number == n) (alive_keys log L)
+is_alive log key_number layer = list_any (λ made. made.number == key_number) (alive_keys log layer)
 
 -- the key signed the statement, as the chain's device
 abbrev pub IsStated : List Entry → ℕ → PublicKey → Statement → Type 0
-IsStated log n key statement =
+IsStated log key_number key statement =
     IsSomeAnd (serial_of log)
-    (λ serial. Verifies key (statement_text serial n statement.number statement.message) statement.signature)
+    (λ serial. Verifies key (statement_text serial key_number statement.number statement.message) statement.signature)
 
 -- what holds of a statement, and of none
 abbrev pub IfStatement : Option Statement → (Statement → Type 0) → Type 0
-IfStatement None P = Unit {0}
-IfStatement (Some statement) P = P statement
+IfStatement None Holds = Unit {0}
+IfStatement (Some statement) Holds = Holds statement
 
 -- a statement is of the chain's last configuration, and of a key that is alive
-pub record IsCurrent (log : List Entry) (n : ℕ) (made : KeyEntry) (statement : Statement) : Type 0 where
-  pub signed : IsStated log n made.key statement
+pub record IsCurrent (log : List Entry) (key_number : ℕ) (made : KeyEntry) (statement : Statement) : Type 0 where
+  pub signed : IsStated log key_number made.key statement
   pub number : statement.number ≡ number_of log
-  pub alive : is_alive log n made.layer ≡ true
+  pub alive : is_alive log key_number made.layer ≡ true
 
 -- ---- the verdict
 
@@ -139,30 +139,30 @@ message_of (Some statement) = Some statement.message
 
 -- what an accepted chain says of a key
 abbrev pub report_of : Chain → ℕ → KeyEntry → Report
-report_of chain n made = record {
+report_of chain key_number made = record {
   layer = made.layer;
   kind = made.kind;
-  alive = is_alive (entries_of chain.entries) n made.layer;
-  lives = lives_of (entries_of chain.entries) n;
+  alive = is_alive (entries_of chain.entries) key_number made.layer;
+  lives = lives_of (entries_of chain.entries) key_number;
   entries = length chain.entries;
   message = message_of chain.statement;
 }
 
--- The bytes are accepted under the maker's key, for the key with number n, and say this of it.
-pub record Accepts (maker : PublicKey) (bytes : List ℕ) (n : ℕ) (report : Report) : Type 0 where
+-- The bytes are accepted under the maker's key, for the key with this number, and say this of it.
+pub record Accepts (maker : PublicKey) (bytes : List ℕ) (key_number : ℕ) (report : Report) : Type 0 where
   pub chain : Chain
   pub spelled : Spells chain_format bytes chain
   pub good : AreGood maker chain.entries
   pub made : KeyEntry
-  pub named : key_of (entries_of chain.entries) n ≡ Some made
-  pub current : IfStatement chain.statement (IsCurrent (entries_of chain.entries) n made)
-  pub report_is : report ≡ report_of chain n made
+  pub named : key_of (entries_of chain.entries) key_number ≡ Some made
+  pub current : IfStatement chain.statement (IsCurrent (entries_of chain.entries) key_number made)
+  pub report_is : report ≡ report_of chain key_number made
 
--- A chain whose entries are good, the entry of the key with number n, and the statement.
+-- A chain whose entries are good, the entry of the key with this number, and the statement.
 pub record IsGoodFor
     (maker : PublicKey)
     (bytes : List ℕ)
-    (n : ℕ)
+    (key_number : ℕ)
     (log : List Entry)
     (made : KeyEntry)
     (statement : Statement) : Type 0 where
@@ -170,55 +170,59 @@ pub record IsGoodFor
   pub spelled : Spells chain_format bytes chain
   pub good : AreGood maker chain.entries
   pub log_is : log ≡ entries_of chain.entries
-  pub named : key_of log n ≡ Some made
+  pub named : key_of log key_number ≡ Some made
   pub stated : chain.statement ≡ Some statement
 
 -- The bytes are refused for this, and for nothing that is tried before it.
 abbrev pub IsRefused : PublicKey → List ℕ → ℕ → ChainRefusal → Type 0
-IsRefused maker bytes n (bad_form offset) = FailsWhole chain_format bytes offset
-IsRefused maker bytes n (bad_signature i) =
+IsRefused maker bytes key_number (bad_form offset) = FailsWhole chain_format bytes offset
+IsRefused maker bytes key_number (bad_signature index) =
     (chain : Chain) × Spells chain_format bytes chain × (before : List SignedEntry) × (signed : SignedEntry)
-    × IsNext maker chain.entries i before signed × (IsCertified maker (figures_of (entries_of before)) signed → ⊥)
-IsRefused maker bytes n (bad_order i) =
+    × IsNext maker chain.entries index before signed × (IsCertified maker (figures_of (entries_of before)) signed → ⊥)
+IsRefused maker bytes key_number (bad_order index) =
     (chain : Chain) × Spells chain_format bytes chain × (before : List SignedEntry) × (signed : SignedEntry)
-    × IsNext maker chain.entries i before signed × IsCertified maker (figures_of (entries_of before)) signed
+    × IsNext maker chain.entries index before signed × IsCertified maker (figures_of (entries_of before)) signed
     × (IsInPlace (figures_of (entries_of before)) signed → ⊥)
-IsRefused maker bytes n (breaks_rules i) =
+IsRefused maker bytes key_number (breaks_rules index) =
     (chain : Chain) × Spells chain_format bytes chain × (before : List SignedEntry) × (signed : SignedEntry)
-    × IsNext maker chain.entries i before signed × IsCertified maker (figures_of (entries_of before)) signed
+    × IsNext maker chain.entries index before signed × IsCertified maker (figures_of (entries_of before)) signed
     × IsInPlace (figures_of (entries_of before)) signed × (Ruled (figures_of (entries_of before)) signed.entry → ⊥)
-IsRefused maker bytes n key_unknown =
+IsRefused maker bytes key_number key_unknown =
     (chain : Chain) × Spells chain_format bytes chain × AreGood maker chain.entries
-    × (key_of (entries_of chain.entries) n ≡ None)
-IsRefused maker bytes n bad_statement =
-    (log : List Entry) × (made : KeyEntry) × (statement : Statement) × IsGoodFor maker bytes n log made statement
-    × (IsStated log n made.key statement → ⊥)
-IsRefused maker bytes n (wrong_number named last) =
-    (log : List Entry) × (made : KeyEntry) × (statement : Statement) × IsGoodFor maker bytes n log made statement
-    × IsStated log n made.key statement × (named ≡ statement.number) × (last ≡ number_of log) × (named ≢ last)
-IsRefused maker bytes n key_ended =
-    (log : List Entry) × (made : KeyEntry) × (statement : Statement) × IsGoodFor maker bytes n log made statement
-    × IsStated log n made.key statement × (statement.number ≡ number_of log) × (is_alive log n made.layer ≡ false)
+    × (key_of (entries_of chain.entries) key_number ≡ None)
+IsRefused maker bytes key_number bad_statement =
+    (log : List Entry) × (made : KeyEntry) × (statement : Statement)
+    × IsGoodFor maker bytes key_number log made statement
+    × (IsStated log key_number made.key statement → ⊥)
+IsRefused maker bytes key_number (wrong_number named last) =
+    (log : List Entry) × (made : KeyEntry) × (statement : Statement)
+    × IsGoodFor maker bytes key_number log made statement
+    × IsStated log key_number made.key statement × (named ≡ statement.number) × (last ≡ number_of log) × (named ≢ last)
+IsRefused maker bytes key_number key_ended =
+    (log : List Entry) × (made : KeyEntry) × (statement : Statement)
+    × IsGoodFor maker bytes key_number log made statement
+    × IsStated log key_number made.key statement × (statement.number ≡ number_of log)
+    × (is_alive log key_number made.layer ≡ false)
 
 -- what a verifier says of bytes: it accepts them, and says this of the key, or refuses them for this
 pub data Verdict : Type 0 where
-  accepting : Report → Verdict
-  refusing : ChainRefusal → Verdict
+  chain_acceptance : Report → Verdict
+  chain_rejection : ChainRefusal → Verdict
 
 abbrev pub IsVerdict : PublicKey → List ℕ → ℕ → Verdict → Type 0
-IsVerdict maker bytes n (accepting report) = Accepts maker bytes n report
-IsVerdict maker bytes n (refusing why) = IsRefused maker bytes n why
+IsVerdict maker bytes key_number (chain_acceptance report) = Accepts maker bytes key_number report
+IsVerdict maker bytes key_number (chain_rejection why) = IsRefused maker bytes key_number why
 
 -- ---- chains without forged entries
 
--- A chain has no forged entry of the device with the log E: a birth that verifies under the maker's key is that of E,
--- and each later entry that verifies under a device key that E names is an entry of E. Signatures are left out of
--- account.
-pub record Honest (entries : List SignedEntry) (maker : PublicKey) (E : List Entry) : Type 0 where
+-- A chain has no forged entry of the device with the log: a birth that verifies under the maker's key is the log's,
+-- and each later entry that verifies under a device key that the log names is an entry of it. Signatures do not count
+-- here.
+pub record Honest (entries : List SignedEntry) (maker : PublicKey) (log : List Entry) : Type 0 where
   pub first : (signed : SignedEntry) (rest : List SignedEntry)
       → entries ≡ signed ∷ rest
-      → Verifies maker (entry_text signed.entry) signed.signature → (later : List Entry) × (E ≡ signed.entry ∷ later)
+      → Verifies maker (entry_text signed.entry) signed.signature → (later : List Entry) × (log ≡ signed.entry ∷ later)
   pub later : (before : List SignedEntry) (signed : SignedEntry) (rest : List SignedEntry)
       → entries ≡ before ++ signed ∷ rest
-      → before ≢ [] → (key : PublicKey) → Any (λ entry. device_in entry ≡ Some key) E
-      → Verifies key (entry_text signed.entry) signed.signature → Contains E signed.entry
+      → before ≢ [] → (key : PublicKey) → Any (λ entry. device_in entry ≡ Some key) log
+      → Verifies key (entry_text signed.entry) signed.signature → Contains log signed.entry

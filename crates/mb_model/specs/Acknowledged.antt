@@ -31,11 +31,11 @@ pub record HoldsNoOther (held : Held) : Type 0 where
 -- answer before, and holds the other now.
 pub data HasToBeClean (standing now : Held) (event : Event) (reply : Reply) : Type 0 where
   -- power is on
-  powered : now.phase ≢ off → HasToBeClean standing now event reply
+  power_is_on : now.phase ≢ off → HasToBeClean standing now event reply
   -- the device was tampered with
-  zeroed : event ≡ Tamper → HasToBeClean standing now event reply
+  device_was_tampered : event ≡ Tamper → HasToBeClean standing now event reply
   -- no other secret lay there before, and power did not fail
-  left : HoldsNoOther standing → reply ≢ Stopped → HasToBeClean standing now event reply
+  nothing_was_left : HoldsNoOther standing → reply ≢ Stopped → HasToBeClean standing now event reply
 
 -- The device booted, or was tampered with, and no power loss has stopped it since the last time.
 pub record AreWiping (answered : List Answered) : Type 0 where
@@ -44,7 +44,7 @@ pub record AreWiping (answered : List Answered) : Type 0 where
   pub later : List Answered
   pub split : answered ≡ sooner ++ wiping ∷ later
   pub wipes : (wiping.reply ≡ Booted) ⊎ (wiping.event ≡ Tamper)
-  pub unstopped : All (λ a. a.reply ≢ Stopped) later
+  pub unstopped : All (λ each. each.reply ≢ Stopped) later
 
 -- ---- an answer
 

@@ -12,16 +12,16 @@ bare_chain log = record { entries = log; statement = None }
 
 -- the entry is a change with a number above this one
 abbrev pub is_change_above : ℕ → Entry → Bool
-is_change_above n (Birth version serial key layers) = false
-is_change_above n (Change version position number kind layer cosigned layers kept next) = nat_lt n number
-is_change_above n (NewKey position number key_number layer kind key) = false
-is_change_above n (Succession position key) = false
+is_change_above bound (Birth version serial key layers) = false
+is_change_above bound (Change version position number kind layer cosigned layers kept next) = nat_lt bound number
+is_change_above bound (NewKey position number key_number layer kind key) = false
+is_change_above bound (Succession position key) = false
 
--- The entries that stand in a chain with a statement of the configuration number n: the birth, and those after it up to
+-- The entries that stand in a chain with a statement of this configuration number: the birth, and those after it up to
 -- the first change with a higher number.
 abbrev pub cut_at : ℕ → List SignedEntry → List SignedEntry
-cut_at n [] = []
-cut_at n (birth ∷ rest) = birth ∷ take_while (λ signed. not (is_change_above n signed.entry)) rest
+cut_at number [] = []
+cut_at number (birth ∷ rest) = birth ∷ take_while (λ signed. not (is_change_above number signed.entry)) rest
 
 -- the chain of a log to which a statement is attached
 abbrev pub stated_chain : List SignedEntry → Statement → Chain

@@ -7,14 +7,14 @@ use Rattle.mb_model.specs.declared.entry.Entry.{Entry}
 use Rattle.mb_model.specs.declared.state.Configuration.{Configuration}
 use Rattle.mb_model.specs.declared.state.Report.{Report}
 use Rattle.mb_model.specs.declared.state.State.{State}
-use Rattle.mb_model.specs.Texts.{ended}
+use Rattle.mb_model.specs.Texts.{line_with_lf}
 use Rattle.mb_model.specs.Log.{entries_of}
 use Rattle.mb_model.specs.Lives.{lives_of}
 use Rattle.mb_model.specs.ChainFormat.{chain_format}
-use Rattle.mb_model.specs.Acceptance.{Verdict, accepting, refusing, IsVerdict, Honest}
+use Rattle.mb_model.specs.Acceptance.{Verdict, chain_acceptance, chain_rejection, IsVerdict, Honest}
 use Rattle.mb_model.specs.Commands.{Command, read, find, either_command, print, refuse}
 use Rattle.mb_model.specs.Inputs.{image_input, root_input, chain_bytes_input}
-use Rattle.mb_model.specs.VerifyCommand.{refused_line}
+use Rattle.mb_model.specs.VerifyCommand.{chain_refusal_line}
 
 -- the names of the files, and the number of the key that is asked for
 pub record AuditNames : Type 0 where
@@ -23,16 +23,16 @@ pub record AuditNames : Type 0 where
   pub chain : List ℕ
   pub key : ℕ
 
--- the configurations in which the device held the key with the number n, by the first entries of its own log
+-- the configurations in which the device held the key with this number, by the first entries of its own log
 abbrev pub own_lives : State → ℕ → ℕ → List Configuration
-own_lives state count n = lives_of (take count (entries_of state.log)) n
+own_lives state count key_number = lives_of (take count (entries_of state.log)) key_number
 
 -- The chain tells of this device: its entries are the first of the device's log, and the verifier's list is that of the
 -- device up to there.
-pub record TellsOfDevice (state : State) (n : ℕ) (chain : Chain) (report : Report) : Type 0 where
+pub record TellsOfDevice (state : State) (key_number : ℕ) (chain : Chain) (report : Report) : Type 0 where
   pub later : List Entry
   pub begins : entries_of state.log ≡ entries_of chain.entries ++ later
-  pub lists : report.lives ≡ own_lives state report.entries n
+  pub lists : report.lives ≡ own_lives state report.entries key_number
 
 -- What an audit finds: the verdict on the chain. Where it is accepted, and no entry of it was forged, it tells of the
 -- device.
@@ -40,20 +40,20 @@ pub record IsAudited
     (state : State)
     (maker : PublicKey)
     (bytes : List ℕ)
-    (n : ℕ)
+    (key_number : ℕ)
     (verdict : Verdict) : Type 0 where
-  pub is : IsVerdict maker bytes n verdict
+  pub is : IsVerdict maker bytes key_number verdict
   pub honest : (report : Report) (chain : Chain)
-      → verdict ≡ accepting report → Spells chain_format bytes chain
-      → Honest chain.entries maker (entries_of state.log) → TellsOfDevice state n chain report
+      → verdict ≡ chain_acceptance report → Spells chain_format bytes chain
+      → Honest chain.entries maker (entries_of state.log) → TellsOfDevice state key_number chain report
 
 -- the lists are compared, or the chain is refused
 abbrev pub compare : State → ℕ → Verdict → Command
-compare state n (accepting report) =
-    either_command (report.lives ≡ own_lives state report.entries n)
-    (print (ended (codes "agrees")))
+compare state key_number (chain_acceptance report) =
+    either_command (report.lives ≡ own_lives state report.entries key_number)
+    (print (line_with_lf (codes "agrees")))
     (refuse (codes "differs"))
-compare state n (refusing why) = refuse (refused_line why)
+compare state key_number (chain_rejection why) = refuse (chain_refusal_line why)
 
 -- a dead device has no log, whatever the chain is
 abbrev pub audit_chain : AuditNames → Option State → PublicKey → List ℕ → Command

@@ -27,12 +27,12 @@ pub record AreBytes (memory : Memory) : Type 0 where
   pub bbram : IsBytes memory.bbram
 
 -- the memory with these bytes from the offset at on
-unfoldable pub put : ℕ → List ℕ → List ℕ → List ℕ
-put at bytes memory = take at memory ++ bytes ++ drop (at + length bytes) memory
+unfoldable pub memory_with_bytes : ℕ → List ℕ → List ℕ → List ℕ
+memory_with_bytes at bytes memory = take at memory ++ bytes ++ drop (at + length bytes) memory
 
 -- bytes of flash that has been erased
-unfoldable pub erased : ℕ → List ℕ
-erased n = replicate n 0xFF
+unfoldable pub erased_bytes : ℕ → List ℕ
+erased_bytes count = replicate count 0xFF
 
 -- ---- what a board holds
 
@@ -40,7 +40,7 @@ erased n = replicate n 0xFF
 abbrev pub phase_at : Bool → ℕ → Phase
 phase_at false level = off
 phase_at true zero = dead
-phase_at true (suc n) = ratchet (suc n)
+phase_at true (suc below) = ratchet (suc below)
 
 -- its memory, its phase, and whether a power loss is armed
 pub record Held : Type 0 where
@@ -68,8 +68,8 @@ abbrev pub held_at_load : Memory → Held
 held_at_load memory = record { memory = memory; phase = off; armed = false }
 
 -- and its ledger has these events waiting
-abbrev pub loaded : Memory → List Event → Ledger
-loaded memory events = record { waiting = events; out = None; answered = []; standing = held_at_load memory }
+abbrev pub ledger_at_load : Memory → List Event → Ledger
+ledger_at_load memory events = record { waiting = events; out = None; answered = []; standing = held_at_load memory }
 
 -- ---- what handing out an event does
 
@@ -81,7 +81,7 @@ power_after _ power = power
 
 -- as many bytes of zero
 unfoldable pub zeros : ℕ → List ℕ
-zeros n = replicate n 0
+zeros count = replicate count 0
 
 -- Tamper zeroes the battery-backed memory.
 abbrev pub memory_after : Option Event → Memory → Memory

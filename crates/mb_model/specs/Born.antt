@@ -6,11 +6,11 @@ use Rattle.mb_model.specs.declared.separators.TheConstants.{KEY_IDENTIFIER, KEY_
 use Rattle.mb_model.specs.declared.separators.TheConstants.{OFFICER_SECRET}
 use Rattle.mb_model.specs.declared.key.KeySeed.{KeySeed}
 
--- the key with the number n of a device, made of an event's draw of 32 bytes and the device's serial
+-- the key with this number of a device, made of an event's draw of 32 bytes and the device's serial
 unfoldable pub born_key : List ℕ → List ℕ → ℕ → KeySeed
-born_key draw serial n = record {
-  identifier = take 16 (sha256 (KEY_IDENTIFIER ∷ draw ++ serial ++ to_be_bytes w32 n));
-  seed = sha256 (KEY_SECRET ∷ draw ++ serial ++ to_be_bytes w32 n);
+born_key draw serial key_number = record {
+  identifier = take 16 (sha256 (KEY_IDENTIFIER ∷ draw ++ serial ++ to_be_bytes w32 key_number));
+  seed = sha256 (KEY_SECRET ∷ draw ++ serial ++ to_be_bytes w32 key_number);
 }
 
 -- an officer's key, made of 32 bytes of noise

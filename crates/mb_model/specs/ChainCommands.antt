@@ -7,7 +7,7 @@ use Rattle.mb_model.specs.declared.entry.Chain.{Chain}
 use Rattle.mb_model.specs.declared.entry.Statement.{Statement}
 use Rattle.mb_model.specs.declared.role.Role.TheVariants as role
 use Rattle.mb_model.specs.declared.state.State.{State}
-use Rattle.mb_model.specs.Texts.{ended}
+use Rattle.mb_model.specs.Texts.{line_with_lf}
 use Rattle.mb_model.specs.Log.{entries_of}
 use Rattle.mb_model.specs.ChainFormat.{chain_format}
 use Rattle.mb_model.specs.Attach.{bare_chain, stated_chain}
@@ -28,7 +28,7 @@ pub record AttachNames : Type 0 where
 
 -- the line that tells how many entries a chain has
 abbrev pub entries_text : ℕ → List ℕ
-entries_text n = ended (codes "entries " ++ decimal n)
+entries_text count = line_with_lf (codes "entries " ++ decimal count)
 
 -- bytes that spell a chain are written, and the number of its entries is printed
 unfoldable pub write_entries : List ℕ → Chain → Command
@@ -43,9 +43,10 @@ write_entries out chain = find (λ bytes. Spells chain_format bytes chain) (λ b
 pub record IsChainOf (state : State) (chain : Chain) : Type 0 where
   pub is : chain ≡ bare_chain state.log
   pub good : (maker : PublicKey) → IsBornOf maker state.log → AreGood maker chain.entries
-  pub accepted : (maker : PublicKey) (bytes : List ℕ) (n : ℕ) (made : KeyEntry)
-      → IsBornOf maker state.log → Spells chain_format bytes chain → key_of (entries_of state.log) n ≡ Some made
-      → Accepts maker bytes n (report_of chain n made)
+  pub accepted : (maker : PublicKey) (bytes : List ℕ) (key_number : ℕ) (made : KeyEntry)
+      → IsBornOf maker state.log → Spells chain_format bytes chain
+      → key_of (entries_of state.log) key_number ≡ Some made
+      → Accepts maker bytes key_number (report_of chain key_number made)
 
 -- a dead device has no log
 abbrev pub chain_of : ChainNames → Option State → Command

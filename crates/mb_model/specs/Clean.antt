@@ -3,7 +3,7 @@ use Rattle.std.specs.Prelude.{◌≡◌, ℕ, List, length, Option, None, Some}
 use Rattle.mb_model.specs.declared.limits.TheConstants.{BBRAM_LENGTH}
 use Rattle.mb_model.specs.declared.state.State.{State}
 use Rattle.mb_model.specs.declared.stored.Root.{Root}
-use Rattle.mb_model.specs.Memory.{current, other, IsBlank}
+use Rattle.mb_model.specs.Memory.{area_of_slot, inactive_area_of_slot, IsBlank}
 use Rattle.mb_model.specs.Meaning.{RootIn, HoldsRegion}
 
 -- the root of a state, with no work pending, where the public record is in this area of the flash
@@ -16,11 +16,11 @@ pub record IsCleanFor (bbram : List ℕ) (state : State) : Type 0 where
   pub sized : length bbram ≡ BBRAM_LENGTH
   pub area : ℕ
   pub root : RootIn bbram (root_of state area)
-  pub two : HoldsRegion (current bbram 2) state.two
-  pub three : HoldsRegion (current bbram 3) state.three
-  pub other_root : IsBlank (other bbram 1)
-  pub other_two : IsBlank (other bbram 2)
-  pub other_three : IsBlank (other bbram 3)
+  pub two : HoldsRegion (area_of_slot bbram 2) state.two
+  pub three : HoldsRegion (area_of_slot bbram 3) state.three
+  pub other_root : IsBlank (inactive_area_of_slot bbram 1)
+  pub other_two : IsBlank (inactive_area_of_slot bbram 2)
+  pub other_three : IsBlank (inactive_area_of_slot bbram 3)
 
 -- the memory is clean for a state; for a dead device it is all zero
 abbrev pub Clean : List ℕ → Option State → Type 0

@@ -8,7 +8,7 @@ use Rattle.mb_model.specs.declared.role.Role.{Role}
 use Rattle.mb_model.specs.declared.role.Role.TheVariants as role
 use Rattle.mb_model.specs.declared.role.Place.{Place}
 use Rattle.mb_model.specs.declared.role.Place.TheVariants as fault
-use Rattle.mb_model.specs.Texts.{ended}
+use Rattle.mb_model.specs.Texts.{line_with_lf}
 use Rattle.mb_model.specs.declared.limits.TheConstants.{FILE_LIMIT}
 use Rattle.mb_model.specs.Outside.{Outside, HasRisen, HoldsFile, HoldsTooMuch, read_once, FailsToRead}
 use Rattle.mb_model.specs.Outside.{WritesFile, FailsToWrite, Prints, FailsToPrint}
@@ -42,10 +42,10 @@ role_word role.Items = codes "items"
 abbrev pub place_words : Place → List ℕ
 place_words fault.Length = codes "length"
 place_words (fault.At offset) = codes "at " ++ decimal offset
-place_words (fault.Line n) = codes "line " ++ decimal n
+place_words (fault.Line number) = codes "line " ++ decimal number
 place_words fault.Root = codes "root"
 place_words fault.Public = codes "public"
-place_words (fault.Region n) = codes "region " ++ decimal n
+place_words (fault.Region number) = codes "region " ++ decimal number
 place_words fault.State = codes "state"
 
 -- ---- what a command does
@@ -105,23 +105,23 @@ pub record Ended : Type 0 where
   pub status : ℕ
 
 -- the same, seen from a later step
-abbrev pub onward : Outside → Ended → Ended
-onward mid e = record e { before = mid }
+abbrev pub end_seen_from : Outside → Ended → Ended
+end_seen_from mid ending = record ending { before = mid }
 
 -- the line is printed; where that fails, some of the first of its bytes are
 abbrev pub SaysLine : List ℕ → Outside → Outside → Type 0
-SaysLine line before after = Prints (ended line) before after ⊎ FailsToPrint (ended line) before after
+SaysLine line before after = Prints (line_with_lf line) before after ⊎ FailsToPrint (line_with_lf line) before after
 
 -- The command stops: it prints a line and does nothing else, and no event was answered beyond those of its past.
-pub record Stops (line : List ℕ) (status : ℕ) (past : Past) (e : Ended) : Type 0 where
-  pub says : SaysLine line e.before e.after
-  pub answered : e.answered ≡ past.answered
-  pub status_is : e.status ≡ status
+pub record Stops (line : List ℕ) (status : ℕ) (past : Past) (ending : Ended) : Type 0 where
+  pub says : SaysLine line ending.before ending.after
+  pub answered : ending.answered ≡ past.answered
+  pub status_is : ending.status ≡ status
 
 -- 6: an allocation failed. But for `lack`, this is so only while no file has been written.
-pub record WantsMemory (past : Past) (e : Ended) : Type 0 where
+pub record WantsMemory (past : Past) (ending : Ended) : Type 0 where
   pub first : past.wrote ≡ false
-  pub stops : Stops (codes "no memory") 6 past e
+  pub stops : Stops (codes "no memory") 6 past ending
 
 -- the line that tells what is wrong with an input
 abbrev pub input_line : Role → List ℕ → List ℕ
@@ -134,60 +134,67 @@ pub record HasRead (outside : Outside) (name bytes : List ℕ) : Type 0 where
   pub fits : length bytes ≤ FILE_LIMIT
 
 -- the command ends at an input
-pub data InputEnds {A : Type 0} (input : Input A) (past : Past) (e : Ended) : Type 0 where
+pub data InputEnds {A : Type 0} (input : Input A) (past : Past) (ending : Ended) : Type 0 where
   -- 3: it is too long
-  too_long : HoldsTooMuch e.before input.name
-      → Stops (input_line input.role (codes "too long")) 3 past (onward (read_once e.before) e) → InputEnds input past e
+  input_is_too_long : HoldsTooMuch ending.before input.name
+      → Stops (input_line input.role (codes "too long")) 3 past (end_seen_from (read_once ending.before) ending)
+      → InputEnds input past ending
   -- 3: it is at fault
-  faulty : (bytes : List ℕ) → HasRead e.before input.name bytes → (place : Place) → input.FaultyAt bytes place
-      → Stops (input_line input.role (place_words place)) 3 past (onward (read_once e.before) e)
-      → InputEnds input past e
+  input_is_faulty : (bytes : List ℕ) → HasRead ending.before input.name bytes → (place : Place)
+      → input.FaultyAt bytes place
+      → Stops (input_line input.role (place_words place)) 3 past (end_seen_from (read_once ending.before) ending)
+      → InputEnds input past ending
   -- 4: it could not be read
-  not_read : (mid : Outside) → FailsToRead input.name e.before mid
-      → Stops (codes "read failed " ++ role_word input.role) 4 past (onward mid e) → InputEnds input past e
+  input_is_not_read : (mid : Outside) → FailsToRead input.name ending.before mid
+      → Stops (codes "read failed " ++ role_word input.role) 4 past (end_seen_from mid ending)
+      → InputEnds input past ending
   -- 6: there was no memory for it
-  no_room : WantsMemory past (onward (read_once e.before) e) → InputEnds input past e
+  memory_lacks : WantsMemory past (end_seen_from (read_once ending.before) ending) → InputEnds input past ending
 
 -- 5: the output could not be written, and what its file holds is not known
-pub record WriteEnds (output : Output) (past : Past) (e : Ended) : Type 0 where
+pub record WriteEnds (output : Output) (past : Past) (ending : Ended) : Type 0 where
   pub mid : Outside
-  pub fails : FailsToWrite output.name e.before mid
-  pub stops : Stops (codes "write failed " ++ role_word output.role) 5 past (onward mid e)
+  pub fails : FailsToWrite output.name ending.before mid
+  pub stops : Stops (codes "write failed " ++ role_word output.role) 5 past (end_seen_from mid ending)
 
 -- the command ends with its text
-pub data PrintEnds (text : List ℕ) (past : Past) (e : Ended) : Type 0 where
+pub data PrintEnds (text : List ℕ) (past : Past) (ending : Ended) : Type 0 where
   -- 0: done
-  printed : Prints text e.before e.after → e.answered ≡ past.answered → e.status ≡ 0 → PrintEnds text past e
+  text_is_printed : Prints text ending.before ending.after → ending.answered ≡ past.answered → ending.status ≡ 0
+      → PrintEnds text past ending
   -- 5: the text could not be printed whole
-  not_printed : (mid : Outside) → FailsToPrint text e.before mid
-      → Stops (codes "write failed output") 5 past (onward mid e) → PrintEnds text past e
+  text_is_not_printed : (mid : Outside) → FailsToPrint text ending.before mid
+      → Stops (codes "write failed output") 5 past (end_seen_from mid ending) → PrintEnds text past ending
 
 -- How a command can end. Each step begins with what the step before has left outside. So each input is read once and
 -- each output written once, in this order, and what is printed is one text or one line.
 unfoldable pub CommandEnds : Command → Past → Ended → Type 0
-CommandEnds (read {A = A} input rest) past e =
-    InputEnds input past e
-    ⊎ ((bytes : List ℕ) × HasRead e.before input.name bytes
-    × ((value : A) × input.Is bytes value × CommandEnds (rest value) past (onward (read_once e.before) e)))
-CommandEnds (find {A = A} Is rest) past e =
-    ((value : A) × Is value × CommandEnds (rest value) past e) ⊎ WantsMemory past e
-CommandEnds (either_command If first second) past e =
-    (If × CommandEnds first past e) ⊎ ((If → ⊥) × CommandEnds second past e) ⊎ WantsMemory past e
-CommandEnds (serve IsServed rest) past e =
-    (IsServed e.answered e.final × CommandEnds (rest e.answered e.final) (record past { answered = e.answered }) e)
-    ⊎ WantsMemory past e
-CommandEnds (rehearse IsRehearsed rest) past e =
+CommandEnds (read {A = A} input rest) past ending =
+    InputEnds input past ending
+    ⊎ ((bytes : List ℕ) × HasRead ending.before input.name bytes
+    × ((value : A)
+    × input.Is bytes value
+    × CommandEnds (rest value) past (end_seen_from (read_once ending.before) ending)))
+CommandEnds (find {A = A} Is rest) past ending =
+    ((value : A) × Is value × CommandEnds (rest value) past ending) ⊎ WantsMemory past ending
+CommandEnds (either_command If first second) past ending =
+    (If × CommandEnds first past ending) ⊎ ((If → ⊥) × CommandEnds second past ending) ⊎ WantsMemory past ending
+CommandEnds (serve IsServed rest) past ending =
+    (IsServed ending.answered ending.final
+    × CommandEnds (rest ending.answered ending.final) (record past { answered = ending.answered }) ending)
+    ⊎ WantsMemory past ending
+CommandEnds (rehearse IsRehearsed rest) past ending =
     ((answered : List Answered) × (held : Held) × IsRehearsed answered held
-    × CommandEnds (rest answered held) (record past { answered = answered }) e)
-    ⊎ WantsMemory past e
-CommandEnds (write output rest) past e =
-    WriteEnds output past e
-    ⊎ ((mid : Outside) × WritesFile output.name output.bytes e.before mid
-    × CommandEnds rest (record past { wrote = true }) (onward mid e))
-    ⊎ WantsMemory past e
-CommandEnds (print text) past e = PrintEnds text past e ⊎ WantsMemory past e
-CommandEnds (refuse line) past e = Stops line 7 past e ⊎ WantsMemory past e
-CommandEnds lack past e = Stops (codes "no memory") 6 past e
+    × CommandEnds (rest answered held) (record past { answered = answered }) ending)
+    ⊎ WantsMemory past ending
+CommandEnds (write output rest) past ending =
+    WriteEnds output past ending
+    ⊎ ((mid : Outside) × WritesFile output.name output.bytes ending.before mid
+    × CommandEnds rest (record past { wrote = true }) (end_seen_from mid ending))
+    ⊎ WantsMemory past ending
+CommandEnds (print text) past ending = PrintEnds text past ending ⊎ WantsMemory past ending
+CommandEnds (refuse line) past ending = Stops line 7 past ending ⊎ WantsMemory past ending
+CommandEnds lack past ending = Stops (codes "no memory") 6 past ending
 
 -- ---- when a command is done
 

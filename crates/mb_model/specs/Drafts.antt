@@ -18,7 +18,7 @@ use Rattle.mb_model.specs.declared.order.Order.{Order}
 use Rattle.mb_model.specs.Key.{key_bytes, IsSized}
 use Rattle.mb_model.specs.Layers.{equal_trusts, is_layer_number}
 use Rattle.mb_model.specs.Rules.{kind_of, MayBeFor}
-use Rattle.mb_model.specs.Lines.{spaced, number_limit}
+use Rattle.mb_model.specs.Lines.{spaced_words, number_limit}
 use Rattle.mb_model.specs.Script.{EndsInHex}
 
 -- the word for a trust
@@ -44,8 +44,8 @@ order_words (act.NewKey kind) layer = codes "order" ∷ codes "newkey" ∷ decim
 abbrev pub SaysTarget : List ℕ → Target → Type 0
 SaysTarget line (target.Serial serial) =
     (length serial ≡ 16) × EndsInHex line (codes "target" ∷ codes "serial" ∷ []) serial
-SaysTarget line (target.Length n) =
-    (n ≤ number_limit) × (line ≡ spaced (codes "target" ∷ codes "length" ∷ decimal n ∷ []))
+SaysTarget line (target.Length length_named) =
+    (length_named ≤ number_limit) × (line ≡ spaced_words (codes "target" ∷ codes "length" ∷ decimal length_named ∷ []))
 SaysTarget line (target.Owner layer hash) =
     IsTrue (is_layer_number layer) × (length hash ≡ 32)
     × EndsInHex line (codes "target" ∷ codes "owner" ∷ decimal layer ∷ []) hash
@@ -55,11 +55,11 @@ SaysTarget line (target.Code layer hash) =
 
 -- the line of one trust, in changes of layer 1 and of layer 2 alike
 abbrev pub trust_line : Trust → List ℕ
-trust_line trust = spaced (codes "trust" ∷ trust_word trust ∷ [])
+trust_line trust = spaced_words (codes "trust" ∷ trust_word trust ∷ [])
 
 -- the line of two trusts: in changes of layer 1, and in changes of layer 2
 abbrev pub trusts_line : Trusts → List ℕ
-trusts_line trusts = spaced (codes "trust" ∷ trust_word trusts.one ∷ trust_word trusts.two ∷ [])
+trusts_line trusts = spaced_words (codes "trust" ∷ trust_word trusts.one ∷ trust_word trusts.two ∷ [])
 
 -- The line gives these trusts, by two words or, where they are equal, by one. Two equal words are allowed too.
 abbrev pub SaysTrusts : List ℕ → Trusts → Type 0
@@ -68,7 +68,7 @@ SaysTrusts line trusts =
 
 -- the line of a version
 abbrev pub version_line : ℕ → List ℕ
-version_line version = spaced (codes "version" ∷ decimal version ∷ [])
+version_line version = spaced_words (codes "version" ∷ decimal version ∷ [])
 
 -- the lines of a load: its version, the trusts that it gives the layer, and its code
 pub record AreLoadLines (lines : List (List ℕ)) (payload : Payload) : Type 0 where
@@ -102,7 +102,7 @@ SayAct lines (act.NewKey kind) = lines ≡ []
 pub record IsDraft (lines : List (List ℕ)) (order : Order) : Type 0 where
   pub target_lines : List (List ℕ)
   pub act_lines : List (List ℕ)
-  pub spelled : lines ≡ spaced (order_words order.act order.layer) ∷ target_lines ++ act_lines
+  pub spelled : lines ≡ spaced_words (order_words order.act order.layer) ∷ target_lines ++ act_lines
   pub named : MayBeFor (kind_of order.act) order.layer
   pub targeted : AllZip SaysTarget target_lines order.targets
   pub few : length order.targets ≤ TARGET_LIMIT

@@ -10,11 +10,11 @@ use Rattle.mb_model.specs.declared.entry.Entry.TheVariants.{Birth}
 use Rattle.mb_model.specs.declared.state.Codes.{Codes}
 use Rattle.mb_model.specs.declared.state.State.{State}
 use Rattle.mb_model.specs.Pieces.{part}
-use Rattle.mb_model.specs.Layers.{equal_trusts, unowned}
+use Rattle.mb_model.specs.Layers.{equal_trusts, layer_without_owner}
 use Rattle.mb_model.specs.Regions.{empty_region}
 use Rattle.mb_model.specs.Born.{born_key}
 use Rattle.mb_model.specs.Signing.{public_of}
-use Rattle.mb_model.specs.OrderEffects.{signed_by}
+use Rattle.mb_model.specs.OrderEffects.{entry_signed_by}
 use Rattle.mb_model.specs.WrittenImage.{IsWrittenFor}
 
 -- layer 1 has its owner, this code and both trusts always, and nobody owns what is above
@@ -26,8 +26,8 @@ layers_at_birth owner code = record {
     reliable = true;
     trust = equal_trusts Always;
   };
-  two = unowned;
-  three = unowned;
+  two = layer_without_owner;
+  three = layer_without_owner;
 }
 
 -- the device's first key, made of the first 32 bytes of the noise, and its serial, the 16 bytes after them
@@ -52,7 +52,7 @@ state_at_birth maker index owner code noise = record {
   serial = serial_from noise;
   layers = layers_at_birth owner code;
   codes = codes_at_birth code;
-  log = signed_by maker index (birth_entry owner code noise) ∷ [];
+  log = entry_signed_by maker index (birth_entry owner code noise) ∷ [];
   device = first_key noise;
   uses = 0;
   two = empty_region;

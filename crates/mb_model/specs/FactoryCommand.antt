@@ -6,8 +6,8 @@ use Rattle.mb_model.specs.declared.key.PublicKey.{PublicKey}
 use Rattle.mb_model.specs.declared.role.Role.TheVariants as role
 use Rattle.mb_model.specs.declared.tools.Keyfile.{Keyfile}
 use Rattle.mb_model.specs.KeyFormat.{keyfile_format}
-use Rattle.mb_model.specs.Texts.{ended}
-use Rattle.mb_model.specs.SignedOrders.{used_once}
+use Rattle.mb_model.specs.Texts.{line_with_lf}
+use Rattle.mb_model.specs.SignedOrders.{keyfile_after_use}
 use Rattle.mb_model.specs.Factory.{serial_from, IsFactoryImage}
 use Rattle.mb_model.specs.Commands.{Command, read, find, either_command, write, print, refuse}
 use Rattle.mb_model.specs.Inputs.{birth_noise_input, key_input, owner_input, code_input}
@@ -22,12 +22,12 @@ pub record FactoryNames : Type 0 where
 
 -- the line that tells the serial of a device that was made of this noise
 abbrev pub serial_text : List ℕ → List ℕ
-serial_text noise = ended (codes "serial " ++ encode_lower (serial_from noise))
+serial_text noise = line_with_lf (codes "serial " ++ encode_lower (serial_from noise))
 
 -- the maker's key is written with one index more used, then the image, and the serial is told
 unfoldable pub write_device : FactoryNames → List ℕ → Keyfile → List ℕ → Command
 write_device names noise key image =
-    write (record { role = role.Key; name = names.key; bytes = keyfile_format.spelling (used_once key) })
+    write (record { role = role.Key; name = names.key; bytes = keyfile_format.spelling (keyfile_after_use key) })
     (write (record { role = role.Image; name = names.image; bytes = image }) (print (serial_text noise)))
 
 -- the image of the new device, whose birth the maker's key signs, unless its 32 indices are used
@@ -36,14 +36,14 @@ make_device names noise key owner code =
     either_command (key.next ≡ 32) (refuse (codes "spent"))
     (find (IsFactoryImage key.seed key.next owner code noise) (write_device names noise key))
 
-abbrev pub factory_owned : FactoryNames → List ℕ → Keyfile → PublicKey → Command
-factory_owned names noise key owner = read (code_input names.code) (make_device names noise key owner)
+abbrev pub factory_with_owner : FactoryNames → List ℕ → Keyfile → PublicKey → Command
+factory_with_owner names noise key owner = read (code_input names.code) (make_device names noise key owner)
 
-abbrev pub factory_keyed : FactoryNames → List ℕ → Keyfile → Command
-factory_keyed names noise key = read (owner_input names.owner) (factory_owned names noise key)
+abbrev pub factory_with_key : FactoryNames → List ℕ → Keyfile → Command
+factory_with_key names noise key = read (owner_input names.owner) (factory_with_owner names noise key)
 
-abbrev pub factory_drawn : FactoryNames → List ℕ → Command
-factory_drawn names noise = read (key_input names.key) (factory_keyed names noise)
+abbrev pub factory_with_noise : FactoryNames → List ℕ → Command
+factory_with_noise names noise = read (key_input names.key) (factory_with_key names noise)
 
 unfoldable pub factory : FactoryNames → Command
-factory names = read (birth_noise_input names.noise) (factory_drawn names)
+factory names = read (birth_noise_input names.noise) (factory_with_noise names)

@@ -8,11 +8,13 @@ use Rattle.mb_model.specs.declared.stored.Fate.{Fate}
 use Rattle.mb_model.specs.declared.stored.Fate.TheVariants.{Keep, Empty, DropConfiguration, AddKey}
 use Rattle.mb_model.specs.Rules.{admits}
 
--- what a change of layer k does to region L
+-- what a change of one layer does to the region of a layer
 abbrev pub change_fate : Layers → ChangeKind → ℕ → Pair → ℕ → Fate
-change_fate layers kind k cosigned L =
-    if nat_lt L k then Keep else if admits layers kind k cosigned L then DropConfiguration else Empty
+change_fate layers kind changed cosigned layer =
+    if nat_lt layer changed then Keep
+    else if admits layers kind changed cosigned layer then DropConfiguration
+    else Empty
 
--- what is done to region m, where a key is made in region L
+-- what is done to the region of a layer, where a key is made in the region of `key_layer`
 abbrev pub key_fate : ℕ → RegionKey → ℕ → Fate
-key_fate L key m = if m == L then AddKey key else Keep
+key_fate key_layer key layer = if layer == key_layer then AddKey key else Keep

@@ -6,11 +6,11 @@ use Rattle.mb_model.specs.declared.entry.SignedEntry.{SignedEntry}
 use Rattle.mb_model.specs.declared.region.Region.{Region}
 use Rattle.mb_model.specs.declared.state.Codes.{Codes}
 use Rattle.mb_model.specs.declared.stored.Root.{Root}
-use Rattle.mb_model.specs.Memory.{IsImage, IsBlank, current}
+use Rattle.mb_model.specs.Memory.{IsImage, IsBlank, area_of_slot}
 use Rattle.mb_model.specs.StoredLog.{HasIndex}
 use Rattle.mb_model.specs.Flash.{HoldsPublic}
 use Rattle.mb_model.specs.Valid.{Valid}
-use Rattle.mb_model.specs.Meaning.{RootIn, HoldsRegion, Contents, FlashForm, HoldsContentsBy, meant}
+use Rattle.mb_model.specs.Meaning.{RootIn, HoldsRegion, Contents, FlashForm, HoldsContentsBy, state_of_contents}
 
 pub data Fault : Type 0 where
   bad_length bad_root bad_public bad_region_two bad_region_three bad_state : Fault
@@ -30,7 +30,7 @@ SomeRegion area = (region : Region) × HoldsRegion area region
 
 -- contents that a device can have: the device key has an index for what it has to sign, and the state is valid
 abbrev pub AreSound : Contents → Type 0
-AreSound contents = HasIndex contents.root contents.root.pending × Valid (Some (meant contents))
+AreSound contents = HasIndex contents.root contents.root.pending × Valid (Some (state_of_contents contents))
 
 -- The memory has this fault by this form of the flash, and none that is named before it.
 abbrev pub IsFaultyBy : FlashForm → List ℕ → List ℕ → Fault → Type 0
@@ -38,10 +38,10 @@ IsFaultyBy Form flash bbram bad_length = ⊥
 IsFaultyBy Form flash bbram bad_root = (IsBlank bbram → ⊥) × ((root : Root) → RootIn bbram root → ⊥)
 IsFaultyBy Form flash bbram bad_public = (root : Root) × RootIn bbram root × (SomePublicBy Form flash root → ⊥)
 IsFaultyBy Form flash bbram bad_region_two =
-    (root : Root) × RootIn bbram root × SomePublicBy Form flash root × (SomeRegion (current bbram 2) → ⊥)
+    (root : Root) × RootIn bbram root × SomePublicBy Form flash root × (SomeRegion (area_of_slot bbram 2) → ⊥)
 IsFaultyBy Form flash bbram bad_region_three =
     (root : Root) × RootIn bbram root × SomePublicBy Form flash root
-    × SomeRegion (current bbram 2) × (SomeRegion (current bbram 3) → ⊥)
+    × SomeRegion (area_of_slot bbram 2) × (SomeRegion (area_of_slot bbram 3) → ⊥)
 IsFaultyBy Form flash bbram bad_state =
     (contents : Contents) × HoldsContentsBy Form flash bbram contents × (AreSound contents → ⊥)
 

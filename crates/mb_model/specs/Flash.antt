@@ -19,7 +19,7 @@ use Rattle.mb_model.specs.StoredLog.{AreCounted}
 
 -- a sector of the flash, by its number
 unfoldable pub sector : List ℕ → ℕ → List ℕ
-sector flash n = part (SECTOR_LENGTH * n) SECTOR_LENGTH flash
+sector flash number = part (SECTOR_LENGTH * number) SECTOR_LENGTH flash
 
 -- a code slot, the whole of its eight sectors
 unfoldable pub code_slot : List ℕ → ℕ → ℕ → List ℕ

@@ -57,7 +57,7 @@ pub record ShowsLog (final : Held) (entries : ℕ) : Type 0 where
 -- memory was wanted while the events were served, there is none.
 abbrev pub summarise : List Answered → Held → Command
 summarise answered final =
-    either_command (Any (λ a. a.reply ≡ reply.NoMemory) answered) lack
+    either_command (Any (λ each. each.reply ≡ reply.NoMemory) answered) lack
     (find (ShowsLog final) (λ entries. print (text_of (summary answered entries (sha256 (image_of final.memory))))))
 
 -- the three files are written, and then the events are served

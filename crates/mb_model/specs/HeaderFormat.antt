@@ -29,8 +29,8 @@ unfoldable pub entry_bytes_format : Format (List ℕ)
 entry_bytes_format = sized (between w16 1 ENTRY_TEXT_LIMIT)
 
 -- how many entries may be unsigned beside so many signed ones: at most two, and at most 128 of both together
-abbrev pub most_unsigned : ℕ → ℕ
-most_unsigned signed = if nat_le (signed + 2) ENTRY_LIMIT then 2 else ENTRY_LIMIT - signed
+abbrev pub unsigned_limit : ℕ → ℕ
+unsigned_limit signed = if nat_le (signed + 2) ENTRY_LIMIT then 2 else ENTRY_LIMIT - signed
 
 -- the first of some texts, if there is one
 abbrev pub first_text : List (List ℕ) → Option (List ℕ)
@@ -51,7 +51,7 @@ texts_in (Some first) (Some second) = Some (first ∷ second ∷ [])
 
 -- the unsigned entries, none to two, after their number
 unfoldable pub unsigned_format : ℕ → Format (Option (List ℕ) × Option (List ℕ))
-unsigned_format signed = as_value (counted (between w8 0 (most_unsigned signed)) entry_bytes_format)
+unsigned_format signed = as_value (counted (between w8 0 (unsigned_limit signed)) entry_bytes_format)
     (λ texts. (first_text texts, second_text texts))
     (λ (first, second). texts_in first second)
 

@@ -49,25 +49,25 @@ text_input role Grammar name = record {
   role = role;
   name = name;
   Is = ReadsLines Grammar;
-  FaultyAt = λ bytes place. (n : ℕ) × (place ≡ fault.Line n) × TextFailsAtLine Grammar bytes n;
+  FaultyAt = λ bytes place. (line : ℕ) × (place ≡ fault.Line line) × TextFailsAtLine Grammar bytes line;
 }
 
--- any bytes, of which the first n count and have to be there
+-- any bytes, of which the first `count` are used and have to be there
 abbrev pub leading_input : Role → ℕ → List ℕ → Input (List ℕ)
-leading_input role n name = record {
+leading_input role count name = record {
   role = role;
   name = name;
-  Is = λ bytes leading. (n ≤ length bytes) × (leading ≡ take n bytes);
-  FaultyAt = λ bytes place. (length bytes < n) × (place ≡ fault.Length);
+  Is = λ bytes leading. (count ≤ length bytes) × (leading ≡ take count bytes);
+  FaultyAt = λ bytes place. (length bytes < count) × (place ≡ fault.Length);
 }
 
--- any bytes, but no more than n of them
+-- any bytes, but no more than `most` of them
 abbrev pub bounded_input : Role → ℕ → List ℕ → Input (List ℕ)
-bounded_input role n name = record {
+bounded_input role most name = record {
   role = role;
   name = name;
-  Is = λ bytes whole. (length bytes ≤ n) × (whole ≡ bytes);
-  FaultyAt = λ bytes place. (n < length bytes) × (place ≡ fault.Length);
+  Is = λ bytes whole. (length bytes ≤ most) × (whole ≡ bytes);
+  FaultyAt = λ bytes place. (most < length bytes) × (place ≡ fault.Length);
 }
 
 -- ---- the inputs

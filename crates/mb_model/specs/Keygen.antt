@@ -9,7 +9,7 @@ use Rattle.mb_model.specs.Key.{key_bytes}
 use Rattle.mb_model.specs.Born.{officer_key}
 use Rattle.mb_model.specs.Signing.{public_of}
 use Rattle.mb_model.specs.KeyFormat.{keyfile_format}
-use Rattle.mb_model.specs.Texts.{ended}
+use Rattle.mb_model.specs.Texts.{line_with_lf}
 use Rattle.mb_model.specs.Commands.{Command, read, write, print}
 use Rattle.mb_model.specs.Inputs.{key_noise_input}
 
@@ -25,7 +25,7 @@ new_key noise = record { seed = officer_key noise; next = 0 }
 
 -- the line that tells the hash of a public key
 abbrev pub owner_text : List ℕ → List ℕ
-owner_text public = ended (codes "owner " ++ encode_lower (sha256 public))
+owner_text public = line_with_lf (codes "owner " ++ encode_lower (sha256 public))
 
 -- a new key is written, then its public key, and the public key's hash is told
 abbrev pub write_key : KeygenNames → Keyfile → List ℕ → Command

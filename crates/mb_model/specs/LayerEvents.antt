@@ -16,7 +16,7 @@ use Rattle.mb_model.specs.Signing.{signature_of}
 use Rattle.mb_model.specs.ChainFormat.{statement_format}
 use Rattle.mb_model.specs.SignedTexts.{statement_text}
 use Rattle.mb_model.specs.declared.reply.Refusal.TheVariants.{WrongLayer, RegionFull, NoSuchKey, KeySpent}
-use Rattle.mb_model.specs.Refusals.{refused}
+use Rattle.mb_model.specs.Refusals.{refusal_reply}
 use Rattle.mb_model.specs.Regions.{region_of, with_region}
 
 -- what an event comes to: its reply, and the state afterwards
@@ -36,12 +36,12 @@ with_secret new secrets =
 
 -- a secret is kept with the present configuration number, where the region has room
 unfoldable pub put_event : ℕ → List ℕ → List ℕ → State → Outcome
-put_event L name value state =
-    let region = region_of state L in
+put_event layer name value state =
+    let region = region_of state layer in
     let new : Secret = record { name = name; value = value; born = number_of (entries_of state.log) } in
     if not (list_any (has_name name) region.secrets) && nat_le SECRET_LIMIT (length region.secrets)
-    then (refused RegionFull, state)
-    else (reply.Kept, with_region state L (record region { secrets = with_secret new region.secrets }))
+    then (refusal_reply RegionFull, state)
+    else (reply.Kept, with_region state layer (record region { secrets = with_secret new region.secrets }))
 
 abbrev pub value_reply : Option Secret → Reply
 value_reply None = reply.Absent
@@ -49,15 +49,15 @@ value_reply (Some secret) = reply.Value secret.value
 
 -- a secret is told
 unfoldable pub get_event : ℕ → List ℕ → State → Outcome
-get_event L name state = (value_reply (find (has_name name) (region_of state L).secrets), state)
+get_event layer name state = (value_reply (find (has_name name) (region_of state layer).secrets), state)
 
 -- a secret is forgotten
 unfoldable pub drop_event : ℕ → List ℕ → State → Outcome
-drop_event L name state =
-    let region = region_of state L in
+drop_event layer name state =
+    let region = region_of state layer in
     let others = filter (λ secret. not (has_name name secret)) region.secrets in
     if list_any (has_name name) region.secrets
-    then (reply.Dropped, with_region state L (record region { secrets = others }))
+    then (reply.Dropped, with_region state layer (record region { secrets = others }))
     else (reply.Absent, state)
 
 -- the key has this number
@@ -80,22 +80,22 @@ statement_of state key message =
 
 -- the key signs with its next index; it has 32
 abbrev pub sign_with : ℕ → Option RegionKey → List ℕ → State → Outcome
-sign_with L None message state = (refused NoSuchKey, state)
-sign_with L (Some key) message state =
-    let region = region_of state L in
-    if nat_le KEY_USES key.uses then (refused KeySpent, state)
+sign_with layer None message state = (refusal_reply NoSuchKey, state)
+sign_with layer (Some key) message state =
+    let region = region_of state layer in
+    if nat_le KEY_USES key.uses then (refusal_reply KeySpent, state)
     else (
       reply.Signed key.number key.uses (statement_format.spelling (statement_of state key message)),
-      with_region state L (record region { keys = with_use key.number region.keys }),
+      with_region state layer (record region { keys = with_use key.number region.keys }),
     )
 
 -- a message is signed by the key with this number
 unfoldable pub sign_event : ℕ → ℕ → List ℕ → State → Outcome
-sign_event L number message state =
-    sign_with L (find (has_number number) (region_of state L).keys) message state
+sign_event layer number message state =
+    sign_with layer (find (has_number number) (region_of state layer).keys) message state
 
--- An event on region L at a ratchet is refused where control is past its layer, or the layer may not run.
+-- An event on the region of a layer at a ratchet is refused where control is past its layer, or the layer may not run.
 abbrev pub on_region : ℕ → ℕ → (State → Outcome) → State → Outcome
-on_region ratchet L event state =
-    if nat_lt L ratchet || not (is_runnable state.layers L) then (refused WrongLayer, state)
+on_region ratchet layer event state =
+    if nat_lt layer ratchet || not (is_runnable state.layers layer) then (refusal_reply WrongLayer, state)
     else event state

@@ -27,17 +27,17 @@ trust_format = table w8 trust_rows trust_byte
 
 -- one trust, which stands for two equal ones
 abbrev pub one_trust : Format Trust → Format Trusts
-one_trust f = led f (λ trusts. trusts.one) (λ trust. nothing (equal_trusts trust))
+one_trust format = led format (λ trusts. trusts.one) (λ trust. nothing (equal_trusts trust))
 
 -- two trusts: in changes of layer 1, then in changes of layer 2
 abbrev pub two_trusts : Format Trust → Format Trusts
-two_trusts f = as_record (pair f f)
+two_trusts format = as_record (pair format format)
     (λ (one, two). record { one = one; two = two })
     (λ trusts. (trusts.one, trusts.two))
 
 -- the trusts of a layer in an entry of this version: version 1 spells one trust, version 2 spells two
 abbrev pub trusts_of : ℕ → Format Trust → Format Trusts
-trusts_of version f = either (version == 1) (one_trust f) (two_trusts f)
+trusts_of version format = either (version == 1) (one_trust format) (two_trusts format)
 
 -- the name of code: its hash and its version
 unfoldable pub code_name_format : Format CodeName

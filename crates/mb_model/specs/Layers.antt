@@ -25,45 +25,45 @@ is_same_trust _ _ = false
 abbrev pub are_equal : Trusts → Bool
 are_equal trusts = is_same_trust trusts.one trusts.two
 
--- the trust of a layer in changes of layer k, a layer beneath it: 1 or 2
+-- the trust of a layer in changes of a lower one: 1 or 2
 abbrev pub trust_for : Layer → ℕ → Trust
-trust_for layer k = if k == 1 then layer.trust.one else layer.trust.two
+trust_for layer lower = if lower == 1 then layer.trust.one else layer.trust.two
 
 -- a layer without an owner: it has no code, is not reliable, and both its trusts are never
-abbrev pub unowned : Layer
-unowned = record { owner = None; code = None; reliable = false; trust = equal_trusts Never }
+abbrev pub layer_without_owner : Layer
+layer_without_owner = record { owner = None; code = None; reliable = false; trust = equal_trusts Never }
 
 -- no layer has an owner: how a device stands before its birth
 abbrev pub unowned_layers : Layers
-unowned_layers = record { one = unowned; two = unowned; three = unowned }
+unowned_layers = record { one = layer_without_owner; two = layer_without_owner; three = layer_without_owner }
 
--- layer n, where n is 1, 2 or 3; any other is as good as unowned
+-- the layer with this number: 1, 2 or 3; any other is as good as unowned
 abbrev pub layer_of : Layers → ℕ → Layer
-layer_of layers n =
-    if n == 1 then layers.one
-    else if n == 2 then layers.two
-    else if n == 3 then layers.three
-    else unowned
+layer_of layers number =
+    if number == 1 then layers.one
+    else if number == 2 then layers.two
+    else if number == 3 then layers.three
+    else layer_without_owner
 
--- layer n has an owner
+-- the layer with this number has an owner
 abbrev pub is_owned : Layers → ℕ → Bool
-is_owned layers n = is_some (layer_of layers n).owner
+is_owned layers number = is_some (layer_of layers number).owner
 
--- n is the number of a layer that can change
+-- this is the number of a layer that can change
 abbrev pub is_layer_number : ℕ → Bool
-is_layer_number n = n == 1 || n == 2 || n == 3
+is_layer_number number = number == 1 || number == 2 || number == 3
 
--- n is the number of a layer that stands over another and has a region
+-- this is the number of a layer that stands over another and has a region
 abbrev pub is_upper : ℕ → Bool
-is_upper n = n == 2 || n == 3
+is_upper number = number == 2 || number == 3
 
--- layer or region n is in the pair, where n is 2 or 3; no other is
+-- the layer or region with this number, 2 or 3, is in the pair; no other is
 abbrev pub is_in : ℕ → Pair → Bool
-is_in n pair = if n == 2 then pair.two else if n == 3 then pair.three else false
+is_in number pair = if number == 2 then pair.two else if number == 3 then pair.three else false
 
 -- a layer that a device can hold: without an owner it is the unowned layer
 abbrev pub IsLayer : Layer → Type 0
-IsLayer layer = layer.owner ≡ None → layer ≡ unowned
+IsLayer layer = layer.owner ≡ None → layer ≡ layer_without_owner
 
 -- the layers that a device can hold: layer 1 always has an owner and is reliable
 pub record IsLayers (layers : Layers) : Type 0 where
@@ -72,19 +72,19 @@ pub record IsLayers (layers : Layers) : Type 0 where
   pub two : IsLayer layers.two
   pub three : IsLayer layers.three
 
--- layers 1 to n are all reliable, where n is 1, 2 or 3
+-- the layers from 1 up to this one, which is 1, 2 or 3, are all reliable
 abbrev pub is_runnable : Layers → ℕ → Bool
-is_runnable layers n =
-    layers.one.reliable && (nat_lt n 2 || layers.two.reliable) && (nat_lt n 3 || layers.three.reliable)
+is_runnable layers number =
+    layers.one.reliable && (nat_lt number 2 || layers.two.reliable) && (nat_lt number 3 || layers.three.reliable)
 
--- layer n may run
+-- the layer with this number may run
 abbrev pub Runnable : Layers → ℕ → Type 0
-Runnable layers n = IsTrue (is_runnable layers n)
+Runnable layers number = IsTrue (is_runnable layers number)
 
--- how layer n stands, as a device tells it
-abbrev pub standing : Layers → ℕ → Standing
-standing layers n =
-    if not (is_owned layers n) then stands.Unowned
-    else if not (layer_of layers n).reliable then stands.Unreliable
-    else if not (is_runnable layers n) then stands.Reliable
+-- how the layer with this number stands, as a device reports it
+abbrev pub layer_standing : Layers → ℕ → Standing
+layer_standing layers number =
+    if not (is_owned layers number) then stands.Unowned
+    else if not (layer_of layers number).reliable then stands.Unreliable
+    else if not (is_runnable layers number) then stands.Reliable
     else stands.Runnable

@@ -4,7 +4,7 @@ use Rattle.std.specs.Prelude.{◌≡◌, ◌≢◌, ℕ, ◌+◌, ◌≤◌, ◌
 use Rattle.std.specs.List.{join_with_byte}
 use Rattle.std.specs.Fmt.{decimal}
 use Rattle.hex.specs.Hex.{encode_lower}
-use Rattle.mb_model.specs.Texts.{ended}
+use Rattle.mb_model.specs.Texts.{line_with_lf}
 
 -- a line has no LF
 abbrev pub IsLine : List ℕ → Type 0
@@ -16,25 +16,25 @@ pub record LacksLastLf (lines : List (List ℕ)) (text : List ℕ) : Type 0 wher
   pub last : List ℕ
   pub split : lines ≡ before ++ last ∷ []
   pub filled : last ≢ []
-  pub whole : text ≡ flat_map ended before ++ last
+  pub whole : text ≡ flat_map line_with_lf before ++ last
 
 -- A text stands in these lines: each ends with an LF, which the last may lack where it is not empty. So the empty text
 -- has no line, an LF alone is one empty line, and what stands after the last LF is no line where it is nothing.
 pub record HasLines (text : List ℕ) (lines : List (List ℕ)) : Type 0 where
   pub plain : All IsLine lines
-  pub whole : (text ≡ flat_map ended lines) ⊎ LacksLastLf lines text
+  pub whole : (text ≡ flat_map line_with_lf lines) ⊎ LacksLastLf lines text
 
 -- the text that is written of lines: each ends with an LF
 abbrev pub text_of : List (List ℕ) → List ℕ
-text_of lines = flat_map ended lines
+text_of lines = flat_map line_with_lf lines
 
 -- words with one space between each two, and none before or after
-abbrev pub spaced : List (List ℕ) → List ℕ
-spaced words = join_with_byte 32 words
+abbrev pub spaced_words : List (List ℕ) → List ℕ
+spaced_words words = join_with_byte 32 words
 
 -- the word is this number in decimal, without leading zeros, and the number is at most so large
 abbrev pub IsNumber : ℕ → List ℕ → ℕ → Type 0
-IsNumber most word n = (word ≡ decimal n) × (n ≤ most)
+IsNumber most word number = (word ≡ decimal number) × (number ≤ most)
 
 -- the largest number of a text, where nothing less is said
 abbrev pub number_limit : ℕ
@@ -51,34 +51,36 @@ pub record IsBeginning {A : Type 0} (Grammar : List (List ℕ) → A → Type 0)
   pub value : A
   pub stands : Grammar (lines ++ more) value
 
--- Line n, from 1, is wrong: a text of the grammar begins with the lines before it, and none begins with these and it.
+-- The line at this place, from 1, is wrong: a text of the grammar begins with the lines before it, and none begins with
+-- these and it.
 pub record HasBadLine
     {A : Type 0}
     (Grammar : List (List ℕ) → A → Type 0)
     (lines : List (List ℕ))
-    (n : ℕ) : Type 0 where
+    (place : ℕ) : Type 0 where
   pub before : List (List ℕ)
   pub line : List ℕ
   pub later : List (List ℕ)
   pub split : lines ≡ before ++ line ∷ later
   pub good : IsBeginning Grammar before
   pub bad : IsBeginning Grammar (before ++ line ∷ []) → ⊥
-  pub number : n ≡ length before + 1
+  pub number : place ≡ length before + 1
 
--- The text ends too early, before line n: a longer one begins with all its lines, and they are none by themselves.
+-- The text ends too early, before this line: a longer one begins with all its lines, and they are none by themselves.
 pub record EndsEarly
     {A : Type 0}
     (Grammar : List (List ℕ) → A → Type 0)
     (lines : List (List ℕ))
-    (n : ℕ) : Type 0 where
+    (line : ℕ) : Type 0 where
   pub good : IsBeginning Grammar lines
   pub unfinished : (value : A) → Grammar lines value → ⊥
-  pub number : n ≡ length lines + 1
+  pub number : line ≡ length lines + 1
 
--- The line with the number n, from 1, is the first that is wrong in these lines.
-pub data FailsAtLine {A : Type 0} (Grammar : List (List ℕ) → A → Type 0) (lines : List (List ℕ)) (n : ℕ) : Type 0 where
-  bad_line : HasBadLine Grammar lines n → FailsAtLine Grammar lines n
-  ends_early : EndsEarly Grammar lines n → FailsAtLine Grammar lines n
+-- The line with this number, from 1, is the first that is wrong in these lines.
+pub data FailsAtLine {A : Type 0} (Grammar : List (List ℕ) → A → Type 0)
+    (lines : List (List ℕ)) (line : ℕ) : Type 0 where
+  bad_line : HasBadLine Grammar lines line → FailsAtLine Grammar lines line
+  ends_early : EndsEarly Grammar lines line → FailsAtLine Grammar lines line
 
 -- a text stands in lines that stand for this value
 pub record ReadsLines {A : Type 0} (Grammar : List (List ℕ) → A → Type 0) (text : List ℕ) (value : A) : Type 0 where
@@ -91,7 +93,7 @@ pub record TextFailsAtLine
     {A : Type 0}
     (Grammar : List (List ℕ) → A → Type 0)
     (text : List ℕ)
-    (n : ℕ) : Type 0 where
+    (line : ℕ) : Type 0 where
   pub lines : List (List ℕ)
   pub has : HasLines text lines
-  pub fails : FailsAtLine Grammar lines n
+  pub fails : FailsAtLine Grammar lines line

@@ -15,7 +15,7 @@ use Rattle.mb_model.specs.declared.reply.Reply.{Reply}
 use Rattle.mb_model.specs.declared.reply.Reply.TheVariants as reply
 use Rattle.mb_model.specs.Key.{key_bytes}
 use Rattle.mb_model.specs.Layers.{are_equal}
-use Rattle.mb_model.specs.Lines.{spaced, hex_word}
+use Rattle.mb_model.specs.Lines.{spaced_words, hex_word}
 use Rattle.mb_model.specs.Drafts.{trust_word, kind_word}
 
 abbrev pub life_word : Bool → List ℕ
@@ -42,26 +42,26 @@ trust_words trusts =
     if are_equal trusts then trust_word trusts.one ∷ []
     else trust_word trusts.one ∷ trust_word trusts.two ∷ []
 
--- the line of the layer with the number m
+-- the line of the layer with this number
 abbrev pub layer_line : ℕ → Layer → List ℕ
-layer_line m layer =
-    spaced (codes "layer" ∷ decimal m ∷ owner_word layer.owner ∷ code_words layer.code
+layer_line number layer =
+    spaced_words (codes "layer" ∷ decimal number ∷ owner_word layer.owner ∷ code_words layer.code
     ++ reliable_word layer.reliable ∷ trust_words layer.trust)
 
 -- the lines of a configuration: its number, and each layer from 1 up to the key's
 abbrev pub configuration_lines : Configuration → List (List ℕ)
 configuration_lines item =
-    spaced (codes "configuration" ∷ decimal item.number ∷ [])
+    spaced_words (codes "configuration" ∷ decimal item.number ∷ [])
     ∷ take item.upto (layer_line 1 item.layers.one ∷ layer_line 2 item.layers.two ∷ layer_line 3 item.layers.three ∷ [])
 
 abbrev pub statement_lines : Option (List ℕ) → List (List ℕ)
 statement_lines None = []
-statement_lines (Some message) = spaced (codes "statement" ∷ hex_word message ∷ []) ∷ []
+statement_lines (Some message) = spaced_words (codes "statement" ∷ hex_word message ∷ []) ∷ []
 
 -- the lines of the report on the key with this number
 unfoldable pub listing : ℕ → Report → List (List ℕ)
 listing key report =
-    spaced (codes "key" ∷ decimal key ∷ kind_word report.kind
+    spaced_words (codes "key" ∷ decimal key ∷ kind_word report.kind
     ∷ codes "layer" ∷ decimal report.layer ∷ life_word report.alive ∷ [])
     ∷ flat_map configuration_lines report.lives ++ statement_lines report.message
 
@@ -81,11 +81,11 @@ is_refused _ = false
 
 -- how many of the answered events have such a reply
 abbrev pub replies_that : (Reply → Bool) → List Answered → ℕ
-replies_that test answered = count_by (λ a. test a.reply) answered
+replies_that test answered = count_by (λ each. test each.reply) answered
 
 -- a name and a number
 abbrev pub number_line : List ℕ → ℕ → List ℕ
-number_line name n = spaced (name ∷ decimal n ∷ [])
+number_line name number = spaced_words (name ∷ decimal number ∷ [])
 
 -- the lines of the summary: of the answered events, of the length of the log at the end, and of the image's hash
 unfoldable pub summary : List Answered → ℕ → List ℕ → List (List ℕ)
@@ -95,5 +95,5 @@ summary answered log_length image_hash =
     ∷ number_line (codes "signed") (replies_that is_signed answered)
     ∷ number_line (codes "refused") (replies_that is_refused answered)
     ∷ number_line (codes "length") log_length
-    ∷ spaced (codes "image" ∷ hex_word image_hash ∷ [])
+    ∷ spaced_words (codes "image" ∷ hex_word image_hash ∷ [])
     ∷ []

@@ -9,41 +9,44 @@ use Rattle.mb_model.specs.declared.order.KeyKind.TheVariants as kinds
 use Rattle.mb_model.specs.declared.entry.Entry.{Entry}
 use Rattle.mb_model.specs.declared.entry.Entry.TheVariants.{Birth, Change, NewKey, Succession}
 use Rattle.mb_model.specs.declared.state.Configuration.{Configuration}
-use Rattle.mb_model.specs.Layers.{unowned, is_in}
+use Rattle.mb_model.specs.Layers.{layer_without_owner, is_in}
 use Rattle.mb_model.specs.Log.{layers_of}
 
 -- The entry ends each key of this kind and layer that was born before it: an epoch key, where a change does not keep
 -- the region; a configuration key, where a change is at the layer or beneath it.
-abbrev pub ends : KeyKind → ℕ → Entry → Bool
-ends kinds.Epoch L (Change version position number kind layer cosigned layers kept next) = not (is_in L kept)
-ends kinds.Configuration L (Change version position number kind layer cosigned layers kept next) = nat_le layer L
-ends key_kind L (Birth version serial key layers) = false
-ends key_kind L (NewKey position number key_number layer kind key) = false
-ends key_kind L (Succession position key) = false
+abbrev pub ends_keys : KeyKind → ℕ → Entry → Bool
+ends_keys kinds.Epoch key_layer (Change version position number kind layer cosigned layers kept next) =
+    not (is_in key_layer kept)
+ends_keys kinds.Configuration key_layer (Change version position number kind layer cosigned layers kept next) =
+    nat_le layer key_layer
+ends_keys key_kind key_layer (Birth version serial key layers) = false
+ends_keys key_kind key_layer (NewKey position number key_number layer kind key) = false
+ends_keys key_kind key_layer (Succession position key) = false
 
--- The key with this number is born in the log, in the region of layer L, and no later entry ends it. This is what it
+-- The key with this number is born in the log, in the region of its layer, and no later entry ends it. This is what it
 -- means that a key is alive. The laws of mb_model_laws say that the list `alive_keys` below has exactly these keys
 -- (`alive_keys_are_alive`), that `is_alive` of a chain is true of them alone (`the_flag_is_life`), and that such a key
 -- lives in the last configuration of `lives_of` (`alive_keys_live_now`).
-pub record Alive (log : List Entry) (key_number L : ℕ) (kind : KeyKind) (key : PublicKey) : Type 0 where
+pub record Alive (log : List Entry) (key_number key_layer : ℕ) (kind : KeyKind) (key : PublicKey) : Type 0 where
   pub before : List Entry
   pub position : ℕ
   pub number : ℕ
   pub later : List Entry
-  pub split : log ≡ before ++ NewKey position number key_number L kind key ∷ later
-  pub lasts : All (λ entry. ends kind L entry ≡ false) later
+  pub split : log ≡ before ++ NewKey position number key_number key_layer kind key ∷ later
+  pub lasts : All (λ entry. ends_keys kind key_layer entry ≡ false) later
 
--- the layers 1 to L; each layer above stands as unowned
+-- the layers up to that of the key; each layer above stands as unowned
 abbrev pub layers_upto : ℕ → Layers → Layers
-layers_upto L layers = record {
+layers_upto key_layer layers = record {
   one = layers.one;
-  two = if nat_lt L 2 then unowned else layers.two;
-  three = if nat_lt L 3 then unowned else layers.three;
+  two = if nat_lt key_layer 2 then layer_without_owner else layers.two;
+  three = if nat_lt key_layer 3 then layer_without_owner else layers.three;
 }
 
--- the configuration of a key of layer L that has this number and these layers
+-- the configuration of a key of this layer that has this number and these layers
 abbrev pub configuration : ℕ → ℕ → Layers → Configuration
-configuration L number layers = record { number = number; upto = L; layers = layers_upto L layers }
+configuration key_layer number layers =
+    record { number = number; upto = key_layer; layers = layers_upto key_layer layers }
 
 -- an entry of a list, with those before it and those after it
 pub record Split : Type 0 where
@@ -61,35 +64,36 @@ splits [] = []
 splits (entry ∷ rest) =
     record { before = []; entry = entry; later = rest } ∷ map (with_front entry) (splits rest)
 
--- the configuration that an entry opens for a key of layer L: a change at the layer or beneath it opens one
-abbrev pub opened_by : ℕ → Entry → List Configuration
-opened_by L (Birth version serial key layers) = []
-opened_by L (Change version position number kind layer cosigned layers kept next) =
-    if nat_le layer L then configuration L number layers ∷ [] else []
-opened_by L (NewKey position number key_number layer kind key) = []
-opened_by L (Succession position key) = []
+-- the configuration that an entry opens for a key of this layer: a change at the layer or beneath it opens one
+abbrev pub configurations_opened_by : ℕ → Entry → List Configuration
+configurations_opened_by key_layer (Birth version serial key layers) = []
+configurations_opened_by key_layer (Change version position number kind layer cosigned layers kept next) =
+    if nat_le layer key_layer then configuration key_layer number layers ∷ [] else []
+configurations_opened_by key_layer (NewKey position number key_number layer kind key) = []
+configurations_opened_by key_layer (Succession position key) = []
 
 -- the configuration that a later entry opens for a key which it does not end, and which none since the key's own ended
-abbrev pub outlived : KeyKind → ℕ → Split → List Configuration
-outlived kind L split =
-    if list_all (λ entry. not (ends kind L entry)) split.before && not (ends kind L split.entry)
-    then opened_by L split.entry
+abbrev pub configurations_outlived_by : KeyKind → ℕ → Split → List Configuration
+configurations_outlived_by kind key_layer split =
+    if list_all (λ entry. not (ends_keys kind key_layer entry)) split.before
+    && not (ends_keys kind key_layer split.entry)
+    then configurations_opened_by key_layer split.entry
     else []
 
 -- the configurations of the key with this number, where an entry makes it: that of its birth, and those that later
 -- entries open while it lives
 abbrev pub lives_from : ℕ → List Entry → Entry → List Entry → List Configuration
-lives_from n before (Birth version serial key layers) later = []
-lives_from n before (Change version position number kind layer cosigned layers kept next) later = []
-lives_from n before (NewKey position number key_number layer kind key) later =
-    if key_number == n
-    then configuration layer number (layers_of before) ∷ flat_map (outlived kind layer) (splits later)
+lives_from asked before (Birth version serial key layers) later = []
+lives_from asked before (Change version position number kind layer cosigned layers kept next) later = []
+lives_from asked before (NewKey position number key_number layer kind key) later =
+    if key_number == asked
+    then configuration layer number (layers_of before) ∷ flat_map (configurations_outlived_by kind layer) (splits later)
     else []
-lives_from n before (Succession position key) later = []
+lives_from asked before (Succession position key) later = []
 
 -- the configurations in which the key with this number lived; none where no entry makes such a key
 unfoldable pub lives_of : List Entry → ℕ → List Configuration
-lives_of log n = flat_map (λ split. lives_from n split.before split.entry split.later) (splits log)
+lives_of log key_number = flat_map (λ split. lives_from key_number split.before split.entry split.later) (splits log)
 
 -- what an entry says of a key that it makes
 pub record MadeKey : Type 0 where
@@ -97,16 +101,16 @@ pub record MadeKey : Type 0 where
   pub kind : KeyKind
   pub key : PublicKey
 
--- the key that an entry makes in the region of layer L, where no later entry ends it
-abbrev pub lasting : ℕ → Entry → List Entry → List MadeKey
-lasting L (Birth version serial key layers) later = []
-lasting L (Change version position number kind layer cosigned layers kept next) later = []
-lasting L (NewKey position number key_number layer kind key) later =
-    if (layer == L) && list_all (λ entry. not (ends kind L entry)) later
+-- the key that an entry makes in the region of this layer, where no later entry ends it
+abbrev pub lasting_keys_of : ℕ → Entry → List Entry → List MadeKey
+lasting_keys_of key_layer (Birth version serial key layers) later = []
+lasting_keys_of key_layer (Change version position number kind layer cosigned layers kept next) later = []
+lasting_keys_of key_layer (NewKey position number key_number layer kind key) later =
+    if (layer == key_layer) && list_all (λ entry. not (ends_keys kind key_layer entry)) later
     then record { number = key_number; kind = kind; key = key } ∷ []
     else []
-lasting L (Succession position key) later = []
+lasting_keys_of key_layer (Succession position key) later = []
 
--- the keys of layer L that are alive by a log, in the order of their birth: exactly those that are Alive
+-- the keys of this layer that are alive by a log, in the order of their birth: exactly those that are Alive
 unfoldable pub alive_keys : List Entry → ℕ → List MadeKey
-alive_keys log L = flat_map (λ split. lasting L split.entry split.later) (splits log)
+alive_keys log key_layer = flat_map (λ split. lasting_keys_of key_layer split.entry split.later) (splits log)

@@ -14,7 +14,7 @@ use Rattle.mb_model.specs.declared.entry.Entry.{Entry}
 use Rattle.mb_model.specs.declared.entry.Entry.TheVariants.{Birth, Change, NewKey, Succession}
 use Rattle.mb_model.specs.declared.entry.SignedEntry.{SignedEntry}
 use Rattle.mb_model.specs.declared.state.Figures.{Figures}
-use Rattle.mb_model.specs.Layers.{unowned, unowned_layers, layer_of}
+use Rattle.mb_model.specs.Layers.{layer_without_owner, unowned_layers, layer_of}
 use Rattle.mb_model.specs.Rules.{Condition, CanPlace, after, may_cosign, kept_regions, renews}
 
 -- the entries of a log without their signatures
@@ -67,12 +67,12 @@ unfoldable pub device_of : List Entry → Option PublicKey
 device_of log = last_of device_in log
 
 -- how many entries stand after the one that names that key: those at the end that name none
-unfoldable pub used : List Entry → ℕ
-used log = length (take_while (λ entry. is_none (device_in entry)) (reverse log))
+unfoldable pub uses_of_device_key : List Entry → ℕ
+uses_of_device_key log = length (take_while (λ entry. is_none (device_in entry)) (reverse log))
 
 -- how many keys the entries name
-unfoldable pub made : List Entry → ℕ
-made log = sum_by keys_in log
+unfoldable pub keys_made_by : List Entry → ℕ
+keys_made_by log = sum_by keys_in log
 
 -- whether an entry is a birth or change of version 2, which spells two trusts for each of its layers
 abbrev pub is_version_two : Entry → Bool
@@ -92,17 +92,17 @@ figures_of log = record {
   number = number_of log;
   layers = layers_of log;
   device = device_of log;
-  uses = used log;
-  keys_made = made log;
+  uses = uses_of_device_key log;
+  keys_made = keys_made_by log;
   version_two = has_version_two log;
 }
 
 -- the entry says that this many stand before it; a birth does not say
 abbrev pub StandsAt : ℕ → Entry → Type 0
-StandsAt n (Birth version serial key layers) = Unit {0}
-StandsAt n (Change version position number kind layer cosigned layers kept next) = position ≡ n
-StandsAt n (NewKey position number key_number layer kind key) = position ≡ n
-StandsAt n (Succession position key) = position ≡ n
+StandsAt count (Birth version serial key layers) = Unit {0}
+StandsAt count (Change version position number kind layer cosigned layers kept next) = position ≡ count
+StandsAt count (NewKey position number key_number layer kind key) = position ≡ count
+StandsAt count (Succession position key) = position ≡ count
 
 -- the entry stands after a log with these figures, and its signature has the next index of the device key named last
 pub record Ordered (before : Figures) (entry : Entry) (index : ℕ) : Type 0 where
@@ -126,47 +126,47 @@ pub record MayHaveVersion (after_version_two : Bool) (version : ℕ) (layers : L
 pub record AreFirst (layers : Layers) : Type 0 where
   pub owned : IsSome layers.one.owner
   pub reliable : IsTrue layers.one.reliable
-  pub two : layers.two ≡ unowned
-  pub three : layers.three ≡ unowned
+  pub two : layers.two ≡ layer_without_owner
+  pub three : layers.three ≡ layer_without_owner
 
--- A change of layer k counts on from the log before it, and names the next device key where it has to.
+-- A change of a layer counts on from the log before it, and names the next device key where it has to.
 pub record CountsRightly
     (before : Figures)
     (number : ℕ)
     (kind : ChangeKind)
-    (k : ℕ)
+    (changed : ℕ)
     (next : Option PublicKey) : Type 0 where
   pub counted : number ≡ before.number + 1
   -- exactly the ordinary load of layer 1 makes the next device key
-  pub renewed : is_some next ≡ renews (Some kind) k
+  pub renewed : is_some next ≡ renews (Some kind) changed
   -- the last index of a device key signs no other change
   pub last_index : before.uses ≡ LAST_INDEX → IsSome next
 
--- each owner that countersigned a change of layer k may do so
-pub record MayAllCosign (layers : Layers) (kind : ChangeKind) (k : ℕ) (cosigned : Pair) : Type 0 where
-  pub two : IsTrue cosigned.two → IsTrue (may_cosign layers kind k 2)
-  pub three : IsTrue cosigned.three → IsTrue (may_cosign layers kind k 3)
+-- each owner that countersigned a change of this layer may do so
+pub record MayAllCosign (layers : Layers) (kind : ChangeKind) (changed : ℕ) (cosigned : Pair) : Type 0 where
+  pub two : IsTrue cosigned.two → IsTrue (may_cosign layers kind changed 2)
+  pub three : IsTrue cosigned.three → IsTrue (may_cosign layers kind changed 3)
 
--- A change of layer k turns the old layers into the new ones and keeps regions, both by the rules. Which owner, code
--- name and trusts it puts there, its own layer k says.
+-- A change of a layer turns the old layers into the new ones and keeps regions, both by the rules. Which owner, code
+-- name and trusts it puts there, the changed layer says.
 pub record ChangesRightly
     (old : Layers)
     (kind : ChangeKind)
-    (k : ℕ)
+    (changed_layer : ℕ)
     (cosigned : Pair)
     (new : Layers)
     (kept : Pair) : Type 0 where
-  pub allowed : Condition old (Some kind) k
-  pub placed : CanPlace kind (layer_of old k) (layer_of new k)
-  pub changed : new ≡ after old kind k cosigned (layer_of new k)
-  pub countersigned : MayAllCosign old kind k cosigned
-  pub regions : kept ≡ kept_regions old kind k cosigned
+  pub allowed : Condition old (Some kind) changed_layer
+  pub placed : CanPlace kind (layer_of old changed_layer) (layer_of new changed_layer)
+  pub changed : new ≡ after old kind changed_layer cosigned (layer_of new changed_layer)
+  pub countersigned : MayAllCosign old kind changed_layer cosigned
+  pub regions : kept ≡ kept_regions old kind changed_layer cosigned
 
--- a new key of layer k has its numbers from the log before it, and may be made
-pub record MakesRightly (before : Figures) (number key_number k : ℕ) : Type 0 where
+-- a new key of a layer has its numbers from the log before it, and may be made
+pub record MakesRightly (before : Figures) (number key_number layer : ℕ) : Type 0 where
   pub counted : number ≡ before.number
   pub key_counted : key_number ≡ before.keys_made
-  pub allowed : Condition before.layers None k
+  pub allowed : Condition before.layers None layer
   -- the last index of a device key signs no new key
   pub last_index : before.uses ≢ LAST_INDEX
 

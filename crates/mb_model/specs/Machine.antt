@@ -8,15 +8,15 @@ use Rattle.mb_model.specs.declared.event.Answered.{Answered}
 use Rattle.mb_model.specs.declared.reply.Reply.{Reply}
 use Rattle.mb_model.specs.declared.reply.Reply.TheVariants as reply
 use Rattle.mb_model.specs.declared.state.State.{State}
-use Rattle.mb_model.specs.Layers.{is_runnable, standing}
+use Rattle.mb_model.specs.Layers.{is_runnable, layer_standing}
 use Rattle.mb_model.specs.Log.{entries_of, number_of}
 use Rattle.mb_model.specs.declared.reply.Refusal.{Refusal}
 use Rattle.mb_model.specs.declared.reply.Refusal.TheVariants.{PoweredOff, WrongPhase, Zeroised, WrongLayer}
-use Rattle.mb_model.specs.Refusals.{refused}
+use Rattle.mb_model.specs.Refusals.{refusal_reply}
 use Rattle.mb_model.specs.OrderStep.{OrderStep}
 use Rattle.mb_model.specs.LayerEvents.{Outcome, on_region, put_event, get_event, drop_event, sign_event}
 
--- where control is: power is off, or the device is on and dead, or layer r runs, which is 1, 2 or 3
+-- where control is: power is off, or the device is on and dead, or the layer of this level runs, which is 1, 2 or 3
 pub data Phase : Type 0 where
   off : Phase
   dead : Phase
@@ -29,8 +29,8 @@ pub record World : Type 0 where
   pub armed : Bool
 
 -- a device before its first event: power is off, and no power loss is armed
-abbrev pub opening : Option State → World
-opening state = record { state = state; phase = off; armed = false }
+abbrev pub opening_world : Option State → World
+opening_world state = record { state = state; phase = off; armed = false }
 
 -- what an event comes to in a world
 abbrev pub Told : Type 0
@@ -39,56 +39,56 @@ Told = Reply × World
 -- Power comes on.
 abbrev pub boot_event : World → Phase → Option State → Told
 boot_event world off (Some state) = (reply.Booted, record world { phase = ratchet 1 })
-boot_event world off None = (refused Zeroised, record world { phase = dead })
-boot_event world dead state = (refused Zeroised, world)
-boot_event world (ratchet r) state = (refused WrongPhase, world)
+boot_event world off None = (refusal_reply Zeroised, record world { phase = dead })
+boot_event world dead state = (refusal_reply Zeroised, world)
+boot_event world (ratchet level) state = (refusal_reply WrongPhase, world)
 
 -- The state of a device that is on and alive, and the layer that runs. All but boot, off, tamper and cut need one.
-abbrev pub awake : Phase → Option State → Result (ℕ × State) Refusal
-awake off state = Err PoweredOff
-awake dead state = Err Zeroised
-awake (ratchet r) None = Err Zeroised
-awake (ratchet r) (Some state) = Ok (r, state)
+abbrev pub running_state : Phase → Option State → Result (ℕ × State) Refusal
+running_state off state = Err PoweredOff
+running_state dead state = Err Zeroised
+running_state (ratchet level) None = Err Zeroised
+running_state (ratchet level) (Some state) = Ok (level, state)
 
-abbrev pub awake_in : World → Result (ℕ × State) Refusal
-awake_in world = awake world.phase world.state
+abbrev pub running_state_in : World → Result (ℕ × State) Refusal
+running_state_in world = running_state world.phase world.state
 
 -- what is told of how the device stands
 unfoldable pub status_of : State → Reply
 status_of state =
     let number = number_of (entries_of state.log) in
-    let one = standing state.layers 1 in
-    let two = standing state.layers 2 in
-    let three = standing state.layers 3 in
+    let one = layer_standing state.layers 1 in
+    let two = layer_standing state.layers 2 in
+    let three = layer_standing state.layers 3 in
     reply.Status state.serial number (length state.log) one two three
 
 abbrev pub status_event : World → Result (ℕ × State) Refusal → Told
-status_event world (Err refusal) = (refused refusal, world)
+status_event world (Err refusal) = (refusal_reply refusal, world)
 status_event world (Ok on) = (status_of on.1, world)
 
 -- Control goes to the next layer, where there is one and it may run. There is no way back but a boot.
 abbrev pub go_event : World → Result (ℕ × State) Refusal → Told
-go_event world (Err refusal) = (refused refusal, world)
+go_event world (Err refusal) = (refusal_reply refusal, world)
 go_event world (Ok on) =
-    if nat_lt 2 on.0 then (refused WrongPhase, world)
+    if nat_lt 2 on.0 then (refusal_reply WrongPhase, world)
     else if is_runnable on.1.layers (on.0 + 1)
     then (reply.At (on.0 + 1), record world { phase = ratchet (on.0 + 1) })
-    else (refused WrongLayer, world)
+    else (refusal_reply WrongLayer, world)
 
 -- what a layer does with a region
 abbrev pub region_event : World → ℕ → (State → Outcome) → Result (ℕ × State) Refusal → Told
-region_event world L does (Err refusal) = (refused refusal, world)
-region_event world L does (Ok on) =
-    let outcome = on_region on.0 L does on.1 in
+region_event world layer does (Err refusal) = (refusal_reply refusal, world)
+region_event world layer does (Ok on) =
+    let outcome = on_region on.0 layer does on.1 in
     (outcome.0, record world { state = Some outcome.1 })
 
 -- Orders are obeyed while layer 1 runs.
 abbrev pub CommandStep : World → List ℕ → List ℕ → Result (ℕ × State) Refusal → Reply → World → Type 0
-CommandStep world text draw (Err refusal) answer next = (answer ≡ refused refusal) × (next ≡ world)
+CommandStep world text draw (Err refusal) answer next = (answer ≡ refusal_reply refusal) × (next ≡ world)
 CommandStep world text draw (Ok on) answer next =
     ((on.0 ≡ 1)
     × ((state : State) × OrderStep on.1 text draw answer state × (next ≡ record world { state = Some state })))
-    ⊎ ((1 < on.0) × (answer ≡ refused WrongPhase) × (next ≡ world))
+    ⊎ ((1 < on.0) × (answer ≡ refusal_reply WrongPhase) × (next ≡ world))
 
 -- An event has this reply and leads to this world, where memory is found and power holds.
 abbrev pub Machine : World → Event → Reply → World → Type 0
@@ -97,26 +97,27 @@ Machine world event.Off answer next = (answer ≡ reply.Off) × (next ≡ record
 Machine world event.Tamper answer next =
     (answer ≡ reply.Tampered) × (next ≡ record world { phase = off; state = None })
 Machine world (event.Cut count tear) answer next = (answer ≡ reply.Armed) × (next ≡ record world { armed = true })
-Machine world event.Status answer next = (answer, next) ≡ status_event world (awake_in world)
-Machine world (event.Command text draw) answer next = CommandStep world text draw (awake_in world) answer next
-Machine world event.Go answer next = (answer, next) ≡ go_event world (awake_in world)
-Machine world (event.Put L name value) answer next =
-    (answer, next) ≡ region_event world L (put_event L name value) (awake_in world)
-Machine world (event.Get L name) answer next = (answer, next) ≡ region_event world L (get_event L name) (awake_in world)
-Machine world (event.Drop L name) answer next =
-    (answer, next) ≡ region_event world L (drop_event L name) (awake_in world)
-Machine world (event.Sign L key message) answer next =
-    (answer, next) ≡ region_event world L (sign_event L key message) (awake_in world)
+Machine world event.Status answer next = (answer, next) ≡ status_event world (running_state_in world)
+Machine world (event.Command text draw) answer next = CommandStep world text draw (running_state_in world) answer next
+Machine world event.Go answer next = (answer, next) ≡ go_event world (running_state_in world)
+Machine world (event.Put layer name value) answer next =
+    (answer, next) ≡ region_event world layer (put_event layer name value) (running_state_in world)
+Machine world (event.Get layer name) answer next =
+    (answer, next) ≡ region_event world layer (get_event layer name) (running_state_in world)
+Machine world (event.Drop layer name) answer next =
+    (answer, next) ≡ region_event world layer (drop_event layer name) (running_state_in world)
+Machine world (event.Sign layer key message) answer next =
+    (answer, next) ≡ region_event world layer (sign_event layer key message) (running_state_in world)
 
 -- the events for which memory may be wanted
 abbrev pub may_want_memory : Event → Bool
 may_want_memory event.Boot = true
 may_want_memory event.Status = true
 may_want_memory (event.Command text draw) = true
-may_want_memory (event.Put L name value) = true
-may_want_memory (event.Get L name) = true
-may_want_memory (event.Drop L name) = true
-may_want_memory (event.Sign L key message) = true
+may_want_memory (event.Put layer name value) = true
+may_want_memory (event.Get layer name) = true
+may_want_memory (event.Drop layer name) = true
+may_want_memory (event.Sign layer key message) = true
 may_want_memory event.Off = false
 may_want_memory event.Tamper = false
 may_want_memory event.Go = false
@@ -132,7 +133,7 @@ may_be_cut (reply.Signed key index statement) = true
 may_be_cut reply.Off = false
 may_be_cut reply.Tampered = false
 may_be_cut reply.Armed = false
-may_be_cut (reply.At r) = false
+may_be_cut (reply.At level) = false
 may_be_cut (reply.Value bytes) = false
 may_be_cut reply.Absent = false
 may_be_cut (reply.Status serial number size one two three) = false
@@ -163,7 +164,7 @@ pub record LosesPower (world : World) (event : Event) (answer : Reply) (next : W
 -- One step: from a world, an event has this reply and leads to next. There is no other way.
 pub data Step (world : World) (event : Event) (answer : Reply) (next : World) : Type 0 where
   -- the machine's own answer
-  answered : Machine world event answer next → Step world event answer next
+  machine_step : Machine world event answer next → Step world event answer next
   lacks_memory : LacksMemory world event answer next → Step world event answer next
   loses_power : LosesPower world event answer next → Step world event answer next
 

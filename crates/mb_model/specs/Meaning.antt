@@ -17,8 +17,8 @@ use Rattle.mb_model.specs.Regions.{is_epoch}
 use Rattle.mb_model.specs.LayerEvents.{has_number}
 use Rattle.mb_model.specs.RootFormat.{root_format}
 use Rattle.mb_model.specs.RegionFormat.{SpellsRegion}
-use Rattle.mb_model.specs.Memory.{AreSized, IsImage, IsBlank, life_byte, spare, current, HoldsInArea, HoldsRecord}
-use Rattle.mb_model.specs.StoredLog.{HasIndex, completed}
+use Rattle.mb_model.specs.Memory.{AreSized, IsImage, IsBlank, life_byte, spare_bytes, area_of_slot, HoldsInArea, HoldsRecord}
+use Rattle.mb_model.specs.StoredLog.{HasIndex, log_completed_by}
 use Rattle.mb_model.specs.Flash.{HoldsPublic}
 use Rattle.mb_model.specs.Valid.{Valid}
 
@@ -33,7 +33,7 @@ pub record HasRoot (life : ℕ) (between area : List ℕ) (root : Root) : Type 0
 
 -- so it is in this memory
 abbrev pub RootIn : List ℕ → Root → Type 0
-RootIn bbram root = HasRoot (life_byte bbram) (spare bbram) (current bbram 1) root
+RootIn bbram root = HasRoot (life_byte bbram) (spare_bytes bbram) (area_of_slot bbram 1) root
 
 -- an area holds the bytes of a region
 pub record HoldsRegion (area : List ℕ) (region : Region) : Type 0 where
@@ -58,8 +58,8 @@ FlashForm = List ℕ → Root → Codes → List SignedEntry → List Entry → 
 pub record HoldsContentsBy (Form : FlashForm) (flash bbram : List ℕ) (contents : Contents) : Type 0 where
   pub root : RootIn bbram contents.root
   pub public : Form flash contents.root contents.codes contents.signed contents.unsigned
-  pub two : HoldsRegion (current bbram 2) contents.two
-  pub three : HoldsRegion (current bbram 3) contents.three
+  pub two : HoldsRegion (area_of_slot bbram 2) contents.two
+  pub three : HoldsRegion (area_of_slot bbram 3) contents.three
 
 -- the memory holds these contents
 abbrev pub HoldsContents : List ℕ → List ℕ → Contents → Type 0
@@ -67,21 +67,22 @@ HoldsContents flash bbram contents = HoldsContentsBy HoldsPublic flash bbram con
 
 -- ---- the state, with pending work completed
 
-abbrev pub fated_secrets : Fate → List Secret → List Secret
-fated_secrets Keep secrets = secrets
-fated_secrets Empty secrets = []
-fated_secrets DropConfiguration secrets = secrets
-fated_secrets (AddKey key) secrets = secrets
+abbrev pub secrets_after_fate : Fate → List Secret → List Secret
+secrets_after_fate Keep secrets = secrets
+secrets_after_fate Empty secrets = []
+secrets_after_fate DropConfiguration secrets = secrets
+secrets_after_fate (AddKey key) secrets = secrets
 
-abbrev pub fated_keys : Fate → List RegionKey → List RegionKey
-fated_keys Keep keys = keys
-fated_keys Empty keys = []
-fated_keys DropConfiguration keys = filter (λ key. is_epoch key.kind) keys
-fated_keys (AddKey key) keys = if list_any (has_number key.number) keys then keys else keys ++ key ∷ []
+abbrev pub keys_after_fate : Fate → List RegionKey → List RegionKey
+keys_after_fate Keep keys = keys
+keys_after_fate Empty keys = []
+keys_after_fate DropConfiguration keys = filter (λ key. is_epoch key.kind) keys
+keys_after_fate (AddKey key) keys = if list_any (has_number key.number) keys then keys else keys ++ key ∷ []
 
 -- a region after what is to be done to it
-unfoldable pub fated : Fate → Region → Region
-fated fate region = record { secrets = fated_secrets fate region.secrets; keys = fated_keys fate region.keys }
+unfoldable pub region_after_fate : Fate → Region → Region
+region_after_fate fate region =
+    record { secrets = secrets_after_fate fate region.secrets; keys = keys_after_fate fate region.keys }
 
 abbrev pub fate_of_two : Option Pending → Fate
 fate_of_two None = Keep
@@ -92,10 +93,10 @@ fate_of_three None = Keep
 fate_of_three (Some pending) = pending.three
 
 -- the state that contents mean
-unfoldable pub meant : Contents → State
-meant contents =
+unfoldable pub state_of_contents : Contents → State
+state_of_contents contents =
     let root = contents.root in
-    let whole = completed root contents.signed contents.unsigned in
+    let whole = log_completed_by root contents.signed contents.unsigned in
     record {
       serial = root.serial;
       layers = layers_of (entries_of whole);
@@ -103,8 +104,8 @@ meant contents =
       log = whole;
       device = root.device;
       uses = root.uses;
-      two = fated (fate_of_two root.pending) contents.two;
-      three = fated (fate_of_three root.pending) contents.three;
+      two = region_after_fate (fate_of_two root.pending) contents.two;
+      three = region_after_fate (fate_of_three root.pending) contents.three;
     }
 
 -- These bytes stand for this state, by this form of the flash: for none where the battery-backed memory is all zero, as
@@ -112,7 +113,7 @@ meant contents =
 pub data HasMeaningBy (Form : FlashForm) (flash bbram : List ℕ) (state : Option State) : Type 0 where
   is_dead : IsBlank bbram → state ≡ None → HasMeaningBy Form flash bbram state
   is_live : (contents : Contents) → HoldsContentsBy Form flash bbram contents →
-      HasIndex contents.root contents.root.pending → state ≡ Some (meant contents) →
+      HasIndex contents.root contents.root.pending → state ≡ Some (state_of_contents contents) →
       HasMeaningBy Form flash bbram state
 
 abbrev pub HasMeaning : List ℕ → List ℕ → Option State → Type 0

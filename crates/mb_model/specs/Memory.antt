@@ -38,8 +38,8 @@ abbrev pub life_byte : List ℕ → ℕ
 life_byte bbram = slice_index bbram 0
 
 -- the bytes between the selectors and the first area
-unfoldable pub spare : List ℕ → List ℕ
-spare bbram = part 4 4092 bbram
+unfoldable pub spare_bytes : List ℕ → List ℕ
+spare_bytes bbram = part 4 4092 bbram
 
 -- ---- the areas of a slot
 
@@ -53,11 +53,12 @@ unfoldable pub second_area : List ℕ → ℕ → List ℕ
 second_area bbram slot = part (slots slot).second AREA_LENGTH bbram
 
 -- the area in force, by the parity of the selector, and the other one
-unfoldable pub current : List ℕ → ℕ → List ℕ
-current bbram slot = if selector_of bbram slot % 2 == 0 then first_area bbram slot else second_area bbram slot
+unfoldable pub area_of_slot : List ℕ → ℕ → List ℕ
+area_of_slot bbram slot = if selector_of bbram slot % 2 == 0 then first_area bbram slot else second_area bbram slot
 
-unfoldable pub other : List ℕ → ℕ → List ℕ
-other bbram slot = if selector_of bbram slot % 2 == 0 then second_area bbram slot else first_area bbram slot
+unfoldable pub inactive_area_of_slot : List ℕ → ℕ → List ℕ
+inactive_area_of_slot bbram slot =
+    if selector_of bbram slot % 2 == 0 then second_area bbram slot else first_area bbram slot
 
 -- an area holds these bytes: their length, the bytes, and zeros
 pub record HoldsInArea (area bytes : List ℕ) : Type 0 where

@@ -15,23 +15,25 @@ leaf_mark = 0x82 ∷ 0x82 ∷ []
 abbrev pub inner_mark : List ℕ
 inner_mark = 0x83 ∷ 0x83 ∷ []
 
--- node r of a tree, where it is the leaf of a one-time key (5.3)
+-- the node of a tree with this number, where it is the leaf of a one-time key (5.3)
 unfoldable pub leaf_node : List ℕ → ℕ → List ℕ → List ℕ
-leaf_node id r key = sha256 (id ++ to_be_bytes w32 r ++ leaf_mark ++ key)
+leaf_node id number key = sha256 (id ++ to_be_bytes w32 number ++ leaf_mark ++ key)
 
--- node r of a tree, where it stands over two nodes (5.3)
+-- the node of a tree with this number, where it stands over two nodes (5.3)
 unfoldable pub inner_node : List ℕ → ℕ → List ℕ → List ℕ → List ℕ
-inner_node id r left right = sha256 (id ++ to_be_bytes w32 r ++ inner_mark ++ left ++ right)
+inner_node id number left right = sha256 (id ++ to_be_bytes w32 number ++ inner_mark ++ left ++ right)
 
--- the node over node r, which is the left one where r is even, and its sibling
+-- the node over the one with this number, which is the left one where the number is even, and its sibling
 unfoldable pub parent_node : List ℕ → ℕ → List ℕ → List ℕ → List ℕ
-parent_node id r node sibling =
-    if r % 2 == 0 then inner_node id (r / 2) node sibling else inner_node id (r / 2) sibling node
+parent_node id number node sibling =
+    if number % 2 == 0 then inner_node id (number / 2) node sibling else inner_node id (number / 2) sibling node
 
--- the node that is reached from node r by n steps upward, with the nodes of the path as siblings in turn (5.4.2)
+-- the node that is reached by this many steps upward from a node, with the nodes of the path as siblings in turn
+-- (5.4.2)
 unfoldable pub climb : List ℕ → ℕ → List ℕ → List ℕ → ℕ → List ℕ
-climb id r node path zero = node
-climb id r node path (suc n) = climb id (r / 2) (parent_node id r node (take 32 path)) (drop 32 path) n
+climb id number node path zero = node
+climb id number node path (suc levels) =
+    climb id (number / 2) (parent_node id number node (take 32 path)) (drop 32 path) levels
 
 -- The fields of a signature (5.4): the leaf's number q, the LM-OTS type, C, the chain values, the LMS type, the path.
 abbrev pub leaf_number : List ℕ → ℕ
@@ -43,15 +45,15 @@ chains_type_in sig = from_be_bytes w32 (part 4 4 sig)
 abbrev pub randomizer : List ℕ → List ℕ
 randomizer sig = part 8 32 sig
 
--- the next three stand where they do for p chains
+-- the next three stand where they do for this count of chains
 abbrev pub chain_values : ℕ → List ℕ → List ℕ
-chain_values p sig = part 40 (32 * p) sig
+chain_values count sig = part 40 (32 * count) sig
 
 abbrev pub tree_type_in : ℕ → List ℕ → ℕ
-tree_type_in p sig = from_be_bytes w32 (part (40 + 32 * p) 4 sig)
+tree_type_in count sig = from_be_bytes w32 (part (40 + 32 * count) 4 sig)
 
 abbrev pub path_in : ℕ → List ℕ → List ℕ
-path_in p sig = drop (44 + 32 * p) sig
+path_in count sig = drop (44 + 32 * count) sig
 
 -- a signature has the form of a key's signatures: the length and the type numbers of the key's types, and a leaf that
 -- is in the tree (5.4.2)
@@ -64,11 +66,11 @@ pub record HasForm (key : PublicKey) (sig : List ℕ) : Type 0 where
 -- the top node, T[1], to which a signature leads from the hash of a text (5.4.2)
 unfoldable pub root_from : PublicKey → List ℕ → List ℕ → List ℕ
 root_from key hash sig =
-    let p = chain_count key.chains in
-    let q = leaf_number sig in
-    let r = 2 ^ height key.tree + q in
-    let one_time = one_time_key key.chains key.identifier q (digits_of key.chains hash) (chain_values p sig) in
-    climb key.identifier r (leaf_node key.identifier r one_time) (path_in p sig) (height key.tree)
+    let count = chain_count key.chains in
+    let leaf = leaf_number sig in
+    let number = 2 ^ height key.tree + leaf in
+    let one_time = one_time_key key.chains key.identifier leaf (digits_of key.chains hash) (chain_values count sig) in
+    climb key.identifier number (leaf_node key.identifier number one_time) (path_in count sig) (height key.tree)
 
 -- the hash of a text under a signature
 unfoldable pub hash_of : PublicKey → List ℕ → List ℕ → List ℕ

@@ -3,7 +3,7 @@ use Rattle.std.specs.Prelude.{◌≡◌, List, ℕ, ◌++◌, codes}
 use Rattle.hex.specs.Hex.{encode_lower}
 use Rattle.sha2.specs.Sha256.{sha256}
 use Rattle.mb_model.specs.declared.role.Role.TheVariants as role
-use Rattle.mb_model.specs.Texts.{ended}
+use Rattle.mb_model.specs.Texts.{line_with_lf}
 use Rattle.mb_model.specs.Faults.{Fault}
 use Rattle.mb_model.specs.Migration.{IsMigrated, MeansTheSame, CannotMigrate}
 use Rattle.mb_model.specs.Commands.{Input, Command, read, write, print}
@@ -26,12 +26,12 @@ old_image_input name = record {
 
 -- the line that tells the hash of the image that is written
 abbrev pub migrated_text : List ℕ → List ℕ
-migrated_text image = ended (codes "migrated " ++ encode_lower (sha256 image))
+migrated_text image = line_with_lf (codes "migrated " ++ encode_lower (sha256 image))
 
-abbrev pub write_migrated : MigrateNames → List ℕ → Command
-write_migrated names image =
+abbrev pub write_migrated_image : MigrateNames → List ℕ → Command
+write_migrated_image names image =
     write (record { role = role.Out; name = names.out; bytes = image }) (print (migrated_text image))
 
 -- an image is read, which may have the form before, and the image of the present form is written
 unfoldable pub migrate : MigrateNames → Command
-migrate names = read (old_image_input names.image) (write_migrated names)
+migrate names = read (old_image_input names.image) (write_migrated_image names)

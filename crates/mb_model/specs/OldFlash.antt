@@ -19,7 +19,7 @@ use Rattle.mb_model.specs.Faults.{Fault, HasFaultBy}
 
 -- area 0 or 1 of the flash, of 524,288 bytes
 unfoldable pub flash_area : List ℕ → ℕ → List ℕ
-flash_area flash n = part (524288 * n) 524288 flash
+flash_area flash number = part (524288 * number) 524288 flash
 
 -- an area begins with these bytes, after their length; what follows them is any
 pub record BeginsArea (area bytes : List ℕ) : Type 0 where

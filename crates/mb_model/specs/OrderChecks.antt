@@ -12,7 +12,7 @@ use Rattle.mb_model.specs.declared.state.State.{State}
 use Rattle.mb_model.specs.declared.state.View.{View}
 use Rattle.mb_model.specs.Layers.{layer_of}
 use Rattle.mb_model.specs.Rules.{kind_of, change_of, authority, Condition, TargetHolds, IsFirstFailing, renews}
-use Rattle.mb_model.specs.Log.{entries_of, number_of, used, made}
+use Rattle.mb_model.specs.Log.{entries_of, number_of, uses_of_device_key, keys_made_by}
 use Rattle.mb_model.specs.OrderFormat.{order_body}
 use Rattle.mb_model.specs.SignedTexts.{order_text, countersigned_text, IsSignedBy}
 use Rattle.mb_model.specs.declared.reply.Refusal.{Refusal}
@@ -28,16 +28,16 @@ view_of state = record {
   layers = state.layers;
   length = length state.log;
   number = number_of (entries_of state.log);
-  keys_made = made (entries_of state.log);
+  keys_made = keys_made_by (entries_of state.log);
   device = state.device;
-  uses = used (entries_of state.log);
+  uses = uses_of_device_key (entries_of state.log);
   keys_two = length state.two.keys;
   keys_three = length state.three.keys;
 }
 
 -- how many keys the region of layer 2 or 3 has; no other layer has one
 abbrev pub region_keys : View → ℕ → ℕ
-region_keys view L = if L == 2 then view.keys_two else if L == 3 then view.keys_three else 0
+region_keys view layer = if layer == 2 then view.keys_two else if layer == 3 then view.keys_three else 0
 
 -- ---- the checks of an order, in the order in which they are tried
 
@@ -65,11 +65,11 @@ IsCountersigned view order by =
     IsSignedBy (layer_of view.layers by.layer).owner (countersigned_text by.layer (order_body order)) by.signature
 
 -- The last index of a device key signs no entry but one that names the next key: a succession stands before any other.
-abbrev pub succeeds : View → Bool → Bool
-succeeds view names_next = view.uses == LAST_INDEX && not names_next
+abbrev pub succession_is_due : View → Bool → Bool
+succession_is_due view names_next = view.uses == LAST_INDEX && not names_next
 
 abbrev pub needs_succession : View → Order → Bool
-needs_succession view order = succeeds view (renews (change_by order) order.layer)
+needs_succession view order = succession_is_due view (renews (change_by order) order.layer)
 
 -- how many entries the order appends
 abbrev pub entries_needed : View → Order → ℕ
@@ -80,11 +80,11 @@ LogHasRoom view order = view.length + entries_needed view order ≤ ENTRY_LIMIT
 
 -- where the order makes a key, its region has room for it
 abbrev pub RegionHasRoom : View → ℕ → Act → Type 0
-RegionHasRoom view L (act.NewKey key_kind) = region_keys view L < KEY_LIMIT
-RegionHasRoom view L (act.Establish owner trust) = Unit {0}
-RegionHasRoom view L act.Surrender = Unit {0}
-RegionHasRoom view L (act.Load payload) = Unit {0}
-RegionHasRoom view L (act.Emergency payload) = Unit {0}
+RegionHasRoom view layer (act.NewKey key_kind) = region_keys view layer < KEY_LIMIT
+RegionHasRoom view layer (act.Establish owner trust) = Unit {0}
+RegionHasRoom view layer act.Surrender = Unit {0}
+RegionHasRoom view layer (act.Load payload) = Unit {0}
+RegionHasRoom view layer (act.Emergency payload) = Unit {0}
 
 -- the order passes every check
 pub record Passes (view : View) (order : Order) : Type 0 where
@@ -97,15 +97,15 @@ pub record Passes (view : View) (order : Order) : Type 0 where
 
 -- The order passes every check before this one, and not this one.
 abbrev pub Fails : View → Order → Refusal → Type 0
-Fails view order (WrongTarget i) =
-    (target : Target) × IsFirstFailing (TargetHoldsIn view) order.targets i target
+Fails view order (WrongTarget index) =
+    (target : Target) × IsFirstFailing (TargetHoldsIn view) order.targets index target
 Fails view order WrongState = TargetsHold view order × (MayBeGiven view order → ⊥)
 Fails view order WrongSignature =
     TargetsHold view order × MayBeGiven view order × (IsSigned view order → ⊥)
-Fails view order (WrongCountersignature m) =
+Fails view order (WrongCountersignature cosigner) =
     TargetsHold view order × MayBeGiven view order × IsSigned view order
-    × ((i : ℕ) × (by : Countersignature) × (by.layer ≡ m)
-    × IsFirstFailing (IsCountersigned view order) order.countersignatures i by)
+    × ((index : ℕ) × (by : Countersignature) × (by.layer ≡ cosigner)
+    × IsFirstFailing (IsCountersigned view order) order.countersignatures index by)
 Fails view order LogFull =
     TargetsHold view order × MayBeGiven view order × IsSigned view order
     × All (IsCountersigned view order) order.countersignatures × (LogHasRoom view order → ⊥)

@@ -23,8 +23,8 @@ use Rattle.mb_model.specs.declared.state.Fact.{Fact}
 use Rattle.mb_model.specs.declared.state.Fact.TheVariants as fact
 use Rattle.mb_model.specs.Layers.{layer_of}
 use Rattle.mb_model.specs.Rules.{renews}
-use Rattle.mb_model.specs.Rules.{placed, after, kept_regions}
-use Rattle.mb_model.specs.Log.{entries_of, used}
+use Rattle.mb_model.specs.Rules.{layer_from_order, after, kept_regions}
+use Rattle.mb_model.specs.Log.{entries_of, uses_of_device_key}
 use Rattle.mb_model.specs.Regions.{region_after, with_key}
 use Rattle.mb_model.specs.Born.{born_key}
 use Rattle.mb_model.specs.Signing.{public_of, signature_of}
@@ -33,8 +33,8 @@ use Rattle.mb_model.specs.Regions.{region_of, with_region}
 use Rattle.mb_model.specs.OrderChecks.{view_of, needs_succession}
 
 -- the layers above that countersigned
-abbrev pub cosigned_by : Order → Pair
-cosigned_by order = record {
+abbrev pub cosigners_of : Order → Pair
+cosigners_of order = record {
   two = list_any (λ by. by.layer == 2) order.countersignatures;
   three = list_any (λ by. by.layer == 3) order.countersignatures;
 }
@@ -44,9 +44,9 @@ abbrev pub change_fact : Layers → ChangeKind → Order → Fact
 change_fact layers kind order = fact.Change
     kind
     order.layer
-    (cosigned_by order)
-    (after layers kind order.layer (cosigned_by order) (placed (layer_of layers order.layer) order.act))
-    (kept_regions layers kind order.layer (cosigned_by order))
+    (cosigners_of order)
+    (after layers kind order.layer (cosigners_of order) (layer_from_order (layer_of layers order.layer) order.act))
+    (kept_regions layers kind order.layer (cosigners_of order))
 
 -- what an order makes true
 abbrev pub fact_of : Layers → Order → Act → Fact
@@ -71,8 +71,8 @@ abbrev pub next_key : View → List ℕ → KeySeed
 next_key view draw = born_key draw view.serial view.keys_made
 
 -- the next device key, where it is made
-abbrev pub named_next : Bool → View → List ℕ → Option PublicKey
-named_next next view draw = if next then Some (public_of (next_key view draw)) else None
+abbrev pub next_device_key : Bool → View → List ℕ → Option PublicKey
+next_device_key next view draw = if next then Some (public_of (next_key view draw)) else None
 
 -- The entry that says what has been made true. That of a change has version 2.
 abbrev pub entry_of : View → Fact → List ℕ → Entry
@@ -85,7 +85,7 @@ entry_of view (fact.Change kind layer cosigned layers kept) draw = Change
     cosigned
     layers
     kept
-    (named_next (renews (Some kind) layer) view draw)
+    (next_device_key (renews (Some kind) layer) view draw)
 entry_of view (fact.NewKey layer kind) draw =
     NewKey view.length view.number view.keys_made layer kind (public_of (next_key view draw))
 
@@ -107,16 +107,16 @@ key_made view kind draw = record { number = view.keys_made; kind = kind; seed = 
 -- ---- what an order leaves that passes
 
 -- an entry signed by a key at an index
-unfoldable pub signed_by : KeySeed → ℕ → Entry → SignedEntry
-signed_by key index entry = record { entry = entry; signature = signature_of key index (entry_text entry) }
+unfoldable pub entry_signed_by : KeySeed → ℕ → Entry → SignedEntry
+entry_signed_by key index entry = record { entry = entry; signature = signature_of key index (entry_text entry) }
 
 -- the log with one more entry, signed by the device key at its next index
 abbrev pub log_with : State → Entry → List SignedEntry
-log_with state entry = state.log ++ signed_by state.device (used (entries_of state.log)) entry ∷ []
+log_with state entry = state.log ++ entry_signed_by state.device (uses_of_device_key (entries_of state.log)) entry ∷ []
 
 -- the device key has given way to the next, which it names with its last index
-unfoldable pub succeeded : State → List ℕ → State
-succeeded state draw = record state {
+unfoldable pub state_after_succession : State → List ℕ → State
+state_after_succession state draw = record state {
   log = log_with state (succession_entry (view_of state) draw);
   device = next_key (view_of state) draw;
   uses = 0;
@@ -131,15 +131,15 @@ code_after old (act.Emergency payload) = Some payload.code
 code_after old (act.NewKey key_kind) = old
 
 abbrev pub codes_after : Codes → ℕ → Act → Codes
-codes_after old k order = record {
-  one = if k == 1 then code_after old.one order else old.one;
-  two = if k == 2 then code_after old.two order else old.two;
-  three = if k == 3 then code_after old.three order else old.three;
+codes_after old changed order = record {
+  one = if changed == 1 then code_after old.one order else old.one;
+  two = if changed == 2 then code_after old.two order else old.two;
+  three = if changed == 3 then code_after old.three order else old.three;
 }
 
 -- a layer has been changed: layers and regions follow the rules, and the log tells of it
-unfoldable pub changed : State → ChangeKind → Order → List ℕ → State
-changed state kind order draw =
+unfoldable pub state_after_change : State → ChangeKind → Order → List ℕ → State
+state_after_change state kind order draw =
     let fact = change_fact state.layers kind order in
     let next = names_next fact in
     record state {
@@ -148,36 +148,36 @@ changed state kind order draw =
       log = log_with state (entry_of (view_of state) fact draw);
       device = device_after next (view_of state) draw;
       uses = uses_after next (view_of state);
-      two = region_after state.layers kind order.layer (cosigned_by order) 2 state.two;
-      three = region_after state.layers kind order.layer (cosigned_by order) 3 state.three;
+      two = region_after state.layers kind order.layer (cosigners_of order) 2 state.two;
+      three = region_after state.layers kind order.layer (cosigners_of order) 3 state.three;
     }
 
--- a key has been made in region L, and the log tells of it
-unfoldable pub keyed : State → ℕ → KeyKind → List ℕ → State
-keyed state L kind draw =
+-- a key has been made in the region of a layer, and the log tells of it
+unfoldable pub state_after_new_key : State → ℕ → KeyKind → List ℕ → State
+state_after_new_key state layer kind draw =
     with_region
     (record state {
-      log = log_with state (entry_of (view_of state) (fact.NewKey L kind) draw);
+      log = log_with state (entry_of (view_of state) (fact.NewKey layer kind) draw);
       uses = uses_after false (view_of state);
     })
-    L (with_key (key_made (view_of state) kind draw) (region_of state L))
+    layer (with_key (key_made (view_of state) kind draw) (region_of state layer))
 
 -- the state in which the device key has an index for the order: after a succession, where one is needed
 abbrev pub ready_for : State → Order → List ℕ → State
-ready_for state order draw = if needs_succession (view_of state) order then succeeded state draw else state
+ready_for state order draw = if needs_succession (view_of state) order then state_after_succession state draw else state
 
 -- the order's own entry, by a state in which the device key has an index for it
 abbrev pub own_entry : State → Order → List ℕ → Entry
 own_entry ready order draw = entry_of (view_of ready) (fact_of ready.layers order order.act) draw
 
 -- what the order does to such a state
-abbrev pub carried_out : State → Order → Act → List ℕ → State
-carried_out ready order (act.Establish owner trust) draw = changed ready Establish order draw
-carried_out ready order act.Surrender draw = changed ready Surrender order draw
-carried_out ready order (act.Load payload) draw = changed ready Load order draw
-carried_out ready order (act.Emergency payload) draw = changed ready Emergency order draw
-carried_out ready order (act.NewKey key_kind) draw = keyed ready order.layer key_kind draw
+abbrev pub state_after_act : State → Order → Act → List ℕ → State
+state_after_act ready order (act.Establish owner trust) draw = state_after_change ready Establish order draw
+state_after_act ready order act.Surrender draw = state_after_change ready Surrender order draw
+state_after_act ready order (act.Load payload) draw = state_after_change ready Load order draw
+state_after_act ready order (act.Emergency payload) draw = state_after_change ready Emergency order draw
+state_after_act ready order (act.NewKey key_kind) draw = state_after_new_key ready order.layer key_kind draw
 
 -- the state after an order that passes, with a draw of which its keys are made
-unfoldable pub obeyed : State → Order → List ℕ → State
-obeyed state order draw = carried_out (ready_for state order draw) order order.act draw
+unfoldable pub state_after_order : State → Order → List ℕ → State
+state_after_order state order draw = state_after_act (ready_for state order draw) order order.act draw

@@ -44,24 +44,24 @@ target_rows = (1, serial_tag) ∷ (2, length_tag) ∷ (3, owner_tag) ∷ (4, cod
 
 abbrev pub target_tag : Target → TargetTag
 target_tag (Serial serial) = serial_tag
-target_tag (Length n) = length_tag
-target_tag (Owner n hash) = owner_tag
-target_tag (Code n hash) = code_tag
+target_tag (Length layer) = length_tag
+target_tag (Owner layer hash) = owner_tag
+target_tag (Code layer hash) = code_tag
 
 abbrev pub demanded_serial : Target → Option (List ℕ)
 demanded_serial (Serial serial) = Some serial
 demanded_serial _ = None
 
 abbrev pub demanded_length : Target → Option ℕ
-demanded_length (Length n) = Some n
+demanded_length (Length layer) = Some layer
 demanded_length _ = None
 
 abbrev pub demanded_owner : Target → Option (ℕ × List ℕ)
-demanded_owner (Owner n hash) = Some (n, hash)
+demanded_owner (Owner layer hash) = Some (layer, hash)
 demanded_owner _ = None
 
 abbrev pub demanded_code : Target → Option (ℕ × List ℕ)
-demanded_code (Code n hash) = Some (n, hash)
+demanded_code (Code layer hash) = Some (layer, hash)
 demanded_code _ = None
 
 -- the serial; the length; or a layer and a hash
@@ -201,19 +201,19 @@ pub record Climb : Type 0 where
 abbrev pub countersignature_format : Climb → Format Countersignature
 countersignature_format climb = as_record (pair (between w8 (climb.below + 1) (4 - climb.left)) sized_signature_format)
     (λ (layer, signature). record { layer = layer; signature = signature })
-    (λ c. (c.layer, c.signature))
+    (λ by. (by.layer, by.signature))
 
-abbrev pub climbed : Climb → Countersignature → Climb
-climbed climb c = record { below = c.layer; left = climb.left - 1 }
+abbrev pub climb_after : Climb → Countersignature → Climb
+climb_after climb by = record { below = by.layer; left = climb.left - 1 }
 
 -- the owners above a load's layer may countersign it
-abbrev pub most_countersigned : OrderKind → ℕ → ℕ
-most_countersigned order layer = if is_load (change_of order) then 3 - layer else 0
+abbrev pub countersignature_limit : OrderKind → ℕ → ℕ
+countersignature_limit order layer = if is_load (change_of order) then 3 - layer else 0
 
 -- as many countersignatures as are announced, their layers ascending
 unfoldable pub countersignatures_format : Body → Format (List Countersignature)
-countersignatures_format body = led (between w8 0 (most_countersigned (kind_of body.act) body.layer)) length
-    (λ n. items countersignature_format climbed n (record { below = body.layer; left = n }))
+countersignatures_format body = led (between w8 0 (countersignature_limit (kind_of body.act) body.layer)) length
+    (λ count. items countersignature_format climb_after count (record { below = body.layer; left = count }))
 
 -- an order: its body, its signature, the countersignatures
 unfoldable pub order_format : Format Order

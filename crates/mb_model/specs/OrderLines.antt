@@ -4,7 +4,7 @@ use Rattle.mb_format.specs.Format.{Spells}
 use Rattle.mb_model.specs.declared.order.Order.{Order}
 use Rattle.mb_model.specs.declared.entry.Statement.{Statement}
 use Rattle.mb_model.specs.Texts.{IsHex}
-use Rattle.mb_model.specs.Lines.{spaced, hex_word}
+use Rattle.mb_model.specs.Lines.{spaced_words, hex_word}
 use Rattle.mb_model.specs.Script.{EndsInHex}
 use Rattle.mb_model.specs.OrderFormat.{order_format}
 use Rattle.mb_model.specs.ChainFormat.{statement_format}
@@ -20,7 +20,7 @@ pub record IsOrderLine (lines : List (List ℕ)) (order : Order) : Type 0 where
 
 -- the line that is written of an order
 abbrev pub order_line : Order → List ℕ
-order_line order = spaced (codes "command" ∷ hex_word (order_format.spelling order) ∷ [])
+order_line order = spaced_words (codes "command" ∷ hex_word (order_format.spelling order) ∷ [])
 
 -- The lines are one, whose bytes spell the statement. Of a text that is none, line 1 or line 2 is wrong as above.
 pub record IsStatementLine (lines : List (List ℕ)) (statement : Statement) : Type 0 where

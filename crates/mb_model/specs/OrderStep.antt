@@ -10,14 +10,14 @@ use Rattle.mb_model.specs.Log.{entries_of, number_of}
 use Rattle.mb_model.specs.OrderFormat.{order_format}
 use Rattle.mb_model.specs.declared.reply.Refusal.{Refusal}
 use Rattle.mb_model.specs.declared.reply.Refusal.TheVariants.{BadText}
-use Rattle.mb_model.specs.Refusals.{refused}
+use Rattle.mb_model.specs.Refusals.{refusal_reply}
 use Rattle.mb_model.specs.OrderChecks.{view_of, Passes, Fails}
-use Rattle.mb_model.specs.OrderEffects.{obeyed}
+use Rattle.mb_model.specs.OrderEffects.{state_after_order}
 
 -- the bytes spell no order: they are refused, and nothing changes
 pub record SpellsNone (state : State) (text : List ℕ) (answer : Reply) (next : State) : Type 0 where
   pub none : (order : Order) → Spells order_format text order → ⊥
-  pub answered : answer ≡ refused BadText
+  pub answered : answer ≡ refusal_reply BadText
   pub stays : next ≡ state
 
 -- the bytes spell an order: it is refused for the first check that it fails, and nothing changes
@@ -26,7 +26,7 @@ pub record FailsCheck (state : State) (text : List ℕ) (answer : Reply) (next :
   pub spelled : Spells order_format text order
   pub refusal : Refusal
   pub fails : Fails (view_of state) order refusal
-  pub answered : answer ≡ refused refusal
+  pub answered : answer ≡ refusal_reply refusal
   pub stays : next ≡ state
 
 -- The bytes spell an order that passes: it is obeyed. The answer tells the configuration number and the length of the
@@ -35,7 +35,7 @@ pub record IsObeyed (state : State) (text draw : List ℕ) (answer : Reply) (nex
   pub order : Order
   pub spelled : Spells order_format text order
   pub passes : Passes (view_of state) order
-  pub follows : next ≡ obeyed state order draw
+  pub follows : next ≡ state_after_order state order draw
   pub answered : answer ≡ reply.Done (number_of (entries_of next.log)) (length next.log)
 
 -- From state, these bytes are answered so and lead to next.

@@ -20,8 +20,8 @@ abbrev pub count_limit : ℕ
 count_limit = 2 ^ 64 - 1
 
 -- a count raised by one; it stays at its last value
-unfoldable pub raised : ℕ → ℕ
-raised count = if nat_lt count count_limit then count + 1 else count
+unfoldable pub count_after_call : ℕ → ℕ
+count_after_call count = if nat_lt count count_limit then count + 1 else count
 
 -- a count has risen; one that stands at its last value counts as risen
 abbrev pub HasRisen : ℕ → ℕ → Type 0
@@ -59,20 +59,20 @@ Adds before after bytes = (shown : List ℕ) → before.printed ≡ Some shown �
 
 -- what is outside after a read that did not fail: the call is counted, and nothing else has changed
 abbrev pub read_once : Outside → Outside
-read_once before = record before { reads = raised before.reads }
+read_once before = record before { reads = count_after_call before.reads }
 
 -- A read of this name failed. Either it counts as a fault, or the host has no such file, which it counts by itself.
 pub data FailsToRead (name : List ℕ) (before after : Outside) : Type 0 where
-  by_fault : after ≡ record (read_once before) { read_faults = raised before.read_faults }
+  by_fault : after ≡ record (read_once before) { read_faults = count_after_call before.read_faults }
       → FailsToRead name before after
-  by_absence : HasNoFile before name → after ≡ record (read_once before) { absences = raised before.absences }
+  by_absence : HasNoFile before name → after ≡ record (read_once before) { absences = count_after_call before.absences }
       → FailsToRead name before after
 
 -- ---- a write
 
 -- these bytes were made the whole file of this name
 pub record WritesFile (name bytes : List ℕ) (before after : Outside) : Type 0 where
-  pub stays : after ≡ record before { files = after.files; writes = raised before.writes }
+  pub stays : after ≡ record before { files = after.files; writes = count_after_call before.writes }
   pub others : OtherFilesStay before after name
   pub holds : HoldsFile after name bytes
 
@@ -80,8 +80,8 @@ pub record WritesFile (name bytes : List ℕ) (before after : Outside) : Type 0 
 pub record FailsToWrite (name : List ℕ) (before after : Outside) : Type 0 where
   pub stays : after ≡ record before {
     files = after.files;
-    writes = raised before.writes;
-    write_faults = raised before.write_faults;
+    writes = count_after_call before.writes;
+    write_faults = count_after_call before.write_faults;
   }
   pub others : OtherFilesStay before after name
 
@@ -89,15 +89,15 @@ pub record FailsToWrite (name : List ℕ) (before after : Outside) : Type 0 wher
 
 -- these bytes were printed
 pub record Prints (bytes : List ℕ) (before after : Outside) : Type 0 where
-  pub stays : after ≡ record before { printed = after.printed; prints = raised before.prints }
+  pub stays : after ≡ record before { printed = after.printed; prints = count_after_call before.prints }
   pub adds : Adds before after bytes
 
 -- The call that prints the bytes failed. A prefix of them was printed, which may be empty or all of them.
 pub record FailsToPrint (bytes : List ℕ) (before after : Outside) : Type 0 where
   pub stays : after ≡ record before {
     printed = after.printed;
-    prints = raised before.prints;
-    write_faults = raised before.write_faults;
+    prints = count_after_call before.prints;
+    write_faults = count_after_call before.write_faults;
   }
   pub part : ℕ
   pub adds : Adds before after (take part bytes)

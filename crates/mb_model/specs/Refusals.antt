@@ -17,12 +17,12 @@ refusal_number RegionFull = 5
 refusal_number NoSuchKey = 6
 refusal_number KeySpent = 7
 refusal_number BadText = 10
-refusal_number (WrongTarget i) = 11
+refusal_number (WrongTarget index) = 11
 refusal_number WrongState = 12
 refusal_number WrongSignature = 13
-refusal_number (WrongCountersignature m) = 14
+refusal_number (WrongCountersignature cosigner) = 14
 refusal_number LogFull = 15
 refusal_number KeysFull = 16
 
-abbrev pub refused : Refusal → Reply
-refused refusal = reply.Refused (refusal_number refusal)
+abbrev pub refusal_reply : Refusal → Reply
+refusal_reply refusal = reply.Refused (refusal_number refusal)

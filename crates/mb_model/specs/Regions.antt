@@ -28,43 +28,43 @@ is_epoch kinds.Configuration = false
 abbrev pub without_configuration_keys : Region → Region
 without_configuration_keys region = record region { keys = filter (λ key. is_epoch key.kind) region.keys }
 
--- Region L after a change of layer k, with the layers before the change: a change above leaves it; one that its layer
--- admits takes its configuration keys; any other empties it.
+-- The region of a layer after a change of one, with the layers before the change: a change above leaves it; one that
+-- its layer admits takes its configuration keys; any other empties it.
 abbrev pub region_after : Layers → ChangeKind → ℕ → Pair → ℕ → Region → Region
-region_after layers kind k cosigned L region =
-    if nat_lt L k then region
-    else if admits layers kind k cosigned L then without_configuration_keys region
+region_after layers kind changed cosigned layer region =
+    if nat_lt layer changed then region
+    else if admits layers kind changed cosigned layer then without_configuration_keys region
     else empty_region
 
 -- the region with a new key after its others
 abbrev pub with_key : RegionKey → Region → Region
 with_key key region = record region { keys = region.keys ++ key ∷ [] }
 
--- Layer L admitted each change of the log that has a number above c and is of the layer or beneath it. This looks back
--- over the log, at the layers as they stood before each such change.
+-- The layer admitted each change of the log that has a number above `since` and is of the layer or beneath it. This
+-- looks back over the log, at the layers as they stood before each such change.
 abbrev pub AdmittedSince : List Entry → ℕ → ℕ → Type 0
-AdmittedSince log c L =
-    (before later : List Entry) (version position number : ℕ) (kind : ChangeKind) (k : ℕ)
+AdmittedSince log since layer =
+    (before later : List Entry) (version position number : ℕ) (kind : ChangeKind) (changed : ℕ)
     → (cosigned : Pair) (layers : Layers) (kept : Pair) (next : Option PublicKey)
-    → log ≡ before ++ Change version position number kind k cosigned layers kept next ∷ later
-    → c < number → k ≤ L → Admits (layers_of before) kind k cosigned L
+    → log ≡ before ++ Change version position number kind changed cosigned layers kept next ∷ later
+    → since < number → changed ≤ layer → Admits (layers_of before) kind changed cosigned layer
 
--- The log tells of the birth of the key with this number, in the region of layer L, and of each change since then that
--- the layer admitted it.
-pub record KeyAdmitted (log : List Entry) (L key_number : ℕ) : Type 0 where
+-- The log tells of the birth of the key with this number, in the region of its layer, and says of each change since
+-- then that the layer admitted it.
+pub record KeyAdmitted (log : List Entry) (layer key_number : ℕ) : Type 0 where
   pub before : List Entry
   pub position : ℕ
   pub number : ℕ
   pub kind : KeyKind
   pub key : PublicKey
   pub later : List Entry
-  pub split : log ≡ before ++ NewKey position number key_number L kind key ∷ later
-  pub admitted : AdmittedSince log number L
+  pub split : log ≡ before ++ NewKey position number key_number layer kind key ∷ later
+  pub admitted : AdmittedSince log number layer
 
--- each secret and each key of region L was admitted by its layer at each change since it came into the region
-pub record RegionKeptRightly (log : List Entry) (L : ℕ) (region : Region) : Type 0 where
-  pub secrets : All (λ secret. AdmittedSince log secret.born L) region.secrets
-  pub keys : All (λ key. KeyAdmitted log L key.number) region.keys
+-- each secret and each key of a layer's region was admitted by its layer at each change since it came into the region
+pub record RegionKeptRightly (log : List Entry) (layer : ℕ) (region : Region) : Type 0 where
+  pub secrets : All (λ secret. AdmittedSince log secret.born layer) region.secrets
+  pub keys : All (λ key. KeyAdmitted log layer key.number) region.keys
 
 pub record BothKeptRightly (state : State) : Type 0 where
   pub two : RegionKeptRightly (entries_of state.log) 2 state.two
@@ -77,11 +77,11 @@ KeptRightly (Some state) = BothKeptRightly state
 
 -- the region of layer 2 or 3; no other layer has one
 abbrev pub region_of : State → ℕ → Region
-region_of state L = if L == 2 then state.two else if L == 3 then state.three else empty_region
+region_of state layer = if layer == 2 then state.two else if layer == 3 then state.three else empty_region
 
 -- the state with another region of layer 2 or 3
 abbrev pub with_region : State → ℕ → Region → State
-with_region state L region = record state {
-  two = if L == 2 then region else state.two;
-  three = if L == 3 then region else state.three;
+with_region state layer region = record state {
+  two = if layer == 2 then region else state.two;
+  three = if layer == 3 then region else state.three;
 }

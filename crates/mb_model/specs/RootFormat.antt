@@ -47,16 +47,16 @@ fate_tag Empty = empty_tag
 fate_tag DropConfiguration = drop_tag
 fate_tag (AddKey key) = add_tag
 
-abbrev pub added_in : Fate → Option RegionKey
-added_in (AddKey key) = Some key
-added_in _ = None
+abbrev pub key_added_by : Fate → Option RegionKey
+key_added_by (AddKey key) = Some key
+key_added_by _ = None
 
 -- the key that is added stands after its tag
 abbrev pub fate_by : FateTag → Format Fate
 fate_by keep_tag = nothing Keep
 fate_by empty_tag = nothing Empty
 fate_by drop_tag = nothing DropConfiguration
-fate_by add_tag = as_value region_key_format AddKey added_in
+fate_by add_tag = as_value region_key_format AddKey key_added_by
 
 unfoldable pub fate_format : Format Fate
 fate_format = led (table w8 fate_rows fate_byte) fate_tag fate_by

@@ -19,7 +19,7 @@ use Rattle.mb_model.specs.declared.order.Act.TheVariants as act
 use Rattle.mb_model.specs.declared.order.Target.{Target}
 use Rattle.mb_model.specs.declared.order.Target.TheVariants as target
 use Rattle.mb_model.specs.Key.{key_bytes}
-use Rattle.mb_model.specs.Layers.{trust_for, unowned, layer_of, is_owned, is_layer_number, is_upper, is_in, is_runnable}
+use Rattle.mb_model.specs.Layers.{trust_for, layer_without_owner, layer_of, is_owned, is_layer_number, is_upper, is_in, is_runnable}
 
 -- ---- kinds of orders
 
@@ -69,83 +69,85 @@ is_own_load None = false
 
 -- the order makes the next device key: it is an ordinary load of layer 1
 abbrev pub renews : Option ChangeKind → ℕ → Bool
-renews change k = is_own_load change && k == 1
+renews change changed = is_own_load change && changed == 1
 
 -- ---- who may give an order, and when: by the change that it makes, or None for an order that makes a new key
 
--- Who has to sign an order for layer k: the owner of this layer. An owner is established, and code is loaded in an
+-- Who has to sign an order for a layer: the owner of this layer. An owner is established, and code is loaded in an
 -- emergency, from beneath; all else is up to the layer's own owner.
 abbrev pub signing_layer : Option ChangeKind → ℕ → ℕ
-signing_layer (Some Establish) k = k - 1
-signing_layer (Some Surrender) k = k
-signing_layer (Some Load) k = k
-signing_layer (Some Emergency) k = k - 1
-signing_layer None k = k
+signing_layer (Some Establish) layer = layer - 1
+signing_layer (Some Surrender) layer = layer
+signing_layer (Some Load) layer = layer
+signing_layer (Some Emergency) layer = layer - 1
+signing_layer None layer = layer
 
--- the key under which an order for layer k has to verify: none where the layer in charge is unowned
+-- the key under which an order for a layer has to verify: none where the layer in charge is unowned
 abbrev pub authority : Layers → Option ChangeKind → ℕ → Option PublicKey
-authority layers kind k = (layer_of layers (signing_layer kind k)).owner
+authority layers kind layer = (layer_of layers (signing_layer kind layer)).owner
 
--- how the layers have to stand for an order for layer k
-abbrev pub condition : Layers → Option ChangeKind → ℕ → Bool
-condition layers (Some Establish) k = is_upper k && not (is_owned layers k) && is_owned layers (k - 1)
-condition layers (Some Surrender) k = is_upper k && is_owned layers k
-condition layers (Some Load) k = is_layer_number k && is_owned layers k && (layer_of layers k).reliable
-condition layers (Some Emergency) k = is_upper k && is_owned layers k && is_owned layers (k - 1)
-condition layers None k = is_upper k && is_runnable layers k
+-- how the layers have to stand for an order for a layer
+abbrev pub stands_for_order : Layers → Option ChangeKind → ℕ → Bool
+stands_for_order layers (Some Establish) layer =
+    is_upper layer && not (is_owned layers layer) && is_owned layers (layer - 1)
+stands_for_order layers (Some Surrender) layer = is_upper layer && is_owned layers layer
+stands_for_order layers (Some Load) layer =
+    is_layer_number layer && is_owned layers layer && (layer_of layers layer).reliable
+stands_for_order layers (Some Emergency) layer = is_upper layer && is_owned layers layer && is_owned layers (layer - 1)
+stands_for_order layers None layer = is_upper layer && is_runnable layers layer
 
 abbrev pub Condition : Layers → Option ChangeKind → ℕ → Type 0
-Condition layers kind k = IsTrue (condition layers kind k)
+Condition layers kind layer = IsTrue (stands_for_order layers kind layer)
 
 -- A target holds of a device with this serial and these layers, whose log has this length. One on a layer without an
 -- owner, or without code, does not.
 abbrev pub TargetHolds : List ℕ → Layers → ℕ → Target → Type 0
 TargetHolds serial layers length (target.Serial named) = named ≡ serial
 TargetHolds serial layers length (target.Length named) = named ≡ length
-TargetHolds serial layers length (target.Owner n hash) =
-    IsSomeAnd (layer_of layers n).owner (λ owner. hash ≡ sha256 (key_bytes owner))
-TargetHolds serial layers length (target.Code n hash) =
-    IsSomeAnd (layer_of layers n).code (λ code. hash ≡ code.hash)
+TargetHolds serial layers length (target.Owner layer hash) =
+    IsSomeAnd (layer_of layers layer).owner (λ owner. hash ≡ sha256 (key_bytes owner))
+TargetHolds serial layers length (target.Code layer hash) =
+    IsSomeAnd (layer_of layers layer).code (λ code. hash ≡ code.hash)
 
--- item i of a list, from 0, is the first of which P does not hold
-pub record IsFirstFailing {A : Type 0} (P : A → Type 0) (items : List A) (i : ℕ) (item : A) : Type 0 where
+-- the item at this place of a list, from 0, is the first of which `Holds` does not hold
+pub record IsFirstFailing {A : Type 0} (Holds : A → Type 0) (items : List A) (place : ℕ) (item : A) : Type 0 where
   pub before : List A
   pub rest : List A
   pub split : items ≡ before ++ item ∷ rest
-  pub index : i ≡ length before
-  pub hold : All P before
-  pub fails : P item → ⊥
+  pub index : place ≡ length before
+  pub hold : All Holds before
+  pub fails : Holds item → ⊥
 
 -- ---- what is left after a change
 
 -- a layer with this trust goes along with a load beneath it, which its owner has or has not countersigned
-abbrev pub trusts : Trust → Bool → Bool
-trusts Always cosigned = true
-trusts Never cosigned = false
-trusts Countersigned cosigned = cosigned
+abbrev pub lets_load_in : Trust → Bool → Bool
+lets_load_in Always cosigned = true
+lets_load_in Never cosigned = false
+lets_load_in Countersigned cosigned = cosigned
 
--- Layer m admits a change of layer k, which is m or stands beneath it: its own ordinary load, and each load beneath it
+-- A layer admits a change of itself or of one beneath it: its own ordinary load, and each load beneath it
 -- that it trusts. The layers are those before the change.
 abbrev pub admits : Layers → ChangeKind → ℕ → Pair → ℕ → Bool
-admits layers kind k cosigned m =
-    if m == k then is_own_load (Some kind)
-    else is_load (Some kind) && trusts (trust_for (layer_of layers m) k) (is_in m cosigned)
+admits layers kind changed cosigned layer =
+    if layer == changed then is_own_load (Some kind)
+    else is_load (Some kind) && lets_load_in (trust_for (layer_of layers layer) changed) (is_in layer cosigned)
 
 abbrev pub Admits : Layers → ChangeKind → ℕ → Pair → ℕ → Type 0
-Admits layers kind k cosigned m = IsTrue (admits layers kind k cosigned m)
+Admits layers kind changed cosigned layer = IsTrue (admits layers kind changed cosigned layer)
 
--- region m is kept over a change of layer k: the change is above it, or its layer admits it
+-- a layer's region is kept over a change: the change is above it, or its layer admits it
 abbrev pub is_kept : Layers → ChangeKind → ℕ → Pair → ℕ → Bool
-is_kept layers kind k cosigned m = nat_lt m k || admits layers kind k cosigned m
+is_kept layers kind changed cosigned layer = nat_lt layer changed || admits layers kind changed cosigned layer
 
--- the regions that are kept over a change of layer k
+-- the regions that are kept over a change of this layer
 abbrev pub kept_regions : Layers → ChangeKind → ℕ → Pair → Pair
-kept_regions layers kind k cosigned =
-    record { two = is_kept layers kind k cosigned 2; three = is_kept layers kind k cosigned 3 }
+kept_regions layers kind changed cosigned =
+    record { two = is_kept layers kind changed cosigned 2; three = is_kept layers kind changed cosigned 3 }
 
--- layer m may countersign a change of layer k: the change is a load, and m has an owner and stands above it
+-- a layer may countersign a change: the change is a load, and the layer has an owner and stands above it
 abbrev pub may_cosign : Layers → ChangeKind → ℕ → ℕ → Bool
-may_cosign layers kind k m = is_load (Some kind) && nat_lt k m && is_owned layers m
+may_cosign layers kind changed cosigner = is_load (Some kind) && nat_lt changed cosigner && is_owned layers cosigner
 
 -- a layer with the code and the trusts of a load; its owner stays
 abbrev pub loaded_layer : Layer → Payload → Layer
@@ -157,31 +159,34 @@ loaded_layer old payload = record {
 }
 
 -- what an order puts in place of its layer
-abbrev pub placed : Layer → Act → Layer
-placed old (act.Establish owner trust) = record { owner = Some owner; code = None; reliable = false; trust = trust }
-placed old act.Surrender = unowned
-placed old (act.Load payload) = loaded_layer old payload
-placed old (act.Emergency payload) = loaded_layer old payload
-placed old (act.NewKey key_kind) = old
+abbrev pub layer_from_order : Layer → Act → Layer
+layer_from_order old (act.Establish owner trust) =
+    record { owner = Some owner; code = None; reliable = false; trust = trust }
+layer_from_order old act.Surrender = layer_without_owner
+layer_from_order old (act.Load payload) = loaded_layer old payload
+layer_from_order old (act.Emergency payload) = loaded_layer old payload
+layer_from_order old (act.NewKey key_kind) = old
 
 -- what a change of a kind can put in place of its layer: some order of the kind does, with code of this name
 abbrev pub CanPlace : ChangeKind → Layer → Layer → Type 0
 CanPlace Establish old new = IsSome new.owner × (new.code ≡ None) × (new.reliable ≡ false)
-CanPlace Surrender old new = new ≡ unowned
+CanPlace Surrender old new = new ≡ layer_without_owner
 CanPlace Load old new = (new.owner ≡ old.owner) × IsSome new.code × (new.reliable ≡ true)
 CanPlace Emergency old new = (new.owner ≡ old.owner) × IsSome new.code × (new.reliable ≡ true)
 
--- layer m after a change of layer k that puts `new` there: a layer above stays reliable only where it admits the change
+-- a layer after a change of one that puts `new` there: a layer above stays reliable only where it admits the change
 abbrev pub layer_after : Layers → ChangeKind → ℕ → Pair → Layer → ℕ → Layer
-layer_after layers kind k cosigned new m =
-    if m == k then new
-    else if nat_lt m k then layer_of layers m
-    else record (layer_of layers m) { reliable = (layer_of layers m).reliable && admits layers kind k cosigned m }
+layer_after layers kind changed cosigned new layer =
+    if layer == changed then new
+    else if nat_lt layer changed then layer_of layers layer
+    else record (layer_of layers layer) {
+      reliable = (layer_of layers layer).reliable && admits layers kind changed cosigned layer;
+    }
 
--- the layers after a change of layer k that puts `new` there
+-- the layers after a change of one that puts `new` there
 unfoldable pub after : Layers → ChangeKind → ℕ → Pair → Layer → Layers
-after layers kind k cosigned new = record {
-  one = layer_after layers kind k cosigned new 1;
-  two = layer_after layers kind k cosigned new 2;
-  three = layer_after layers kind k cosigned new 3;
+after layers kind changed cosigned new = record {
+  one = layer_after layers kind changed cosigned new 1;
+  two = layer_after layers kind changed cosigned new 2;
+  three = layer_after layers kind changed cosigned new 3;
 }

@@ -4,7 +4,7 @@ use Rattle.mb_model.specs.declared.event.Event.{Event}
 use Rattle.mb_model.specs.declared.event.Answered.{Answered}
 use Rattle.mb_model.specs.declared.role.Role.TheVariants as role
 use Rattle.mb_model.specs.declared.state.State.{State}
-use Rattle.mb_model.specs.Machine.{World, Run, opening, off}
+use Rattle.mb_model.specs.Machine.{World, Run, opening_world, off}
 use Rattle.mb_model.specs.Board.{Held, AreBytes, image_of}
 use Rattle.mb_model.specs.Acknowledged.{Shows, AreWiping}
 use Rattle.mb_model.specs.Clean.{Clean}
@@ -27,9 +27,9 @@ pub record IsServed
     (events : List Event)
     (answered : List Answered)
     (final : Held) : Type 0 where
-  pub all : map (λ a. a.event) answered ≡ events
+  pub all : map (λ each. each.event) answered ≡ events
   pub last : World
-  pub run : Run (opening first) answered last
+  pub run : Run (opening_world first) answered last
   pub shown : Shows final last
   pub bytes : AreBytes final.memory
   -- No secret lies in battery-backed memory but those of the state, while power is on, and also while it is off if no
@@ -37,8 +37,8 @@ pub record IsServed
   pub clean : (final.phase ≢ off) ⊎ AreWiping answered → Clean final.memory.bbram last.state
   -- each secret and key of the state was admitted by its layer at each change since it came into its region
   pub kept : KeptRightly last.state
-  pub sound : IsSoundRun (opening first) answered last run
-  pub accepted : StatementsStayAccepted (opening first) answered last run
+  pub sound : IsSoundRun (opening_world first) answered last run
+  pub accepted : StatementsStayAccepted (opening_world first) answered last run
 
 -- the new image is written over the old one, and then the replies are printed
 abbrev pub write_image : RunNames → List Answered → Held → Command

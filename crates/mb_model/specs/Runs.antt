@@ -64,65 +64,68 @@ pub record HasInCharge
 -- later has the higher.
 abbrev pub SignsEntriesOnce : List SignedEntry → Type 0
 SignsEntriesOnce log =
-    (front : List SignedEntry) (namer : SignedEntry) (sooner later : List SignedEntry) (a b : SignedEntry)
-    → HasInCharge log front namer sooner a → HasInCharge log front namer later b
-    → length sooner < length later → leaf_number a.signature < leaf_number b.signature
+    (front : List SignedEntry) (namer : SignedEntry) (sooner later : List SignedEntry)
+    (first_entry second_entry : SignedEntry)
+    → HasInCharge log front namer sooner first_entry → HasInCharge log front namer later second_entry
+    → length sooner < length later → leaf_number first_entry.signature < leaf_number second_entry.signature
 
 -- ---- the keys of regions
 
--- the event was answered by a statement of the key with the number n, signed at this index
+-- the event was answered by a statement of the key with this number, signed at this index
 abbrev pub IsSignedAt : ℕ → ℕ → Answered → Type 0
-IsSignedAt n index answered = (statement : List ℕ) × (answered.reply ≡ reply.Signed n index statement)
+IsSignedAt key_number index answered = (statement : List ℕ) × (answered.reply ≡ reply.Signed key_number index statement)
 
 -- Of two statements of one key, the later has the higher index. So no two have one.
 abbrev pub SignsStatementsOnce : List Answered → Type 0
-SignsStatementsOnce answered = AllPairs (λ a b. (n i j : ℕ) → IsSignedAt n i a → IsSignedAt n j b → i < j) answered
+SignsStatementsOnce answered =
+    AllPairs (λ sooner later. (key_number sooner_index later_index : ℕ) → IsSignedAt key_number sooner_index sooner
+    → IsSignedAt key_number later_index later → sooner_index < later_index) answered
 
 -- No statement has an index below the uses that its key has in this state.
 abbrev pub SignsAfterUses : Option State → List Answered → Type 0
 SignsAfterUses state answered =
-    (live : State) (L : ℕ) (key : RegionKey) → state ≡ Some live → Contains (region_of live L).keys key
-    → All (λ a. (i : ℕ) → IsSignedAt key.number i a → key.uses ≤ i) answered
+    (live : State) (layer : ℕ) (key : RegionKey) → state ≡ Some live → Contains (region_of live layer).keys key
+    → All (λ each. (index : ℕ) → IsSignedAt key.number index each → key.uses ≤ index) answered
 
--- A key of layer L stands in its region exactly where it is alive by the log. The last of the configurations in which
+-- A key of a layer stands in its region exactly where it is alive by the log. The last of the configurations in which
 -- it lived has the layers that stand now.
-pub record HoldsLivingKeys (live : State) (L : ℕ) : Type 0 where
+pub record HoldsLivingKeys (live : State) (layer : ℕ) : Type 0 where
   pub alive : (key : RegionKey)
-      → Contains (region_of live L).keys key
-      → Alive (entries_of live.log) key.number L key.kind (public_of key.seed)
-  pub held : (n : ℕ) (kind : KeyKind) (key : PublicKey)
-      → Alive (entries_of live.log) n L kind key
-      → Any (λ k. as_made k ≡ record { number = n; kind = kind; key = key }) (region_of live L).keys
+      → Contains (region_of live layer).keys key
+      → Alive (entries_of live.log) key.number layer key.kind (public_of key.seed)
+  pub held : (key_number : ℕ) (kind : KeyKind) (key : PublicKey)
+      → Alive (entries_of live.log) key_number layer kind key
+      → Any (λ each. as_made each ≡ record { number = key_number; kind = kind; key = key }) (region_of live layer).keys
   pub now : (key : RegionKey)
-      → Contains (region_of live L).keys key
+      → Contains (region_of live layer).keys key
       → (sooner : List Configuration) × (number : ℕ)
-      × (lives_of (entries_of live.log) key.number ≡ sooner ++ configuration L number live.layers ∷ [])
+      × (lives_of (entries_of live.log) key.number ≡ sooner ++ configuration layer number live.layers ∷ [])
 
 -- ---- statements
 
 -- The bytes spell a statement. Attached to the log it makes a chain that has a spelling, and that is accepted for the
--- key with the number n.
-pub record StaysAccepted (maker : PublicKey) (log : List SignedEntry) (n : ℕ) (bytes : List ℕ) : Type 0 where
+-- key with this number.
+pub record StaysAccepted (maker : PublicKey) (log : List SignedEntry) (key_number : ℕ) (bytes : List ℕ) : Type 0 where
   pub statement : Statement
   pub spelled : Spells statement_format bytes statement
   pub chain : List ℕ
   pub attached : Spells chain_format chain (stated_chain log statement)
   pub report : Report
-  pub accepted : Accepts maker chain n report
+  pub accepted : Accepts maker chain key_number report
 
 -- in this world they are, wherever the maker signed the device's birth
 abbrev pub IsAcceptedIn : ℕ → List ℕ → World → Type 0
-IsAcceptedIn n bytes world =
+IsAcceptedIn key_number bytes world =
     (maker : PublicKey) (live : State) → world.state ≡ Some live → IsBornOf maker live.log
-    → StaysAccepted maker live.log n bytes
+    → StaysAccepted maker live.log key_number bytes
 
 -- each statement that a run answers is accepted with the log of each live state from then on
 abbrev pub StatementsStayAccepted :
     (world : World) (answered : List Answered) (next : World) → Run world answered next → Type 0
 StatementsStayAccepted world [] next run = Unit {0}
 StatementsStayAccepted world (this ∷ rest) next run =
-    ((n index : ℕ) (bytes : List ℕ) → this.reply ≡ reply.Signed n index bytes
-    → All (IsAcceptedIn n bytes) (worlds_of run.0 rest next run.2))
+    ((key_number index : ℕ) (bytes : List ℕ) → this.reply ≡ reply.Signed key_number index bytes
+    → All (IsAcceptedIn key_number bytes) (worlds_of run.0 rest next run.2))
     × StatementsStayAccepted run.0 rest next run.2
 
 -- ---- a history
@@ -131,7 +134,7 @@ StatementsStayAccepted world (this ∷ rest) next run =
 -- which the device key in charge stays the same have one index.
 pub record IsSoundWorld (world : World) : Type 0 where
   pub valid : Valid world.state
-  pub keys : (live : State) (L : ℕ) → world.state ≡ Some live → IsTrue (is_upper L) → HoldsLivingKeys live L
+  pub keys : (live : State) (layer : ℕ) → world.state ≡ Some live → IsTrue (is_upper layer) → HoldsLivingKeys live layer
   pub once : (live : State) → world.state ≡ Some live → SignsEntriesOnce live.log
 
 -- What a run tells, whatever its events: each of its worlds is sound, each log begins each later one, and of two

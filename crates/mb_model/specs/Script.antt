@@ -10,7 +10,7 @@ use Rattle.mb_model.specs.declared.event.Event.{Event}
 use Rattle.mb_model.specs.declared.event.Event.TheVariants as event
 use Rattle.mb_model.specs.declared.event.Tear.{Tear}
 use Rattle.mb_model.specs.Texts.{IsHex}
-use Rattle.mb_model.specs.Lines.{spaced, number_limit}
+use Rattle.mb_model.specs.Lines.{spaced_words, number_limit}
 use Rattle.mb_model.specs.Layers.{is_upper}
 use Rattle.mb_model.specs.Pieces.{part}
 
@@ -77,11 +77,11 @@ pub record IsCutLine (line : List ℕ) (count : ℕ) (tear : Tear) : Type 0 wher
   pub kept : IsKept kept_words tear.keep
   pub filled : IsHex fill_word fill
   pub allowed : IsCut count tear fill
-  pub spelled : line ≡ spaced (codes "cut" ∷ decimal count ∷ kept_words ++ codes "fill" ∷ fill_word ∷ [])
+  pub spelled : line ≡ spaced_words (codes "cut" ∷ decimal count ∷ kept_words ++ codes "fill" ∷ fill_word ∷ [])
 
 -- some word in hexadecimal stands for the bytes, and the line is these words with it at the end
 abbrev pub EndsInHex : List ℕ → List (List ℕ) → List ℕ → Type 0
-EndsInHex line words bytes = (word : List ℕ) × IsHex word bytes × (line ≡ spaced (words ++ word ∷ []))
+EndsInHex line words bytes = (word : List ℕ) × IsHex word bytes × (line ≡ spaced_words (words ++ word ∷ []))
 
 -- A line says an event. The draw of a command, which its noise gives later, is all zeros.
 abbrev pub SaysEvent : List ℕ → Event → Type 0
@@ -96,9 +96,9 @@ SaysEvent line (event.Put region name value) =
     IsTrue (is_upper region) × IsName name × FitsMessage value
     × EndsInHex line (codes "put" ∷ decimal region ∷ name ∷ []) value
 SaysEvent line (event.Get region name) =
-    IsTrue (is_upper region) × IsName name × (line ≡ spaced (codes "get" ∷ decimal region ∷ name ∷ []))
+    IsTrue (is_upper region) × IsName name × (line ≡ spaced_words (codes "get" ∷ decimal region ∷ name ∷ []))
 SaysEvent line (event.Drop region name) =
-    IsTrue (is_upper region) × IsName name × (line ≡ spaced (codes "drop" ∷ decimal region ∷ name ∷ []))
+    IsTrue (is_upper region) × IsName name × (line ≡ spaced_words (codes "drop" ∷ decimal region ∷ name ∷ []))
 SaysEvent line (event.Sign region key message) =
     IsTrue (is_upper region) × (key ≤ number_limit) × FitsMessage message
     × EndsInHex line (codes "sign" ∷ decimal region ∷ decimal key ∷ []) message

@@ -5,9 +5,9 @@ use Rattle.mb_model.specs.declared.role.Role.TheVariants as role
 use Rattle.mb_model.specs.declared.order.Order.{Order}
 use Rattle.mb_model.specs.declared.tools.Keyfile.{Keyfile}
 use Rattle.mb_model.specs.KeyFormat.{keyfile_format}
-use Rattle.mb_model.specs.Texts.{ended}
+use Rattle.mb_model.specs.Texts.{line_with_lf}
 use Rattle.mb_model.specs.OrderLines.{order_line}
-use Rattle.mb_model.specs.SignedOrders.{used_once, signed_order, countersigned_order, IsCountersignable}
+use Rattle.mb_model.specs.SignedOrders.{keyfile_after_use, signed_order, countersigned_order, IsCountersignable}
 use Rattle.mb_model.specs.Commands.{Command, read, either_command, write, print, refuse}
 use Rattle.mb_model.specs.Inputs.{key_input, draft_input, order_input}
 
@@ -26,13 +26,13 @@ pub record CountersignNames : Type 0 where
 
 -- the line that tells an index
 abbrev pub index_text : ℕ → List ℕ
-index_text index = ended (codes "index " ++ decimal index)
+index_text index = line_with_lf (codes "index " ++ decimal index)
 
 -- the key is written with one index more used, then the order that was signed with it, and the index is told
 unfoldable pub use_index : List ℕ → List ℕ → Keyfile → Order → Command
 use_index key_name out_name key order =
-    write (record { role = role.Key; name = key_name; bytes = keyfile_format.spelling (used_once key) })
-    (write (record { role = role.Out; name = out_name; bytes = ended (order_line order) })
+    write (record { role = role.Key; name = key_name; bytes = keyfile_format.spelling (keyfile_after_use key) })
+    (write (record { role = role.Out; name = out_name; bytes = line_with_lf (order_line order) })
     (print (index_text key.next)))
 
 -- the key signs, unless its 32 indices are used

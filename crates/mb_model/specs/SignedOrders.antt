@@ -11,29 +11,33 @@ use Rattle.mb_model.specs.SignedTexts.{order_text, countersigned_text}
 use Rattle.mb_model.specs.Signing.{signature_of}
 
 -- the key with one index more used
-abbrev pub used_once : Keyfile → Keyfile
-used_once k = record { seed = k.seed; next = k.next + 1 }
+abbrev pub keyfile_after_use : Keyfile → Keyfile
+keyfile_after_use keyfile = record { seed = keyfile.seed; next = keyfile.next + 1 }
 
 -- the order with the signature of its text by the key, at the key's next index
 abbrev pub signed_order : Keyfile → Order → Order
-signed_order k order = record order { signature = signature_of k.seed k.next (order_text (order_body order)) }
+signed_order keyfile order =
+    record order { signature = signature_of keyfile.seed keyfile.next (order_text (order_body order)) }
 
 -- ---- countersignatures
 
 -- the countersignatures with one more, in ascending order of layers: those of lower layers stand before it
 abbrev pub with_countersignature : Countersignature → List Countersignature → List Countersignature
-with_countersignature c list =
-    filter (λ other. nat_lt other.layer c.layer) list ++ c ∷ filter (λ other. nat_lt c.layer other.layer) list
+with_countersignature new list =
+    filter (λ other. nat_lt other.layer new.layer) list ++ new ∷ filter (λ other. nat_lt new.layer other.layer) list
 
--- what the owner of layer m signs of the order, by the key, at the key's next index
+-- what the owner of the layer `cosigner` signs of the order, by the key, at the key's next index
 abbrev pub countersignature_of : Keyfile → ℕ → Order → Countersignature
-countersignature_of k m order =
-    record { layer = m; signature = signature_of k.seed k.next (countersigned_text m (order_body order)) }
+countersignature_of keyfile cosigner order =
+    record {
+      layer = cosigner;
+      signature = signature_of keyfile.seed keyfile.next (countersigned_text cosigner (order_body order));
+    }
 
 -- the order with that countersignature
 abbrev pub countersigned_order : Keyfile → ℕ → Order → Order
-countersigned_order k m order = record order {
-  countersignatures = with_countersignature (countersignature_of k m order) order.countersignatures;
+countersigned_order keyfile cosigner order = record order {
+  countersignatures = with_countersignature (countersignature_of keyfile cosigner order) order.countersignatures;
 }
 
 -- The owner of this layer may countersign the order: it is a load of a lower layer, and that owner's countersignature

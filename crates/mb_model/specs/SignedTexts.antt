@@ -11,9 +11,9 @@ use Rattle.mb_model.specs.Merkle.{Verifies}
 unfoldable pub order_text : List ℕ → List ℕ
 order_text body = ORDER_TEXT ∷ body
 
--- what the owner of layer m, above the order's, signs of it
+-- what the owner of a layer above the order's signs of it
 unfoldable pub countersigned_text : ℕ → List ℕ → List ℕ
-countersigned_text m body = COUNTERSIGNED_TEXT ∷ m ∷ body
+countersigned_text cosigner body = COUNTERSIGNED_TEXT ∷ cosigner ∷ body
 
 -- what a device key, or the maker's key, signs of a log entry
 unfoldable pub entry_text : Entry → List ℕ
@@ -27,4 +27,4 @@ statement_text serial key_number number message =
 
 -- there is a key, and the signature is one of the text under it
 abbrev pub IsSignedBy : Option PublicKey → List ℕ → List ℕ → Type 0
-IsSignedBy key text signature = IsSomeAnd key (λ k. Verifies k text signature)
+IsSignedBy key text signature = IsSomeAnd key (λ owner. Verifies owner text signature)

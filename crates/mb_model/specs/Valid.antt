@@ -14,7 +14,7 @@ use Rattle.mb_model.specs.declared.state.Figures.{Figures}
 use Rattle.mb_model.specs.declared.state.State.{State}
 use Rattle.mb_model.specs.Merkle.{leaf_number}
 use Rattle.mb_model.specs.Layers.{layer_of}
-use Rattle.mb_model.specs.Log.{entries_of, number_of, layers_of, device_of, serial_of, used}
+use Rattle.mb_model.specs.Log.{entries_of, number_of, layers_of, device_of, serial_of, uses_of_device_key}
 use Rattle.mb_model.specs.Log.{figures_of, Ordered, Ruled}
 use Rattle.mb_model.specs.Lives.{MadeKey, alive_keys}
 use Rattle.mb_model.specs.Regions.{empty_region, RegionKeptRightly}
@@ -49,14 +49,14 @@ pub record AreNamed (layers : Layers) (codes : Codes) : Type 0 where
 abbrev pub as_made : RegionKey → MadeKey
 as_made key = record { number = key.number; kind = key.kind; key = public_of key.seed }
 
--- a region that layer L can have by a log, the layers being these
-pub record IsValidRegion (log : List Entry) (layers : Layers) (L : ℕ) (region : Region) : Type 0 where
-  pub empty : (layer_of layers L).reliable ≡ false → region ≡ empty_region
-  pub names : AllPairs (λ a b. a.name ≢ b.name) region.secrets
+-- a region that a layer can have by a log, the layers being these
+pub record IsValidRegion (log : List Entry) (layers : Layers) (layer : ℕ) (region : Region) : Type 0 where
+  pub empty : (layer_of layers layer).reliable ≡ false → region ≡ empty_region
+  pub names : AllPairs (λ one other. one.name ≢ other.name) region.secrets
   pub past : All (λ secret. secret.born ≤ number_of log) region.secrets
   pub few : length region.keys ≤ KEY_LIMIT
-  pub keys : map as_made region.keys ≡ alive_keys log L
-  pub kept : RegionKeptRightly log L region
+  pub keys : map as_made region.keys ≡ alive_keys log layer
+  pub kept : RegionKeptRightly log layer region
 
 -- a state that a live device can have
 pub record IsValidState (state : State) : Type 0 where
@@ -65,7 +65,7 @@ pub record IsValidState (state : State) : Type 0 where
   pub codes : AreNamed state.layers state.codes
   pub serial : serial_of (entries_of state.log) ≡ Some state.serial
   pub device : device_of (entries_of state.log) ≡ Some (public_of state.device)
-  pub uses : state.uses ≡ used (entries_of state.log)
+  pub uses : state.uses ≡ uses_of_device_key (entries_of state.log)
   pub two : IsValidRegion (entries_of state.log) state.layers 2 state.two
   pub three : IsValidRegion (entries_of state.log) state.layers 3 state.three
 

@@ -6,7 +6,7 @@ use Rattle.mb_model.specs.declared.key.PublicKey.{PublicKey}
 use Rattle.mb_model.specs.Lines.{text_of}
 use Rattle.mb_model.specs.Listing.{listing}
 use Rattle.mb_model.specs.Acceptance.{ChainRefusal, bad_form, bad_signature, bad_order, breaks_rules, refusal_code}
-use Rattle.mb_model.specs.Acceptance.{Verdict, accepting, refusing, IsVerdict}
+use Rattle.mb_model.specs.Acceptance.{Verdict, chain_acceptance, chain_rejection, IsVerdict}
 use Rattle.mb_model.specs.Commands.{Command, read, find, print, refuse}
 use Rattle.mb_model.specs.Inputs.{root_input, chain_bytes_input}
 
@@ -17,21 +17,21 @@ pub record VerifyNames : Type 0 where
   pub key : ℕ
 
 -- where the chain is wrong: the offset at which its form fails, or the entry
-abbrev pub place_refused : ChainRefusal → List ℕ
-place_refused (bad_form offset) = codes " " ++ decimal offset
-place_refused (bad_signature i) = codes " " ++ decimal i
-place_refused (bad_order i) = codes " " ++ decimal i
-place_refused (breaks_rules i) = codes " " ++ decimal i
-place_refused _ = []
+abbrev pub refusal_place_words : ChainRefusal → List ℕ
+refusal_place_words (bad_form offset) = codes " " ++ decimal offset
+refusal_place_words (bad_signature index) = codes " " ++ decimal index
+refusal_place_words (bad_order index) = codes " " ++ decimal index
+refusal_place_words (breaks_rules index) = codes " " ++ decimal index
+refusal_place_words _ = []
 
 -- the line that tells why a chain is not accepted
-abbrev pub refused_line : ChainRefusal → List ℕ
-refused_line why = codes "refused " ++ decimal (refusal_code why) ++ place_refused why
+abbrev pub chain_refusal_line : ChainRefusal → List ℕ
+chain_refusal_line why = codes "refused " ++ decimal (refusal_code why) ++ refusal_place_words why
 
 -- what the chain says of the key is printed, or the chain is refused
 abbrev pub tell_verdict : ℕ → Verdict → Command
-tell_verdict n (accepting report) = print (text_of (listing n report))
-tell_verdict n (refusing why) = refuse (refused_line why)
+tell_verdict key_number (chain_acceptance report) = print (text_of (listing key_number report))
+tell_verdict key_number (chain_rejection why) = refuse (chain_refusal_line why)
 
 abbrev pub verify_chain : VerifyNames → PublicKey → List ℕ → Command
 verify_chain names maker bytes = find (IsVerdict maker bytes names.key) (tell_verdict names.key)

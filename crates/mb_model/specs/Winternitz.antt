@@ -13,14 +13,16 @@ message_mark = 0x81 ∷ 0x81 ∷ []
 abbrev pub one_time_key_mark : List ℕ
 one_time_key_mark = 0x80 ∷ 0x80 ∷ []
 
--- coef: the digit of w bits with the number i in the bytes s (3.1.3)
+-- coef: the digit with this number in the bytes, each digit of `width` bits (3.1.3)
 unfoldable pub coef : List ℕ → ℕ → ℕ → ℕ
-coef s i w = bit_and (2 ^ w - 1) (slice_index s (i * w / 8) / 2 ^ (8 - (w * (i % (8 / w)) + w)))
+coef bytes number width =
+    bit_and (2 ^ width - 1)
+    (slice_index bytes (number * width / 8) / 2 ^ (8 - (width * (number % (8 / width)) + width)))
 
--- by how much the first n digits fall short of the greatest digit, in all
+-- by how much the first digits, as many as `count` says, fall short of the greatest digit, in all
 unfoldable pub shortfall : List ℕ → ℕ → ℕ → ℕ
-shortfall s w zero = 0
-shortfall s w (suc n) = shortfall s w n + (2 ^ w - 1 - coef s n w)
+shortfall bytes width zero = 0
+shortfall bytes width (suc count) = shortfall bytes width count + (2 ^ width - 1 - coef bytes count width)
 
 -- Cksm: the checksum of a hash (4.4)
 unfoldable pub checksum : Chains → List ℕ → ℕ
@@ -33,33 +35,36 @@ digits_of chains hash = hash ++ to_be_bytes w16 (checksum chains hash)
 
 -- Q: the hash of a text (4.5)
 unfoldable pub message_hash : List ℕ → ℕ → List ℕ → List ℕ → List ℕ
-message_hash id q randomizer text = sha256 (id ++ to_be_bytes w32 q ++ message_mark ++ randomizer ++ text)
+message_hash id leaf randomizer text = sha256 (id ++ to_be_bytes w32 leaf ++ message_mark ++ randomizer ++ text)
 
--- step j of chain i (4.3)
+-- one step of a chain (4.3)
 unfoldable pub chain_step : List ℕ → ℕ → ℕ → ℕ → List ℕ → List ℕ
-chain_step id q i j x = sha256 (id ++ to_be_bytes w32 q ++ to_be_bytes w16 i ++ j ∷ x)
+chain_step id leaf chain step value = sha256 (id ++ to_be_bytes w32 leaf ++ to_be_bytes w16 chain ++ step ∷ value)
 
--- x taken through n steps of chain i, the first of them step a
-unfoldable pub steps_from : List ℕ → ℕ → ℕ → ℕ → ℕ → List ℕ → List ℕ
-steps_from id q i a zero x = x
-steps_from id q i a (suc n) x = chain_step id q i (a + n) (steps_from id q i a n x)
+-- a value taken through this count of steps of a chain, from step `first` on
+unfoldable pub value_after_count : List ℕ → ℕ → ℕ → ℕ → ℕ → List ℕ → List ℕ
+value_after_count id leaf chain first zero value = value
+value_after_count id leaf chain first (suc count) value =
+    chain_step id leaf chain (first + count) (value_after_count id leaf chain first count value)
 
--- x taken through the steps of chain i from a up to, and without, b: x itself where a is not below b
-abbrev pub steps : List ℕ → ℕ → ℕ → ℕ → ℕ → List ℕ → List ℕ
-steps id q i a b x = steps_from id q i a (b - a) x
+-- a value taken through the steps of a chain from `first` up to, and without, `end`; where `first` is not below `end`,
+-- the value itself
+abbrev pub value_after_steps : List ℕ → ℕ → ℕ → ℕ → ℕ → List ℕ → List ℕ
+value_after_steps id leaf chain first end value = value_after_count id leaf chain first (end - first) value
 
--- the value of 32 bytes with the number i in a row of such values
+-- the value of 32 bytes with this number in a row of such values
 abbrev pub value_at : List ℕ → ℕ → List ℕ
-value_at values i = take 32 (drop (32 * i) values)
+value_at values number = take 32 (drop (32 * number) values)
 
--- z[0] to z[n - 1]: the values of the first n chains, each taken from its digit to its chain's end (4.6)
+-- z[0] to z[count - 1]: the values of the first chains, each taken from its digit to its chain's end (4.6)
 unfoldable pub chain_ends : List ℕ → ℕ → ℕ → List ℕ → List ℕ → ℕ → List ℕ
-chain_ends id q w digits values zero = []
-chain_ends id q w digits values (suc n) =
-    chain_ends id q w digits values n ++ steps id q n (coef digits n w) (2 ^ w - 1) (value_at values n)
+chain_ends id leaf width digits values zero = []
+chain_ends id leaf width digits values (suc count) =
+    chain_ends id leaf width digits values count
+    ++ value_after_steps id leaf count (coef digits count width) (2 ^ width - 1) (value_at values count)
 
 -- K: the one-time key to which digits and chain values belong (4.6)
 unfoldable pub one_time_key : Chains → List ℕ → ℕ → List ℕ → List ℕ → List ℕ
-one_time_key chains id q digits values =
-    sha256 (id ++ to_be_bytes w32 q ++ one_time_key_mark
-    ++ chain_ends id q (digit_bits chains) digits values (chain_count chains))
+one_time_key chains id leaf digits values =
+    sha256 (id ++ to_be_bytes w32 leaf ++ one_time_key_mark
+    ++ chain_ends id leaf (digit_bits chains) digits values (chain_count chains))

@@ -14,7 +14,7 @@ use Rattle.mb_model.specs.declared.stored.Fate.{Fate}
 use Rattle.mb_model.specs.declared.stored.Fate.TheVariants.{Keep}
 use Rattle.mb_model.specs.declared.stored.Outgoing.{Outgoing}
 use Rattle.mb_model.specs.declared.stored.Pending.{Pending}
-use Rattle.mb_model.specs.OrderChecks.{view_of, succeeds, entries_needed}
+use Rattle.mb_model.specs.OrderChecks.{view_of, succession_is_due, entries_needed}
 use Rattle.mb_model.specs.OrderEffects.{fact_of, names_next, next_key, entry_of}
 use Rattle.mb_model.specs.OrderEffects.{succession_entry, device_after, uses_after, key_made}
 use Rattle.mb_model.specs.Fates.{change_fate, key_fate}
@@ -32,11 +32,11 @@ after_succession view draw = record view {
 
 -- the figures with which the device key has an index for the fact's own entry
 abbrev pub ready_by : View → Bool → List ℕ → View
-ready_by view next draw = if succeeds view next then after_succession view draw else view
+ready_by view next draw = if succession_is_due view next then after_succession view draw else view
 
 -- the entries before the fact's own
 abbrev pub first_by : View → Bool → List ℕ → List Entry
-first_by view next draw = if succeeds view next then succession_entry view draw ∷ [] else []
+first_by view next draw = if succession_is_due view next then succession_entry view draw ∷ [] else []
 
 -- the key that a fact makes in a region
 abbrev pub key_by : View → Fact → List ℕ → Option RegionKey
@@ -46,7 +46,7 @@ key_by view (fact.NewKey layer kind) draw = Some (key_made view kind draw)
 -- the device key that gives way, by a succession or by the fact's own entry, with the index that it still signs with
 abbrev pub outgoing_by : View → Bool → Option Outgoing
 outgoing_by view next =
-    if succeeds view next || next then Some (record { seed = view.device; uses = view.uses + 1 }) else None
+    if succession_is_due view next || next then Some (record { seed = view.device; uses = view.uses + 1 }) else None
 
 -- all that a fact adds to a device: its entries, the device key as it leaves it, and the key of a region
 unfoldable pub bodies_by : View → Fact → List ℕ → Bodies
@@ -66,19 +66,19 @@ bodies_for state order draw = bodies_by (view_of state) (fact_of state.layers or
 
 -- ---- the regions
 
-abbrev pub added : ℕ → Option RegionKey → ℕ → Fate
-added L (Some key) m = key_fate L key m
-added L None m = Keep
+abbrev pub fate_by_new_key : ℕ → Option RegionKey → ℕ → Fate
+fate_by_new_key key_layer (Some key) layer = key_fate key_layer key layer
+fate_by_new_key key_layer None layer = Keep
 
--- what becomes of region m, with the key that the fact makes
+-- what becomes of a layer's region, with the key that the fact makes
 abbrev pub region_fate : Layers → Fact → Option RegionKey → ℕ → Fate
-region_fate layers (fact.Change kind layer cosigned new kept) key m = change_fate layers kind layer cosigned m
-region_fate layers (fact.NewKey layer kind) key m = added layer key m
+region_fate layers (fact.Change kind layer cosigned new kept) key region = change_fate layers kind layer cosigned region
+region_fate layers (fact.NewKey layer kind) key region = fate_by_new_key layer key region
 
--- what becomes of region m by an order
+-- what becomes of a layer's region by an order
 abbrev pub fate_for : State → Order → List ℕ → ℕ → Fate
-fate_for state order draw m =
-    region_fate state.layers (fact_of state.layers order order.act) (bodies_for state order draw).key m
+fate_for state order draw region =
+    region_fate state.layers (fact_of state.layers order order.act) (bodies_for state order draw).key region
 
 -- the work that is pending from the commit on
 unfoldable pub pending_for : State → Order → List ℕ → Pending

@@ -23,20 +23,20 @@ use Rattle.mb_model.specs.SignedTexts.{order_text, countersigned_text}
 use Rattle.mb_model.specs.OrderFormat.{order_body}
 use Rattle.mb_model.specs.OrderLines.{order_line}
 use Rattle.mb_model.specs.Rules.{kind_of, change_of, signing_layer}
-use Rattle.mb_model.specs.Lines.{text_of, spaced, hex_word}
+use Rattle.mb_model.specs.Lines.{text_of, spaced_words, hex_word}
 use Rattle.mb_model.specs.Script.{with_before}
 
 -- ---- what is drawn
 
--- the first n words of the generator ChaCha of 20 rounds, whose key is the number in four bytes, the highest first,
--- and 28 zeros
-unfoldable pub generated : ℕ → ℕ → List ℕ
-generated number n = first_words (next_word 10) n (of_seed (to_be_bytes w32 number ++ replicate 28 0))
+-- The first words, as many as `count` says, of the generator ChaCha of 20 rounds. Its key is the number in four bytes,
+-- the highest first, and 28 zeros.
+unfoldable pub generator_words : ℕ → ℕ → List ℕ
+generator_words number count = first_words (next_word 10) count (of_seed (to_be_bytes w32 number ++ replicate 28 0))
 
--- these words are drawn for n bytes: each gives four, the highest first, and what the last has over is dropped
-pub record DrawnBytes (n : ℕ) (words bytes : List ℕ) : Type 0 where
-  pub count : length words ≡ (n + 3) / 4
-  pub given : bytes ≡ take n (flat_map (to_be_bytes w32) words)
+-- these words are drawn for `size` bytes: each gives four, the highest first, and what the last has over is dropped
+pub record DrawnBytes (size : ℕ) (words bytes : List ℕ) : Type 0 where
+  pub count : length words ≡ (size + 3) / 4
+  pub given : bytes ≡ take size (flat_map (to_be_bytes w32) words)
 
 -- these words are drawn for bytes of a drawn number: the first word, and as many words as that number of bytes needs
 pub record DrawnSized (size : ℕ → ℕ) (words bytes : List ℕ) : Type 0 where
@@ -112,10 +112,11 @@ pub record DrawnInOrder (words : List ℕ) (rounds : ℕ) (draws : Draws) : Type
 
 -- ---- orders
 
--- the key of officer n, who owns layer n, where n is 1, 2 or 3
+-- the key of the officer who owns the layer of the same number: 1, 2 or 3
 abbrev pub key_of_officer : Draws → ℕ → KeySeed
-key_of_officer draws n =
-    officer_key (if n == 1 then draws.officer_one else if n == 2 then draws.officer_two else draws.officer_three)
+key_of_officer draws officer =
+    officer_key
+    (if officer == 1 then draws.officer_one else if officer == 2 then draws.officer_two else draws.officer_three)
 
 -- an order to be signed: what it does to which layer, and which officers countersign it
 pub record Plan : Type 0 where
@@ -140,12 +141,12 @@ first_plans draws =
     ∷ plan 3 (act.NewKey kinds.Epoch) []
     ∷ []
 
--- the order of round i, from 1: layers 3, 2 and 1 are loaded in turn, and all above countersign
+-- the order of a round, from 1: layers 3, 2 and 1 are loaded in turn, and all above countersign
 abbrev pub round_plan : ℕ → List ℕ → Plan
-round_plan i code =
-    if i % 3 == 1 then plan 3 (act.Load (plan_payload (1 + i) code)) []
-    else if i % 3 == 2 then plan 2 (act.Load (plan_payload (1 + i) code)) (3 ∷ [])
-    else plan 1 (act.Load (plan_payload (1 + i) code)) (2 ∷ 3 ∷ [])
+round_plan round code =
+    if round % 3 == 1 then plan 3 (act.Load (plan_payload (1 + round) code)) []
+    else if round % 3 == 2 then plan 2 (act.Load (plan_payload (1 + round) code)) (3 ∷ [])
+    else plan 1 (act.Load (plan_payload (1 + round) code)) (2 ∷ 3 ∷ [])
 
 -- all orders in turn
 abbrev pub plans : Draws → List Plan
@@ -158,7 +159,7 @@ signer order = signing_layer (change_of (kind_of order.act)) order.layer
 -- how many signatures an officer gives for these orders
 abbrev pub signatures_by : ℕ → List Plan → ℕ
 signatures_by officer orders =
-    count_by (λ n. n == officer) (flat_map (λ order. signer order ∷ order.countersigners) orders)
+    count_by (λ layer. layer == officer) (flat_map (λ order. signer order ∷ order.countersigners) orders)
 
 -- The signature of an officer on an order that stands after these. No officer signs one order twice, so the next index
 -- of the key is the number of signatures that the officer gave for the orders before.
@@ -175,14 +176,14 @@ unsigned_order before order = record {
   countersignatures = [];
 }
 
--- the countersignature of officer m on an order with this body
+-- the countersignature of the officer `cosigner` on an order with this body
 abbrev pub countersignature_by : Draws → List Plan → List ℕ → ℕ → Countersignature
-countersignature_by draws before body m =
-    record { layer = m; signature = signature_by draws before m (countersigned_text m body) }
+countersignature_by draws before body cosigner =
+    record { layer = cosigner; signature = signature_by draws before cosigner (countersigned_text cosigner body) }
 
 -- the order with its signatures
-abbrev pub signed : Draws → List Plan → Plan → Order
-signed draws before order =
+abbrev pub signed_plan : Draws → List Plan → Plan → Order
+signed_plan draws before order =
     let body = order_body (unsigned_order before order) in
     record (unsigned_order before order) {
       signature = signature_by draws before (signer order) (order_text body);
@@ -190,23 +191,23 @@ signed draws before order =
     }
 
 unfoldable pub signed_orders : Draws → List Order
-signed_orders draws = map (λ at. signed draws at.0 at.1) (with_before (plans draws))
+signed_orders draws = map (λ at. signed_plan draws at.0 at.1) (with_before (plans draws))
 
 -- ---- the script
 
--- s and two digits: the name of the secret that is put after n others
+-- s and two digits: the name of the secret that is put after `number` others
 abbrev pub secret_name : ℕ → List ℕ
-secret_name n = codes "s" ++ (48 + n % 16 / 10) ∷ (48 + n % 16 % 10) ∷ []
+secret_name number = codes "s" ++ (48 + number % 16 / 10) ∷ (48 + number % 16 % 10) ∷ []
 
 abbrev pub put_line : ℕ → List ℕ → List ℕ
-put_line n value = spaced (codes "put" ∷ codes "3" ∷ secret_name n ∷ hex_word value ∷ [])
+put_line number value = spaced_words (codes "put" ∷ codes "3" ∷ secret_name number ∷ hex_word value ∷ [])
 
--- the lines of a round after n others
+-- the lines of a round after `sooner` others
 abbrev pub round_lines : ℕ → Order → RoundDraws → List (List ℕ)
-round_lines n order round =
+round_lines sooner order round =
     codes "off" ∷ codes "boot" ∷ order_line order ∷ codes "go" ∷ codes "go"
-    ∷ map (λ at. put_line (4 * n + length at.0) at.1) (with_before round.values)
-    ++ spaced (codes "sign" ∷ codes "3" ∷ codes "1" ∷ hex_word round.message ∷ []) ∷ []
+    ∷ map (λ at. put_line (4 * sooner + length at.0) at.1) (with_before round.values)
+    ++ spaced_words (codes "sign" ∷ codes "3" ∷ codes "1" ∷ hex_word round.message ∷ []) ∷ []
 
 -- the lines of the script: the first five orders, the rounds, and power off
 unfoldable pub workload_lines : Draws → List (List ℕ)
@@ -223,7 +224,7 @@ workload_lines draws =
 pub record IsWorkload (number rounds : ℕ) (workload : Workload) : Type 0 where
   pub words : List ℕ
   pub draws : Draws
-  pub first : words ≡ generated number (length words)
+  pub first : words ≡ generator_words number (length words)
   pub drawn : DrawnInOrder words rounds draws
   pub image : IsFactoryImage (officer_key draws.root) 0
       (public_of (key_of_officer draws 1)) draws.code_one draws.factory workload.image

@@ -6,13 +6,13 @@ use Rattle.mb_model.specs.declared.entry.SignedEntry.{SignedEntry}
 use Rattle.mb_model.specs.declared.state.Codes.{Codes}
 use Rattle.mb_model.specs.declared.stored.Slot.{Slot}
 use Rattle.mb_model.specs.declared.stored.Header.{Header}
-use Rattle.mb_model.specs.Board.{erased}
+use Rattle.mb_model.specs.Board.{erased_bytes}
 use Rattle.mb_model.specs.EntryFormat.{entry_format, signed_entry_format}
 use Rattle.mb_model.specs.HeaderFormat.{header_format, log_format}
 
--- bytes at the start of n sectors, and erased bytes after them
+-- bytes at the start of `count` sectors, and erased bytes after them
 unfoldable pub in_sectors : ℕ → List ℕ → List ℕ
-in_sectors n bytes = bytes ++ erased (SECTOR_LENGTH * n - length bytes)
+in_sectors count bytes = bytes ++ erased_bytes (SECTOR_LENGTH * count - length bytes)
 
 -- ---- code
 

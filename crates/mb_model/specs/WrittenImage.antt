@@ -3,7 +3,7 @@ use Rattle.std.specs.Prelude.{◌≡◌, ℕ, ◌-◌, List, [], ◌∷◌, ◌+
 use Rattle.std.specs.Int.{w16, to_be_bytes}
 use Rattle.mb_model.specs.declared.limits.TheConstants.{AREA_LENGTH, BBRAM_LENGTH, FLASH_LENGTH, RECORD_LIMIT}
 use Rattle.mb_model.specs.declared.state.State.{State}
-use Rattle.mb_model.specs.Board.{erased, zeros}
+use Rattle.mb_model.specs.Board.{erased_bytes, zeros}
 use Rattle.mb_model.specs.RootFormat.{root_format}
 use Rattle.mb_model.specs.RegionFormat.{CanBeWritten, written_region}
 use Rattle.mb_model.specs.WrittenFlash.{CodesFitSlots, LogFitsSectors, written_flash}
@@ -24,7 +24,7 @@ written_bbram state =
 
 -- The image: for a dead device the flash is erased and the battery-backed memory zero.
 unfoldable pub written_image : Option State → List ℕ
-written_image None = erased FLASH_LENGTH ++ zeros BBRAM_LENGTH
+written_image None = erased_bytes FLASH_LENGTH ++ zeros BBRAM_LENGTH
 written_image (Some state) = written_flash state.codes state.log ++ written_bbram state
 
 -- what can be written: each part of the state fits its place, and its records have spellings

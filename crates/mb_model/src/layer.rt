@@ -1,7 +1,7 @@
 //! The layers of a device.
 
 ghost use Rattle.std.specs.Prelude.{◌≡◌};
-ghost use Rattle.mb_model.specs.Layers.{equal_trusts, are_equal, unowned};
+ghost use Rattle.mb_model.specs.Layers.{equal_trusts, are_equal, layer_without_owner};
 
 use crate::key::{PublicKey, Trust};
 
@@ -64,7 +64,7 @@ pub struct Layer {
 impl Layer {
     /// A layer without an owner.
     pub fn unowned() -> Layer
-        ensures { result ≡ unowned }
+        ensures { result ≡ layer_without_owner }
     {
         Layer {
             owner: None,

@@ -1,7 +1,7 @@
 //! What a device answers.
 
 ghost use Rattle.std.specs.Prelude.{◌≡◌};
-ghost use Rattle.mb_model.specs.Refusals.{refusal_number, refused};
+ghost use Rattle.mb_model.specs.Refusals.{refusal_number, refusal_reply};
 
 use crate::bytes::Bytes;
 
@@ -125,7 +125,7 @@ impl Refusal {
 
     /// The reply to an event that is refused for this reason.
     pub fn reply(self) -> Reply
-        ensures { result ≡ refused self }
+        ensures { result ≡ refusal_reply self }
     {
         Reply::Refused(self.number())
     }

@@ -2,8 +2,8 @@
 use Rattle.std.proofs.Common.{◌≡◌, ℕ, zero, suc, ◌≤◌, List, [], ◌∷◌, length, take, inl, inr, Option, Some, true, sym, ap, ◌∙◌, arith}
 use Rattle.std.specs.Prelude.{◌⊎◌, codes, slice_index}
 use Rattle.std.proofs.lemmas.Bool.{false≢true}
-use Rattle.mb_model.specs.Outside.{Outside, raised, read_once, FailsToRead, by_fault, by_absence}
-use Rattle.mb_model.specs.Commands.{Command, read, find, either_command, serve, rehearse, write, print, refuse, lack, Input, Output, Past, Ended, onward, InputEnds, too_long, faulty, not_read, no_room, PrintEnds, printed, not_printed, CommandEnds, HasInputsFor}
+use Rattle.mb_model.specs.Outside.{Outside, count_after_call, read_once, FailsToRead, by_fault, by_absence}
+use Rattle.mb_model.specs.Commands.{Command, read, find, either_command, serve, rehearse, write, print, refuse, lack, Input, Output, Past, Ended, end_seen_from, InputEnds, input_is_too_long, input_is_faulty, input_is_not_read, memory_lacks, PrintEnds, text_is_printed, text_is_not_printed, CommandEnds, HasInputsFor}
 use Rattle.mb_model.specs.Inputs.{code_input}
 use Rattle.mb_model_lemmas.proofs.Splits.{some_same, none_is_some}
 use Rattle.mb_model.specs.Keygen.{keygen}
@@ -20,19 +20,19 @@ use Rattle.mb_model_examples.specs.CommandCounterExamples.{StatusCounterExamples
 -- ---- statuses
 
 input_statuses : {A : Type 0} (input : Input A) (past : Past) (e : Ended) → InputEnds input past e → (3 ≤ e.status)
-input_statuses input past e (too_long held stops) = omega (arith, stops.status_is)
-input_statuses input past e (faulty bytes has place fault stops) = omega (arith, stops.status_is)
-input_statuses input past e (not_read mid fails stops) = omega (arith, stops.status_is)
-input_statuses input past e (no_room wants) = omega (arith, wants.stops.status_is)
+input_statuses input past e (input_is_too_long held stops) = omega (arith, stops.status_is)
+input_statuses input past e (input_is_faulty bytes has place fault stops) = omega (arith, stops.status_is)
+input_statuses input past e (input_is_not_read mid fails stops) = omega (arith, stops.status_is)
+input_statuses input past e (memory_lacks wants) = omega (arith, wants.stops.status_is)
 
 print_statuses : (text : List ℕ) (past : Past) (e : Ended) → PrintEnds text past e → 1 ≤ e.status → e.status ≡ 5
-print_statuses text past e (printed prints same status) least = absurd (omega (arith, status, least))
-print_statuses text past e (not_printed mid fails stops) least = stops.status_is
+print_statuses text past e (text_is_printed prints same status) least = absurd (omega (arith, status, least))
+print_statuses text past e (text_is_not_printed mid fails stops) least = stops.status_is
 
 statuses : (command : Command) (past : Past) (e : Ended) → 1 ≤ e.status → e.status ≤ 2 → CommandEnds command past e → ⊥
 unfolding CommandEnds
 statuses (read {A = A} input rest) past e least most (inl ends) = omega (arith, most, input_statuses input past e ends)
-statuses (read {A = A} input rest) past e least most (inr it) = statuses (rest it.2.0) past (onward (read_once e.before) e) least most it.2.2
+statuses (read {A = A} input rest) past e least most (inr it) = statuses (rest it.2.0) past (end_seen_from (read_once e.before) e) least most it.2.2
 statuses (find {A = A} Is rest) past e least most (inl it) = statuses (rest it.0) past e least most it.2
 statuses (find {A = A} Is rest) past e least most (inr wants) = omega (arith, most, wants.stops.status_is)
 statuses (either_command If first second) past e least most (inl it) = statuses first past e least most it.1
@@ -43,7 +43,7 @@ statuses (serve IsServed rest) past e least most (inr wants) = omega (arith, mos
 statuses (rehearse IsRehearsed rest) past e least most (inl it) = statuses (rest it.0 it.1) (record past { answered = it.0 }) e least most it.3
 statuses (rehearse IsRehearsed rest) past e least most (inr wants) = omega (arith, most, wants.stops.status_is)
 statuses (write output rest) past e least most (inl ends) = omega (arith, most, ends.stops.status_is)
-statuses (write output rest) past e least most (inr (inl it)) = statuses rest (record past { wrote = true }) (onward it.0 e) least most it.2
+statuses (write output rest) past e least most (inr (inl it)) = statuses rest (record past { wrote = true }) (end_seen_from it.0 e) least most it.2
 statuses (write output rest) past e least most (inr (inr wants)) = omega (arith, most, wants.stops.status_is)
 statuses (print text) past e least most (inl ends) = omega (arith, most, print_statuses text past e ends least)
 statuses (print text) past e least most (inr wants) = omega (arith, most, wants.stops.status_is)
@@ -68,16 +68,16 @@ statuses_of_commands past e = record {
 -- ---- single commands
 
 input_not_refused : {A : Type 0} (input : Input A) (past : Past) (e : Ended) → InputEnds input past e → e.status ≤ 6
-input_not_refused input past e (too_long held stops) = omega (arith, stops.status_is)
-input_not_refused input past e (faulty bytes has place fault stops) = omega (arith, stops.status_is)
-input_not_refused input past e (not_read mid fails stops) = omega (arith, stops.status_is)
-input_not_refused input past e (no_room wants) = omega (arith, wants.stops.status_is)
+input_not_refused input past e (input_is_too_long held stops) = omega (arith, stops.status_is)
+input_not_refused input past e (input_is_faulty bytes has place fault stops) = omega (arith, stops.status_is)
+input_not_refused input past e (input_is_not_read mid fails stops) = omega (arith, stops.status_is)
+input_not_refused input past e (memory_lacks wants) = omega (arith, wants.stops.status_is)
 
 -- a command that prints is done, or could not print, or lacked memory
 print_status : (text : List ℕ) (past : Past) (e : Ended) → CommandEnds (print text) past e → (e.status ≡ 0) ⊎ (5 ≤ e.status) × (e.status ≤ 6)
 unfolding CommandEnds
-print_status text past e (inl (printed prints same status)) = inl status
-print_status text past e (inl (not_printed mid fails stops)) = inr (omega (arith, stops.status_is), omega (arith, stops.status_is))
+print_status text past e (inl (text_is_printed prints same status)) = inl status
+print_status text past e (inl (text_is_not_printed mid fails stops)) = inr (omega (arith, stops.status_is), omega (arith, stops.status_is))
 print_status text past e (inr wants) = inr (omega (arith, wants.stops.status_is), omega (arith, wants.stops.status_is))
 
 not_four : (text : List ℕ) (past : Past) (e : Ended) → e.status ≡ 4 → CommandEnds (print text) past e → ⊥
@@ -95,7 +95,7 @@ not_seven text past e seven ends = elim (print_status text past e ends) [
 refused : (past : Past) (e : Ended) (text name : List ℕ) → e.status ≡ 7 → CommandEnds (read (code_input name) (λ code. print text)) past e → ⊥
 unfolding CommandEnds
 refused past e text name seven (inl ends) = omega (arith, seven, input_not_refused (code_input name) past e ends)
-refused past e text name seven (inr it) = not_seven text past (onward (read_once e.before) e) seven it.2.2
+refused past e text name seven (inr it) = not_seven text past (end_seen_from (read_once e.before) e) seven it.2.2
 
 found : (past : Past) (e : Ended) (text : List ℕ) → e.status ≡ 0 → CommandEnds (find (λ (n : ℕ). ⊥) (λ n. print text)) past e → ⊥
 unfolding CommandEnds
@@ -105,29 +105,29 @@ found past e text done (inr wants) = omega (arith, done, wants.stops.status_is)
 not_four_written : (past : Past) (e : Ended) (text : List ℕ) (output : Output) → e.status ≡ 4 → CommandEnds (write output (print text)) past e → ⊥
 unfolding CommandEnds
 not_four_written past e text output four (inl ends) = omega (arith, four, ends.stops.status_is)
-not_four_written past e text output four (inr (inl it)) = not_four text (record past { wrote = true }) (onward it.0 e) four it.2
+not_four_written past e text output four (inr (inl it)) = not_four text (record past { wrote = true }) (end_seen_from it.0 e) four it.2
 not_four_written past e text output four (inr (inr wants)) = omega (arith, four, wants.stops.status_is)
 
 late : (past : Past) (e : Ended) (text : List ℕ) → past.wrote ≡ true → e.status ≡ 6 → CommandEnds (print text) past e → ⊥
 unfolding CommandEnds
-late past e text wrote six (inl (printed prints same status)) = omega (arith, six, status)
-late past e text wrote six (inl (not_printed mid fails stops)) = omega (arith, six, stops.status_is)
+late past e text wrote six (inl (text_is_printed prints same status)) = omega (arith, six, status)
+late past e text wrote six (inl (text_is_not_printed mid fails stops)) = omega (arith, six, stops.status_is)
 late past e text wrote six (inr wants) = false≢true (sym wants.first ∙ wrote)
 
 other_text : (past : Past) (e : Ended) → e.before.printed ≡ Some [] → e.after.printed ≡ Some (codes "b") → e.status ≡ 0
     → CommandEnds (print (codes "a")) past e → ⊥
 unfolding CommandEnds
-other_text past e before after done (inl (printed prints same status)) =
+other_text past e before after done (inl (text_is_printed prints same status)) =
     let texts = some_same (codes "b") (codes "a") (sym after ∙ prints.adds [] before) in
     omega (arith, ap (λ (bytes : List ℕ). slice_index bytes 0) texts)
-other_text past e before after done (inl (not_printed mid fails stops)) = omega (arith, done, stops.status_is)
+other_text past e before after done (inl (text_is_not_printed mid fails stops)) = omega (arith, done, stops.status_is)
 other_text past e before after done (inr wants) = omega (arith, done, wants.stops.status_is)
 
 -- a text that is printed leaves the files
 print_leaves : (text : List ℕ) (past : Past) (e : Ended) → e.status ≡ 0 → CommandEnds (print text) past e → e.after.files ≡ e.before.files
 unfolding CommandEnds
-print_leaves text past e done (inl (printed prints same status)) = ap (λ (outside : Outside). outside.files) prints.stays
-print_leaves text past e done (inl (not_printed mid fails stops)) = absurd (omega (arith, done, stops.status_is))
+print_leaves text past e done (inl (text_is_printed prints same status)) = ap (λ (outside : Outside). outside.files) prints.stays
+print_leaves text past e done (inl (text_is_not_printed mid fails stops)) = absurd (omega (arith, done, stops.status_is))
 print_leaves text past e done (inr wants) = absurd (omega (arith, done, wants.stops.status_is))
 
 not_written : (past : Past) (e : Ended) (text : List ℕ) (output : Output) (files now : List ℕ → Option (List ℕ)) → e.status ≡ 0
@@ -136,7 +136,7 @@ not_written : (past : Past) (e : Ended) (text : List ℕ) (output : Output) (fil
 unfolding CommandEnds
 not_written past e text output files now done seven before after empty (inl ends) = omega (arith, done, ends.stops.status_is)
 not_written past e text output files now done seven before after empty (inr (inl it)) =
-    let stays = print_leaves text (record past { wrote = true }) (onward it.0 e) done it.2 in
+    let stays = print_leaves text (record past { wrote = true }) (end_seen_from it.0 e) done it.2 in
     let held = it.1.holds now (sym stays ∙ after) in
     cons_none 7 [] (some_same [] output.bytes (sym empty ∙ held) ∙ seven)
 not_written past e text output files now done seven before after empty (inr (inr wants)) = omega (arith, done, wants.stops.status_is)
@@ -158,11 +158,11 @@ files name text told = record { absent = λ none has. none_is_some (told name) h
 -- ---- hosts
 
 counted : (name : List ℕ) (before after : Outside) → before.reads ≡ 0 → after.reads ≡ 0 → FailsToRead name before after → ⊥
-unfolding raised
+unfolding count_after_call
 counted name before after none still (by_fault e) =
-    omega (arith, sym still ∙ ap (λ (outside : Outside). outside.reads) e ∙ ap raised none)
+    omega (arith, sym still ∙ ap (λ (outside : Outside). outside.reads) e ∙ ap count_after_call none)
 counted name before after none still (by_absence absent e) =
-    omega (arith, sym still ∙ ap (λ (outside : Outside). outside.reads) e ∙ ap raised none)
+    omega (arith, sym still ∙ ap (λ (outside : Outside). outside.reads) e ∙ ap count_after_call none)
 
 other_front : (part : ℕ) → codes "b" ≡ take part (codes "a") → ⊥
 other_front zero e = omega (arith, ap length e)

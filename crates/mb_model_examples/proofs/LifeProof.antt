@@ -6,7 +6,7 @@ use Rattle.mb_model.specs.declared.order.ChangeKind.TheVariants.{Establish, Load
 use Rattle.mb_model.specs.declared.entry.Entry.TheVariants.{Birth, Change, NewKey}
 use Rattle.mb_model.specs.declared.layer.Layers.{Layers}
 use Rattle.mb_model.specs.Rules.{after}
-use Rattle.mb_model.specs.Log.{figures_of, number_of, last_of, layers_of, used, made, has_version_two, MayHaveVersion, Ruled, RuledLog}
+use Rattle.mb_model.specs.Log.{figures_of, number_of, last_of, layers_of, uses_of_device_key, keys_made_by, has_version_two, MayHaveVersion, Ruled, RuledLog}
 use Rattle.mb_model_examples.specs.RuleExamples.{officer, nobody, by_two, by_both, at_birth, with_two, with_three, two_runs, three_runs, one_renewed, three_renewed, life}
 use Rattle.mb_model_lemmas.proofs.LogLemmas.{RuledLog-nil, RuledLog-push}
 
@@ -28,7 +28,7 @@ version_two : (after_version_two : Bool) (layers : Layers) → MayHaveVersion af
 version_two after_version_two layers = record { known = inr refl; equal_trusts = λ first. absurd (omega (arith, first)); rises = λ some. refl }
 
 establish_two : Ruled (figures_of (take 1 life)) (Change 2 1 1 Establish 2 nobody with_two nobody None)
-unfolding after number_of last_of layers_of used
+unfolding after number_of last_of layers_of uses_of_device_key
 establish_two = (
   filled _ (lit< tt),
   record { counted = refl; renewed = refl; last_index = λ h. absurd (not_last 0 (lit< tt) h) },
@@ -43,7 +43,7 @@ establish_two = (
 )
 
 establish_three : Ruled (figures_of (take 2 life)) (Change 2 2 2 Establish 3 nobody with_three by_two None)
-unfolding after number_of last_of layers_of used
+unfolding after number_of last_of layers_of uses_of_device_key
 establish_three = (
   filled _ (lit< tt),
   record { counted = refl; renewed = refl; last_index = λ h. absurd (not_last 1 (lit< tt) h) },
@@ -58,7 +58,7 @@ establish_three = (
 )
 
 emergency_two : Ruled (figures_of (take 3 life)) (Change 2 3 3 Emergency 2 nobody two_runs nobody None)
-unfolding after number_of last_of layers_of used
+unfolding after number_of last_of layers_of uses_of_device_key
 emergency_two = (
   filled _ (lit< tt),
   record { counted = refl; renewed = refl; last_index = λ h. absurd (not_last 2 (lit< tt) h) },
@@ -73,7 +73,7 @@ emergency_two = (
 )
 
 emergency_three : Ruled (figures_of (take 4 life)) (Change 2 4 4 Emergency 3 nobody three_runs by_two None)
-unfolding after number_of last_of layers_of used
+unfolding after number_of last_of layers_of uses_of_device_key
 emergency_three = (
   filled _ (lit< tt),
   record { counted = refl; renewed = refl; last_index = λ h. absurd (not_last 3 (lit< tt) h) },
@@ -88,11 +88,11 @@ emergency_three = (
 )
 
 new_key : Ruled (figures_of (take 5 life)) (NewKey 5 4 1 3 kinds.Epoch (officer 11))
-unfolding number_of last_of layers_of used made
+unfolding number_of last_of layers_of uses_of_device_key keys_made_by
 new_key = (filled _ (lit< tt), record { counted = refl; key_counted = refl; allowed = refl; last_index = λ h. not_last 4 (lit< tt) h })
 
 load_one : Ruled (figures_of (take 6 life)) (Change 2 6 5 Load 1 by_both one_renewed by_both (Some (officer 12)))
-unfolding after number_of last_of layers_of used
+unfolding after number_of last_of layers_of uses_of_device_key
 load_one = (
   filled _ (lit< tt),
   record { counted = refl; renewed = refl; last_index = λ h. refl },
@@ -107,7 +107,7 @@ load_one = (
 )
 
 load_three : Ruled (figures_of (take 7 life)) (Change 2 7 6 Load 3 nobody three_renewed by_both None)
-unfolding after number_of last_of layers_of used
+unfolding after number_of last_of layers_of uses_of_device_key
 load_three = (
   filled _ (lit< tt),
   record { counted = refl; renewed = refl; last_index = λ h. absurd (not_last 0 (lit< tt) h) },

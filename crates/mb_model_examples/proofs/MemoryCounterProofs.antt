@@ -15,14 +15,14 @@ use Rattle.mb_model.specs.declared.state.State.{State}
 use Rattle.mb_model.specs.declared.stored.Root.{Root}
 use Rattle.mb_model.specs.RootFormat.{root_format}
 use Rattle.mb_model.specs.RegionFormat.{secrets_format, keys_format, region_by, region_format}
-use Rattle.mb_model.specs.Memory.{IsImage, IsBlank, life_byte, other, HoldsInArea}
-use Rattle.mb_model.specs.Machine.{World, ratchet, Step, answered, lacks_memory, loses_power}
+use Rattle.mb_model.specs.Memory.{IsImage, IsBlank, life_byte, inactive_area_of_slot, HoldsInArea}
+use Rattle.mb_model.specs.Machine.{World, ratchet, Step, machine_step, lacks_memory, loses_power}
 use Rattle.mb_model.specs.Board.{Held}
 use Rattle.mb_model.specs.Meaning.{is_dead, is_live}
 use Rattle.mb_model.specs.Faults.{Fault, bad_length, bad_root, bad_public, bad_region_two, bad_region_three, bad_state, HasFault}
 use Rattle.mb_model.specs.Clean.{Clean}
 use Rattle.mb_model.specs.GenerateCommand.{log_length}
-use Rattle.mb_model.specs.Acknowledged.{Shows, powered, zeroed, left}
+use Rattle.mb_model.specs.Acknowledged.{Shows, power_is_on, device_was_tampered, nothing_was_left}
 use Rattle.mb_model.proofs.RecordFormatLaws.{region_exact}
 use Rattle.mb_model_lemmas.proofs.LineLemmas.{cons_same, cons_none}
 use Rattle.mb_model_lemmas.proofs.MeaningLemmas.{not_blank}
@@ -115,7 +115,7 @@ images image = record {
 pub clean : (bbram : List ℕ) → CleanCounterExamples bbram
 clean bbram = record {
   alive = λ life is. not_blank bbram is.1 life;
-  left = λ offset byte state is. no_byte (other bbram 2) offset 6 is.other_two byte;
+  left = λ offset byte state is. no_byte (inactive_area_of_slot bbram 2) offset 6 is.other_two byte;
 }
 
 no_split : (sooner : List Answered) (one : Answered) (later : List Answered) → [] ≡ sooner ++ one ∷ later → ⊥
@@ -157,7 +157,7 @@ not_clean bbram offset life byte None is = (clean bbram).alive life is
 not_clean bbram offset life byte (Some state) is = (clean bbram).left offset byte state is
 
 off_turns_off : (before after : World) → after.phase ≡ ratchet 1 → Step before event.Off reply.Off after → ⊥
-off_turns_off before after on (answered x) = absurd (grind (arith, sym (ap (λ (world : World). world.phase) x.1) ∙ on))
+off_turns_off before after on (machine_step x) = absurd (grind (arith, sym (ap (λ (world : World). world.phase) x.1) ∙ on))
 off_turns_off before after on (lacks_memory p) = absurd (grind (arith, p.answered))
 off_turns_off before after on (loses_power p) = absurd (grind (arith, p.answered))
 
@@ -173,12 +173,12 @@ answers standing now = record {
   left = λ offset life byte holds. not_clean now.memory.bbram offset life byte holds.world.state holds.clean;
   dead_log = λ blank shows. omega (arith, dead_log now shows.last 5 blank shows.shown shows.entries_is);
   stop = λ given is_off untampered has. elim has as (λ h. ⊥) [
-    | powered on ↦ on is_off
-    | zeroed tampered ↦ untampered tampered
-    | left none unstopped ↦ unstopped refl
+    | power_is_on on ↦ on is_off
+    | device_was_tampered tampered ↦ untampered tampered
+    | nothing_was_left none unstopped ↦ unstopped refl
   ];
   still_on = λ on may. off_turns_off may.before may.after (may.shown.phase ∙ on) may.step;
   unarmed = λ unarmed given may. never_unarmed may.before given (may.stood.armed ∙ unarmed) may.after may.step;
   unclean = λ offset on byte life may.
-      not_clean now.memory.bbram offset life byte may.after.state (may.clean (powered (λ is_off. absurd (grind (arith, sym on ∙ is_off)))));
+      not_clean now.memory.bbram offset life byte may.after.state (may.clean (power_is_on (λ is_off. absurd (grind (arith, sym on ∙ is_off)))));
 }

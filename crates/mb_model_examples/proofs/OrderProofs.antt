@@ -17,7 +17,7 @@ use Rattle.mb_model.specs.declared.reply.Reply.TheVariants as reply
 use Rattle.mb_model.specs.declared.state.State.{State}
 use Rattle.mb_model.specs.KeyFormat.{public_key_format}
 use Rattle.mb_model.specs.LayerFormat.{trust_format}
-use Rattle.mb_model.specs.Log.{entries_of, number_of, used, made}
+use Rattle.mb_model.specs.Log.{entries_of, number_of, uses_of_device_key, keys_made_by}
 use Rattle.mb_model.specs.Rules.{after}
 use Rattle.mb_model.specs.Merkle.{Verifies}
 use Rattle.mb_model.specs.OrderFormat.{target_format, body_format, sized_signature_format, countersignatures_format, order_format}
@@ -25,7 +25,7 @@ use Rattle.mb_model.specs.declared.reply.Refusal.{Refusal}
 use Rattle.mb_model.specs.declared.reply.Refusal.TheVariants.{WrongTarget, WrongState, WrongSignature}
 use Rattle.mb_model.specs.Refusals.{refusal_number}
 use Rattle.mb_model.specs.OrderChecks.{TargetHoldsIn, MayBeGiven, IsCountersigned, LogHasRoom, RegionHasRoom, Fails, view_of}
-use Rattle.mb_model.specs.OrderEffects.{signed_by, succeeded, changed, keyed, obeyed}
+use Rattle.mb_model.specs.OrderEffects.{entry_signed_by, state_after_succession, state_after_change, state_after_new_key, state_after_order}
 use Rattle.mb_model.specs.OrderStep.{spells_none, fails_check, is_obeyed}
 use Rattle.mb_model.proofs.OrderFormatLaws.{order_exact}
 use Rattle.mb_model_examples.specs.RuleExamples.{officer, seven}
@@ -94,7 +94,7 @@ refusals signature = record {
 }
 
 pub later : (signature by_owner : List ℕ) → LaterRefusals signature by_owner
-unfolding number_of used
+unfolding number_of uses_of_device_key
 later signature by_owner = record {
   countersignature = λ signed. (
     All-nil (TargetHoldsIn (view_of (alive signature))),
@@ -147,8 +147,8 @@ later signature by_owner = record {
 -- without targets and countersignatures, an order passes where these four hold, and this is what it comes to
 obeys_plain : (state : State) (layer : ℕ) (does : Act) (by_owner : List ℕ) (number size : ℕ)
     → MayBeGiven (view_of state) (plain layer does by_owner) → LogHasRoom (view_of state) (plain layer does by_owner) → RegionHasRoom (view_of state) layer does
-    → ((draw : List ℕ) → number_of (entries_of (obeyed state (plain layer does by_owner) draw).log) ≡ number)
-    → ((draw : List ℕ) → length (obeyed state (plain layer does by_owner) draw).log ≡ size)
+    → ((draw : List ℕ) → number_of (entries_of (state_after_order state (plain layer does by_owner) draw).log) ≡ number)
+    → ((draw : List ℕ) → length (state_after_order state (plain layer does by_owner) draw).log ≡ size)
     → ObeysOrder state (plain layer does by_owner) number size
 obeys_plain state layer does by_owner number size may log keys numbered sized = record {
   passes = λ signed. record {
@@ -164,12 +164,12 @@ obeys_plain state layer does by_owner number size may log keys numbered sized = 
     spelled = spelled;
     passes = passes;
     follows = refl;
-    answered = sym (ap (λ (n : ℕ). reply.Done n (length (obeyed state (plain layer does by_owner) draw).log)) (numbered draw) ∙ ap (λ (n : ℕ). reply.Done number n) (sized draw));
+    answered = sym (ap (λ (n : ℕ). reply.Done n (length (state_after_order state (plain layer does by_owner) draw).log)) (numbered draw) ∙ ap (λ (n : ℕ). reply.Done number n) (sized draw));
   });
 }
 
 pub obeys : (signature by_owner : List ℕ) → ObeyedOrders signature by_owner
-unfolding number_of used signed_by succeeded changed keyed obeyed
+unfolding number_of uses_of_device_key entry_signed_by state_after_succession state_after_change state_after_new_key state_after_order
 obeys signature by_owner = record {
   load_three = obeys_plain (alive signature) 3 (act.Load (seven Always (codes "abc"))) by_owner 5 7 refl (lit≤ tt) tt (λ draw. refl) (λ draw. refl);
   load_one = obeys_plain (alive signature) 1 (act.Load (seven Always (codes "abc"))) by_owner 5 7 refl (lit≤ tt) tt (λ draw. refl) (λ draw. refl);
@@ -178,7 +178,7 @@ obeys signature by_owner = record {
 }
 
 pub leavings : (signature by_owner draw : List ℕ) → LeavingExamples signature by_owner draw
-unfolding number_of used made after signed_by succeeded changed keyed obeyed
+unfolding number_of uses_of_device_key keys_made_by after entry_signed_by state_after_succession state_after_change state_after_new_key state_after_order
 leavings signature by_owner draw = record {
   load_three = record { region_two = refl; region_three = refl; layer_two = refl; layer_three = refl; device = refl };
   load_two = record { region_two = refl; region_three = refl; layer_two = refl; layer_three = refl; device = refl };
@@ -191,7 +191,7 @@ leavings signature by_owner draw = record {
 -- ---- logs that are long
 
 pub successions : (signature by_owner : List ℕ) → SuccessionExamples signature by_owner
-unfolding number_of used signed_by succeeded changed obeyed
+unfolding number_of uses_of_device_key entry_signed_by state_after_succession state_after_change state_after_order
 successions signature by_owner = record {
   load_two = refl;
   load_one = refl;

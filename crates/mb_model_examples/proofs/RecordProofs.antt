@@ -12,7 +12,7 @@ use Rattle.mb_format.proofs.Whole.{IsExactWhole-from_exact}
 use Rattle.mb_model.specs.KeyFormat.{public_key_format, key_seed_format, keyfile_format}
 use Rattle.mb_model.specs.declared.key.Trust.TheVariants.{Always, Never}
 use Rattle.mb_model.specs.declared.layer.Trusts.{Trusts}
-use Rattle.mb_model.specs.Layers.{unowned}
+use Rattle.mb_model.specs.Layers.{layer_without_owner}
 use Rattle.mb_model.specs.LayerFormat.{trust_format, code_name_format, layer_format, layers_format}
 use Rattle.mb_model.specs.EntryFormat.{key_kind_format, pair_format, birth_format, change_format, new_key_format, succession_format, entry_format, signed_entry_format}
 use Rattle.mb_model.specs.RootFormat.{region_key_format, outgoing_format, fate_format, pending_format, root_format}
@@ -85,10 +85,10 @@ layers = record {
   reliable = spells (layer_exact 1) (bytes_of reliable_layer_digits) reliable_layer refl refl;
   doubted = spells (layer_exact 1) (bytes_of doubted_layer_digits) doubted_layer refl refl;
   bare = spells (layer_exact 1) (bytes_of bare_layer_digits) bare_layer refl refl;
-  unowned_layer = spells (layer_exact 1) (0 ∷ 1 ∷ []) unowned refl refl;
+  unowned_layer = spells (layer_exact 1) (0 ∷ 1 ∷ []) layer_without_owner refl refl;
   split = spells (layer_exact 2) (bytes_of split_layer_digits) split_layer refl refl;
   wary = spells (layer_exact 2) (bytes_of wary_layer_digits) wary_layer refl refl;
-  unowned_in_version_two = spells (layer_exact 2) (0 ∷ 1 ∷ 1 ∷ []) unowned refl refl;
+  unowned_in_version_two = spells (layer_exact 2) (0 ∷ 1 ∷ 1 ∷ []) layer_without_owner refl refl;
   no_split_in_version_one = λ bytes spelled. never_is_not_always (ap (λ (trusts : Trusts). trusts.two) spelled.allowed.1.0.1);
 }
 

@@ -2,7 +2,7 @@
 use Rattle.std.proofs.Common.{ℕ, List, refl, arith}
 use Rattle.mb_model.specs.Rules.{after}
 use Rattle.mb_model_examples.specs.RuleExamples.{AuthorityExamples, TargetExamples, StandingExamples, AdmissionExamples, ConditionExamples, AfterExamples, LogExamples, LifeExamples}
-use Rattle.mb_model.specs.Log.{number_of, last_of, layers_of, device_of, used, made}
+use Rattle.mb_model.specs.Log.{number_of, last_of, layers_of, device_of, uses_of_device_key, keys_made_by}
 use Rattle.mb_model.specs.Lives.{splits, lives_of}
 
 pub admission : AdmissionExamples
@@ -54,7 +54,7 @@ changes = record {
 }
 
 pub log : LogExamples
-unfolding number_of last_of layers_of device_of used made
+unfolding number_of last_of layers_of device_of uses_of_device_key keys_made_by
 log = record { number = refl; layers = refl; device = refl; used = refl; made = refl }
 
 pub lives : LifeExamples

@@ -24,12 +24,12 @@ use Rattle.mb_model.specs.Signing.{public_of}
 use Rattle.mb_model.specs.LayerFormat.{trust_format}
 use Rattle.mb_model.specs.OrderFormat.{target_format, payload_format, body_format, sized_signature_format, countersignatures_format, order_format}
 use Rattle.mb_model.specs.Log.{device_in, last_of, layers_of}
-use Rattle.mb_model.specs.Lives.{MadeKey, splits, alive_keys, ends, Alive}
+use Rattle.mb_model.specs.Lives.{MadeKey, splits, alive_keys, ends_keys, Alive}
 use Rattle.mb_model.specs.Regions.{AdmittedSince}
 use Rattle.mb_model.specs.Rules.{IsFirstFailing}
 use Rattle.mb_model.specs.OrderChecks.{view_of, TargetHoldsIn, IsCountersigned}
 use Rattle.mb_model.specs.OrderStep.{spells_none, fails_check, is_obeyed}
-use Rattle.mb_model.specs.Machine.{Phase, World, Told, off, dead, ratchet, boot_event, awake_in, status_of, status_event, Step, answered, lacks_memory, loses_power}
+use Rattle.mb_model.specs.Machine.{Phase, World, Told, off, dead, ratchet, boot_event, running_state_in, status_of, status_event, Step, machine_step, lacks_memory, loses_power}
 use Rattle.mb_model.specs.Acknowledged.{AreWiping}
 use Rattle.mb_model.specs.Board.{Held}
 use Rattle.mb_model.specs.Runs.{IsSignedAt, HasInCharge}
@@ -90,7 +90,7 @@ refusals state order = record {
 }
 
 off_is_no_boot : (world next : World) → Step world event.Off reply.Booted next → ⊥
-off_is_no_boot world next (answered x) = absurd (grind (arith, x.0))
+off_is_no_boot world next (machine_step x) = absurd (grind (arith, x.0))
 off_is_no_boot world next (lacks_memory p) = absurd (grind (arith, p.answered))
 off_is_no_boot world next (loses_power p) = absurd (grind (arith, p.answered))
 
@@ -100,13 +100,13 @@ status_stays world (Err refusal) = refl
 status_stays world (Ok on) = refl
 
 status_changes_nothing : (world next : World) (answer : Reply) → Step world event.Status answer next → next ≡ world
-status_changes_nothing world next answer (answered x) = ap (λ (told : Told). told.1) x ∙ status_stays world (awake_in world)
+status_changes_nothing world next answer (machine_step x) = ap (λ (told : Told). told.1) x ∙ status_stays world (running_state_in world)
 status_changes_nothing world next answer (lacks_memory p) = p.stays
 status_changes_nothing world next answer (loses_power p) =
     absurd ((stops world).status next (subst (λ a. Step world event.Status a next) p.answered (loses_power p)))
 
 stop_follows : (world next : World) (given : Event) → Step world given reply.Stopped next → (next.phase ≡ off) × (next.armed ≡ false)
-stop_follows world next given (answered x) = absurd ((machine_is_whole world given reply.Stopped next x).1 refl)
+stop_follows world next given (machine_step x) = absurd ((machine_is_whole world given reply.Stopped next x).1 refl)
 stop_follows world next given (lacks_memory p) = absurd (grind (arith, p.answered))
 stop_follows world next given (loses_power p) = (ap (λ (w : World). w.phase) p.follows, ap (λ (w : World). w.armed) p.follows)
 
@@ -130,7 +130,7 @@ boots_from_off world next dead state e = absurd (grind (arith, ap (λ (told : To
 boots_from_off world next (ratchet r) state e = absurd (grind (arith, ap (λ (told : Told). told.0) e))
 
 boot_turns_on : (world next : World) → Step world event.Boot reply.Booted next → (world.phase ≡ off) × (next.phase ≡ ratchet 1)
-boot_turns_on world next (answered x) = boots_from_off world next world.phase world.state x
+boot_turns_on world next (machine_step x) = boots_from_off world next world.phase world.state x
 boot_turns_on world next (lacks_memory p) = absurd (grind (arith, p.answered))
 boot_turns_on world next (loses_power p) = absurd (grind (arith, p.answered))
 
@@ -261,7 +261,7 @@ lives = record {
     number = 4;
     later = drop 6 life;
     split = refl;
-    lasts = All-from_recursion (λ entry. ends Epoch 3 entry ≡ false) (drop 6 life) (refl, (refl, tt));
+    lasts = All-from_recursion (λ entry. ends_keys Epoch 3 entry ≡ false) (drop 6 life) (refl, (refl, tt));
   };
   ended = none_listed betrayed_life 1 3 Epoch (officer 11) keys_of_betrayed;
   other_number = λ kind key alive. omega (arith, ap (λ (made : MadeKey). made.number) (one_listed life 2 3 kind key key_of_life keys_of_three alive));
@@ -289,7 +289,7 @@ alive_in_six = record {
   number = 4;
   later = [];
   split = refl;
-  lasts = All-nil (λ entry. ends Epoch 3 entry ≡ false);
+  lasts = All-nil (λ entry. ends_keys Epoch 3 entry ≡ false);
 }
 
 none_in_six : alive_keys (take 6 life) 2 ≡ []

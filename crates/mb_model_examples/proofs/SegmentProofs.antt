@@ -12,7 +12,7 @@ use Rattle.mb_model.specs.declared.state.Codes.{Codes}
 use Rattle.mb_model.specs.declared.stored.Root.{Root}
 use Rattle.mb_model.specs.declared.stored.Header.{Header}
 use Rattle.mb_model.specs.Board.{Memory}
-use Rattle.mb_model.specs.Board.{erased}
+use Rattle.mb_model.specs.Board.{erased_bytes}
 use Rattle.mb_model.specs.WrittenFlash.{in_sectors, slots_with, sectors_of, written_flash}
 use Rattle.mb_model.specs.KeyFormat.{public_key_format}
 use Rattle.mb_model.specs.LayerFormat.{trust_format, code_name_format, layer_format, layers_format}
@@ -21,7 +21,7 @@ use Rattle.mb_model.specs.RegionFormat.{region_format}
 use Rattle.mb_model.specs.HeaderFormat.{code_length_format, slot_format, entry_bytes_format, unsigned_format, header_format, log_format}
 use Rattle.mb_model.specs.Sectors.{BeginsAs}
 use Rattle.mb_model.specs.Flash.{sector, code_slot, HoldsHeader, HoldsEntry, HoldsLog, AreBytesOf}
-use Rattle.mb_model.specs.StoredLog.{unsigned_by}
+use Rattle.mb_model.specs.StoredLog.{how_many_unsigned}
 use Rattle.mb_model.proofs.EntryFormatLaws.{entry_exact}
 use Rattle.mb_model.proofs.HeaderFormatLaws.{header_exact, log_exact}
 use Rattle.mb_model.specs.WrittenFlash.{CodesFitSlots}
@@ -223,7 +223,7 @@ pub holding : (root : Root) (codes : Codes) (signed : List SignedEntry) (unsigne
 holding root codes signed unsigned = record {
   no_log = λ area holds. no_log_for signed (holds.count ∙ signed_one holds.header (subst (λ n. HoldsHeader only_header n holds.header) area holds.begins)) holds.log;
   other_area = λ area holds. no_header holds.header (subst (λ n. HoldsHeader only_header n holds.header) area holds.begins);
-  uncounted = λ flash entry none holds. omega (arith, holds.counted.counted, ap unsigned_by none);
+  uncounted = λ flash entry none holds. omega (arith, holds.counted.counted, ap how_many_unsigned none);
   empty = λ fit. omega (arith, fit.log_fits.some);
   unwritten = λ fit fits same. omega (arith, written_is_whole codes signed fit fits, ap length same, length-only_header);
 }
@@ -305,7 +305,7 @@ examples = record {
 }
 
 pub written : WrittenExamples
-unfolding decode_pairs number_bytes items region_format erased code_length_format slot_format entry_bytes_format unsigned_format header_format log_format public_key_format trust_format code_name_format layer_format layers_format birth_format entry_format in_sectors slots_with sectors_of written_flash
+unfolding decode_pairs number_bytes items region_format erased_bytes code_length_format slot_format entry_bytes_format unsigned_format header_format log_format public_key_format trust_format code_name_format layer_format layers_format birth_format entry_format in_sectors slots_with sectors_of written_flash
 written = record {
   header = refl;
   code = refl;

@@ -13,14 +13,14 @@ use Rattle.mb_format.specs.Reading.{raw_at, number_at}
 use Rattle.mb_model.specs.declared.key.Chains.TheVariants.{W4}
 use Rattle.mb_model.specs.KeyFormat.{public_key_format}
 use Rattle.mb_model.specs.LayerFormat.{trust_format}
-use Rattle.mb_model.specs.Log.{number_of, used}
+use Rattle.mb_model.specs.Log.{number_of, uses_of_device_key}
 use Rattle.mb_model.specs.OrderFormat.{target_format, payload_format, body_format, sized_signature_format, countersignatures_format, order_format, order_body}
 use Rattle.mb_model.specs.SignedTexts.{order_text}
-use Rattle.mb_model.specs.Winternitz.{coef, shortfall, checksum, digits_of, message_hash, one_time_key_mark, chain_step, steps_from, steps, value_at, chain_ends, one_time_key}
+use Rattle.mb_model.specs.Winternitz.{coef, shortfall, checksum, digits_of, message_hash, one_time_key_mark, chain_step, value_after_count, value_after_steps, value_at, chain_ends, one_time_key}
 use Rattle.mb_model.specs.Merkle.{leaf_node, inner_node, parent_node, climb, leaf_number, randomizer, chain_values, path_in, root_from, hash_of, HasForm, Verifies}
 use Rattle.mb_model.specs.declared.reply.Refusal.TheVariants.{WrongSignature}
 use Rattle.mb_model.specs.OrderChecks.{TargetHoldsIn, IsCountersigned, view_of}
-use Rattle.mb_model.specs.OrderEffects.{signed_by, succeeded, changed, obeyed}
+use Rattle.mb_model.specs.OrderEffects.{entry_signed_by, state_after_succession, state_after_change, state_after_order}
 use Rattle.mb_model.specs.OrderStep.{fails_check, is_obeyed}
 use Rattle.mb_model.proofs.OrderFormatLaws.{order_exact}
 use Rattle.mb_model_examples.specs.RecordValues.{bytes_of}
@@ -33,7 +33,7 @@ use Rattle.mb_model_examples.proofs.RecordProofs.{spells}
 ends_from : List ℕ → ℕ → List ℕ → List ℕ → ℕ → ℕ → List ℕ
 ends_from id q digits values a zero = []
 ends_from id q digits values a (suc n) =
-    ends_from id q digits values a n ++ steps id q (a + n) (coef digits (a + n) 4) 15 (value_at values (a + n))
+    ends_from id q digits values a n ++ value_after_steps id q (a + n) (coef digits (a + n) 4) 15 (value_at values (a + n))
 
 chain_ends-more : (id : List ℕ) (q : ℕ) (digits values : List ℕ) (a n : ℕ) → chain_ends id q 4 digits values (a + n) ≡ chain_ends id q 4 digits values a ++ ends_from id q digits values a n
 unfolding chain_ends ends_from
@@ -42,8 +42,8 @@ chain_ends-more id q digits values a zero =
     ap (chain_ends id q 4 digits values) same ∙ sym (append-nil (chain_ends id q 4 digits values a))
 chain_ends-more id q digits values a (suc n) =
     rw add-suc
-    (ap (λ (ends : List ℕ). ends ++ steps id q (a + n) (coef digits (a + n) 4) 15 (value_at values (a + n))) (chain_ends-more id q digits values a n)
-    ∙ append_assoc (chain_ends id q 4 digits values a) (ends_from id q digits values a n) (steps id q (a + n) (coef digits (a + n) 4) 15 (value_at values (a + n))))
+    (ap (λ (ends : List ℕ). ends ++ value_after_steps id q (a + n) (coef digits (a + n) 4) 15 (value_at values (a + n))) (chain_ends-more id q digits values a n)
+    ∙ append_assoc (chain_ends id q 4 digits values a) (ends_from id q digits values a n) (value_after_steps id q (a + n) (coef digits (a + n) 4) 15 (value_at values (a + n))))
 
 no_chains : (id : List ℕ) (q : ℕ) (digits values : List ℕ) → chain_ends id q 4 digits values 0 ≡ []
 unfolding chain_ends
@@ -123,27 +123,27 @@ row_5 =
     ++ codes "f3637f117e864190eeb06b00a5623401b6d814ac07d4747d17eacd3fa0d6c04b")
 
 row_0-is : ends_from owner_one.identifier 0 digits values 0 12 ≡ row_0
-unfolding first_words schedule rounds compress hash_after digest_bytes sha256 decode_pairs coef chain_step steps_from ends_from
+unfolding first_words schedule rounds compress hash_after digest_bytes sha256 decode_pairs coef chain_step value_after_count ends_from
 row_0-is = refl
 
 row_1-is : ends_from owner_one.identifier 0 digits values 12 11 ≡ row_1
-unfolding first_words schedule rounds compress hash_after digest_bytes sha256 decode_pairs coef chain_step steps_from ends_from
+unfolding first_words schedule rounds compress hash_after digest_bytes sha256 decode_pairs coef chain_step value_after_count ends_from
 row_1-is = refl
 
 row_2-is : ends_from owner_one.identifier 0 digits values 23 11 ≡ row_2
-unfolding first_words schedule rounds compress hash_after digest_bytes sha256 decode_pairs coef chain_step steps_from ends_from
+unfolding first_words schedule rounds compress hash_after digest_bytes sha256 decode_pairs coef chain_step value_after_count ends_from
 row_2-is = refl
 
 row_3-is : ends_from owner_one.identifier 0 digits values 34 11 ≡ row_3
-unfolding first_words schedule rounds compress hash_after digest_bytes sha256 decode_pairs coef chain_step steps_from ends_from
+unfolding first_words schedule rounds compress hash_after digest_bytes sha256 decode_pairs coef chain_step value_after_count ends_from
 row_3-is = refl
 
 row_4-is : ends_from owner_one.identifier 0 digits values 45 11 ≡ row_4
-unfolding first_words schedule rounds compress hash_after digest_bytes sha256 decode_pairs coef chain_step steps_from ends_from
+unfolding first_words schedule rounds compress hash_after digest_bytes sha256 decode_pairs coef chain_step value_after_count ends_from
 row_4-is = refl
 
 row_5-is : ends_from owner_one.identifier 0 digits values 56 11 ≡ row_5
-unfolding first_words schedule rounds compress hash_after digest_bytes sha256 decode_pairs coef chain_step steps_from ends_from
+unfolding first_words schedule rounds compress hash_after digest_bytes sha256 decode_pairs coef chain_step value_after_count ends_from
 row_5-is = refl
 
 digits-are : digits_of W4 (message_hash owner_one.identifier 0 (randomizer good_signature) text) ≡ digits
@@ -242,7 +242,7 @@ flipped h = roots_differ (sym (flipped_root ∙ flipped_climb) ∙ h.root)
 -- ---- the order and its step
 
 pub verified : (signature draw : List ℕ) → VerifiedOrders signature draw
-unfolding decode_pairs number_bytes number_at raw_at items public_key_format trust_format target_format payload_format body_format sized_signature_format countersignatures_format order_format number_of used signed_by succeeded changed obeyed
+unfolding decode_pairs number_bytes number_at raw_at items public_key_format trust_format target_format payload_format body_format sized_signature_format countersignatures_format order_format number_of uses_of_device_key entry_signed_by state_after_succession state_after_change state_after_order
 verified signature draw = record {
   good = good;
   flipped = flipped;

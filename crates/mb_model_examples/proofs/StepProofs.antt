@@ -12,10 +12,10 @@ use Rattle.mb_model.specs.Layers.{is_runnable}
 use Rattle.mb_model.specs.Log.{number_of}
 use Rattle.mb_model.specs.declared.reply.Refusal.{Refusal}
 use Rattle.mb_model.specs.declared.reply.Refusal.TheVariants.{PoweredOff, Zeroised, WrongLayer}
-use Rattle.mb_model.specs.Refusals.{refusal_number, refused}
+use Rattle.mb_model.specs.Refusals.{refusal_number, refusal_reply}
 use Rattle.mb_model.specs.Regions.{region_of}
 use Rattle.mb_model.specs.LayerEvents.{Outcome, has_name, value_reply, put_event, get_event, drop_event, sign_event}
-use Rattle.mb_model.specs.Machine.{off, dead, World, Told, awake_in, status_of, status_event, go_event, region_event, CommandStep, Machine, may_want_memory, may_be_cut, Step, answered, lacks_memory, loses_power}
+use Rattle.mb_model.specs.Machine.{off, dead, World, Told, running_state_in, status_of, status_event, go_event, region_event, CommandStep, Machine, may_want_memory, may_be_cut, Step, machine_step, lacks_memory, loses_power}
 use Rattle.mb_model_lemmas.specs.RefusalLaws.{BringsBytes}
 use Rattle.mb_model_lemmas.proofs.RefusalLemmas.{machine_is_whole, machine_is_function}
 use Rattle.mb_model_examples.specs.Device.{world_at, dead_world}
@@ -37,10 +37,10 @@ pub always : (world : World) → AlwaysExamples world
 always world = record { off_event = (refl, refl); tamper = (refl, refl); cut = λ count tear. (refl, refl) }
 
 -- a device that is not awake
-refuses_others : (world : World) (refusal : Refusal) → awake_in world ≡ Err refusal → RefusesOthers world (refusal_number refusal)
+refuses_others : (world : World) (refusal : Refusal) → running_state_in world ≡ Err refusal → RefusesOthers world (refusal_number refusal)
 refuses_others world refusal e = record {
   status = ap (status_event world) (sym e);
-  command = λ text draw. subst (λ (on : Result (ℕ × State) Refusal). CommandStep world text draw on (refused refusal) world) (sym e) (refl, refl);
+  command = λ text draw. subst (λ (on : Result (ℕ × State) Refusal). CommandStep world text draw on (refusal_reply refusal) world) (sym e) (refl, refl);
   go = ap (go_event world) (sym e);
   put = λ L name value. ap (region_event world L (put_event L name value)) (sym e);
   get = λ L name. ap (region_event world L (get_event L name)) (sym e);
@@ -78,12 +78,12 @@ goes signature = record {
 -- ---- power that fails
 
 never_stops : (world : World) (given : Event) → ((answer : Reply) (next : World) → Machine world given answer next → may_be_cut answer ≡ false) → NeverStops world given
-never_stops world given none next (answered x) = (machine_is_whole world given reply.Stopped next x).1 refl
+never_stops world given none next (machine_step x) = (machine_is_whole world given reply.Stopped next x).1 refl
 never_stops world given none next (lacks_memory p) = absurd (grind (arith, p.answered))
 never_stops world given none next (loses_power p) = false≢true (sym (none p.told p.whole p.machine) ∙ p.writes)
 
 pub never_unarmed : (world : World) (given : Event) → world.armed ≡ false → NeverStops world given
-never_unarmed world given e next (answered x) = (machine_is_whole world given reply.Stopped next x).1 refl
+never_unarmed world given e next (machine_step x) = (machine_is_whole world given reply.Stopped next x).1 refl
 never_unarmed world given e next (lacks_memory p) = absurd (grind (arith, p.answered))
 never_unarmed world given e next (loses_power p) = false≢true (sym e ∙ p.armed)
 
@@ -117,7 +117,7 @@ get_uncut : (world : World) (L : ℕ) (name : List ℕ) (on : Result (ℕ × Sta
 unfolding get_event
 get_uncut world L name (Err refusal) = refl
 get_uncut world L name (Ok on) =
-    either_outcome_uncut (nat_lt L on.0 || not (is_runnable on.1.layers L)) (refused WrongLayer, on.1) (get_event L name on.1) refl
+    either_outcome_uncut (nat_lt L on.0 || not (is_runnable on.1.layers L)) (refusal_reply WrongLayer, on.1) (get_event L name on.1) refl
     (value_uncut (find (has_name name) (region_of on.1 L).secrets))
 
 pub stops : (world : World) → StopExamples world
@@ -126,10 +126,10 @@ stops world = record {
   off_event = never_stops world event.Off (λ answer next x. ap may_be_cut x.0);
   tamper = never_stops world event.Tamper (λ answer next x. ap may_be_cut x.0);
   cut = λ count tear. never_stops world (event.Cut count tear) (λ answer next x. ap may_be_cut x.0);
-  status = never_stops world event.Status (λ answer next x. told_uncut answer next (status_event world (awake_in world)) x (status_uncut world (awake_in world)));
-  go = never_stops world event.Go (λ answer next x. told_uncut answer next (go_event world (awake_in world)) x (go_uncut world (awake_in world)));
+  status = never_stops world event.Status (λ answer next x. told_uncut answer next (status_event world (running_state_in world)) x (status_uncut world (running_state_in world)));
+  go = never_stops world event.Go (λ answer next x. told_uncut answer next (go_event world (running_state_in world)) x (go_uncut world (running_state_in world)));
   get = λ L name. never_stops world (event.Get L name) (λ answer next x.
-      told_uncut answer next (region_event world L (get_event L name) (awake_in world)) x (get_uncut world L name (awake_in world)));
+      told_uncut answer next (region_event world L (get_event L name) (running_state_in world)) x (get_uncut world L name (running_state_in world)));
   refused = λ given n brings refuses. never_stops world given (λ answer next x.
       ap may_be_cut (machine_is_function world given answer (reply.Refused n) next world brings x refuses).0);
 }
@@ -175,7 +175,7 @@ stops_between world given told whole before after brings machine armed writes wa
     counted state other only (inr e) = inr (e ∙ ap (λ (w : World). w.state) only ∙ is)
 
     no_other : (next : World) → Step world given reply.Stopped next → (next ≡ world_at off before) ⊎ (next ≡ world_at off after)
-    no_other next (answered x) = absurd ((machine_is_whole world given reply.Stopped next x).1 refl)
+    no_other next (machine_step x) = absurd ((machine_is_whole world given reply.Stopped next x).1 refl)
     no_other next (lacks_memory p) = absurd (grind (arith, p.answered))
     no_other next (loses_power p) =
         same next p.state p.follows
@@ -184,7 +184,7 @@ stops_between world given told whole before after brings machine armed writes wa
 -- ---- an allocation that fails
 
 never_wants : (world : World) (given : Event) → may_want_memory given ≡ false → NeverWantsMemory world given
-never_wants world given e next (answered x) = (machine_is_whole world given reply.NoMemory next x).0 refl
+never_wants world given e next (machine_step x) = (machine_is_whole world given reply.NoMemory next x).0 refl
 never_wants world given e next (lacks_memory p) = false≢true (sym e ∙ p.wanted)
 never_wants world given e next (loses_power p) = absurd (grind (arith, p.answered))
 

@@ -14,7 +14,7 @@ use Rattle.mb_model.specs.Attach.{cut_at}
 use Rattle.mb_model.specs.ChainFormat.{statement_format, chain_format}
 use Rattle.mb_model.specs.SignedTexts.{entry_text}
 use Rattle.mb_model.specs.Acceptance.{AreGood, key_of, Accepts, bad_signature, bad_order, key_unknown, key_ended}
-use Rattle.mb_model.specs.Acceptance.{accepting, refusing, IsVerdict, Honest}
+use Rattle.mb_model.specs.Acceptance.{chain_acceptance, chain_rejection, IsVerdict, Honest}
 use Rattle.mb_model.specs.AuditCommand.{TellsOfDevice}
 use Rattle.mb_model.specs.Runs.{StaysAccepted}
 use Rattle.mb_model_examples.specs.RuleExamples.{life}
@@ -24,7 +24,7 @@ use Rattle.mb_model_examples.specs.Device.{signed_with}
 pub record ChainCounterExamples (maker : PublicKey) (n : ℕ) : Type 0 where
   -- no bytes spell no chain: they are not accepted, and are not refused for want of the key
   pub no_bytes : (report : Report) → Accepts maker [] n report → ⊥
-  pub no_bytes_for_key : IsVerdict maker [] n (refusing key_unknown) → ⊥
+  pub no_bytes_for_key : IsVerdict maker [] n (chain_rejection key_unknown) → ⊥
   -- the entries of a log without its birth are not good
   pub headless : (signature : List ℕ) → AreGood maker (signed_with signature (drop 1 life)) → ⊥
   -- a statement of another configuration than the chain's last is not accepted
@@ -35,14 +35,14 @@ pub record ChainCounterExamples (maker : PublicKey) (n : ℕ) : Type 0 where
 -- two verdicts that no bytes have both
 pub record VerdictCounterExamples (maker : PublicKey) (n : ℕ) (bytes : List ℕ) : Type 0 where
   pub accepted_and_refused : (report : Report) → IsBytes bytes
-      → IsVerdict maker bytes n (accepting report) → IsVerdict maker bytes n (refusing key_ended) → ⊥
+      → IsVerdict maker bytes n (chain_acceptance report) → IsVerdict maker bytes n (chain_rejection key_ended) → ⊥
   pub alive_and_ended : (report : Report) → IsBytes bytes → report.alive ≡ true
-      → IsVerdict maker bytes n (accepting report)
-      → IsVerdict maker bytes n (accepting (record report { alive = false })) → ⊥
-  pub two_entries : IsBytes bytes → IsVerdict maker bytes n (refusing (bad_signature 3))
-      → IsVerdict maker bytes n (refusing (bad_signature 4)) → ⊥
-  pub two_reasons : IsBytes bytes → IsVerdict maker bytes n (refusing (bad_signature 3))
-      → IsVerdict maker bytes n (refusing (bad_order 3)) → ⊥
+      → IsVerdict maker bytes n (chain_acceptance report)
+      → IsVerdict maker bytes n (chain_acceptance (record report { alive = false })) → ⊥
+  pub two_entries : IsBytes bytes → IsVerdict maker bytes n (chain_rejection (bad_signature 3))
+      → IsVerdict maker bytes n (chain_rejection (bad_signature 4)) → ⊥
+  pub two_reasons : IsBytes bytes → IsVerdict maker bytes n (chain_rejection (bad_signature 3))
+      → IsVerdict maker bytes n (chain_rejection (bad_order 3)) → ⊥
 
 -- what is no statement, and what does not stay accepted
 pub record StatementCounterExamples (maker : PublicKey) (n : ℕ) : Type 0 where

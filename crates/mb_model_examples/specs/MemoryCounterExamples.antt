@@ -10,7 +10,7 @@ use Rattle.mb_model.specs.declared.state.State.{State}
 use Rattle.mb_model.specs.declared.stored.Root.{Root}
 use Rattle.mb_model.specs.RootFormat.{root_format}
 use Rattle.mb_model.specs.RegionFormat.{SpellsRegion}
-use Rattle.mb_model.specs.Memory.{IsBlank, life_byte, other, HoldsInArea, HoldsRecord}
+use Rattle.mb_model.specs.Memory.{IsBlank, life_byte, inactive_area_of_slot, HoldsInArea, HoldsRecord}
 use Rattle.mb_model.specs.Machine.{World, off, dead, ratchet}
 use Rattle.mb_model.specs.Board.{Held}
 use Rattle.mb_model.specs.Meaning.{HasMeaning, StandsFor, IsWellFormed}
@@ -59,7 +59,7 @@ pub record ImageCounterExamples (image : List ℕ) : Type 0 where
 
 -- in the inactive area of region 2 the byte 7 is left at an offset
 abbrev pub IsLeftOver : List ℕ → ℕ → Type 0
-IsLeftOver bbram offset = slice_index (other bbram 2) offset ≡ 7
+IsLeftOver bbram offset = slice_index (inactive_area_of_slot bbram 2) offset ≡ 7
 
 -- a memory is not clean
 pub record CleanCounterExamples (bbram : List ℕ) : Type 0 where

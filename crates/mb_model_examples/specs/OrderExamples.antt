@@ -19,14 +19,14 @@ use Rattle.mb_model.specs.declared.entry.Entry.{Entry}
 use Rattle.mb_model.specs.declared.entry.Entry.TheVariants.{Birth, Change}
 use Rattle.mb_model.specs.declared.reply.Reply.TheVariants as reply
 use Rattle.mb_model.specs.declared.state.State.{State}
-use Rattle.mb_model.specs.Layers.{equal_trusts, unowned}
+use Rattle.mb_model.specs.Layers.{equal_trusts, layer_without_owner}
 use Rattle.mb_model.specs.declared.reply.Refusal.TheVariants.{WrongTarget, WrongCountersignature, LogFull, KeysFull}
 use Rattle.mb_model.specs.Regions.{empty_region}
 use Rattle.mb_model.specs.OrderFormat.{order_format}
 use Rattle.mb_model.specs.OrderChecks.{view_of, IsSigned, IsCountersigned, Fails, Passes}
 use Rattle.mb_model.specs.OrderStep.{OrderStep}
 use Rattle.mb_model.specs.OrderChecks.{needs_succession, entries_needed}
-use Rattle.mb_model.specs.OrderEffects.{next_key, obeyed}
+use Rattle.mb_model.specs.OrderEffects.{next_key, state_after_order}
 use Rattle.mb_model_examples.specs.RuleExamples.{officer, bare, running, nobody, by_two}
 use Rattle.mb_model_examples.specs.RuleExamples.{by_both, layers_with, at_birth, seven}
 use Rattle.mb_model_examples.specs.Device.{signed_with, seed_of, key_one, with_keys, secrets_of_two, key_of_three}
@@ -107,7 +107,7 @@ pub record LaterRefusals (signature by_owner : List ℕ) : Type 0 where
 pub record ObeysOrder (state : State) (order : Order) (number size : ℕ) : Type 0 where
   pub passes : IsSigned (view_of state) order → Passes (view_of state) order
   pub done : (text draw : List ℕ) → Spells order_format text order → Passes (view_of state) order
-      → OrderStep state text draw (reply.Done number size) (obeyed state order draw)
+      → OrderStep state text draw (reply.Done number size) (state_after_order state order draw)
 
 pub record ObeyedOrders (signature by_owner : List ℕ) : Type 0 where
   pub load_three : ObeysOrder (alive signature) (load_of 3 by_owner) 5 7
@@ -133,19 +133,24 @@ with_short_lived signature =
 
 pub record LeavingExamples (signature by_owner draw : List ℕ) : Type 0 where
   -- a load of layer 3 leaves region 2, and takes the configuration keys of its own
-  pub load_three : LeavesRegions (obeyed (with_short_lived signature) (load_of 3 by_owner) draw)
+  pub load_three : LeavesRegions (state_after_order (with_short_lived signature) (load_of 3 by_owner) draw)
       secrets_of_two (key_of_three 0) by_both 6
   -- a load of layer 2 empties region 3, which trusts what its owner countersigns, and so does not rely on its code
-  pub load_two : LeavesRegions (obeyed (alive signature) (load_of 2 by_owner) draw) secrets_of_two empty_region by_two 6
+  pub load_two : LeavesRegions
+      (state_after_order (alive signature) (load_of 2 by_owner) draw) secrets_of_two empty_region by_two 6
   -- a load of layer 1 that nobody countersigned empties both; the next device key has used no index
-  pub load_one : LeavesRegions (obeyed (alive signature) (load_of 1 by_owner) draw) empty_region empty_region nobody 0
+  pub load_one : LeavesRegions
+      (state_after_order (alive signature) (load_of 1 by_owner) draw) empty_region empty_region nobody 0
   pub load_one_countersigned : LeavesRegions
-      (obeyed (alive signature) (record (load_of 1 by_owner) { countersignatures = empty_by 2 ∷ empty_by 3 ∷ [] }) draw)
+      (state_after_order
+      (alive signature)
+      (record (load_of 1 by_owner) { countersignatures = empty_by 2 ∷ empty_by 3 ∷ [] })
+      draw)
       secrets_of_two (key_of_three 0) by_both 0
-  pub surrender : LeavesRegions (obeyed (alive signature) (plain 2 act.Surrender by_owner) draw)
+  pub surrender : LeavesRegions (state_after_order (alive signature) (plain 2 act.Surrender by_owner) draw)
       empty_region empty_region nobody 6
   -- a new key goes last, with the number of keys that were made
-  pub key : (obeyed (alive signature) (key_for_three by_owner) draw).three ≡ with_keys (key_one 0
+  pub key : (state_after_order (alive signature) (key_for_three by_owner) draw).three ≡ with_keys (key_one 0
       ∷ record { number = 2; kind = kinds.Epoch; seed = next_key (view_of (alive signature)) draw; uses = 0 }
       ∷ [])
 
@@ -157,13 +162,14 @@ in_turn entry position zero = []
 in_turn entry position (suc n) = entry position ∷ in_turn entry (position + 1) n
 
 abbrev pub two_run : Layers
-two_run = layers_with (running 1 Always) (running 2 Always) unowned
+two_run = layers_with (running 1 Always) (running 2 Always) layer_without_owner
 
 -- birth, and layer 2 gets an owner and code
 abbrev pub beginning : List Entry
 beginning =
     Birth 2 (replicate 16 9) (officer 10) at_birth
-    ∷ Change 2 1 1 changes.Establish 2 nobody (layers_with (running 1 Always) (bare 2 Always) unowned) nobody None
+    ∷ Change 2 1 1 changes.Establish 2 nobody
+    (layers_with (running 1 Always) (bare 2 Always) layer_without_owner) nobody None
     ∷ Change 2 2 2 changes.Emergency 2 nobody two_run nobody None
     ∷ []
 

@@ -7,7 +7,7 @@ use Rattle.mb_model.specs.Key.{key_bytes}
 use Rattle.mb_model.specs.Born.{officer_key}
 use Rattle.mb_model.specs.KeyFormat.{public_key_format, keyfile_format}
 use Rattle.mb_model.specs.OrderFormat.{body_format}
-use Rattle.mb_model.specs.Layers.{unowned}
+use Rattle.mb_model.specs.Layers.{layer_without_owner}
 use Rattle.mb_model.specs.LayerFormat.{layer_format}
 use Rattle.mb_model.specs.EntryFormat.{entry_format}
 use Rattle.mb_model.specs.RootFormat.{root_format}
@@ -56,10 +56,10 @@ pub record LayerRecords : Type 0 where
   pub reliable : Spells (layer_format 1) (bytes_of reliable_layer_digits) reliable_layer
   pub doubted : Spells (layer_format 1) (bytes_of doubted_layer_digits) doubted_layer
   pub bare : Spells (layer_format 1) (bytes_of bare_layer_digits) bare_layer
-  pub unowned_layer : Spells (layer_format 1) (0 ∷ 1 ∷ []) unowned
+  pub unowned_layer : Spells (layer_format 1) (0 ∷ 1 ∷ []) layer_without_owner
   pub split : Spells (layer_format 2) (bytes_of split_layer_digits) split_layer
   pub wary : Spells (layer_format 2) (bytes_of wary_layer_digits) wary_layer
-  pub unowned_in_version_two : Spells (layer_format 2) (0 ∷ 1 ∷ 1 ∷ []) unowned
+  pub unowned_in_version_two : Spells (layer_format 2) (0 ∷ 1 ∷ 1 ∷ []) layer_without_owner
   -- no bytes of version 1 spell two trusts that differ
   pub no_split_in_version_one : (bytes : List ℕ) → Spells (layer_format 1) bytes split_layer → ⊥
 

@@ -25,7 +25,7 @@ use Rattle.mb_model.specs.declared.tools.Keyfile.{Keyfile}
 use Rattle.mb_model.specs.declared.order.Act.TheVariants as act
 use Rattle.mb_model.specs.declared.order.Target.TheVariants.{Serial, Length, Owner, Code}
 use Rattle.mb_model.specs.OrderFormat.{Body}
-use Rattle.mb_model.specs.Layers.{equal_trusts, unowned}
+use Rattle.mb_model.specs.Layers.{equal_trusts, layer_without_owner}
 use Rattle.mb_model_examples.specs.RuleExamples.{layers_with, by_two, by_three, by_both}
 
 -- the bytes that hexadecimal digits say
@@ -125,7 +125,8 @@ three_layers = layers_with reliable_layer doubted_layer bare_layer
 -- ---- entries
 
 abbrev pub birth : Entry
-birth = Birth 1 (replicate 16 0x41) (key_named 0x43) (layers_with reliable_layer unowned unowned)
+birth =
+    Birth 1 (replicate 16 0x41) (key_named 0x43) (layers_with reliable_layer layer_without_owner layer_without_owner)
 
 abbrev pub birth_digits : List ℕ
 birth_digits =
@@ -208,7 +209,8 @@ wary_layer_digits =
     ++ codes "323232323232323232323232"
 
 abbrev pub birth_of_version_two : Entry
-birth_of_version_two = Birth 2 (replicate 16 0x41) (key_named 0x43) (layers_with reliable_layer unowned unowned)
+birth_of_version_two =
+    Birth 2 (replicate 16 0x41) (key_named 0x43) (layers_with reliable_layer layer_without_owner layer_without_owner)
 
 abbrev pub birth_of_version_two_digits : List ℕ
 birth_of_version_two_digits =

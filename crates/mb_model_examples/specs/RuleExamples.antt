@@ -18,10 +18,10 @@ use Rattle.mb_model.specs.declared.entry.Entry.TheVariants.{Birth, Change, NewKe
 use Rattle.mb_model.specs.declared.order.Target.TheVariants as target
 use Rattle.mb_model.specs.declared.reply.Standing.TheVariants as stands
 use Rattle.mb_model.specs.Key.{key_bytes}
-use Rattle.mb_model.specs.Layers.{equal_trusts, unowned, standing}
-use Rattle.mb_model.specs.Log.{number_of, layers_of, device_of, used, made}
+use Rattle.mb_model.specs.Layers.{equal_trusts, layer_without_owner, layer_standing}
+use Rattle.mb_model.specs.Log.{number_of, layers_of, device_of, uses_of_device_key, keys_made_by}
 use Rattle.mb_model.specs.Lives.{lives_of}
-use Rattle.mb_model.specs.Rules.{authority, condition, TargetHolds, admits, after, placed}
+use Rattle.mb_model.specs.Rules.{authority, stands_for_order, TargetHolds, admits, after, layer_from_order}
 
 abbrev pub officer : ℕ → PublicKey
 officer n = record { tree = H5; chains = W4; identifier = replicate 16 n; root = replicate 32 n }
@@ -55,10 +55,10 @@ abbrev doubted : ℕ → Trust → Layer
 doubted n trust = record (running n trust) { reliable = false }
 
 abbrev newborn_layers : Layers
-newborn_layers = record { one = running 1 Always; two = unowned; three = unowned }
+newborn_layers = record { one = running 1 Always; two = layer_without_owner; three = layer_without_owner }
 
 abbrev established : Layers
-established = record { one = running 1 Always; two = bare 2 Never; three = unowned }
+established = record { one = running 1 Always; two = bare 2 Never; three = layer_without_owner }
 
 -- all layers run; layer 2 trusts so, and layer 3 trusts what its owner countersigns
 abbrev all_run : Trust → Layers
@@ -103,23 +103,23 @@ pub record AdmissionExamples : Type 0 where
 
 -- when an order may be given
 pub record ConditionExamples : Type 0 where
-  pub establish : condition newborn_layers (Some Establish) 2 ≡ true
-  pub establish_owned : condition established (Some Establish) 2 ≡ false
-  pub establish_over_unowned : condition newborn_layers (Some Establish) 3 ≡ false
-  pub establish_one : condition newborn_layers (Some Establish) 1 ≡ false
-  pub surrender : condition established (Some Surrender) 2 ≡ true
-  pub surrender_unowned : condition newborn_layers (Some Surrender) 2 ≡ false
-  pub surrender_one : condition newborn_layers (Some Surrender) 1 ≡ false
-  pub load_one : condition newborn_layers (Some Load) 1 ≡ true
-  pub load_unreliable : condition established (Some Load) 2 ≡ false
-  pub emergency : condition established (Some Emergency) 2 ≡ true
-  pub emergency_unowned : condition newborn_layers (Some Emergency) 2 ≡ false
-  pub emergency_one : condition newborn_layers (Some Emergency) 1 ≡ false
-  pub new_key : condition (all_run Never) None 3 ≡ true
-  pub new_key_unreliable : condition established None 2 ≡ false
-  pub new_key_one : condition newborn_layers None 1 ≡ false
+  pub establish : stands_for_order newborn_layers (Some Establish) 2 ≡ true
+  pub establish_owned : stands_for_order established (Some Establish) 2 ≡ false
+  pub establish_over_unowned : stands_for_order newborn_layers (Some Establish) 3 ≡ false
+  pub establish_one : stands_for_order newborn_layers (Some Establish) 1 ≡ false
+  pub surrender : stands_for_order established (Some Surrender) 2 ≡ true
+  pub surrender_unowned : stands_for_order newborn_layers (Some Surrender) 2 ≡ false
+  pub surrender_one : stands_for_order newborn_layers (Some Surrender) 1 ≡ false
+  pub load_one : stands_for_order newborn_layers (Some Load) 1 ≡ true
+  pub load_unreliable : stands_for_order established (Some Load) 2 ≡ false
+  pub emergency : stands_for_order established (Some Emergency) 2 ≡ true
+  pub emergency_unowned : stands_for_order newborn_layers (Some Emergency) 2 ≡ false
+  pub emergency_one : stands_for_order newborn_layers (Some Emergency) 1 ≡ false
+  pub new_key : stands_for_order (all_run Never) None 3 ≡ true
+  pub new_key_unreliable : stands_for_order established None 2 ≡ false
+  pub new_key_one : stands_for_order newborn_layers None 1 ≡ false
   -- layer 3 is reliable, and may not run over layer 2, which is not
-  pub new_key_not_runnable : condition (record (all_run Never) { two = doubted 2 Never }) None 3 ≡ false
+  pub new_key_not_runnable : stands_for_order (record (all_run Never) { two = doubted 2 Never }) None 3 ≡ false
 
 -- who has to sign
 pub record AuthorityExamples : Type 0 where
@@ -143,10 +143,10 @@ pub record TargetExamples (serial : List ℕ) : Type 0 where
 
 -- how layers stand, as a device tells it
 pub record StandingExamples : Type 0 where
-  pub one : standing (record (all_run Never) { two = doubted 2 Never }) 1 ≡ stands.Runnable
-  pub two : standing (record (all_run Never) { two = doubted 2 Never }) 2 ≡ stands.Unreliable
-  pub three : standing (record (all_run Never) { two = doubted 2 Never }) 3 ≡ stands.Reliable
-  pub unowned_layer : standing newborn_layers 2 ≡ stands.Unowned
+  pub one : layer_standing (record (all_run Never) { two = doubted 2 Never }) 1 ≡ stands.Runnable
+  pub two : layer_standing (record (all_run Never) { two = doubted 2 Never }) 2 ≡ stands.Unreliable
+  pub three : layer_standing (record (all_run Never) { two = doubted 2 Never }) 3 ≡ stands.Reliable
+  pub unowned_layer : layer_standing newborn_layers 2 ≡ stands.Unowned
 
 -- a load of version 7
 abbrev pub seven : Trust → List ℕ → Payload
@@ -154,23 +154,24 @@ seven trust code = record { version = 7; trust = equal_trusts trust; code = code
 
 -- what each kind of change leaves
 pub record AfterExamples : Type 0 where
-  pub establish : after newborn_layers Establish 2 nobody (placed unowned (act.Establish (officer 2)
-      (equal_trusts Never)))
+  pub establish : after newborn_layers Establish 2 nobody
+      (layer_from_order layer_without_owner (act.Establish (officer 2) (equal_trusts Never)))
       ≡ established
   -- layer 3 keeps its owner and its code, and is reliable no more
-  pub surrender : after (all_run Always) Surrender 2 nobody (placed (running 2 Always) act.Surrender)
-      ≡ record { one = running 1 Always; two = unowned; three = doubted 3 Countersigned }
+  pub surrender : after (all_run Always) Surrender 2 nobody (layer_from_order (running 2 Always) act.Surrender)
+      ≡ record { one = running 1 Always; two = layer_without_owner; three = doubted 3 Countersigned }
   -- layer 2 trusts the load of layer 1, and layer 3 would have had to countersign it
   pub load : (code : List ℕ)
-      → after (all_run Always) Load 1 nobody (placed (running 1 Always) (act.Load (seven Never code)))
+      → after (all_run Always) Load 1 nobody (layer_from_order (running 1 Always) (act.Load (seven Never code)))
       ≡ record { one = loaded_with 1 Never code; two = running 2 Always; three = doubted 3 Countersigned }
   -- layer 3 countersigned, and layer 2 trusts never
   pub load_countersigned : (code : List ℕ)
-      → after (all_run Never) Load 1 by_three (placed (running 1 Always) (act.Load (seven Always code)))
+      → after (all_run Never) Load 1 by_three (layer_from_order (running 1 Always) (act.Load (seven Always code)))
       ≡ record { one = loaded_with 1 Always code; two = doubted 2 Never; three = running 3 Countersigned }
   -- the layer itself is reliable again; the one beneath stays
   pub emergency : (code : List ℕ)
-      → after (all_run Never) Emergency 2 by_three (placed (doubted 2 Never) (act.Emergency (seven Always code)))
+      → after (all_run Never) Emergency 2 by_three
+      (layer_from_order (doubted 2 Never) (act.Emergency (seven Always code)))
       ≡ record { one = running 1 Always; two = loaded_with 2 Always code; three = running 3 Countersigned }
 
 abbrev pub by_both : Pair
@@ -191,10 +192,10 @@ renewed n trust =
 
 -- the layers of a device's life, in turn
 abbrev pub at_birth : Layers
-at_birth = layers_with (running 1 Always) unowned unowned
+at_birth = layers_with (running 1 Always) layer_without_owner layer_without_owner
 
 abbrev pub with_two : Layers
-with_two = layers_with (running 1 Always) (bare 2 Countersigned) unowned
+with_two = layers_with (running 1 Always) (bare 2 Countersigned) layer_without_owner
 
 abbrev pub with_three : Layers
 with_three = layers_with (running 1 Always) (bare 2 Countersigned) (bare 3 Countersigned)
@@ -232,8 +233,8 @@ pub record LogExamples : Type 0 where
   pub layers : layers_of life ≡ three_renewed
   pub device : device_of life ≡ Some (officer 12)
   -- the second device key signed the last entry alone
-  pub used : used life ≡ 1
-  pub made : made life ≡ 3
+  pub used : uses_of_device_key life ≡ 1
+  pub made : keys_made_by life ≡ 3
 
 -- a configuration key of layer 2, made after that life, and a load of layer 3
 abbrev pub longer_life : List Entry
@@ -257,7 +258,11 @@ pub record LifeExamples : Type 0 where
   pub device_key : lives_of life 2 ≡ []
   -- the load above layer 2 opens no configuration for its key, and the layer above is left out
   pub configuration_key : lives_of longer_life 3 ≡
-      record { number = 6; upto = 2; layers = layers_with (renewed 1 Always) (running 2 Countersigned) unowned } ∷ []
+      record {
+        number = 6;
+        upto = 2;
+        layers = layers_with (renewed 1 Always) (running 2 Countersigned) layer_without_owner;
+      } ∷ []
   -- a load of layer 2 ends the configuration key; the epoch key of layer 3, which did not trust it, ends too
   pub configuration_key_ended : numbers_of (longer_life ++ Change 2 10 8 Load 2 nobody three_renewed by_two None ∷ []) 3
       ≡ 6 ∷ []

@@ -16,7 +16,7 @@ use Rattle.mb_model.specs.Regions.{empty_region}
 use Rattle.mb_model.specs.SignedTexts.{order_text}
 use Rattle.mb_model.specs.OrderFormat.{order_body}
 use Rattle.mb_model.specs.Merkle.{Verifies}
-use Rattle.mb_model.specs.OrderEffects.{obeyed}
+use Rattle.mb_model.specs.OrderEffects.{state_after_order}
 use Rattle.mb_model.specs.OrderStep.{OrderStep}
 use Rattle.mb_model_examples.specs.RuleExamples.{officer, running, at_birth}
 use Rattle.mb_model_examples.specs.Device.{signed_with, seed_of}
@@ -144,6 +144,6 @@ pub record VerifiedOrders (signature draw : List ℕ) : Type 0 where
   pub good : Verifies owner_one (order_text (order_body (establish_order good_signature))) good_signature
   pub flipped : Verifies owner_one (order_text (order_body (establish_order good_signature))) flipped_signature → ⊥
   pub obeyed_order : OrderStep (newborn signature) (order_bytes good_signature) draw (reply.Done 1 2)
-      (obeyed (newborn signature) (establish_order good_signature) draw)
+      (state_after_order (newborn signature) (establish_order good_signature) draw)
   pub refused_order : OrderStep (newborn signature) (order_bytes flipped_signature) draw (reply.Refused 13)
       (newborn signature)

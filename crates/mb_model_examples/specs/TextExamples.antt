@@ -7,7 +7,7 @@ use Rattle.mb_model.specs.declared.event.Event.{Event}
 use Rattle.mb_model.specs.declared.event.Event.TheVariants as event
 use Rattle.mb_model.specs.declared.reply.Reply.TheVariants as reply
 use Rattle.mb_model.specs.declared.reply.Standing.TheVariants as stands
-use Rattle.mb_model.specs.Layers.{equal_trusts, unowned}
+use Rattle.mb_model.specs.Layers.{equal_trusts, layer_without_owner}
 use Rattle.mb_model.specs.Lines.{HasLines, FailsAtLine, ReadsLines, TextFailsAtLine}
 use Rattle.mb_model.specs.Script.{IsScript, drawn_events}
 use Rattle.mb_model.specs.Replies.{reply_line}
@@ -105,7 +105,7 @@ pub record OrderLineExamples : Type 0 where
 -- ---- listings
 
 pub record ListingExamples : Type 0 where
-  pub unowned_layer : layer_line 3 unowned ≡ codes "layer 3 - - - unreliable never"
+  pub unowned_layer : layer_line 3 layer_without_owner ≡ codes "layer 3 - - - unreliable never"
   pub summary : summary
       (record { event = event.Boot; reply = reply.Booted }
       ∷ record { event = event.Command [] []; reply = reply.Done 1 2 }

@@ -1,6 +1,6 @@
 -- The generated workload at work; the checker computes each line. Does the workload come out as it is meant?
 use Rattle.std.specs.Prelude.{◌≡◌, ℕ, List, [], ◌∷◌, length, replicate, codes}
-use Rattle.mb_model.specs.Workload.{generated, RoundDraws, Draws, round_plan, plans, signatures_by, secret_name}
+use Rattle.mb_model.specs.Workload.{generator_words, RoundDraws, Draws, round_plan, plans, signatures_by, secret_name}
 use Rattle.mb_model.specs.Workload.{workload_lines}
 
 -- what might be drawn for a round, and for 24 rounds
@@ -23,7 +23,7 @@ some_draws drawn = record {
 
 pub record WorkloadExamples : Type 0 where
   -- the first words of ChaCha20 with a key and a nonce of zeros, as published: the bytes 76 b8 e0 ad a0 f1 3d 90
-  pub words : generated 0 2 ≡ 0xADE0B876 ∷ 0x903DF1A0 ∷ []
+  pub words : generator_words 0 2 ≡ 0xADE0B876 ∷ 0x903DF1A0 ∷ []
   -- layers 3, 2 and 1 in turn
   pub first_round : (code : List ℕ) → (round_plan 1 code).layer ≡ 3
   pub second_round : (code : List ℕ) → (round_plan 2 code).layer ≡ 2

@@ -18,7 +18,7 @@ use Rattle.mb_model.specs.declared.reply.Refusal.TheVariants.{PoweredOff, WrongP
 use Rattle.mb_model.specs.declared.reply.Refusal.TheVariants.{RegionFull, NoSuchKey, KeySpent, BadText, WrongTarget}
 use Rattle.mb_model.specs.declared.reply.Refusal.TheVariants.{WrongState, WrongSignature, WrongCountersignature}
 use Rattle.mb_model.specs.declared.reply.Refusal.TheVariants.{LogFull, KeysFull}
-use Rattle.mb_model.specs.Refusals.{refused}
+use Rattle.mb_model.specs.Refusals.{refusal_reply}
 use Rattle.mb_model.specs.Replies.{HasLine, standing_word, refusal_words, reply_line}
 use Rattle.mb_model_laws.specs.TextLaws.{IsReplyInRange}
 use Rattle.mb_model_lemmas.proofs.LineLemmas.{Without, isnt, first_same}
@@ -123,7 +123,7 @@ reply_line-same a b ra rb e = two_replies a b (λ same. omega (arith, same)) e
 
 -- ---- refusals
 
-pub has_words : (refusal : Refusal) → HasLine (refused refusal)
+pub has_words : (refusal : Refusal) → HasLine (refusal_reply refusal)
 has_words PoweredOff = refl
 has_words WrongPhase = refl
 has_words Zeroised = refl

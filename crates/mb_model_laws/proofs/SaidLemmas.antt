@@ -8,14 +8,14 @@ use Rattle.hex.specs.Hex.{IsBytes}
 use Rattle.mb_model.specs.declared.event.Event.{Event}
 use Rattle.mb_model.specs.declared.event.Event.TheVariants as event
 use Rattle.mb_model.specs.declared.event.Tear.{Tear}
-use Rattle.mb_model.specs.Lines.{spaced, hex_word}
+use Rattle.mb_model.specs.Lines.{spaced_words, hex_word}
 use Rattle.mb_model.specs.Script.{IsTear, IsCut, IsScriptEvent, IsCutLine, EndsInHex, SaysEvent}
 use Rattle.mb_model_lemmas.proofs.WordLemmas.{hex_word-read}
 use Rattle.mb_model_laws.specs.TextLaws.{HoldsBytes, undrawn}
 
 -- ---- written words
 
-ends : (words : List (List ℕ)) (bytes : List ℕ) → IsBytes bytes → EndsInHex (spaced (words ++ hex_word bytes ∷ [])) words bytes
+ends : (words : List (List ℕ)) (bytes : List ℕ) → IsBytes bytes → EndsInHex (spaced_words (words ++ hex_word bytes ∷ [])) words bytes
 ends words bytes are = (hex_word bytes, hex_word-read bytes are, refl)
 
 -- ---- what a line can give, some line gives
@@ -34,7 +34,7 @@ fill_bytes tear fill is are i =
 
 cut_said : (count : ℕ) (tear : Tear) (fill : List ℕ) → IsCut count tear fill → IsBytes tear.fill → (line : List ℕ) × IsCutLine line count tear
 cut_said count tear fill is are = (
-  spaced (codes "cut" ∷ decimal count ∷ codes "keep" ∷ decimal tear.keep ∷ codes "fill" ∷ hex_word fill ∷ []),
+  spaced_words (codes "cut" ∷ decimal count ∷ codes "keep" ∷ decimal tear.keep ∷ codes "fill" ∷ hex_word fill ∷ []),
   record {
     kept_words = codes "keep" ∷ decimal tear.keep ∷ [];
     fill_word = hex_word fill;
@@ -54,10 +54,10 @@ said event.Status is are = (codes "status", refl)
 said event.Go is are = (codes "go", refl)
 said (event.Cut count tear) is are = cut_said count tear is.0 is.1 are
 said (event.Command text draw) is are =
-    (spaced (codes "command" ∷ hex_word text ∷ []), (ends (codes "command" ∷ []) text are, refl))
+    (spaced_words (codes "command" ∷ hex_word text ∷ []), (ends (codes "command" ∷ []) text are, refl))
 said (event.Put region name value) is are =
-    (spaced (codes "put" ∷ decimal region ∷ name ∷ hex_word value ∷ []), (is.0, is.1, is.2, ends (codes "put" ∷ decimal region ∷ name ∷ []) value are))
-said (event.Get region name) is are = (spaced (codes "get" ∷ decimal region ∷ name ∷ []), (is.0, is.1, refl))
-said (event.Drop region name) is are = (spaced (codes "drop" ∷ decimal region ∷ name ∷ []), (is.0, is.1, refl))
+    (spaced_words (codes "put" ∷ decimal region ∷ name ∷ hex_word value ∷ []), (is.0, is.1, is.2, ends (codes "put" ∷ decimal region ∷ name ∷ []) value are))
+said (event.Get region name) is are = (spaced_words (codes "get" ∷ decimal region ∷ name ∷ []), (is.0, is.1, refl))
+said (event.Drop region name) is are = (spaced_words (codes "drop" ∷ decimal region ∷ name ∷ []), (is.0, is.1, refl))
 said (event.Sign region key message) is are =
-    (spaced (codes "sign" ∷ decimal region ∷ decimal key ∷ hex_word message ∷ []), (is.0, is.1, is.2, ends (codes "sign" ∷ decimal region ∷ decimal key ∷ []) message are))
+    (spaced_words (codes "sign" ∷ decimal region ∷ decimal key ∷ hex_word message ∷ []), (is.0, is.1, is.2, ends (codes "sign" ∷ decimal region ∷ decimal key ∷ []) message are))

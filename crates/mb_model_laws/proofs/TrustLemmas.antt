@@ -7,12 +7,12 @@ use Rattle.mb_model.specs.declared.entry.Entry.{Entry}
 use Rattle.mb_model.specs.declared.entry.Entry.TheVariants.{Birth, Change, NewKey, Succession}
 use Rattle.mb_model.specs.declared.layer.Trusts.{Trusts}
 use Rattle.mb_model.specs.LayerFormat.{layer_format}
-use Rattle.mb_model.specs.Rules.{is_load, trusts}
+use Rattle.mb_model.specs.Rules.{is_load, lets_load_in}
 use Rattle.mb_model.specs.Log.{figures_of, is_version_two, has_version_two, Ruled}
 use Rattle.mb_model_laws.specs.TrustLaws.{EqualTrustsAreOneTrust, version_in, VersionsOnlyRise, VersionOneHasEqualTrusts}
 
 pub equal_trusts_are_one : EqualTrustsAreOneTrust
-equal_trusts_are_one layers kind cosigned equal = ap (λ (t : Trust). is_load (Some kind) && trusts t cosigned.three) equal
+equal_trusts_are_one layers kind cosigned equal = ap (λ (t : Trust). is_load (Some kind) && lets_load_in t cosigned.three) equal
 
 has_passed : (before between : List Entry) (entry : Entry) → IsTrue (is_version_two entry) → IsTrue (has_version_two (before ++ entry ∷ between))
 unfolding has_version_two

@@ -4,7 +4,7 @@ use Rattle.std.specs.Prelude.{flat_map}
 use Rattle.std.specs.List.{AllZip, concat}
 use Rattle.std.specs.Int.{w32, to_be_bytes}
 use Rattle.rand_core.specs.Steps.{first_words}
-use Rattle.mb_model.specs.Workload.{generated, DrawnBytes, DrawnSized, RoundDraws, DrawnRound, Draws, DrawnInOrder}
+use Rattle.mb_model.specs.Workload.{generator_words, DrawnBytes, DrawnSized, RoundDraws, DrawnRound, Draws, DrawnInOrder}
 use Rattle.mb_model.proofs.KeyLemmas.{same_parts}
 use Rattle.mb_model_lemmas.proofs.LineLemmas.{cons_same}
 
@@ -20,14 +20,14 @@ words_front {S} step (suc m) n s =
     (rest.0, ap (λ (k : ℕ). first_words step k s) count ∙ ap (λ (ws : List ℕ). (step s).0 ∷ ws) rest.1)
 
 -- two beginnings of one stream go on to one list
-one_stream : (number : ℕ) (v w : List ℕ) → v ≡ generated number (length v) → w ≡ generated number (length w)
+one_stream : (number : ℕ) (v w : List ℕ) → v ≡ generator_words number (length v) → w ≡ generator_words number (length w)
     → (x : List ℕ) × (y : List ℕ) × (v ++ x ≡ w ++ y)
-unfolding generated
+unfolding generator_words
 one_stream number v w gv gw =
     let count : length v + length w ≡ length w + length v = omega arith in
     let fv = words_front _ (length v) (length w) _ in
     let fw = words_front _ (length w) (length v) _ in
-    (fv.0, fw.0, ap (λ (z : List ℕ). z ++ fv.0) gv ∙ sym fv.1 ∙ ap (λ (k : ℕ). generated number k) count ∙ fw.1 ∙ ap (λ (z : List ℕ). z ++ fw.0) (sym gw))
+    (fv.0, fw.0, ap (λ (z : List ℕ). z ++ fv.0) gv ∙ sym fv.1 ∙ ap (λ (k : ℕ). generator_words number k) count ∙ fw.1 ∙ ap (λ (z : List ℕ). z ++ fw.0) (sym gw))
 
 -- ---- what words are drawn for
 
@@ -134,7 +134,7 @@ all_front rounds a b d f x y da db e =
       noise = e_noise i;
     }
 
-pub one_workload : (number rounds : ℕ) (v w : List ℕ) (d e : Draws) → v ≡ generated number (length v) → w ≡ generated number (length w)
+pub one_workload : (number rounds : ℕ) (v w : List ℕ) (d e : Draws) → v ≡ generator_words number (length v) → w ≡ generator_words number (length w)
     → DrawnInOrder v rounds d → DrawnInOrder w rounds e → d ≡ e
 one_workload number rounds v w d e gv gw dv dw =
     let stream = one_stream number v w gv gw in

@@ -10,8 +10,8 @@ use Rattle.mb_model.specs.declared.region.Region.{Region}
 use Rattle.mb_model.specs.declared.region.RegionKey.{RegionKey}
 use Rattle.mb_model.specs.declared.order.KeyKind.{KeyKind}
 use Rattle.mb_model.specs.Layers.{layer_of, is_upper, IsLayers, Runnable}
-use Rattle.mb_model.specs.Rules.{kind_of, change_of, Condition, CanPlace, placed, after}
-use Rattle.mb_model.specs.Log.{is_change, layers_in, device_in, number_of, layers_of, device_of, used, RuledLog}
+use Rattle.mb_model.specs.Rules.{kind_of, change_of, Condition, CanPlace, layer_from_order, after}
+use Rattle.mb_model.specs.Log.{is_change, layers_in, device_in, number_of, layers_of, device_of, uses_of_device_key, RuledLog}
 use Rattle.mb_model.specs.Regions.{empty_region, region_after, with_key, AdmittedSince, RegionKeptRightly}
 use Rattle.mb_model.specs.declared.entry.Entry.{Entry}
 use Rattle.mb_model.specs.declared.entry.Entry.TheVariants.{Change, NewKey}
@@ -32,13 +32,14 @@ ReliableLayersRun =
 abbrev pub OrdersPlaceWhatEntriesShow : Type 0
 OrdersPlaceWhatEntriesShow =
     (old : Layer) (order : Act) (kind : ChangeKind) → change_of (kind_of order) ≡ Some kind
-    → CanPlace kind old (placed old order)
+    → CanPlace kind old (layer_from_order old order)
 
 -- what a change can put in place, some order of its kind does, but for the code that the name stands for
 abbrev pub EntriesShowWhatOrdersPlace : Type 0
 EntriesShowWhatOrdersPlace =
     (kind : ChangeKind) (old new : Layer) → CanPlace kind old new
-    → (order : Act) × (change_of (kind_of order) ≡ Some kind) × (record (placed old order) { code = new.code } ≡ new)
+    → (order : Act) × (change_of (kind_of order) ≡ Some kind)
+    × (record (layer_from_order old order) { code = new.code } ≡ new)
 
 -- an allowed change leaves layers that a device can hold
 abbrev pub LayersStayLayers : Type 0
@@ -72,7 +73,7 @@ LastDeviceCounts =
 abbrev pub UsedAfterTheLast : Type 0
 UsedAfterTheLast =
     (before : List Entry) (entry : Entry) (rest : List Entry) (key : PublicKey) → device_in entry ≡ Some key
-    → All (λ e. device_in e ≡ None) rest → used (before ++ entry ∷ rest) ≡ length rest
+    → All (λ e. device_in e ≡ None) rest → uses_of_device_key (before ++ entry ∷ rest) ≡ length rest
 
 -- what a change leaves of a region was kept rightly, where it was before
 abbrev pub ChangesKeepRightly : Type 0

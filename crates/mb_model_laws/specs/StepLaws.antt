@@ -5,7 +5,7 @@ use Rattle.mb_model.specs.declared.event.Answered.{Answered}
 use Rattle.mb_model.specs.declared.reply.Reply.{Reply}
 use Rattle.mb_model.specs.declared.order.Order.{Order}
 use Rattle.mb_model.specs.declared.state.State.{State}
-use Rattle.mb_model.specs.OrderEffects.{log_with, ready_for, own_entry, obeyed}
+use Rattle.mb_model.specs.OrderEffects.{log_with, ready_for, own_entry, state_after_order}
 use Rattle.mb_model.specs.Machine.{World, Step, Run}
 use Rattle.mb_model.specs.Valid.{Valid}
 
@@ -25,5 +25,5 @@ RunsStayValid =
 abbrev pub OrdersAppendTheirEntry : Type 0
 OrdersAppendTheirEntry =
     (state : State) (order : Order) (draw : List ℕ)
-    → (obeyed state order draw).log
+    → (state_after_order state order draw).log
     ≡ log_with (ready_for state order draw) (own_entry (ready_for state order draw) order draw)

@@ -8,9 +8,9 @@ use Rattle.mb_model.specs.declared.reply.Reply.TheVariants as reply
 use Rattle.mb_model.specs.declared.order.Order.{Order}
 use Rattle.mb_model.specs.declared.entry.Statement.{Statement}
 use Rattle.mb_model.specs.declared.reply.Refusal.{Refusal}
-use Rattle.mb_model.specs.Refusals.{refused}
+use Rattle.mb_model.specs.Refusals.{refusal_reply}
 use Rattle.mb_model.specs.Replies.{HasLine, reply_line}
-use Rattle.mb_model.specs.Workload.{generated, Draws, DrawnInOrder}
+use Rattle.mb_model.specs.Workload.{generator_words, Draws, DrawnInOrder}
 use Rattle.mb_model.specs.OrderLines.{IsOrderLine, IsStatementLine}
 use Rattle.mb_model.specs.Texts.{IsHex}
 use Rattle.mb_model.specs.Lines.{HasLines, hex_word, number_limit, FailsAtLine, ReadsLines, TextFailsAtLine}
@@ -131,9 +131,10 @@ RepliesDiffer = (a b : Reply) → IsReplyInRange a → IsReplyInRange b → repl
 -- what is drawn for a workload, its number and the number of its rounds say
 abbrev pub OneWorkload : Type 0
 OneWorkload =
-    (number rounds : ℕ) (v w : List ℕ) (d e : Draws) → v ≡ generated number (length v) → w ≡ generated number (length w)
+    (number rounds : ℕ) (v w : List ℕ) (d e : Draws) → v ≡ generator_words number (length v)
+    → w ≡ generator_words number (length w)
     → DrawnInOrder v rounds d → DrawnInOrder w rounds e → d ≡ e
 
 -- each refusal has words
 abbrev pub RefusalsHaveWords : Type 0
-RefusalsHaveWords = (refusal : Refusal) → HasLine (refused refusal)
+RefusalsHaveWords = (refusal : Refusal) → HasLine (refusal_reply refusal)

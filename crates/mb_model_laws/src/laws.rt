@@ -2,7 +2,7 @@
 
 ghost use Rattle.std.specs.Prelude.{◌≤◌, List, length, ◌≢◌, []};
 ghost use Rattle.mb_model.specs.Layers.{IsLayers};
-ghost use Rattle.mb_model.specs.Log.{number_of, layers_of, used, made, RuledLog};
+ghost use Rattle.mb_model.specs.Log.{number_of, layers_of, uses_of_device_key, keys_made_by, RuledLog};
 ghost use Rattle.mb_model_laws.specs.LayerLaws.{RunnableLayersAreReliable, ReliableLayersRun, OrdersPlaceWhatEntriesShow, EntriesShowWhatOrdersPlace, LayersStayLayers, UnreliableRegionsAreEmpty, LastLayersCount, LastDeviceCounts, UsedAfterTheLast, ChangesKeepRightly, NewKeysKeepRightly, OtherEntriesKeepRightly, NowIsAdmitted};
 ghost use Rattle.mb_model.specs.declared.entry.Entry.{Entry};
 
@@ -45,9 +45,9 @@ pub fn the_last_counts()
 /// A log that obeys the rules leaves its device key an index to sign with, and counts no more changes and no more keys
 /// than it has entries.
 pub fn ruled_logs_are_bounded()
-    ensures index { (log : List Entry) → RuledLog log → used log ≤ 31 }
+    ensures index { (log : List Entry) → RuledLog log → uses_of_device_key log ≤ 31 }
     ensures changes { (log : List Entry) → number_of log ≤ length log }
-    ensures keys { (log : List Entry) → made log ≤ length log }
+    ensures keys { (log : List Entry) → keys_made_by log ≤ length log }
 {}
 
 /// Forward and back agree. What a change leaves of a region was kept rightly, where it was before; so is a new key, what

@@ -15,8 +15,8 @@ use Rattle.mb_model.specs.declared.order.KeyKind.{KeyKind}
 use Rattle.mb_model.specs.declared.entry.Entry.{Entry}
 use Rattle.mb_model.specs.declared.entry.Entry.TheVariants.{Birth, Change, NewKey, Succession}
 use Rattle.mb_model.specs.declared.state.Configuration.{Configuration}
-use Rattle.mb_model.specs.Log.{figures_of, keys_in, layers_of, made, Ruled, RuledLog}
-use Rattle.mb_model.specs.Lives.{ends, Alive, configuration, Split, with_front, splits, opened_by, outlived, lives_from, lives_of, MadeKey, lasting, alive_keys}
+use Rattle.mb_model.specs.Log.{figures_of, keys_in, layers_of, keys_made_by, Ruled, RuledLog}
+use Rattle.mb_model.specs.Lives.{ends_keys, Alive, configuration, Split, with_front, splits, configurations_opened_by, configurations_outlived_by, lives_from, lives_of, MadeKey, lasting_keys_of, alive_keys}
 use Rattle.mb_model_lemmas.specs.AliveLaws.{goes_on, made_by, makes, IsUnmade}
 use Rattle.mb_model_lemmas.proofs.LogLemmas.{made-push, by_entries, RuledLog-front}
 
@@ -26,10 +26,10 @@ pub alive_keys-nil : (L : ℕ) → alive_keys [] L ≡ []
 unfolding alive_keys splits
 alive_keys-nil L = refl
 
-pub alive_keys-cons : (entry : Entry) (rest : List Entry) (L : ℕ) → alive_keys (entry ∷ rest) L ≡ lasting L entry rest ++ alive_keys rest L
+pub alive_keys-cons : (entry : Entry) (rest : List Entry) (L : ℕ) → alive_keys (entry ∷ rest) L ≡ lasting_keys_of L entry rest ++ alive_keys rest L
 unfolding alive_keys splits
 alive_keys-cons entry rest L =
-    ap (λ more. lasting L entry rest ++ more) (flat_map-map (λ (s : Split). lasting L s.entry s.later) (with_front entry) (splits rest))
+    ap (λ more. lasting_keys_of L entry rest ++ more) (flat_map-map (λ (s : Split). lasting_keys_of L s.entry s.later) (with_front entry) (splits rest))
 
 by_flags : (here alive on : Bool) (p : MadeKey → Bool) (key : MadeKey) → p key ≡ on
     → (if here && (alive && (on && true)) then key ∷ [] else []) ≡ filter p (if here && alive then key ∷ [] else [])
@@ -39,16 +39,16 @@ by_flags true true false p key e = sym (ap (λ b. cond b (key ∷ []) []) e)
 by_flags true true true p key e = sym (ap (λ b. cond b (key ∷ []) []) e)
 
 -- one more entry leaves a key that it does not end
-lasting-push : (L : ℕ) (entry : Entry) (later : List Entry) (last : Entry) → lasting L entry (later ++ last ∷ []) ≡ filter (goes_on L last) (lasting L entry later)
+lasting-push : (L : ℕ) (entry : Entry) (later : List Entry) (last : Entry) → lasting_keys_of L entry (later ++ last ∷ []) ≡ filter (goes_on L last) (lasting_keys_of L entry later)
 lasting-push L (Birth version serial key layers) later last = refl
 lasting-push L (Change version position number kind layer cosigned layers kept next) later last = refl
 lasting-push L (NewKey position number key_number layer kind key) later last =
     let mine : MadeKey = record { number = key_number; kind = kind; key = key } in
-    ap (λ b. if (layer == L) && b then mine ∷ [] else []) (list_all-append (λ e. not (ends kind L e)) later (last ∷ []))
-    ∙ by_flags (layer == L) (list_all (λ e. not (ends kind L e)) later) (not (ends kind L last)) (goes_on L last) mine refl
+    ap (λ b. if (layer == L) && b then mine ∷ [] else []) (list_all-append (λ e. not (ends_keys kind L e)) later (last ∷ []))
+    ∙ by_flags (layer == L) (list_all (λ e. not (ends_keys kind L e)) later) (not (ends_keys kind L last)) (goes_on L last) mine refl
 lasting-push L (Succession position key) later last = refl
 
-lasting-nil : (L : ℕ) (entry : Entry) → lasting L entry [] ≡ made_by L entry
+lasting-nil : (L : ℕ) (entry : Entry) → lasting_keys_of L entry [] ≡ made_by L entry
 lasting-nil L (Birth version serial key layers) = refl
 lasting-nil L (Change version position number kind layer cosigned layers kept next) = refl
 lasting-nil L (NewKey position number key_number layer kind key) =
@@ -60,30 +60,30 @@ lasting-nil L (Succession position key) = refl
 pub alive_keys-push : (log : List Entry) (entry : Entry) (L : ℕ) → alive_keys (log ++ entry ∷ []) L ≡ filter (goes_on L entry) (alive_keys log L) ++ made_by L entry
 alive_keys-push [] entry L =
     alive_keys-cons entry [] L
-    ∙ ap (λ more. lasting L entry [] ++ more) (alive_keys-nil L)
-    ∙ append-nil (lasting L entry [])
+    ∙ ap (λ more. lasting_keys_of L entry [] ++ more) (alive_keys-nil L)
+    ∙ append-nil (lasting_keys_of L entry [])
     ∙ lasting-nil L entry
     ∙ sym (ap (λ keys. filter (goes_on L entry) keys ++ made_by L entry) (alive_keys-nil L))
 alive_keys-push (first ∷ rest) entry L =
     let on : MadeKey → Bool = goes_on L entry in
     alive_keys-cons first (rest ++ entry ∷ []) L
     ∙ ap (λ mine. mine ++ alive_keys (rest ++ entry ∷ []) L) (lasting-push L first rest entry)
-    ∙ ap (λ more. filter on (lasting L first rest) ++ more) (alive_keys-push rest entry L)
-    ∙ sym (append_assoc (filter on (lasting L first rest)) (filter on (alive_keys rest L)) (made_by L entry))
-    ∙ ap (λ keys. keys ++ made_by L entry) (sym (filter-append on (lasting L first rest) (alive_keys rest L)))
+    ∙ ap (λ more. filter on (lasting_keys_of L first rest) ++ more) (alive_keys-push rest entry L)
+    ∙ sym (append_assoc (filter on (lasting_keys_of L first rest)) (filter on (alive_keys rest L)) (made_by L entry))
+    ∙ ap (λ keys. keys ++ made_by L entry) (sym (filter-append on (lasting_keys_of L first rest) (alive_keys rest L)))
     ∙ ap (λ keys. filter on keys ++ made_by L entry) (sym (alive_keys-cons first rest L))
 
 -- an entry's own key is listed, where none ends it
-lasting_one : (position number n L : ℕ) (kind : KeyKind) (key : PublicKey) (later : List Entry) → All (λ entry. ends kind L entry ≡ false) later
-    → lasting L (NewKey position number n L kind key) later ≡ record { number = n; kind = kind; key = key } ∷ []
+lasting_one : (position number n L : ℕ) (kind : KeyKind) (key : PublicKey) (later : List Entry) → All (λ entry. ends_keys kind L entry ≡ false) later
+    → lasting_keys_of L (NewKey position number n L kind key) later ≡ record { number = n; kind = kind; key = key } ∷ []
 lasting_one position number n L kind key later lasts =
     let mine : MadeKey = record { number = n; kind = kind; key = key } in
     let here : (L == L) ≡ true = eq-eqb L L refl in
-    let on : list_all (λ e. not (ends kind L e)) later ≡ true = list_all-from_AllPass (λ e. not (ends kind L e)) later (All-weaker (λ e. ends kind L e ≡ false) (λ e. not (ends kind L e) ≡ true) (λ e off. ap not off) later lasts) in
-    ap (λ b. if b && list_all (λ e. not (ends kind L e)) later then mine ∷ [] else []) here
+    let on : list_all (λ e. not (ends_keys kind L e)) later ≡ true = list_all-from_AllPass (λ e. not (ends_keys kind L e)) later (All-weaker (λ e. ends_keys kind L e ≡ false) (λ e. not (ends_keys kind L e) ≡ true) (λ e off. ap not off) later lasts) in
+    ap (λ b. if b && list_all (λ e. not (ends_keys kind L e)) later then mine ∷ [] else []) here
     ∙ ap (λ b. if b then mine ∷ [] else []) on
 
-listed_at : (before : List Entry) (position number n L : ℕ) (kind : KeyKind) (key : PublicKey) (later : List Entry) → All (λ entry. ends kind L entry ≡ false) later
+listed_at : (before : List Entry) (position number n L : ℕ) (kind : KeyKind) (key : PublicKey) (later : List Entry) → All (λ entry. ends_keys kind L entry ≡ false) later
     → Contains (alive_keys (before ++ NewKey position number n L kind key ∷ later) L) (record { number = n; kind = kind; key = key })
 listed_at [] position number n L kind key later lasts =
     let mine : MadeKey = record { number = n; kind = kind; key = key } in
@@ -95,7 +95,7 @@ listed_at (first ∷ before) position number n L kind key later lasts =
     let mine : MadeKey = record { number = n; kind = kind; key = key } in
     let rest : List Entry = before ++ NewKey position number n L kind key ∷ later in
     subst (λ keys. Contains keys mine) (sym (alive_keys-cons first rest L))
-    (Contains-append_right (lasting L first rest) (alive_keys rest L) mine (listed_at before position number n L kind key later lasts))
+    (Contains-append_right (lasting_keys_of L first rest) (alive_keys rest L) mine (listed_at before position number n L kind key later lasts))
 
 -- each key that lives is listed
 pub alive_is_listed : (log : List Entry) (n L : ℕ) (kind : KeyKind) (key : PublicKey) → Alive log n L kind key
@@ -108,7 +108,7 @@ not_in_nothing : {X : Type 0} (x : X) → Contains [] x → ⊥
 not_in_nothing x within = omega (arith, within.1)
 
 own_is_alive : (layer L : ℕ) (here alive : Bool) (position number key_number n : ℕ) (kind' kind : KeyKind) (key' key : PublicKey) (later : List Entry)
-    → (layer == L) ≡ here → list_all (λ e. not (ends kind' L e)) later ≡ alive
+    → (layer == L) ≡ here → list_all (λ e. not (ends_keys kind' L e)) later ≡ alive
     → Contains {X = MadeKey} (if here && alive then record { number = key_number; kind = kind'; key = key' } ∷ [] else []) (record { number = n; kind = kind; key = key })
     → Alive (NewKey position number key_number layer kind' key' ∷ later) n L kind key
 own_is_alive layer L false alive position number key_number n kind' kind key' key later at on within = absurd (not_in_nothing _ within)
@@ -122,8 +122,8 @@ own_is_alive layer L true true position number key_number n kind' kind key' key 
     let kind_is : kind' ≡ kind = ap (λ (k : MadeKey). k.kind) same in
     let key_is : key' ≡ key = ap (λ (k : MadeKey). k.key) same in
     let layer_is : layer ≡ L = eqb-true layer L at in
-    let passes = AllPass-from_list_all (λ e. not (ends kind' L e)) later on in
-    let lasts : All (λ e. ends kind' L e ≡ false) later = All-weaker (λ e. not (ends kind' L e) ≡ true) (λ e. ends kind' L e ≡ false) (λ e off. not_true (ends kind' L e) off) later passes in
+    let passes = AllPass-from_list_all (λ e. not (ends_keys kind' L e)) later on in
+    let lasts : All (λ e. ends_keys kind' L e ≡ false) later = All-weaker (λ e. not (ends_keys kind' L e) ≡ true) (λ e. ends_keys kind' L e ≡ false) (λ e off. not_true (ends_keys kind' L e) off) later passes in
     record {
       before = [];
       position = position;
@@ -134,19 +134,19 @@ own_is_alive layer L true true position number key_number n kind' kind key' key 
           ∙ ap (λ (x : ℕ). NewKey position number n x kind' key' ∷ later) layer_is
           ∙ ap (λ (x : KeyKind). NewKey position number n L x key' ∷ later) kind_is
           ∙ ap (λ (x : PublicKey). NewKey position number n L kind x ∷ later) key_is;
-      lasts = subst (λ (x : KeyKind). All (λ e. ends x L e ≡ false) later) kind_is lasts;
+      lasts = subst (λ (x : KeyKind). All (λ e. ends_keys x L e ≡ false) later) kind_is lasts;
     }
   where
     not_true : (b : Bool) → not b ≡ true → b ≡ false
     not_true false e = refl
     not_true true e = absurd (true≢false (sym e))
 
-lasting_is_alive : (L n : ℕ) (kind : KeyKind) (key : PublicKey) (entry : Entry) (later : List Entry) → Contains (lasting L entry later) (record { number = n; kind = kind; key = key })
+lasting_is_alive : (L n : ℕ) (kind : KeyKind) (key : PublicKey) (entry : Entry) (later : List Entry) → Contains (lasting_keys_of L entry later) (record { number = n; kind = kind; key = key })
     → Alive (entry ∷ later) n L kind key
 lasting_is_alive L n kind key (Birth version serial device layers) later within = absurd (not_in_nothing _ within)
 lasting_is_alive L n kind key (Change version position number change layer cosigned layers kept next) later within = absurd (not_in_nothing _ within)
 lasting_is_alive L n kind key (NewKey position number key_number layer kind' key') later within =
-    own_is_alive layer L (layer == L) (list_all (λ e. not (ends kind' L e)) later) position number key_number n kind' kind key' key later refl refl within
+    own_is_alive layer L (layer == L) (list_all (λ e. not (ends_keys kind' L e)) later) position number key_number n kind' kind key' key later refl refl within
 lasting_is_alive L n kind key (Succession position device) later within = absurd (not_in_nothing _ within)
 
 -- each key that is listed lives
@@ -157,7 +157,7 @@ listed_is_alive [] n L kind key within =
     absurd (not_in_nothing mine (subst (λ keys. Contains keys mine) (alive_keys-nil L) within))
 listed_is_alive (first ∷ rest) n L kind key within =
     let mine : MadeKey = record { number = n; kind = kind; key = key } in
-    elim (Contains-append_cases (lasting L first rest) (alive_keys rest L) mine (subst (λ keys. Contains keys mine) (alive_keys-cons first rest L) within)) [
+    elim (Contains-append_cases (lasting_keys_of L first rest) (alive_keys rest L) mine (subst (λ keys. Contains keys mine) (alive_keys-cons first rest L) within)) [
       | inl own ↦ lasting_is_alive L n kind key first rest own
       | inr later ↦
           let alive = listed_is_alive rest n L kind key later in
@@ -192,79 +192,79 @@ record AreNumbered (n : ℕ) (keys : List MadeKey) : Type 0 where
   below : All (IsBelow n) keys
   up : AllPairs Increase keys
 
-numbered_more : (before : List Entry) (entry : Entry) → Ruled (figures_of before) entry → (L : ℕ) (keys : List MadeKey) → AreNumbered (made before) keys
-    → AreNumbered (made before + keys_in entry) (keys ++ made_by L entry)
+numbered_more : (before : List Entry) (entry : Entry) → Ruled (figures_of before) entry → (L : ℕ) (keys : List MadeKey) → AreNumbered (keys_made_by before) keys
+    → AreNumbered (keys_made_by before + keys_in entry) (keys ++ made_by L entry)
 numbered_more before (Birth version serial key layers) ruled L keys are = record {
-  below = All-append (IsBelow (made before + 1)) keys [] (All-weaker (IsBelow (made before)) (IsBelow (made before + 1)) (λ k less. omega (arith, less)) keys are.below) (All-nil (IsBelow (made before + 1)));
+  below = All-append (IsBelow (keys_made_by before + 1)) keys [] (All-weaker (IsBelow (keys_made_by before)) (IsBelow (keys_made_by before + 1)) (λ k less. omega (arith, less)) keys are.below) (All-nil (IsBelow (keys_made_by before + 1)));
   up = subst (AllPairs Increase) (sym (append-nil keys)) are.up;
 }
 numbered_more before (Change version position number kind layer cosigned layers kept next) ruled L keys are =
-    let n : ℕ = made before + keys_in (Change version position number kind layer cosigned layers kept next) in
+    let n : ℕ = keys_made_by before + keys_in (Change version position number kind layer cosigned layers kept next) in
     record {
-      below = All-append (IsBelow n) keys [] (All-weaker (IsBelow (made before)) (IsBelow n) (λ k less. omega (arith, less)) keys are.below) (All-nil (IsBelow n));
+      below = All-append (IsBelow n) keys [] (All-weaker (IsBelow (keys_made_by before)) (IsBelow n) (λ k less. omega (arith, less)) keys are.below) (All-nil (IsBelow n));
       up = subst (AllPairs Increase) (sym (append-nil keys)) are.up;
     }
 numbered_more before (NewKey position number key_number layer kind key) ruled L keys are =
     let mine : MadeKey = record { number = key_number; kind = kind; key = key } in
-    let counted : key_number ≡ made before = ruled.1.key_counted in
+    let counted : key_number ≡ keys_made_by before = ruled.1.key_counted in
     record {
-      below = All-append (IsBelow (made before + 1)) keys _ (All-weaker (IsBelow (made before)) (IsBelow (made before + 1)) (λ k less. omega (arith, less)) keys are.below) (none_or_one (IsBelow (made before + 1)) (layer == L) mine (omega (arith, counted)));
+      below = All-append (IsBelow (keys_made_by before + 1)) keys _ (All-weaker (IsBelow (keys_made_by before)) (IsBelow (keys_made_by before + 1)) (λ k less. omega (arith, less)) keys are.below) (none_or_one (IsBelow (keys_made_by before + 1)) (layer == L) mine (omega (arith, counted)));
       up = one_above (layer == L) mine keys are.up (subst (λ (n : ℕ). All (IsBelow n) keys) (sym counted) are.below);
     }
 numbered_more before (Succession position key) ruled L keys are = record {
-  below = All-append (IsBelow (made before + 1)) keys [] (All-weaker (IsBelow (made before)) (IsBelow (made before + 1)) (λ k less. omega (arith, less)) keys are.below) (All-nil (IsBelow (made before + 1)));
+  below = All-append (IsBelow (keys_made_by before + 1)) keys [] (All-weaker (IsBelow (keys_made_by before)) (IsBelow (keys_made_by before + 1)) (λ k less. omega (arith, less)) keys are.below) (All-nil (IsBelow (keys_made_by before + 1)));
   up = subst (AllPairs Increase) (sym (append-nil keys)) are.up;
 }
 
-alive_are_numbered : (L : ℕ) (log : List Entry) → RuledLog log → AreNumbered (made log) (alive_keys log L)
+alive_are_numbered : (L : ℕ) (log : List Entry) → RuledLog log → AreNumbered (keys_made_by log) (alive_keys log L)
 alive_are_numbered L log ruled =
-    by_entries (λ es. AreNumbered (made es) (alive_keys es L)) step nothing log ruled
+    by_entries (λ es. AreNumbered (keys_made_by es) (alive_keys es L)) step nothing log ruled
   where
-    step : (before : List Entry) (entry : Entry) → RuledLog before → AreNumbered (made before) (alive_keys before L) → Ruled (figures_of before) entry → AreNumbered (made (before ++ entry ∷ [])) (alive_keys (before ++ entry ∷ []) L)
+    step : (before : List Entry) (entry : Entry) → RuledLog before → AreNumbered (keys_made_by before) (alive_keys before L) → Ruled (figures_of before) entry → AreNumbered (keys_made_by (before ++ entry ∷ [])) (alive_keys (before ++ entry ∷ []) L)
     step before entry so_far are next =
         let keys : List MadeKey = filter (goes_on L entry) (alive_keys before L) in
-        let fewer : AreNumbered (made before) keys = record {
-          below = All-filter (goes_on L entry) (IsBelow (made before)) (alive_keys before L) are.below;
+        let fewer : AreNumbered (keys_made_by before) keys = record {
+          below = All-filter (goes_on L entry) (IsBelow (keys_made_by before)) (alive_keys before L) are.below;
           up = AllPairs-filter Increase (goes_on L entry) (alive_keys before L) are.up;
         } in
         let more = numbered_more before entry next L keys fewer in
         subst (λ n. AreNumbered n (alive_keys (before ++ entry ∷ []) L)) (sym (made-push before entry))
-        (subst (AreNumbered (made before + keys_in entry)) (sym (alive_keys-push before entry L)) more)
+        (subst (AreNumbered (keys_made_by before + keys_in entry)) (sym (alive_keys-push before entry L)) more)
 
-    nothing : AreNumbered (made []) (alive_keys [] L)
-    nothing = subst (AreNumbered (made [])) (sym (alive_keys-nil L)) (record { below = All-nil (IsBelow (made [])); up = λ i j d less within. absurd (omega (arith, within)) })
+    nothing : AreNumbered (keys_made_by []) (alive_keys [] L)
+    nothing = subst (AreNumbered (keys_made_by [])) (sym (alive_keys-nil L)) (record { below = All-nil (IsBelow (keys_made_by [])); up = λ i j d less within. absurd (omega (arith, within)) })
 
 -- the keys alive are listed by increasing numbers
 pub alive_increase : (log : List Entry) (L : ℕ) → RuledLog log → AllPairs (λ a b. a.number < b.number) (alive_keys log L)
 alive_increase log L ruled = (alive_are_numbered L log ruled).up
 
 -- and the next key's number is above them all
-pub alive_below : (log : List Entry) (L : ℕ) → RuledLog log → All (λ key. key.number < made log) (alive_keys log L)
+pub alive_below : (log : List Entry) (L : ℕ) → RuledLog log → All (λ key. key.number < keys_made_by log) (alive_keys log L)
 alive_below log L ruled = (alive_are_numbered L log ruled).below
 
 -- ---- the entries that make a key
 
 -- no entry has made a key with a number that is not below the next key's
-pub high_is_unmade : (log : List Entry) (n : ℕ) → RuledLog log → made log ≤ n → IsUnmade log n
-high_is_unmade log n ruled high = by_entries (λ es. made es ≤ n → IsUnmade es n) step (λ some. All-nil (λ e. makes n e ≡ false)) log ruled high
+pub high_is_unmade : (log : List Entry) (n : ℕ) → RuledLog log → keys_made_by log ≤ n → IsUnmade log n
+high_is_unmade log n ruled high = by_entries (λ es. keys_made_by es ≤ n → IsUnmade es n) step (λ some. All-nil (λ e. makes n e ≡ false)) log ruled high
   where
-    other : (before : List Entry) (entry : Entry) → Ruled (figures_of before) entry → made before + keys_in entry ≤ n → makes n entry ≡ false
+    other : (before : List Entry) (entry : Entry) → Ruled (figures_of before) entry → keys_made_by before + keys_in entry ≤ n → makes n entry ≡ false
     other before (Birth version serial key layers) next high = refl
     other before (Change version position number kind layer cosigned layers kept device) next high = refl
     other before (NewKey position number key_number layer kind key) next high = let counted = next.1.key_counted in grind (arith, high, counted)
     other before (Succession position key) next high = refl
 
-    step : (before : List Entry) (entry : Entry) → RuledLog before → (made before ≤ n → IsUnmade before n) → Ruled (figures_of before) entry → made (before ++ entry ∷ []) ≤ n → IsUnmade (before ++ entry ∷ []) n
+    step : (before : List Entry) (entry : Entry) → RuledLog before → (keys_made_by before ≤ n → IsUnmade before n) → Ruled (figures_of before) entry → keys_made_by (before ++ entry ∷ []) ≤ n → IsUnmade (before ++ entry ∷ []) n
     step before entry so_far unmade next high =
         let sum = made-push before entry in
         All-push (λ e. makes n e ≡ false) before entry (unmade (omega (arith, sum, high))) (other before entry next (omega (arith, sum, high)))
 
 -- entries after one that makes a key make others
-pub later_is_unmade : (front rest : List Entry) (n : ℕ) → n < made front → RuledLog (front ++ rest) → IsUnmade rest n
+pub later_is_unmade : (front rest : List Entry) (n : ℕ) → n < keys_made_by front → RuledLog (front ++ rest) → IsUnmade rest n
 later_is_unmade front [] n less ruled = All-nil (λ e. makes n e ≡ false)
 later_is_unmade front (entry ∷ rest) n less ruled =
     let seam = append_snoc front entry rest in
-    let more : n < made (front ++ entry ∷ []) = omega (arith, less, made-push front entry) in
+    let more : n < keys_made_by (front ++ entry ∷ []) = omega (arith, less, made-push front entry) in
     All-cons (λ e. makes n e ≡ false) entry rest (other entry (ruled front entry rest refl)) (later_is_unmade (front ++ entry ∷ []) rest n more (subst RuledLog (sym seam) ruled))
   where
     other : (e : Entry) → Ruled (figures_of front) e → makes n e ≡ false
@@ -307,7 +307,7 @@ pub lives_from-other : (n : ℕ) (before : List Entry) (entry : Entry) (later : 
 lives_from-other n before (Birth version serial key layers) later other = refl
 lives_from-other n before (Change version position number kind layer cosigned layers kept next) later other = refl
 lives_from-other n before (NewKey position number key_number layer kind key) later other =
-    ap (λ b. if b then configuration layer number (layers_of before) ∷ flat_map (outlived kind layer) (splits later) else []) other
+    ap (λ b. if b then configuration layer number (layers_of before) ∷ flat_map (configurations_outlived_by kind layer) (splits later) else []) other
 lives_from-other n before (Succession position key) later other = refl
 
 -- a key that no entry makes has lived in no configuration
@@ -319,16 +319,16 @@ unmade_has_no_lives log n unmade =
 -- the configurations of a key are that of its own entry, and those that later entries open while it lives
 pub lives_of-split : (before : List Entry) (position number n L : ℕ) (kind : KeyKind) (key : PublicKey) (later : List Entry)
     → RuledLog (before ++ NewKey position number n L kind key ∷ later)
-    → lives_of (before ++ NewKey position number n L kind key ∷ later) n ≡ configuration L number (layers_of before) ∷ flat_map (outlived kind L) (splits later)
+    → lives_of (before ++ NewKey position number n L kind key ∷ later) n ≡ configuration L number (layers_of before) ∷ flat_map (configurations_outlived_by kind L) (splits later)
 unfolding lives_of
 lives_of-split before position number n L kind key later ruled =
     let entry : Entry = NewKey position number n L kind key in
-    let counted : n ≡ made before = (ruled before entry later refl).1.key_counted in
+    let counted : n ≡ keys_made_by before = (ruled before entry later refl).1.key_counted in
     let front : IsUnmade before n = high_is_unmade before n (RuledLog-front before (entry ∷ later) ruled) (omega (arith, counted)) in
     let ruled_after : RuledLog (before ++ entry ∷ [] ++ later) = subst RuledLog (sym (append_snoc before entry later)) ruled in
     let back : IsUnmade later n = later_is_unmade (before ++ entry ∷ []) later n (omega (arith, counted, made-push before entry)) ruled_after in
     one_listed n (λ s. lives_from n s.before s.entry s.later) before entry later (λ s other. lives_from-other n s.before s.entry s.later other) front back
-    ∙ ap (λ b. if b then configuration L number (layers_of before) ∷ flat_map (outlived kind L) (splits later) else []) (eq-eqb n n refl)
+    ∙ ap (λ b. if b then configuration L number (layers_of before) ∷ flat_map (configurations_outlived_by kind L) (splits later) else []) (eq-eqb n n refl)
 
 -- Where an entry makes a key, that entry's number and the layers that stand are its first configuration.
 pub lives_of_new_key : (log : List Entry) (position number n L : ℕ) (kind : KeyKind) (key : PublicKey)
@@ -357,16 +357,16 @@ splits-push (first ∷ rest) entry =
 
 -- what later entries open, with one more
 pub outlived-push : (kind : KeyKind) (L : ℕ) (later : List Entry) (entry : Entry)
-    → flat_map (outlived kind L) (splits (later ++ entry ∷ []))
-    ≡ flat_map (outlived kind L) (splits later) ++ (if list_all (λ e. not (ends kind L e)) (later ++ entry ∷ []) then opened_by L entry else [])
+    → flat_map (configurations_outlived_by kind L) (splits (later ++ entry ∷ []))
+    ≡ flat_map (configurations_outlived_by kind L) (splits later) ++ (if list_all (λ e. not (ends_keys kind L e)) (later ++ entry ∷ []) then configurations_opened_by L entry else [])
 outlived-push kind L later entry =
     let last : Split = record { before = later; entry = entry; later = [] } in
-    let on : Entry → Bool = λ e. not (ends kind L e) in
-    ap (flat_map (outlived kind L)) (splits-push later entry)
-    ∙ flat_map-append (outlived kind L) (map (with_last entry) (splits later)) (last ∷ [])
-    ∙ ap (λ more. more ++ (outlived kind L last ++ [])) (flat_map-map (outlived kind L) (with_last entry) (splits later))
-    ∙ ap (λ more. flat_map (outlived kind L) (splits later) ++ more) (append-nil (outlived kind L last))
-    ∙ ap (λ b. flat_map (outlived kind L) (splits later) ++ (if b then opened_by L entry else [])) (same_flag (list_all on later) (on entry) ∙ sym (list_all-append on later (entry ∷ [])))
+    let on : Entry → Bool = λ e. not (ends_keys kind L e) in
+    ap (flat_map (configurations_outlived_by kind L)) (splits-push later entry)
+    ∙ flat_map-append (configurations_outlived_by kind L) (map (with_last entry) (splits later)) (last ∷ [])
+    ∙ ap (λ more. more ++ (configurations_outlived_by kind L last ++ [])) (flat_map-map (configurations_outlived_by kind L) (with_last entry) (splits later))
+    ∙ ap (λ more. flat_map (configurations_outlived_by kind L) (splits later) ++ more) (append-nil (configurations_outlived_by kind L last))
+    ∙ ap (λ b. flat_map (configurations_outlived_by kind L) (splits later) ++ (if b then configurations_opened_by L entry else [])) (same_flag (list_all on later) (on entry) ∙ sym (list_all-append on later (entry ∷ [])))
   where
     same_flag : (a b : Bool) → (a && b) ≡ (a && (b && true))
     same_flag false b = refl
@@ -377,11 +377,11 @@ outlived-push kind L later entry =
 pub lives_of-push : (log before later : List Entry) (position number n L : ℕ) (kind : KeyKind) (key : PublicKey) (entry : Entry)
     → log ≡ before ++ NewKey position number n L kind key ∷ later → RuledLog (log ++ entry ∷ [])
     → lives_of (log ++ entry ∷ []) n
-    ≡ lives_of log n ++ (if list_all (λ e. not (ends kind L e)) (later ++ entry ∷ []) then opened_by L entry else [])
+    ≡ lives_of log n ++ (if list_all (λ e. not (ends_keys kind L e)) (later ++ entry ∷ []) then configurations_opened_by L entry else [])
 lives_of-push log before later position number n L kind key entry split ruled =
     let own : Entry = NewKey position number n L kind key in
     let first : Configuration = configuration L number (layers_of before) in
-    let more : List Configuration = if list_all (λ e. not (ends kind L e)) (later ++ entry ∷ []) then opened_by L entry else [] in
+    let more : List Configuration = if list_all (λ e. not (ends_keys kind L e)) (later ++ entry ∷ []) then configurations_opened_by L entry else [] in
     let longer_split : log ++ entry ∷ [] ≡ before ++ own ∷ (later ++ entry ∷ []) = ap (λ es. es ++ entry ∷ []) split ∙ append_assoc before (own ∷ later) (entry ∷ []) in
     let longer : RuledLog (before ++ own ∷ (later ++ entry ∷ [])) = subst RuledLog longer_split ruled in
     let shorter : RuledLog (before ++ own ∷ later) = subst RuledLog split (RuledLog-front log (entry ∷ []) ruled) in

@@ -20,7 +20,7 @@ use Rattle.mb_model.specs.declared.order.Target.TheVariants as target
 use Rattle.mb_model.specs.declared.order.Order.{Order}
 use Rattle.mb_model.specs.Key.{key_bytes}
 use Rattle.mb_model.specs.Layers.{is_layer_number}
-use Rattle.mb_model.specs.Lines.{spaced}
+use Rattle.mb_model.specs.Lines.{spaced_words}
 use Rattle.mb_model.specs.declared.layer.Trusts.{Trusts}
 use Rattle.mb_model.specs.Layers.{equal_trusts}
 use Rattle.mb_model.specs.Drafts.{trust_word, trust_line, trusts_line, SaysTrusts, kind_word, version_line, order_words, SaysTarget, AreLoadLines, AreOwnerLines, SayAct, IsDraft}
@@ -195,7 +195,7 @@ load_same lines a b ha hb =
 
 -- the first line of an order, and two letters that tell what is ordered
 abbrev pub head : Act → ℕ → List ℕ
-head a layer = spaced (order_words a layer)
+head a layer = spaced_words (order_words a layer)
 
 abbrev pub act_letters : Act → ℕ
 act_letters (act.Establish owner trust) = letters_at 6 (codes "order establish")

@@ -8,7 +8,7 @@ use Rattle.std.proofs.lemmas.List.Elements.{filter-append}
 use Rattle.mb_model.specs.declared.event.Event.{Event}
 use Rattle.mb_model.specs.declared.event.Event.TheVariants as event
 use Rattle.mb_model.specs.declared.event.Tear.{Tear}
-use Rattle.mb_model.specs.Lines.{spaced, FailsAtLine}
+use Rattle.mb_model.specs.Lines.{spaced_words, FailsAtLine}
 use Rattle.mb_model.specs.Layers.{is_upper}
 use Rattle.mb_model.specs.Script.{tear_of, IsName, IsCutLine, EndsInHex, SaysEvent, is_skipped, IsScript}
 use Rattle.mb_model_lemmas.proofs.LineLemmas.{cons_same, first_same, IsBeginning-all, bad_after}
@@ -60,12 +60,12 @@ cut_tail line count tear says =
     elim says.kept [
       | inl words ↦ (
         codes "keep " ++ decimal tear.keep ++ 32 ∷ (codes "fill " ++ says.fill_word),
-        subst (λ (x : List (List ℕ)). line ≡ spaced (codes "cut" ∷ decimal count ∷ x ++ codes "fill" ∷ says.fill_word ∷ [])) words says.spelled,
+        subst (λ (x : List (List ℕ)). line ≡ spaced_words (codes "cut" ∷ decimal count ∷ x ++ codes "fill" ∷ says.fill_word ∷ [])) words says.spelled,
         kept refl,
       )
       | inr left_out ↦ (
         codes "fill " ++ says.fill_word,
-        subst (λ (x : List (List ℕ)). line ≡ spaced (codes "cut" ∷ decimal count ∷ x ++ codes "fill" ∷ says.fill_word ∷ [])) left_out.0 says.spelled,
+        subst (λ (x : List (List ℕ)). line ≡ spaced_words (codes "cut" ∷ decimal count ∷ x ++ codes "fill" ∷ says.fill_word ∷ [])) left_out.0 says.spelled,
         none left_out.1 refl,
       )
     ]

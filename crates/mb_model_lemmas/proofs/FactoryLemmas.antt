@@ -5,10 +5,10 @@ use Rattle.mb_model.specs.declared.entry.SignedEntry.{SignedEntry}
 use Rattle.mb_model.specs.declared.key.KeySeed.{KeySeed}
 use Rattle.mb_model.specs.declared.key.PublicKey.{PublicKey}
 use Rattle.mb_model.specs.declared.state.State.{State}
-use Rattle.mb_model.specs.Log.{figures_of, entries_of, last_of, layers_of, device_of, serial_of, used, has_version_two}
+use Rattle.mb_model.specs.Log.{figures_of, entries_of, last_of, layers_of, device_of, serial_of, uses_of_device_key, has_version_two}
 use Rattle.mb_model.specs.Lives.{splits, alive_keys}
 use Rattle.mb_model.specs.Regions.{empty_region}
-use Rattle.mb_model.specs.OrderEffects.{signed_by}
+use Rattle.mb_model.specs.OrderEffects.{entry_signed_by}
 use Rattle.mb_model.specs.Valid.{Follows, EachFollows, IsValidRegion, IsValidState}
 use Rattle.mb_model.specs.Meaning.{IsWellFormed}
 use Rattle.mb_model_lemmas.proofs.RuleLemmas.{version_two_may_follow}
@@ -25,9 +25,9 @@ only_entry own signed (first ∷ before) rest split follows = absurd (omega (ari
 
 module _ (maker : KeySeed) (index : ℕ) (owner : PublicKey) (code noise : List ℕ) where
   birth_follows : EachFollows (state_at_birth maker index owner code noise).log
-  unfolding state_at_birth signed_by
+  unfolding state_at_birth entry_signed_by
   birth_follows = λ before signed rest split.
-      only_entry (signed_by maker index (birth_entry owner code noise)) signed before rest split (record {
+      only_entry (entry_signed_by maker index (birth_entry owner code noise)) signed before rest split (record {
         ruled = (refl, record { owned = refl; reliable = refl; two = refl; three = refl }, version_two_may_follow (has_version_two []) (layers_at_birth owner code));
         in_order = λ some. absurd (some refl);
         verifies = λ some. absurd (some refl);
@@ -45,7 +45,7 @@ module _ (maker : KeySeed) (index : ℕ) (owner : PublicKey) (code noise : List 
   }
 
   pub birth_is_valid : IsValidState (state_at_birth maker index owner code noise)
-  unfolding state_at_birth signed_by layers_of last_of device_of serial_of used
+  unfolding state_at_birth entry_signed_by layers_of last_of device_of serial_of uses_of_device_key
   birth_is_valid = record {
     log = birth_follows;
     layers = refl;

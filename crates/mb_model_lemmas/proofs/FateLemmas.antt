@@ -15,11 +15,11 @@ use Rattle.mb_model.specs.declared.region.RegionKey.{RegionKey}
 use Rattle.mb_model.specs.declared.stored.Fate.{Fate}
 use Rattle.mb_model.specs.declared.stored.Fate.TheVariants.{Keep, Empty, DropConfiguration, AddKey}
 use Rattle.mb_model.specs.Rules.{admits}
-use Rattle.mb_model.specs.Log.{made, RuledLog}
+use Rattle.mb_model.specs.Log.{keys_made_by, RuledLog}
 use Rattle.mb_model.specs.Lives.{MadeKey, alive_keys}
 use Rattle.mb_model.specs.Regions.{empty_region, is_epoch, without_configuration_keys, region_after, with_key}
 use Rattle.mb_model.specs.LayerEvents.{has_number, with_use}
-use Rattle.mb_model.specs.Meaning.{fated}
+use Rattle.mb_model.specs.Meaning.{region_after_fate}
 use Rattle.mb_model.specs.Valid.{as_made}
 use Rattle.mb_model.specs.Fates.{change_fate}
 use Rattle.mb_model_lemmas.proofs.AliveLemmas.{alive_increase, alive_below}
@@ -62,11 +62,11 @@ keys_increase log L keys ruled are =
     AllPairs-unmap R as_made keys (subst (AllPairs R) (sym are) (alive_increase log L ruled))
 
 -- none of them has the number of the next key, or one above
-pub high_is_not_there : (log : List Entry) (L n : ℕ) (keys : List RegionKey) → RuledLog log → map as_made keys ≡ alive_keys log L → made log ≤ n → list_any (has_number n) keys ≡ false
+pub high_is_not_there : (log : List Entry) (L n : ℕ) (keys : List RegionKey) → RuledLog log → map as_made keys ≡ alive_keys log L → keys_made_by log ≤ n → list_any (has_number n) keys ≡ false
 high_is_not_there log L n keys ruled are high =
-    let P : MadeKey → Type 0 = λ key. key.number < made log in
-    let below : All (λ (key : RegionKey). key.number < made log) keys = All-unmap P as_made keys (subst (All P) (sym are) (alive_below log L ruled)) in
-    list_any_none (has_number n) keys (All-weaker (λ key. key.number < made log) (λ key. has_number n key ≡ false) (λ key less. ne_eqb key.number n (λ same. omega (arith, less, same, high))) keys below)
+    let P : MadeKey → Type 0 = λ key. key.number < keys_made_by log in
+    let below : All (λ (key : RegionKey). key.number < keys_made_by log) keys = All-unmap P as_made keys (subst (All P) (sym are) (alive_below log L ruled)) in
+    list_any_none (has_number n) keys (All-weaker (λ key. key.number < keys_made_by log) (λ key. has_number n key ≡ false) (λ key less. ne_eqb key.number n (λ same. omega (arith, less, same, high))) keys below)
 
 find-split : {X : Type 0} (p : X → Bool) (front : List X) (x : X) (rest : List X) → All (λ y. p y ≡ false) front → p x ≡ true → find p (front ++ x ∷ rest) ≡ Some x
 find-split p [] x rest others own = ap (λ b. cond b (Some x) (find p rest)) own
@@ -136,31 +136,31 @@ added_twice key keys = by (list_any (has_number key.number) keys) refl
         ap (λ b. if b then keys ++ key ∷ [] else (keys ++ key ∷ []) ++ key ∷ []) own
 
 -- a fate that is done twice is done once
-pub fated_twice : (fate : Fate) (region : Region) → fated fate (fated fate region) ≡ fated fate region
-unfolding fated
+pub fated_twice : (fate : Fate) (region : Region) → region_after_fate fate (region_after_fate fate region) ≡ region_after_fate fate region
+unfolding region_after_fate
 fated_twice Keep region = refl
 fated_twice Empty region = refl
 fated_twice DropConfiguration region = ap (λ keys. let r : Region = record { secrets = region.secrets; keys = keys } in r) (kept_twice (λ key. is_epoch key.kind) region.keys)
 fated_twice (AddKey key) region = ap (λ keys. let r : Region = record { secrets = region.secrets; keys = keys } in r) (added_twice key region.keys)
 
 -- where a region is kept, it stays as it is
-pub kept_as_before : (region : Region) → fated Keep region ≡ region
-unfolding fated
+pub kept_as_before : (region : Region) → region_after_fate Keep region ≡ region
+unfolding region_after_fate
 kept_as_before region = refl
 
 -- a change has such a fate for each region
 pub change_is_fate : (layers : Layers) (kind : ChangeKind) (k : ℕ) (cosigned : Pair) (L : ℕ) (region : Region)
-    → region_after layers kind k cosigned L region ≡ fated (change_fate layers kind k cosigned L) region
-unfolding fated
+    → region_after layers kind k cosigned L region ≡ region_after_fate (change_fate layers kind k cosigned L) region
+unfolding region_after_fate
 change_is_fate layers kind k cosigned L region = by (nat_lt L k) (admits layers kind k cosigned L)
   where
-    by : (beneath agrees : Bool) → (if beneath then region else if agrees then without_configuration_keys region else empty_region) ≡ fated (if beneath then Keep else if agrees then DropConfiguration else Empty) region
+    by : (beneath agrees : Bool) → (if beneath then region else if agrees then without_configuration_keys region else empty_region) ≡ region_after_fate (if beneath then Keep else if agrees then DropConfiguration else Empty) region
     by true agrees = refl
     by false true = refl
     by false false = refl
 
 -- a new key is added, where none has its number
-pub new_key_is_fate : (key : RegionKey) (region : Region) → list_any (has_number key.number) region.keys ≡ false → with_key key region ≡ fated (AddKey key) region
-unfolding fated
+pub new_key_is_fate : (key : RegionKey) (region : Region) → list_any (has_number key.number) region.keys ≡ false → with_key key region ≡ region_after_fate (AddKey key) region
+unfolding region_after_fate
 new_key_is_fate key region none =
     sym (ap (λ b. let r : Region = record { secrets = region.secrets; keys = if b then region.keys else region.keys ++ key ∷ [] } in r) none)

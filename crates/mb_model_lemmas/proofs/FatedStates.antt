@@ -14,13 +14,13 @@ use Rattle.mb_model.specs.declared.region.RegionKey.{RegionKey}
 use Rattle.mb_model.specs.declared.state.State.{State}
 use Rattle.mb_model.specs.declared.stored.Fate.TheVariants.{AddKey}
 use Rattle.mb_model.specs.Layers.{is_upper}
-use Rattle.mb_model.specs.Log.{entries_of, made, RuledLog}
+use Rattle.mb_model.specs.Log.{entries_of, keys_made_by, RuledLog}
 use Rattle.mb_model.specs.Lives.{Alive, MadeKey}
 use Rattle.mb_model.specs.Regions.{with_key}
 use Rattle.mb_model.specs.Signing.{public_of}
 use Rattle.mb_model.specs.OrderChecks.{view_of}
-use Rattle.mb_model.specs.OrderEffects.{next_key, key_made, cosigned_by, changed, keyed}
-use Rattle.mb_model.specs.Meaning.{fated}
+use Rattle.mb_model.specs.OrderEffects.{next_key, key_made, cosigners_of, state_after_change, state_after_new_key}
+use Rattle.mb_model.specs.Meaning.{region_after_fate}
 use Rattle.mb_model.specs.Valid.{as_made, IsValidRegion}
 use Rattle.mb_model.specs.Fates.{change_fate, key_fate}
 use Rattle.mb_model_lemmas.specs.RegionLaws.{HasValidRegions, AreFated}
@@ -30,29 +30,29 @@ use Rattle.mb_model_lemmas.proofs.FateLemmas.{high_is_not_there, kept_as_before,
 
 -- an order that changes a layer
 pub changed_is_fated : (state : State) (kind : ChangeKind) (order : Order) (draw : List ℕ)
-    → AreFated state (changed state kind order draw) (change_fate state.layers kind order.layer (cosigned_by order) 2) (change_fate state.layers kind order.layer (cosigned_by order) 3)
-unfolding changed
+    → AreFated state (state_after_change state kind order draw) (change_fate state.layers kind order.layer (cosigners_of order) 2) (change_fate state.layers kind order.layer (cosigners_of order) 3)
+unfolding state_after_change
 changed_is_fated state kind order draw = record {
-  two_is = change_is_fate state.layers kind order.layer (cosigned_by order) 2 state.two;
-  three_is = change_is_fate state.layers kind order.layer (cosigned_by order) 3 state.three;
+  two_is = change_is_fate state.layers kind order.layer (cosigners_of order) 2 state.two;
+  three_is = change_is_fate state.layers kind order.layer (cosigners_of order) 3 state.three;
 }
 
 -- the next key is added to a region whose keys are those alive by the log
-added : (log : List Entry) (layers : Layers) (L : ℕ) (region : Region) (key : RegionKey) → RuledLog log → IsValidRegion log layers L region → key.number ≡ made log
-    → with_key key region ≡ fated (AddKey key) region
+added : (log : List Entry) (layers : Layers) (L : ℕ) (region : Region) (key : RegionKey) → RuledLog log → IsValidRegion log layers L region → key.number ≡ keys_made_by log
+    → with_key key region ≡ region_after_fate (AddKey key) region
 added log layers L region key ruled valid is =
     new_key_is_fate key region (high_is_not_there log L key.number region.keys ruled valid.keys (omega (arith, is)))
 
 -- an order that makes a key
 pub keyed_is_fated : (state : State) (L : ℕ) (kind : KeyKind) (draw : List ℕ) (key : RegionKey) → IsTrue (is_upper L) → RuledLog (entries_of state.log) → HasValidRegions state
     → key ≡ key_made (view_of state) kind draw
-    → AreFated state (keyed state L kind draw) (key_fate L key 2) (key_fate L key 3)
-unfolding keyed
+    → AreFated state (state_after_new_key state L kind draw) (key_fate L key 2) (key_fate L key 3)
+unfolding state_after_new_key
 keyed_is_fated state L kind draw key upper ruled valid is =
     let past : List Entry = entries_of state.log in
-    let own : RegionKey = record { number = made past; kind = kind; seed = next_key (view_of state) draw; uses = 0 } in
-    let number_is : key.number ≡ made past = ap (λ (k : RegionKey). k.number) is in
-    at_upper (λ m. AreFated state (keyed state m kind draw) (key_fate m key 2) (key_fate m key 3)) L upper
+    let own : RegionKey = record { number = keys_made_by past; kind = kind; seed = next_key (view_of state) draw; uses = 0 } in
+    let number_is : key.number ≡ keys_made_by past = ap (λ (k : RegionKey). k.number) is in
+    at_upper (λ m. AreFated state (state_after_new_key state m kind draw) (key_fate m key 2) (key_fate m key 3)) L upper
     (record {
       two_is = ap (λ (k : RegionKey). with_key k state.two) (sym is) ∙ added past state.layers 2 state.two key ruled valid.two number_is;
       three_is = sym (kept_as_before state.three);

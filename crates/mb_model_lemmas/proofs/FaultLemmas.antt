@@ -10,11 +10,11 @@ use Rattle.mb_model.specs.declared.layer.Layers.{Layers}
 use Rattle.mb_model.specs.declared.state.State.{State}
 use Rattle.mb_model.specs.declared.stored.Root.{Root}
 use Rattle.mb_model.specs.Log.{entries_of, layers_of}
-use Rattle.mb_model.specs.Memory.{AreSized, IsImage, IsBlank, current}
-use Rattle.mb_model.specs.StoredLog.{completed}
+use Rattle.mb_model.specs.Memory.{AreSized, IsImage, IsBlank, area_of_slot}
+use Rattle.mb_model.specs.StoredLog.{log_completed_by}
 use Rattle.mb_model.specs.Flash.{HoldsPublic}
 use Rattle.mb_model.specs.Valid.{Valid}
-use Rattle.mb_model.specs.Meaning.{RootIn, Contents, FlashForm, HoldsContentsBy, HoldsContents, fated, meant, HasMeaningBy, is_dead, is_live, StandsForBy, StandsFor, IsWellFormedBy, IsWellFormed}
+use Rattle.mb_model.specs.Meaning.{RootIn, Contents, FlashForm, HoldsContentsBy, HoldsContents, region_after_fate, state_of_contents, HasMeaningBy, is_dead, is_live, StandsForBy, StandsFor, IsWellFormedBy, IsWellFormed}
 use Rattle.mb_model.specs.Faults.{Fault, bad_length, bad_root, bad_public, bad_region_two, bad_region_three, bad_state, SomePublicBy, SomeRegion, AreSound, IsFaultyBy, HasFaultBy, HasFault}
 use Rattle.mb_model.specs.Clean.{root_of, IsCleanFor, Clean}
 use Rattle.mb_model_lemmas.specs.FormLaws.{HoldsOnePublic}
@@ -52,14 +52,14 @@ SomeSound Form flash bbram = (contents : Contents) × HoldsContentsBy Form flash
 -- the memory lacks what the fault says, and nothing that comes before
 abbrev Misses : FlashForm → List ℕ → List ℕ → Fault → Type 0
 Misses Form flash bbram =
-    Lacks bad_root (SomeRoot bbram) (Lacks bad_public (AnyPublic Form flash bbram) (Lacks bad_region_two (SomeRegion (current bbram 2))
-    (Lacks bad_region_three (SomeRegion (current bbram 3)) (Lacks bad_state (SomeSound Form flash bbram) (λ fault. ⊥)))))
+    Lacks bad_root (SomeRoot bbram) (Lacks bad_public (AnyPublic Form flash bbram) (Lacks bad_region_two (SomeRegion (area_of_slot bbram 2))
+    (Lacks bad_region_three (SomeRegion (area_of_slot bbram 3)) (Lacks bad_state (SomeSound Form flash bbram) (λ fault. ⊥)))))
 
 one_missing : (Form : FlashForm) (flash bbram : List ℕ) → IsOne (Misses Form flash bbram)
 one_missing Form flash bbram =
     let last = one_lacks bad_state (SomeSound Form flash bbram) (λ fault. ⊥) (λ r s x y. absurd x) in
-    let three = one_lacks bad_region_three (SomeRegion (current bbram 3)) _ last in
-    let two = one_lacks bad_region_two (SomeRegion (current bbram 2)) _ three in
+    let three = one_lacks bad_region_three (SomeRegion (area_of_slot bbram 3)) _ last in
+    let two = one_lacks bad_region_two (SomeRegion (area_of_slot bbram 2)) _ three in
     let public = one_lacks bad_public (AnyPublic Form flash bbram) _ two in
     one_lacks bad_root (SomeRoot bbram) _ public
 
@@ -186,11 +186,11 @@ module _ (Form : FlashForm) (image flash bbram : List ℕ) (is : IsImage image f
 
   no_bad_state : (contents : Contents) → HoldsContentsBy Form flash bbram contents → ⊥
   no_bad_state contents holds =
-      none bad_state (flash, bbram, is, (contents, holds, λ sound. no_meaning (Some (meant contents)) (is_live contents holds sound.0 refl) sound.1))
+      none bad_state (flash, bbram, is, (contents, holds, λ sound. no_meaning (Some (state_of_contents contents)) (is_live contents holds sound.0 refl) sound.1))
 
-  no_bad_three : (root : Root) → RootIn bbram root → SomePublicBy Form flash root → SomeRegion (current bbram 2) → ⊥
+  no_bad_three : (root : Root) → RootIn bbram root → SomePublicBy Form flash root → SomeRegion (area_of_slot bbram 2) → ⊥
   no_bad_three root has public two =
-      let whole : SomeRegion (current bbram 3) → ⊥ = λ three.
+      let whole : SomeRegion (area_of_slot bbram 3) → ⊥ = λ three.
       let contents : Contents = record {
         root = root;
         codes = public.0;
@@ -249,8 +249,8 @@ at_rest state area = record {
 abbrev rebuilt : State → Layers → List SignedEntry → State
 rebuilt state layers log = record state { layers = layers; log = log }
 
-rest_means : (state : State) (area : ℕ) → state.layers ≡ layers_of (entries_of state.log) → state ≡ meant (at_rest state area)
-unfolding meant completed fated
+rest_means : (state : State) (area : ℕ) → state.layers ≡ layers_of (entries_of state.log) → state ≡ state_of_contents (at_rest state area)
+unfolding state_of_contents log_completed_by region_after_fate
 rest_means state area layers =
     ap (λ (l : Layers). rebuilt state l state.log) layers
     ∙ ap (λ (log : List SignedEntry). rebuilt state (layers_of (entries_of log)) log) (sym (append-nil state.log))

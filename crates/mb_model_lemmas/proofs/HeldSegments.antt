@@ -12,7 +12,7 @@ use Rattle.mb_model.specs.declared.stored.Slot.{Slot}
 use Rattle.mb_model.specs.declared.stored.Header.{Header}
 use Rattle.mb_model.specs.EntryFormat.{entry_format, signed_entry_format}
 use Rattle.mb_model.specs.Pieces.{part}
-use Rattle.mb_model.specs.HeaderFormat.{slot_format, most_unsigned, unsigned_format, header_format, log_format}
+use Rattle.mb_model.specs.HeaderFormat.{slot_format, unsigned_limit, unsigned_format, header_format, log_format}
 use Rattle.mb_model.specs.Sectors.{code_sector, log_sector, BeginsAs}
 use Rattle.mb_model.specs.Flash.{sector, code_slot, HoldsHeader, HoldsCode, HoldsEntry, HoldsLog, AreBytesOf, HoldsPublic}
 use Rattle.mb_model_lemmas.specs.FormLaws.{HoldsFittingParts}
@@ -70,10 +70,10 @@ room_by : (b : Bool) (signed : ℕ) → nat_le (signed + 2) 128 ≡ b → signed
 room_by true signed e few = omega (arith, leb-true (signed + 2) 128 e)
 room_by false signed e few = omega (arith, few)
 
-pub room_for_unsigned : (signed : ℕ) → signed ≤ 128 → signed + most_unsigned signed ≤ 128
+pub room_for_unsigned : (signed : ℕ) → signed ≤ 128 → signed + unsigned_limit signed ≤ 128
 room_for_unsigned signed few = room_by (nat_le (signed + 2) 128) signed refl few
 
-texts_few : (signed : ℕ) (first second : Option (List ℕ)) (unsigned : List Entry) → (unsigned_format signed).Allowed (first, second) → AreBytesOf first second unsigned → length unsigned ≤ most_unsigned signed
+texts_few : (signed : ℕ) (first second : Option (List ℕ)) (unsigned : List Entry) → (unsigned_format signed).Allowed (first, second) → AreBytesOf first second unsigned → length unsigned ≤ unsigned_limit signed
 unfolding unsigned_format
 texts_few signed None None [] is are = omega arith
 texts_few signed None None (u ∷ us) is are = absurd are
@@ -94,7 +94,7 @@ pub segments_fit : HeldSegmentsFit
 segments_fit flash root codes signed unsigned holds =
     let header : Header = holds.header in
     let is : IsSmallHeader header = small_held flash root.area header holds.begins in
-    let few : length unsigned ≤ most_unsigned header.signed = texts_few header.signed header.first header.second unsigned (header_texts header holds.begins.spelled.allowed) holds.unsigned_are in
+    let few : length unsigned ≤ unsigned_limit header.signed = texts_few header.signed header.first header.second unsigned (header_texts header holds.begins.spelled.allowed) holds.unsigned_are in
     record {
       codes_fit = record { one = code_fits flash 1 header.one codes.one holds.one; two = code_fits flash 2 header.two codes.two holds.two; three = code_fits flash 3 header.three codes.three holds.three };
       log_fits = record { some = omega (arith, holds.count, is.least); few = omega (arith, holds.count, is.most); allowed = log_allowed flash signed holds.log };

@@ -4,7 +4,7 @@ use Rattle.std.specs.Prelude.{◌==◌, All, flat_map}
 use Rattle.std.proofs.lemmas.Bool.{eqb-true, eqb-false, cases_order}
 use Rattle.std.proofs.lemmas.List.{append-nil}
 use Rattle.std.proofs.lemmas.List.Elements.{All-nil, All-cons, All-head, All-tail}
-use Rattle.mb_model.specs.Texts.{ended}
+use Rattle.mb_model.specs.Texts.{line_with_lf}
 use Rattle.mb_model.specs.Lines.{IsLine, HasLines, IsBeginning, FailsAtLine, bad_line, ends_early}
 
 -- a list's first item and its rest are equal where the lists are
@@ -61,15 +61,15 @@ pub data Goes (text line : List ℕ) (lines : List (List ℕ)) : Type 0 where
   over : text ≡ line → line ≢ [] → lines ≡ [] → Goes text line lines
 
 goes_lacking : (text line : List ℕ) (lines before : List (List ℕ)) (last : List ℕ) → All IsLine (line ∷ lines) → line ∷ lines ≡ before ++ last ∷ []
-    → last ≢ [] → text ≡ flat_map ended before ++ last → Goes text line lines
+    → last ≢ [] → text ≡ flat_map line_with_lf before ++ last → Goes text line lines
 goes_lacking text line lines [] last plain split filled whole =
     let parts = cons_same line last lines [] split in
     over (whole ∙ sym parts.0) (λ none. filled (sym parts.0 ∙ none)) parts.1
 goes_lacking text line lines (first ∷ before) last plain split filled whole =
     let parts = cons_same line first lines (before ++ last ∷ []) split in
-    let remaining = flat_map ended before ++ last in
+    let remaining = flat_map line_with_lf before ++ last in
     on remaining
-    (whole ∙ append_assoc (ended first) (flat_map ended before) last ∙ append_assoc first (10 ∷ []) remaining
+    (whole ∙ append_assoc (line_with_lf first) (flat_map line_with_lf before) last ∙ append_assoc first (10 ∷ []) remaining
     ∙ ap (λ (x : List ℕ). x ++ 10 ∷ remaining) (sym parts.0))
     (record {
       plain = All-tail IsLine line lines plain;
@@ -80,7 +80,7 @@ pub HasLines-goes : (text line : List ℕ) (lines : List (List ℕ)) → HasLine
 HasLines-goes text line lines has =
     elim has.whole [
       | inl whole ↦
-          on (flat_map ended lines) (whole ∙ append_assoc line (10 ∷ []) (flat_map ended lines))
+          on (flat_map line_with_lf lines) (whole ∙ append_assoc line (10 ∷ []) (flat_map line_with_lf lines))
           (record { plain = All-tail IsLine line lines has.plain; whole = inl refl })
       | inr lacks ↦ goes_lacking text line lines lacks.before lacks.last has.plain lacks.split lacks.filled lacks.whole
     ]
@@ -90,14 +90,14 @@ pub HasLines-on : (text line rest : List ℕ) (lines : List (List ℕ)) → IsLi
 HasLines-on text line rest lines plain e has = record {
   plain = All-cons IsLine line lines plain has.plain;
   whole = elim has.whole [
-    | inl whole ↦ inl (e ∙ ap (λ (x : List ℕ). line ++ 10 ∷ x) whole ∙ sym (append_assoc line (10 ∷ []) (flat_map ended lines)))
+    | inl whole ↦ inl (e ∙ ap (λ (x : List ℕ). line ++ 10 ∷ x) whole ∙ sym (append_assoc line (10 ∷ []) (flat_map line_with_lf lines)))
     | inr lacks ↦ inr (record {
       before = line ∷ lacks.before;
       last = lacks.last;
       split = ap (λ (x : List (List ℕ)). line ∷ x) lacks.split;
       filled = lacks.filled;
-      whole = e ∙ ap (λ (x : List ℕ). line ++ 10 ∷ x) lacks.whole ∙ sym (append_assoc line (10 ∷ []) (flat_map ended lacks.before ++ lacks.last))
-          ∙ sym (append_assoc (ended line) (flat_map ended lacks.before) lacks.last);
+      whole = e ∙ ap (λ (x : List ℕ). line ++ 10 ∷ x) lacks.whole ∙ sym (append_assoc line (10 ∷ []) (flat_map line_with_lf lacks.before ++ lacks.last))
+          ∙ sym (append_assoc (line_with_lf line) (flat_map line_with_lf lacks.before) lacks.last);
     })
   ];
 }

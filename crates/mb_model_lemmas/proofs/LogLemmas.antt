@@ -16,15 +16,15 @@ use Rattle.mb_model.specs.declared.entry.Entry.{Entry}
 use Rattle.mb_model.specs.declared.entry.Entry.TheVariants.{Birth, Change, NewKey, Succession}
 use Rattle.mb_model.specs.declared.entry.SignedEntry.{SignedEntry}
 use Rattle.mb_model.specs.Layers.{unowned_layers}
-use Rattle.mb_model.specs.Log.{figures_of, entries_of, is_change, layers_in, device_in, keys_in, last_of, number_of, layers_of, device_of, used, made, is_version_two, has_version_two, Ruled, RuledLog}
+use Rattle.mb_model.specs.Log.{figures_of, entries_of, is_change, layers_in, device_in, keys_in, last_of, number_of, layers_of, device_of, uses_of_device_key, keys_made_by, is_version_two, has_version_two, Ruled, RuledLog}
 use Rattle.mb_model_lemmas.proofs.LineLemmas.{cons_same}
 
 pub number_of-push : (log : List Entry) (entry : Entry) → number_of (log ++ entry ∷ []) ≡ number_of log + (if is_change entry then 1 else 0)
 unfolding number_of
 number_of-push log entry = sum_by_push (λ e. cond (is_change e) 1 0) log entry
 
-pub made-push : (log : List Entry) (entry : Entry) → made (log ++ entry ∷ []) ≡ made log + keys_in entry
-unfolding made
+pub made-push : (log : List Entry) (entry : Entry) → keys_made_by (log ++ entry ∷ []) ≡ keys_made_by log + keys_in entry
+unfolding keys_made_by
 made-push log entry = sum_by_push keys_in log entry
 
 or_false : (b : Bool) → (b || false) ≡ b
@@ -72,15 +72,15 @@ unless_named : (key : Option PublicKey) (n : ℕ) → (if is_none key then n + 1
 unless_named None n = refl
 unless_named (Some key) n = refl
 
-pub used-push : (log : List Entry) (entry : Entry) → used (log ++ entry ∷ []) ≡ (if is_some (device_in entry) then 0 else used log + 1)
-unfolding used
+pub used-push : (log : List Entry) (entry : Entry) → uses_of_device_key (log ++ entry ∷ []) ≡ (if is_some (device_in entry) then 0 else uses_of_device_key log + 1)
+unfolding uses_of_device_key
 used-push log entry =
     ap (λ es. length (take_while (λ e. is_none (device_in e)) es)) (reverse-append log (entry ∷ []))
     ∙ length-taken (λ e. is_none (device_in e)) entry (reverse log)
     ∙ unless_named (device_in entry) (length (take_while (λ e. is_none (device_in e)) (reverse log)))
 
-used-nil : used [] ≡ 0
-unfolding used
+used-nil : uses_of_device_key [] ≡ 0
+unfolding uses_of_device_key
 used-nil = refl
 
 -- nothing is named by the entries
@@ -117,20 +117,20 @@ unfolding device_of
 device_of-split before entry rest key is none = last_of-split device_in before entry rest key is none
 
 -- each entry that names no device key is one more that the present one signed
-pub used-more : (log rest : List Entry) → NoneNames device_in rest → used (log ++ rest) ≡ used log + length rest
-used-more log [] none = ap used (append-nil log) ∙ omega arith
+pub used-more : (log rest : List Entry) → NoneNames device_in rest → uses_of_device_key (log ++ rest) ≡ uses_of_device_key log + length rest
+used-more log [] none = ap uses_of_device_key (append-nil log) ∙ omega arith
 used-more log (entry ∷ rest) none =
     let no : device_in entry ≡ None = All-head (λ e. device_in e ≡ None) entry rest none in
-    let one : used (log ++ entry ∷ []) ≡ used log + 1 = used-push log entry ∙ ap (λ o. if is_some o then 0 else used log + 1) no in
-    let more : used (log ++ entry ∷ [] ++ rest) ≡ used (log ++ entry ∷ []) + length rest = used-more (log ++ entry ∷ []) rest (All-tail (λ e. device_in e ≡ None) entry rest none) in
-    ap used (sym (append_snoc log entry rest)) ∙ omega (arith, one, more)
+    let one : uses_of_device_key (log ++ entry ∷ []) ≡ uses_of_device_key log + 1 = used-push log entry ∙ ap (λ o. if is_some o then 0 else uses_of_device_key log + 1) no in
+    let more : uses_of_device_key (log ++ entry ∷ [] ++ rest) ≡ uses_of_device_key (log ++ entry ∷ []) + length rest = used-more (log ++ entry ∷ []) rest (All-tail (λ e. device_in e ≡ None) entry rest none) in
+    ap uses_of_device_key (sym (append_snoc log entry rest)) ∙ omega (arith, one, more)
 
 pub used-split : (before : List Entry) (entry : Entry) (rest : List Entry) (key : PublicKey)
-    → device_in entry ≡ Some key → NoneNames device_in rest → used (before ++ entry ∷ rest) ≡ length rest
+    → device_in entry ≡ Some key → NoneNames device_in rest → uses_of_device_key (before ++ entry ∷ rest) ≡ length rest
 used-split before entry rest key is none =
-    let zero : used (before ++ entry ∷ []) ≡ 0 = used-push before entry ∙ ap (λ o. if is_some o then 0 else used before + 1) is in
-    let more : used (before ++ entry ∷ [] ++ rest) ≡ used (before ++ entry ∷ []) + length rest = used-more (before ++ entry ∷ []) rest none in
-    ap used (sym (append_snoc before entry rest)) ∙ omega (arith, zero, more)
+    let zero : uses_of_device_key (before ++ entry ∷ []) ≡ 0 = used-push before entry ∙ ap (λ o. if is_some o then 0 else uses_of_device_key before + 1) is in
+    let more : uses_of_device_key (before ++ entry ∷ [] ++ rest) ≡ uses_of_device_key (before ++ entry ∷ []) + length rest = used-more (before ++ entry ∷ []) rest none in
+    ap uses_of_device_key (sym (append_snoc before entry rest)) ∙ omega (arith, zero, more)
 
 -- a place in a list with one more at the end is that end, or stands before it
 pub split_push : {X : Type 0} (xs ys zs : List X) (x y : X) → xs ++ x ∷ [] ≡ ys ++ y ∷ zs
@@ -179,10 +179,10 @@ module _ (P : List Entry → Type 0) (step : (before : List Entry) (entry : Entr
   pub by_entries : P [] → (log : List Entry) → RuledLog log → P log
   by_entries nil log ruled = from_here [] log nil ruled
 
-used_one_more : (before : List Entry) (entry : Entry) → RuledLog before → used before ≤ 31 → Ruled (figures_of before) entry → used (before ++ entry ∷ []) ≤ 31
+used_one_more : (before : List Entry) (entry : Entry) → RuledLog before → uses_of_device_key before ≤ 31 → Ruled (figures_of before) entry → uses_of_device_key (before ++ entry ∷ []) ≤ 31
 used_one_more before (Birth version serial key layers) log few ruled = omega (arith, used-push before (Birth version serial key layers))
 used_one_more before (Change version position number kind layer cosigned layers kept None) log few ruled =
-    let not_last : used before ≢ 31 = λ e. (grind (arith, ruled.1.last_index e)) in
+    let not_last : uses_of_device_key before ≢ 31 = λ e. (grind (arith, ruled.1.last_index e)) in
     omega (arith, used-push before (Change version position number kind layer cosigned layers kept None), not_last)
 used_one_more before (Change version position number kind layer cosigned layers kept (Some next)) log few ruled =
     omega (arith, used-push before (Change version position number kind layer cosigned layers kept (Some next)))
@@ -191,8 +191,8 @@ used_one_more before (NewKey position number key_number layer kind key) log few 
 used_one_more before (Succession position key) log few ruled = omega (arith, used-push before (Succession position key))
 
 -- a device key has an index left
-pub used-bound : (log : List Entry) → RuledLog log → used log ≤ 31
-used-bound log ruled = by_entries (λ es. used es ≤ 31) used_one_more (omega (arith, used-nil)) log ruled
+pub used-bound : (log : List Entry) → RuledLog log → uses_of_device_key log ≤ 31
+used-bound log ruled = by_entries (λ es. uses_of_device_key es ≤ 31) used_one_more (omega (arith, used-nil)) log ruled
 
 -- numbers are small: no more changes and keys than entries
 pub number_of-le-length : (log : List Entry) → number_of log ≤ length log
@@ -206,11 +206,11 @@ keys_in-le (Change version position number kind layer cosigned layers kept (Some
 keys_in-le (NewKey position number key_number layer kind key) = omega arith
 keys_in-le (Succession position key) = omega arith
 
-pub made-le-length : (log : List Entry) → made log ≤ length log
-unfolding made
+pub made-le-length : (log : List Entry) → keys_made_by log ≤ length log
+unfolding keys_made_by
 made-le-length [] = omega arith
 made-le-length (entry ∷ rest) =
-    let both : made (entry ∷ rest) ≡ keys_in entry + made rest = sum_by-cons keys_in entry rest in
+    let both : keys_made_by (entry ∷ rest) ≡ keys_in entry + keys_made_by rest = sum_by-cons keys_in entry rest in
     omega (arith, both, keys_in-le entry, made-le-length rest)
 
 pub number_of-append : (log rest : List Entry) → number_of (log ++ rest) ≡ number_of log + number_of rest

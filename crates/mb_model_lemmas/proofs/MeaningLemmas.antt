@@ -20,10 +20,10 @@ use Rattle.mb_model.specs.RootFormat.{root_format}
 use Rattle.mb_model.specs.RegionFormat.{region_format, SpellsRegion}
 use Rattle.mb_model.specs.Pieces.{part}
 use Rattle.mb_model.specs.declared.limits.TheConstants.{AREA_LENGTH}
-use Rattle.mb_model.specs.Memory.{IsBlank, slots, selector_of, life_byte, first_area, second_area, current, HoldsInArea, HoldsRecord}
+use Rattle.mb_model.specs.Memory.{IsBlank, slots, selector_of, life_byte, first_area, second_area, area_of_slot, HoldsInArea, HoldsRecord}
 use Rattle.mb_model.specs.OldFlash.{flash_area, BeginsArea, BeginsWithRecord}
 use Rattle.mb_model.specs.Flash.{HoldsPublic}
-use Rattle.mb_model.specs.Meaning.{HasRoot, RootIn, HoldsRegion, Contents, FlashForm, HoldsContentsBy, HoldsContents, meant, HasMeaningBy, is_dead, is_live, StandsForBy, StandsFor}
+use Rattle.mb_model.specs.Meaning.{HasRoot, RootIn, HoldsRegion, Contents, FlashForm, HoldsContentsBy, HoldsContents, state_of_contents, HasMeaningBy, is_dead, is_live, StandsForBy, StandsFor}
 use Rattle.mb_model.proofs.RecordFormatLaws.{root_exact, region_exact}
 use Rattle.mb_model_lemmas.specs.FormLaws.{HoldsOnePublic}
 use Rattle.mb_model_lemmas.proofs.OneFlash.{one_list}
@@ -60,8 +60,8 @@ one_in w most wide less area a b r s are short_a short_b whole_a whole_b =
 IsBytes-part : (at n : ℕ) (memory : List ℕ) → IsBytes memory → IsBytes (part at n memory)
 IsBytes-part at n memory are = IsBytes-take n (drop at memory) (IsBytes-drop at memory are)
 
-pub IsBytes-current : (bbram : List ℕ) (slot : ℕ) → IsBytes bbram → IsBytes (current bbram slot)
-unfolding current first_area second_area
+pub IsBytes-current : (bbram : List ℕ) (slot : ℕ) → IsBytes bbram → IsBytes (area_of_slot bbram slot)
+unfolding area_of_slot first_area second_area
 IsBytes-current bbram slot are =
     let first : List ℕ = part (slots slot).first AREA_LENGTH bbram in
     let second : List ℕ = part (slots slot).second AREA_LENGTH bbram in
@@ -125,7 +125,7 @@ pub one_root : (life : ℕ) (between area : List ℕ) (a b : Root) → IsBytes a
 one_root life between area a b are one other = one_record root_format root_exact area a b are one.holds other.holds
 
 pub one_root_in : (bbram : List ℕ) (a b : Root) → IsBytes bbram → RootIn bbram a → RootIn bbram b → a ≡ b
-one_root_in bbram a b are = one_root _ _ (current bbram 1) a b (IsBytes-current bbram 1 are)
+one_root_in bbram a b are = one_root _ _ (area_of_slot bbram 1) a b (IsBytes-current bbram 1 are)
 
 -- ---- all of them
 
@@ -145,8 +145,8 @@ module _ (Form : FlashForm) (one_held_by : HoldsOnePublic Form) (flash bbram : L
       let root : a.root ≡ b.root = one_root_in bbram a.root b.root of_bbram one.root other.root in
       let held : Form flash b.root a.codes a.signed a.unsigned = subst (λ (r : Root). Form flash r a.codes a.signed a.unsigned) root one.public in
       let public = one_held_by flash b.root a.codes b.codes a.signed b.signed a.unsigned b.unsigned of_flash held other.public in
-      let two : a.two ≡ b.two = one_region (current bbram 2) a.two b.two (IsBytes-current bbram 2 of_bbram) one.two other.two in
-      let three : a.three ≡ b.three = one_region (current bbram 3) a.three b.three (IsBytes-current bbram 3 of_bbram) one.three other.three in
+      let two : a.two ≡ b.two = one_region (area_of_slot bbram 2) a.two b.two (IsBytes-current bbram 2 of_bbram) one.two other.two in
+      let three : a.three ≡ b.three = one_region (area_of_slot bbram 3) a.three b.three (IsBytes-current bbram 3 of_bbram) one.three other.three in
       ap (λ (x : Root). contents_of x a.codes a.signed a.unsigned a.two a.three) root
       ∙ ap (λ (x : Codes). contents_of b.root x a.signed a.unsigned a.two a.three) public.0
       ∙ ap (λ (x : List SignedEntry). contents_of b.root b.codes x a.unsigned a.two a.three) public.1
@@ -159,7 +159,7 @@ module _ (Form : FlashForm) (one_held_by : HoldsOnePublic Form) (flash bbram : L
   only_meaning a b (is_dead blank x) (is_live c holds index y) = absurd (not_blank bbram blank holds.root.alive)
   only_meaning a b (is_live c holds index x) (is_dead blank y) = absurd (not_blank bbram blank holds.root.alive)
   only_meaning a b (is_live c holds index x) (is_live d holds' index' y) =
-      x ∙ ap (λ (contents : Contents). Some (meant contents)) (one_contents_by c d holds holds') ∙ sym y
+      x ∙ ap (λ (contents : Contents). Some (state_of_contents contents)) (one_contents_by c d holds holds') ∙ sym y
 
   pub one_meaning_by : (a b : Option State) → StandsForBy Form flash bbram a → StandsForBy Form flash bbram b → a ≡ b
   one_meaning_by a b one other = only_meaning a b one.meaning other.meaning

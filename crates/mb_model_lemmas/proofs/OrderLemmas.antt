@@ -18,9 +18,9 @@ use Rattle.mb_model.specs.declared.reply.Refusal.TheVariants.{PoweredOff, WrongP
 use Rattle.mb_model.specs.declared.reply.Refusal.TheVariants.{RegionFull, NoSuchKey, KeySpent, BadText, WrongTarget}
 use Rattle.mb_model.specs.declared.reply.Refusal.TheVariants.{WrongState, WrongSignature, WrongCountersignature}
 use Rattle.mb_model.specs.declared.reply.Refusal.TheVariants.{LogFull, KeysFull}
-use Rattle.mb_model.specs.Refusals.{refused}
+use Rattle.mb_model.specs.Refusals.{refusal_reply}
 use Rattle.mb_model.specs.OrderChecks.{TargetHoldsIn, TargetsHold, MayBeGiven, IsSigned, IsCountersigned, LogHasRoom, RegionHasRoom, Passes, Fails, view_of}
-use Rattle.mb_model.specs.OrderEffects.{obeyed}
+use Rattle.mb_model.specs.OrderEffects.{state_after_order}
 use Rattle.mb_model.specs.OrderStep.{OrderStep, spells_none, fails_check, is_obeyed}
 use Rattle.mb_model.proofs.OrderFormatLaws.{order_exact}
 use Rattle.mb_model_lemmas.proofs.Splits.{not_all, first_fails_or_all, one_first, IsOne, one_more, Lacks, one_lacks, lacks_none}
@@ -176,7 +176,7 @@ one_order_step state text draw a b m n are (fails_check p) (spells_none q) = abs
 one_order_step state text draw a b m n are (fails_check p) (fails_check q) =
     let same : p.order ≡ q.order = order_clear.one_value text p.order q.order are p.spelled q.spelled in
     let refusals : p.refusal ≡ q.refusal = one_failure (view_of state) q.order p.refusal q.refusal (subst (λ (o : Order). Fails (view_of state) o p.refusal) same p.fails) q.fails in
-    (p.answered ∙ ap refused refusals ∙ sym q.answered, p.stays ∙ sym q.stays)
+    (p.answered ∙ ap refusal_reply refusals ∙ sym q.answered, p.stays ∙ sym q.stays)
 one_order_step state text draw a b m n are (fails_check p) (is_obeyed q) =
     let same : p.order ≡ q.order = order_clear.one_value text p.order q.order are p.spelled q.spelled in
     absurd (passes_fail_nothing (view_of state) q.order p.refusal q.passes (subst (λ (o : Order). Fails (view_of state) o p.refusal) same p.fails))
@@ -186,7 +186,7 @@ one_order_step state text draw a b m n are (is_obeyed p) (fails_check q) =
     absurd (passes_fail_nothing (view_of state) p.order q.refusal p.passes (subst (λ (o : Order). Fails (view_of state) o q.refusal) same q.fails))
 one_order_step state text draw a b m n are (is_obeyed p) (is_obeyed q) =
     let same : p.order ≡ q.order = order_clear.one_value text p.order q.order are p.spelled q.spelled in
-    let states : m ≡ n = p.follows ∙ ap (λ (o : Order). obeyed state o draw) same ∙ sym q.follows in
+    let states : m ≡ n = p.follows ∙ ap (λ (o : Order). state_after_order state o draw) same ∙ sym q.follows in
     (p.answered ∙ ap (λ (s : State). reply.Done (number_of (entries_of s.log)) (length s.log)) states ∙ sym q.answered, states)
 
 -- a refused order leaves the state
@@ -200,11 +200,11 @@ pub some_order_step : (state : State) (text draw : List ℕ) → IsBytes text �
 some_order_step state text draw are none =
     elim (order_clear.always text are) [
       | inl some ↦ passes_or_fails (view_of state) some.value
-          (λ passes. none (reply.Done (number_of (entries_of (obeyed state some.value draw).log)) (length (obeyed state some.value draw).log)) (obeyed state some.value draw)
+          (λ passes. none (reply.Done (number_of (entries_of (state_after_order state some.value draw).log)) (length (state_after_order state some.value draw).log)) (state_after_order state some.value draw)
           (is_obeyed (record { order = some.value; spelled = some.spelled; passes = passes; follows = refl; answered = refl })))
-          (λ refusal fails. none (refused refusal) state
+          (λ refusal fails. none (refusal_reply refusal) state
           (fails_check (record { order = some.value; spelled = some.spelled; refusal = refusal; fails = fails; answered = refl; stays = refl })))
-      | inr failing ↦ none (refused BadText) state (spells_none (record {
+      | inr failing ↦ none (refusal_reply BadText) state (spells_none (record {
         none = λ order spelled. order_clear.never_both text order failing.offset are spelled failing.fails;
         answered = refl;
         stays = refl;

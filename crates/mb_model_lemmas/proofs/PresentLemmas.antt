@@ -14,10 +14,10 @@ use Rattle.mb_model.specs.declared.order.ChangeKind.{ChangeKind}
 use Rattle.mb_model.specs.declared.entry.Entry.{Entry}
 use Rattle.mb_model.specs.declared.entry.Entry.TheVariants.{Birth, Change, NewKey, Succession}
 use Rattle.mb_model.specs.declared.state.Configuration.{Configuration}
-use Rattle.mb_model.specs.Layers.{unowned, layer_of, is_upper}
+use Rattle.mb_model.specs.Layers.{layer_without_owner, layer_of, is_upper}
 use Rattle.mb_model.specs.Rules.{admits, layer_after, after}
 use Rattle.mb_model.specs.Log.{figures_of, layers_of, Ruled, RuledLog}
-use Rattle.mb_model.specs.Lives.{ends, Alive, layers_upto, configuration, opened_by, lives_of}
+use Rattle.mb_model.specs.Lives.{ends_keys, Alive, layers_upto, configuration, configurations_opened_by, lives_of}
 use Rattle.mb_model_lemmas.proofs.LogLemmas.{layers_of-push, split_push, by_entries, RuledLog-push}
 use Rattle.mb_model_lemmas.proofs.RegionLemmas.{at_upper}
 use Rattle.mb_model_lemmas.proofs.AliveLemmas.{lives_of_new_key, lives_of-push}
@@ -39,8 +39,8 @@ upto_stays layers kind k cosigned new L upper =
     let with_parts : Layer → Layer → Layer → Layers = λ one two three. record { one = one; two = two; three = three } in
     at_upper (λ m. m < k → layers_upto m layers ≡ layers_upto m (after layers kind k cosigned new)) L upper
     (λ less.
-    ap (λ (x : Layer). with_parts x layers.two unowned) (stays 1 (omega (arith, less)))
-    ∙ ap (λ (x : Layer). with_parts (layer_after layers kind k cosigned new 1) x unowned) (stays 2 less))
+    ap (λ (x : Layer). with_parts x layers.two layer_without_owner) (stays 1 (omega (arith, less)))
+    ∙ ap (λ (x : Layer). with_parts (layer_after layers kind k cosigned new 1) x layer_without_owner) (stays 2 less))
     (λ less.
     ap (λ (x : Layer). with_parts x layers.two layers.three) (stays 1 (omega (arith, less)))
     ∙ ap (λ (x : Layer). with_parts (layer_after layers kind k cosigned new 1) x layers.three) (stays 2 (omega (arith, less)))
@@ -83,7 +83,7 @@ change_lives_now before n L version position number kind k cosigned layers kept 
     nothing_opened before (before ++ entry ∷ []) n L lives (same ∙ ap (layers_upto L) (sym stand)) now
 
 one_more : (before : List Entry) (entry : Entry) (n L : ℕ) → IsTrue (is_upper L) → (before ≡ [] → ⊥) → Ruled (figures_of before) entry
-    → lives_of (before ++ entry ∷ []) n ≡ lives_of before n ++ opened_by L entry → LivesNow before n L → LivesNow (before ++ entry ∷ []) n L
+    → lives_of (before ++ entry ∷ []) n ≡ lives_of before n ++ configurations_opened_by L entry → LivesNow before n L → LivesNow (before ++ entry ∷ []) n L
 one_more before (Birth version serial key layers) n L upper some ruled lives now = absurd (some (nil_from_length before ruled.0))
 one_more before (Change version position number kind k cosigned layers kept next) n L upper some ruled lives now =
     change_lives_now before n L version position number kind k cosigned layers kept next (nat_le k L) upper refl ruled lives now
@@ -113,9 +113,9 @@ alive_lives_now log n L kind key ruled upper =
               subst (λ (e : Entry). LivesNow (before ++ e ∷ []) n L) (sym end.2)
               ([], alive.number, fresh ∙ ap (λ (x : Layers). configuration L alive.number x ∷ []) stand)
           | inr found ↦
-              let lasts : All (λ e. ends kind L e ≡ false) (found.0 ++ entry ∷ []) = All-same (λ e. ends kind L e ≡ false) (found.0 ++ entry ∷ []) alive.later (sym found.1) alive.lasts in
-              let on : list_all (λ e. not (ends kind L e)) (found.0 ++ entry ∷ []) ≡ true =
-              list_all-from_AllPass (λ e. not (ends kind L e)) (found.0 ++ entry ∷ []) (All-weaker (λ e. ends kind L e ≡ false) (λ e. not (ends kind L e) ≡ true) (λ e off. ap not off) (found.0 ++ entry ∷ []) lasts)
+              let lasts : All (λ e. ends_keys kind L e ≡ false) (found.0 ++ entry ∷ []) = All-same (λ e. ends_keys kind L e ≡ false) (found.0 ++ entry ∷ []) alive.later (sym found.1) alive.lasts in
+              let on : list_all (λ e. not (ends_keys kind L e)) (found.0 ++ entry ∷ []) ≡ true =
+              list_all-from_AllPass (λ e. not (ends_keys kind L e)) (found.0 ++ entry ∷ []) (All-weaker (λ e. ends_keys kind L e ≡ false) (λ e. not (ends_keys kind L e) ≡ true) (λ e off. ap not off) (found.0 ++ entry ∷ []) lasts)
               in
               let lives = lives_of-push before alive.before found.0 alive.position alive.number n L kind key entry found.2 longer in
               let earlier : Alive before n L kind key = record {
@@ -124,7 +124,7 @@ alive_lives_now log n L kind key ruled upper =
                 number = alive.number;
                 later = found.0;
                 split = found.2;
-                lasts = front_all (λ e. ends kind L e ≡ false) found.0 (entry ∷ []) lasts;
+                lasts = front_all (λ e. ends_keys kind L e ≡ false) found.0 (entry ∷ []) lasts;
               } in
-              one_more before entry n L upper (λ none. not_first alive.before own found.0 (sym found.2 ∙ none)) next (lives ∙ ap (λ b. lives_of before n ++ (if b then opened_by L entry else [])) on) (lived earlier)
+              one_more before entry n L upper (λ none. not_first alive.before own found.0 (sym found.2 ∙ none)) next (lives ∙ ap (λ b. lives_of before n ++ (if b then configurations_opened_by L entry else [])) on) (lived earlier)
         ]

@@ -16,9 +16,9 @@ use Rattle.mb_model.specs.declared.stored.Pending.{Pending}
 use Rattle.mb_model.specs.declared.stored.Public.{Public}
 use Rattle.mb_model.specs.declared.stored.Root.{Root}
 use Rattle.mb_model.specs.EntryFormat.{entry_format, signed_entry_format}
-use Rattle.mb_model.specs.OrderEffects.{signed_by}
+use Rattle.mb_model.specs.OrderEffects.{entry_signed_by}
 use Rattle.mb_model.specs.RootFormat.{outgoing_format, pending_format, root_format}
-use Rattle.mb_model.specs.StoredLog.{signed_for, unsigned_by, outgoing_of}
+use Rattle.mb_model.specs.StoredLog.{entries_signed_for, how_many_unsigned, outgoing_of}
 use Rattle.mb_model.specs.PublicRecord.{public_entry_format, public_format}
 use Rattle.mb_model.specs.OldFlash.{with_signature, without_signature}
 
@@ -33,7 +33,7 @@ pub record IsBounded (root : Root) : Type 0 where
   pub area : root.area ≤ 1
   pub uses : root.uses ≤ 32
   pub outgoing : IfSome (outgoing_of root.pending) (λ outgoing. outgoing.uses ≤ 32)
-  pub unsigned : unsigned_by root.pending ≤ 2
+  pub unsigned : how_many_unsigned root.pending ≤ 2
 
 handed_over : (outgoing : Option Outgoing) → (optional outgoing_format).Allowed outgoing → IfSome outgoing (λ o. o.uses ≤ 32)
 unfolding outgoing_format
@@ -45,7 +45,7 @@ unfolding pending_format
 pending_outgoing None is = tt
 pending_outgoing (Some pending) is = handed_over pending.outgoing is.1.1.0
 
-pending_unsigned : (pending : Option Pending) → (optional pending_format).Allowed pending → unsigned_by pending ≤ 2
+pending_unsigned : (pending : Option Pending) → (optional pending_format).Allowed pending → how_many_unsigned pending ≤ 2
 unfolding pending_format
 pending_unsigned None is = omega arith
 pending_unsigned (Some pending) is = is.1.0.1
@@ -89,7 +89,7 @@ entry_from_signed signed is = is.0
 -- ---- signatures that are still to be made
 
 -- as many entries are signed as there are
-pub length-signed_for : (device : KeySeed) (uses : ℕ) (outgoing : Option Outgoing) (unsigned : List Entry) → length (signed_for device uses outgoing unsigned) ≡ length unsigned
-length-signed_for device uses None unsigned = length-map unsigned (signed_by device _)
+pub length-signed_for : (device : KeySeed) (uses : ℕ) (outgoing : Option Outgoing) (unsigned : List Entry) → length (entries_signed_for device uses outgoing unsigned) ≡ length unsigned
+length-signed_for device uses None unsigned = length-map unsigned (entry_signed_by device _)
 length-signed_for device uses (Some outgoing) [] = refl
-length-signed_for device uses (Some outgoing) (first ∷ rest) = ap (λ (n : ℕ). suc n) (length-map rest (signed_by device 0))
+length-signed_for device uses (Some outgoing) (first ∷ rest) = ap (λ (n : ℕ). suc n) (length-map rest (entry_signed_by device 0))

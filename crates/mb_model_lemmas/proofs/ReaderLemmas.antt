@@ -11,8 +11,8 @@ use Rattle.mb_model.specs.declared.key.PublicKey.{PublicKey}
 use Rattle.mb_model.specs.declared.order.KeyKind.{KeyKind}
 use Rattle.mb_model.specs.declared.entry.Entry.{Entry}
 use Rattle.mb_model.specs.declared.entry.Entry.TheVariants.{Birth, Change, NewKey, Succession}
-use Rattle.mb_model.specs.Log.{last_of, made, RuledLog}
-use Rattle.mb_model.specs.Lives.{ends, Alive, splits, opened_by, lives_from, lives_of, MadeKey, lasting, alive_keys}
+use Rattle.mb_model.specs.Log.{last_of, keys_made_by, RuledLog}
+use Rattle.mb_model.specs.Lives.{ends_keys, Alive, splits, configurations_opened_by, lives_from, lives_of, MadeKey, lasting_keys_of, alive_keys}
 use Rattle.mb_model.specs.Acceptance.{KeyEntry, key_in, key_of, is_alive}
 use Rattle.mb_model_lemmas.specs.AliveLaws.{makes, IsUnmade}
 use Rattle.mb_model_lemmas.specs.ReaderLaws.{first_life}
@@ -134,11 +134,11 @@ first_lives log entry n none =
 abbrev has_made : ℕ → MadeKey → Bool
 has_made n made = made.number == n
 
-other_lasts : (n L : ℕ) (entry : Entry) (later : List Entry) → makes n entry ≡ false → list_any (has_made n) (lasting L entry later) ≡ false
+other_lasts : (n L : ℕ) (entry : Entry) (later : List Entry) → makes n entry ≡ false → list_any (has_made n) (lasting_keys_of L entry later) ≡ false
 other_lasts n L (Birth version serial key layers) later other = refl
 other_lasts n L (Change version position number kind layer cosigned layers kept next) later other = refl
 other_lasts n L (NewKey position number key_number layer kind key) later other =
-    by ((layer == L) && list_all (λ e. not (ends kind L e)) later) (record { number = key_number; kind = kind; key = key }) other
+    by ((layer == L) && list_all (λ e. not (ends_keys kind L e)) later) (record { number = key_number; kind = kind; key = key }) other
   where
     by : (b : Bool) (own : MadeKey) → has_made n own ≡ false → list_any (has_made n) (if b then own ∷ [] else []) ≡ false
     by true own e = ap (λ b. b || false) e
@@ -150,15 +150,15 @@ unfolding is_alive
 none_alive [] n L unmade = ap (list_any (has_made n)) (alive_keys-nil L)
 none_alive (first ∷ rest) n L unmade =
     ap (list_any (has_made n)) (alive_keys-cons first rest L)
-    ∙ list_any-append (has_made n) (lasting L first rest) (alive_keys rest L)
+    ∙ list_any-append (has_made n) (lasting_keys_of L first rest) (alive_keys rest L)
     ∙ ap (λ b. b || list_any (has_made n) (alive_keys rest L)) (other_lasts n L first rest (All-head (λ e. makes n e ≡ false) first rest unmade))
     ∙ none_alive rest n L (All-tail (λ e. makes n e ≡ false) first rest unmade)
 
 own_lasts : (n L : ℕ) (position number : ℕ) (kind : KeyKind) (key : PublicKey) (later : List Entry)
-    → list_any (has_made n) (lasting L (NewKey position number n L kind key) later) ≡ list_all (λ e. not (ends kind L e)) later
+    → list_any (has_made n) (lasting_keys_of L (NewKey position number n L kind key) later) ≡ list_all (λ e. not (ends_keys kind L e)) later
 own_lasts n L position number kind key later =
     let own : MadeKey = record { number = n; kind = kind; key = key } in
-    let lasts : Bool = list_all (λ e. not (ends kind L e)) later in
+    let lasts : Bool = list_all (λ e. not (ends_keys kind L e)) later in
     ap (λ b. list_any (has_made n) (if b && lasts then own ∷ [] else [])) (eq-eqb L L refl)
     ∙ by lasts own (eq-eqb n n refl)
   where
@@ -168,14 +168,14 @@ own_lasts n L position number kind key later =
 
 -- the key is alive exactly where no later entry ended it
 alive_is_lasting : (before : List Entry) (position number n L : ℕ) (kind : KeyKind) (key : PublicKey) (later : List Entry) → IsUnmade before n → IsUnmade later n
-    → is_alive (before ++ NewKey position number n L kind key ∷ later) n L ≡ list_all (λ e. not (ends kind L e)) later
+    → is_alive (before ++ NewKey position number n L kind key ∷ later) n L ≡ list_all (λ e. not (ends_keys kind L e)) later
 unfolding is_alive
 alive_is_lasting [] position number n L kind key later unmade unmade_later =
     let own : Entry = NewKey position number n L kind key in
     ap (list_any (has_made n)) (alive_keys-cons own later L)
-    ∙ list_any-append (has_made n) (lasting L own later) (alive_keys later L)
-    ∙ ap (λ b. list_any (has_made n) (lasting L own later) || b) (none_alive later n L unmade_later)
-    ∙ or_false (list_any (has_made n) (lasting L own later))
+    ∙ list_any-append (has_made n) (lasting_keys_of L own later) (alive_keys later L)
+    ∙ ap (λ b. list_any (has_made n) (lasting_keys_of L own later) || b) (none_alive later n L unmade_later)
+    ∙ or_false (list_any (has_made n) (lasting_keys_of L own later))
     ∙ own_lasts n L position number kind key later
   where
     or_false : (b : Bool) → (b || false) ≡ b
@@ -184,7 +184,7 @@ alive_is_lasting [] position number n L kind key later unmade unmade_later =
 alive_is_lasting (first ∷ before) position number n L kind key later unmade unmade_later =
     let rest : List Entry = before ++ NewKey position number n L kind key ∷ later in
     ap (list_any (has_made n)) (alive_keys-cons first rest L)
-    ∙ list_any-append (has_made n) (lasting L first rest) (alive_keys rest L)
+    ∙ list_any-append (has_made n) (lasting_keys_of L first rest) (alive_keys rest L)
     ∙ ap (λ b. b || list_any (has_made n) (alive_keys rest L)) (other_lasts n L first rest (All-head (λ e. makes n e ≡ false) first before unmade))
     ∙ alive_is_lasting before position number n L kind key later (All-tail (λ e. makes n e ≡ false) first before unmade) unmade_later
 
@@ -202,18 +202,18 @@ unmade_before : (before : List Entry) (position number n L : ℕ) (kind : KeyKin
     → RuledLog (before ++ NewKey position number n L kind key ∷ later) → IsUnmade before n
 unmade_before before position number n L kind key later ruled =
     let own : Entry = NewKey position number n L kind key in
-    let counted : n ≡ made before = (ruled before own later refl).1.key_counted in
+    let counted : n ≡ keys_made_by before = (ruled before own later refl).1.key_counted in
     high_is_unmade before n (RuledLog-front before (own ∷ later) ruled) (omega (arith, counted))
 
 unmade_after : (before : List Entry) (position number n L : ℕ) (kind : KeyKind) (key : PublicKey) (later : List Entry)
     → RuledLog (before ++ NewKey position number n L kind key ∷ later) → IsUnmade later n
 unmade_after before position number n L kind key later ruled =
     let own : Entry = NewKey position number n L kind key in
-    let counted : n ≡ made before = (ruled before own later refl).1.key_counted in
+    let counted : n ≡ keys_made_by before = (ruled before own later refl).1.key_counted in
     later_is_unmade (before ++ own ∷ []) later n (omega (arith, counted, made-push before own)) (subst RuledLog (sym (append_snoc before own later)) ruled)
 
 alive_of_ruled : (log before : List Entry) (position number n L : ℕ) (kind : KeyKind) (key : PublicKey) (later : List Entry)
-    → log ≡ before ++ NewKey position number n L kind key ∷ later → RuledLog log → is_alive log n L ≡ list_all (λ e. not (ends kind L e)) later
+    → log ≡ before ++ NewKey position number n L kind key ∷ later → RuledLog log → is_alive log n L ≡ list_all (λ e. not (ends_keys kind L e)) later
 alive_of_ruled log before position number n L kind key later split ruled =
     let here : RuledLog (before ++ NewKey position number n L kind key ∷ later) = subst RuledLog split ruled in
     ap (λ es. is_alive es n L) split
@@ -234,32 +234,32 @@ stays_made log entry n made ruled is =
     last_of-push (key_in n) log entry ∙ ap (λ o. option_or o (last_of (key_in n) log)) (makes_none n entry other) ∙ is
 
 and_one_more : (kind : KeyKind) (L : ℕ) (later : List Entry) (entry : Entry)
-    → list_all (λ e. not (ends kind L e)) (later ++ entry ∷ []) ≡ (list_all (λ e. not (ends kind L e)) later && not (ends kind L entry))
+    → list_all (λ e. not (ends_keys kind L e)) (later ++ entry ∷ []) ≡ (list_all (λ e. not (ends_keys kind L e)) later && not (ends_keys kind L entry))
 and_one_more kind L later entry =
-    list_all-append (λ e. not (ends kind L e)) later (entry ∷ []) ∙ ap (λ b. list_all (λ e. not (ends kind L e)) later && b) (and_true (not (ends kind L entry)))
+    list_all-append (λ e. not (ends_keys kind L e)) later (entry ∷ []) ∙ ap (λ b. list_all (λ e. not (ends_keys kind L e)) later && b) (and_true (not (ends_keys kind L entry)))
   where
     and_true : (b : Bool) → (b && true) ≡ b
     and_true true = refl
     and_true false = refl
 
 pub stays_alive : (log : List Entry) (entry : Entry) (n : ℕ) (made : KeyEntry) → RuledLog (log ++ entry ∷ []) → key_of log n ≡ Some made
-    → is_alive (log ++ entry ∷ []) n made.layer ≡ (is_alive log n made.layer && not (ends made.kind made.layer entry))
+    → is_alive (log ++ entry ∷ []) n made.layer ≡ (is_alive log n made.layer && not (ends_keys made.kind made.layer entry))
 stays_alive log entry n made ruled is =
     let at = made_stands log n made is in
     let own : Entry = NewKey at.1 at.2 n made.layer made.kind made.key in
     alive_of_ruled (log ++ entry ∷ []) at.0 at.1 at.2 n made.layer made.kind made.key (at.3 ++ entry ∷ []) (longer log at.0 own entry at.3 at.4) ruled
     ∙ and_one_more made.kind made.layer at.3 entry
-    ∙ ap (λ b. b && not (ends made.kind made.layer entry)) (sym (alive_of_ruled log at.0 at.1 at.2 n made.layer made.kind made.key at.3 at.4 (RuledLog-front log (entry ∷ []) ruled)))
+    ∙ ap (λ b. b && not (ends_keys made.kind made.layer entry)) (sym (alive_of_ruled log at.0 at.1 at.2 n made.layer made.kind made.key at.3 at.4 (RuledLog-front log (entry ∷ []) ruled)))
 
 pub lives_on : (log : List Entry) (entry : Entry) (n : ℕ) (made : KeyEntry) → RuledLog (log ++ entry ∷ []) → key_of log n ≡ Some made
     → lives_of (log ++ entry ∷ []) n
-    ≡ lives_of log n ++ (if is_alive log n made.layer && not (ends made.kind made.layer entry) then opened_by made.layer entry else [])
+    ≡ lives_of log n ++ (if is_alive log n made.layer && not (ends_keys made.kind made.layer entry) then configurations_opened_by made.layer entry else [])
 lives_on log entry n made ruled is =
     let at = made_stands log n made is in
     lives_of-push log at.0 at.3 at.1 at.2 n made.layer made.kind made.key entry at.4 ruled
-    ∙ ap (λ b. lives_of log n ++ (if b then opened_by made.layer entry else []))
+    ∙ ap (λ b. lives_of log n ++ (if b then configurations_opened_by made.layer entry else []))
     (and_one_more made.kind made.layer at.3 entry
-    ∙ ap (λ b. b && not (ends made.kind made.layer entry)) (sym (alive_of_ruled log at.0 at.1 at.2 n made.layer made.kind made.key at.3 at.4 (RuledLog-front log (entry ∷ []) ruled))))
+    ∙ ap (λ b. b && not (ends_keys made.kind made.layer entry)) (sym (alive_of_ruled log at.0 at.1 at.2 n made.layer made.kind made.key at.3 at.4 (RuledLog-front log (entry ∷ []) ruled))))
 
 -- ---- what the flag says
 
@@ -271,14 +271,14 @@ pub flagged_lives : (log : List Entry) (n : ℕ) (made : KeyEntry) → RuledLog 
     → Alive log n made.layer made.kind made.key
 flagged_lives log n made ruled is flag =
     let at = made_stands log n made is in
-    let on : list_all (λ e. not (ends made.kind made.layer e)) at.3 ≡ true = sym (alive_of_ruled log at.0 at.1 at.2 n made.layer made.kind made.key at.3 at.4 ruled) ∙ flag in
+    let on : list_all (λ e. not (ends_keys made.kind made.layer e)) at.3 ≡ true = sym (alive_of_ruled log at.0 at.1 at.2 n made.layer made.kind made.key at.3 at.4 ruled) ∙ flag in
     record {
       before = at.0;
       position = at.1;
       number = at.2;
       later = at.3;
       split = at.4;
-      lasts = All-weaker (λ e. not (ends made.kind made.layer e) ≡ true) (λ e. ends made.kind made.layer e ≡ false) (λ e off. not_true (ends made.kind made.layer e) off) at.3 (AllPass-from_list_all (λ e. not (ends made.kind made.layer e)) at.3 on);
+      lasts = All-weaker (λ e. not (ends_keys made.kind made.layer e) ≡ true) (λ e. ends_keys made.kind made.layer e ≡ false) (λ e off. not_true (ends_keys made.kind made.layer e) off) at.3 (AllPass-from_list_all (λ e. not (ends_keys made.kind made.layer e)) at.3 on);
     }
 
 pub living_is_flagged : (log : List Entry) (n : ℕ) (made : KeyEntry) → Alive log n made.layer made.kind made.key → is_alive log n made.layer ≡ true

@@ -12,10 +12,10 @@ use Rattle.mb_model.specs.declared.state.State.{State}
 use Rattle.mb_model.specs.Layers.{is_runnable}
 use Rattle.mb_model.specs.declared.reply.Refusal.{Refusal}
 use Rattle.mb_model.specs.declared.reply.Refusal.TheVariants.{WrongPhase, Zeroised, WrongLayer}
-use Rattle.mb_model.specs.Refusals.{refused}
+use Rattle.mb_model.specs.Refusals.{refusal_reply}
 use Rattle.mb_model.specs.Regions.{region_of}
 use Rattle.mb_model.specs.LayerEvents.{Outcome, on_region, has_name, has_number, put_event, get_event, drop_event, sign_with, sign_event}
-use Rattle.mb_model.specs.Machine.{Phase, off, dead, ratchet, World, Told, boot_event, awake, awake_in, status_event, go_event, region_event, CommandStep, Machine, may_be_cut, Step, answered, lacks_memory, loses_power}
+use Rattle.mb_model.specs.Machine.{Phase, off, dead, ratchet, World, Told, boot_event, running_state, running_state_in, status_event, go_event, region_event, CommandStep, Machine, may_be_cut, Step, machine_step, lacks_memory, loses_power}
 use Rattle.mb_model_lemmas.specs.RefusalLaws.{Leaves, BringsBytes, IsPhase}
 use Rattle.mb_model_lemmas.proofs.ReplyTests.{HasValue, either_has, boot_has, status_has, go_has, region_has, put_has, get_has, drop_has, command_has}
 use Rattle.mb_model_lemmas.proofs.OrderLemmas.{one_order_step, some_order_step, refused_order_leaves}
@@ -56,7 +56,7 @@ status_leaves world n next (Err refusal) e = ap (λ (t : Told). t.1) e
 status_leaves world n next (Ok on) e = ap (λ (t : Told). t.1) e
 
 go_either : (world : World) (n : ℕ) (next : World) (past runs : Bool) (r : ℕ) (further : World)
-    → ◌≡◌ {A = Told} (reply.Refused n, next) (if past then (refused WrongPhase, world) else if runs then (reply.At r, further) else (refused WrongLayer, world))
+    → ◌≡◌ {A = Told} (reply.Refused n, next) (if past then (refusal_reply WrongPhase, world) else if runs then (reply.At r, further) else (refusal_reply WrongLayer, world))
     → next ≡ world
 go_either world n next true runs r further e = ap (λ (t : Told). t.1) e
 go_either world n next false true r further e =
@@ -105,10 +105,10 @@ sign_spares L number message state = sign_with_spares L (find (has_number number
 
 region_spares : (r L : ℕ) (does : State → Outcome) (state : State) → Spares state (does state) → Spares state (on_region r L does state)
 region_spares r L does state spares =
-    either_spares state (nat_lt L r || not (is_runnable state.layers L)) (refused WrongLayer, state) (does state) (λ n e. refl) spares
+    either_spares state (nat_lt L r || not (is_runnable state.layers L)) (refusal_reply WrongLayer, state) (does state) (λ n e. refl) spares
 
 -- a device that is awake has the state
-pub awake_state : (phase : Phase) (state : Option State) (on : ℕ × State) → awake phase state ≡ Ok on → state ≡ Some on.1
+pub awake_state : (phase : Phase) (state : Option State) (on : ℕ × State) → running_state phase state ≡ Ok on → state ≡ Some on.1
 awake_state off state on e = absurd (grind (arith, e))
 awake_state dead state on e = absurd (grind (arith, e))
 awake_state (ratchet r) None on e = absurd (grind (arith, e))
@@ -116,7 +116,7 @@ awake_state (ratchet r) (Some state) on e =
     ap Some (ap (λ (x : Result (ℕ × State) Refusal). elim x [ Ok y ↦ y.1 | Err refusal ↦ state ]) e)
 
 region_leaves : (world : World) (given : Event) (L : ℕ) (does : State → Outcome) (n : ℕ) (next : World) (on : Result (ℕ × State) Refusal)
-    → ((state : State) → Spares state (does state)) → awake_in world ≡ on
+    → ((state : State) → Spares state (does state)) → running_state_in world ≡ on
     → ◌≡◌ {A = Told} (reply.Refused n, next) (region_event world L does on) → Leaves world given next
 region_leaves world given L does n next (Err refusal) spares is e = left_alone world given next (ap (λ (t : Told). t.1) e)
 region_leaves world given L does n next (Ok on) spares is e =
@@ -125,7 +125,7 @@ region_leaves world given L does n next (Ok on) spares is e =
     let stays : (on_region on.0 L does on.1).1 ≡ on.1 = region_spares on.0 L does on.1 (spares on.1) n answer in
     same_state world given next on.1 (same ∙ ap (λ (s : State). record world { state = Some s }) stays) (awake_state world.phase world.state on is)
 
-command_leaves : (world : World) (text draw : List ℕ) (n : ℕ) (next : World) (on : Result (ℕ × State) Refusal) → awake_in world ≡ on
+command_leaves : (world : World) (text draw : List ℕ) (n : ℕ) (next : World) (on : Result (ℕ × State) Refusal) → running_state_in world ≡ on
     → CommandStep world text draw on (reply.Refused n) next → Leaves world (event.Command text draw) next
 command_leaves world text draw n next (Err refusal) is x = left_alone world (event.Command text draw) next x.1
 command_leaves world text draw n next (Ok on) is (inl x) =
@@ -138,16 +138,16 @@ machine_leaves world event.Boot n next x = boot_leaves world n next world.phase 
 machine_leaves world event.Off n next x = absurd (grind (arith, x.0))
 machine_leaves world event.Tamper n next x = absurd (grind (arith, x.0))
 machine_leaves world (event.Cut count tear) n next x = absurd (grind (arith, x.0))
-machine_leaves world event.Status n next x = left_alone world event.Status next (status_leaves world n next (awake_in world) x)
-machine_leaves world (event.Command text draw) n next x = command_leaves world text draw n next (awake_in world) refl x
-machine_leaves world event.Go n next x = left_alone world event.Go next (go_leaves world n next (awake_in world) x)
-machine_leaves world (event.Put L name value) n next x = region_leaves world (event.Put L name value) L (put_event L name value) n next (awake_in world) (put_spares L name value) refl x
-machine_leaves world (event.Get L name) n next x = region_leaves world (event.Get L name) L (get_event L name) n next (awake_in world) (get_spares L name) refl x
-machine_leaves world (event.Drop L name) n next x = region_leaves world (event.Drop L name) L (drop_event L name) n next (awake_in world) (drop_spares L name) refl x
-machine_leaves world (event.Sign L key message) n next x = region_leaves world (event.Sign L key message) L (sign_event L key message) n next (awake_in world) (sign_spares L key message) refl x
+machine_leaves world event.Status n next x = left_alone world event.Status next (status_leaves world n next (running_state_in world) x)
+machine_leaves world (event.Command text draw) n next x = command_leaves world text draw n next (running_state_in world) refl x
+machine_leaves world event.Go n next x = left_alone world event.Go next (go_leaves world n next (running_state_in world) x)
+machine_leaves world (event.Put L name value) n next x = region_leaves world (event.Put L name value) L (put_event L name value) n next (running_state_in world) (put_spares L name value) refl x
+machine_leaves world (event.Get L name) n next x = region_leaves world (event.Get L name) L (get_event L name) n next (running_state_in world) (get_spares L name) refl x
+machine_leaves world (event.Drop L name) n next x = region_leaves world (event.Drop L name) L (drop_event L name) n next (running_state_in world) (drop_spares L name) refl x
+machine_leaves world (event.Sign L key message) n next x = region_leaves world (event.Sign L key message) L (sign_event L key message) n next (running_state_in world) (sign_spares L key message) refl x
 
 pub refusals_leave : (world : World) (given : Event) (n : ℕ) (next : World) → Step world given (reply.Refused n) next → Leaves world given next
-refusals_leave world given n next (answered x) = machine_leaves world given n next x
+refusals_leave world given n next (machine_step x) = machine_leaves world given n next x
 refusals_leave world given n next (lacks_memory p) = absurd (grind (arith, p.answered))
 refusals_leave world given n next (loses_power p) = absurd (grind (arith, p.answered))
 
@@ -191,13 +191,13 @@ machine_own world event.Boot answer next x = told_own answer next (boot_event wo
 machine_own world event.Off answer next x = ap is_own x.0
 machine_own world event.Tamper answer next x = ap is_own x.0
 machine_own world (event.Cut count tear) answer next x = ap is_own x.0
-machine_own world event.Status answer next x = told_own answer next (status_event world (awake_in world)) x (status_has is_own true own_replies world (awake_in world))
-machine_own world (event.Command text draw) answer next x = command_has is_own true own_replies world text draw (awake_in world) answer next x
-machine_own world event.Go answer next x = told_own answer next (go_event world (awake_in world)) x (go_has is_own true own_replies world (awake_in world))
-machine_own world (event.Put L name value) answer next x = told_own answer next (region_event world L (put_event L name value) (awake_in world)) x (region_has is_own true own_replies world L (put_event L name value) (awake_in world) (put_has is_own true own_replies L name value))
-machine_own world (event.Get L name) answer next x = told_own answer next (region_event world L (get_event L name) (awake_in world)) x (region_has is_own true own_replies world L (get_event L name) (awake_in world) (get_has is_own true own_replies L name))
-machine_own world (event.Drop L name) answer next x = told_own answer next (region_event world L (drop_event L name) (awake_in world)) x (region_has is_own true own_replies world L (drop_event L name) (awake_in world) (drop_has is_own true own_replies L name))
-machine_own world (event.Sign L key message) answer next x = told_own answer next (region_event world L (sign_event L key message) (awake_in world)) x (region_has is_own true own_replies world L (sign_event L key message) (awake_in world) (sign_own L key message))
+machine_own world event.Status answer next x = told_own answer next (status_event world (running_state_in world)) x (status_has is_own true own_replies world (running_state_in world))
+machine_own world (event.Command text draw) answer next x = command_has is_own true own_replies world text draw (running_state_in world) answer next x
+machine_own world event.Go answer next x = told_own answer next (go_event world (running_state_in world)) x (go_has is_own true own_replies world (running_state_in world))
+machine_own world (event.Put L name value) answer next x = told_own answer next (region_event world L (put_event L name value) (running_state_in world)) x (region_has is_own true own_replies world L (put_event L name value) (running_state_in world) (put_has is_own true own_replies L name value))
+machine_own world (event.Get L name) answer next x = told_own answer next (region_event world L (get_event L name) (running_state_in world)) x (region_has is_own true own_replies world L (get_event L name) (running_state_in world) (get_has is_own true own_replies L name))
+machine_own world (event.Drop L name) answer next x = told_own answer next (region_event world L (drop_event L name) (running_state_in world)) x (region_has is_own true own_replies world L (drop_event L name) (running_state_in world) (drop_has is_own true own_replies L name))
+machine_own world (event.Sign L key message) answer next x = told_own answer next (region_event world L (sign_event L key message) (running_state_in world)) x (region_has is_own true own_replies world L (sign_event L key message) (running_state_in world) (sign_own L key message))
 
 not_own : (answer other : Reply) → is_own other ≡ false → is_own answer ≡ true → answer ≡ other → ⊥
 not_own answer other foreign own same =
@@ -210,16 +210,16 @@ machine_is_whole world given answer next x =
     (not_own answer reply.NoMemory refl own, not_own answer reply.Stopped refl own)
 
 pub no_memory_leaves : (world : World) (given : Event) (next : World) → Step world given reply.NoMemory next → next ≡ world
-no_memory_leaves world given next (answered x) = absurd ((machine_is_whole world given reply.NoMemory next x).0 refl)
+no_memory_leaves world given next (machine_step x) = absurd ((machine_is_whole world given reply.NoMemory next x).0 refl)
 no_memory_leaves world given next (lacks_memory p) = p.stays
 no_memory_leaves world given next (loses_power p) = absurd (grind (arith, p.answered))
 
 -- ---- power after an event
 
 -- a device that is awake has power
-awake_is_on : (world : World) (on : ℕ × State) → awake_in world ≡ Ok on → world.phase ≡ off → ⊥
+awake_is_on : (world : World) (on : ℕ × State) → running_state_in world ≡ Ok on → world.phase ≡ off → ⊥
 awake_is_on world on is dark =
-    let dark_refused : awake off world.state ≡ Ok on = subst (λ (phase : Phase). awake phase world.state ≡ Ok on) dark is in
+    let dark_refused : running_state off world.state ≡ Ok on = subst (λ (phase : Phase). running_state phase world.state ≡ Ok on) dark is in
     grind (arith, dark_refused)
 
 -- a reply that only an event which writes can have: power is on after it
@@ -231,8 +231,8 @@ quiet answer other next same uncut writes =
     let clash : true ≡ false = sym writes ∙ ap may_be_cut same ∙ uncut in
     absurd (grind (arith, clash))
 
-refuses : (refusal : Refusal) (next : World) → IsOnAfter (refused refusal) next
-refuses refusal next = quiet (refused refusal) (refused refusal) next refl refl
+refuses : (refusal : Refusal) (next : World) → IsOnAfter (refusal_reply refusal) next
+refuses refusal next = quiet (refusal_reply refusal) (refusal_reply refusal) next refl refl
 
 told_on : (answer : Reply) (next : World) (told : Told) → ◌≡◌ {A = Told} (answer, next) told → IsOnAfter told.0 told.1 → IsOnAfter answer next
 told_on answer next told e on writes dark = on (sym (ap (λ (t : Told). may_be_cut t.0) e) ∙ writes) (sym (ap (λ (t : Told). t.1.phase) e) ∙ dark)
@@ -243,11 +243,11 @@ boot_on world off None = refuses Zeroised (record world { phase = dead })
 boot_on world dead state = refuses Zeroised world
 boot_on world (ratchet r) state = refuses WrongPhase world
 
-status_on : (world : World) (on : Result (ℕ × State) Refusal) → awake_in world ≡ on → IsOnAfter (status_event world on).0 (status_event world on).1
+status_on : (world : World) (on : Result (ℕ × State) Refusal) → running_state_in world ≡ on → IsOnAfter (status_event world on).0 (status_event world on).1
 status_on world (Err refusal) is = refuses refusal world
 status_on world (Ok on) is = λ writes dark. awake_is_on world on is dark
 
-region_on : (world : World) (L : ℕ) (does : State → Outcome) (on : Result (ℕ × State) Refusal) → awake_in world ≡ on → IsOnAfter (region_event world L does on).0 (region_event world L does on).1
+region_on : (world : World) (L : ℕ) (does : State → Outcome) (on : Result (ℕ × State) Refusal) → running_state_in world ≡ on → IsOnAfter (region_event world L does on).0 (region_event world L does on).1
 region_on world L does (Err refusal) is = refuses refusal world
 region_on world L does (Ok on) is = λ writes dark. awake_is_on world on is dark
 
@@ -255,41 +255,41 @@ either_on : (b : Bool) (x y : Told) → IsOnAfter x.0 x.1 → IsOnAfter y.0 y.1 
 either_on true x y first second = first
 either_on false x y first second = second
 
-go_on : (world : World) (on : Result (ℕ × State) Refusal) → awake_in world ≡ on → IsOnAfter (go_event world on).0 (go_event world on).1
+go_on : (world : World) (on : Result (ℕ × State) Refusal) → running_state_in world ≡ on → IsOnAfter (go_event world on).0 (go_event world on).1
 go_on world (Err refusal) is = refuses refusal world
 go_on world (Ok on) is =
-    either_on (nat_lt 2 on.0) (refused WrongPhase, world) _ (refuses WrongPhase world)
-    (either_on (is_runnable on.1.layers (on.0 + 1)) (reply.At (on.0 + 1), record world { phase = ratchet (on.0 + 1) }) (refused WrongLayer, world)
+    either_on (nat_lt 2 on.0) (refusal_reply WrongPhase, world) _ (refuses WrongPhase world)
+    (either_on (is_runnable on.1.layers (on.0 + 1)) (reply.At (on.0 + 1), record world { phase = ratchet (on.0 + 1) }) (refusal_reply WrongLayer, world)
     (quiet (reply.At (on.0 + 1)) (reply.At (on.0 + 1)) (record world { phase = ratchet (on.0 + 1) }) refl refl) (refuses WrongLayer world))
 
-command_on : (world : World) (text draw : List ℕ) (on : Result (ℕ × State) Refusal) (answer : Reply) (next : World) → awake_in world ≡ on
+command_on : (world : World) (text draw : List ℕ) (on : Result (ℕ × State) Refusal) (answer : Reply) (next : World) → running_state_in world ≡ on
     → CommandStep world text draw on answer next → IsOnAfter answer next
-command_on world text draw (Err refusal) answer next is x = quiet answer (refused refusal) next x.0 refl
+command_on world text draw (Err refusal) answer next is x = quiet answer (refusal_reply refusal) next x.0 refl
 command_on world text draw (Ok on) answer next is (inl x) = λ writes dark. awake_is_on world on is (sym (ap (λ (w : World). w.phase) x.1.2) ∙ dark)
-command_on world text draw (Ok on) answer next is (inr x) = quiet answer (refused WrongPhase) next x.1 refl
+command_on world text draw (Ok on) answer next is (inr x) = quiet answer (refusal_reply WrongPhase) next x.1 refl
 
 machine_on : (world : World) (given : Event) (answer : Reply) (next : World) → Machine world given answer next → IsOnAfter answer next
 machine_on world event.Boot answer next x = told_on answer next (boot_event world world.phase world.state) x (boot_on world world.phase world.state)
 machine_on world event.Off answer next x = quiet answer reply.Off next x.0 refl
 machine_on world event.Tamper answer next x = quiet answer reply.Tampered next x.0 refl
 machine_on world (event.Cut count tear) answer next x = quiet answer reply.Armed next x.0 refl
-machine_on world event.Status answer next x = told_on answer next (status_event world (awake_in world)) x (status_on world (awake_in world) refl)
-machine_on world (event.Command text draw) answer next x = command_on world text draw (awake_in world) answer next refl x
-machine_on world event.Go answer next x = told_on answer next (go_event world (awake_in world)) x (go_on world (awake_in world) refl)
-machine_on world (event.Put L name value) answer next x = told_on answer next (region_event world L (put_event L name value) (awake_in world)) x (region_on world L (put_event L name value) (awake_in world) refl)
-machine_on world (event.Get L name) answer next x = told_on answer next (region_event world L (get_event L name) (awake_in world)) x (region_on world L (get_event L name) (awake_in world) refl)
-machine_on world (event.Drop L name) answer next x = told_on answer next (region_event world L (drop_event L name) (awake_in world)) x (region_on world L (drop_event L name) (awake_in world) refl)
-machine_on world (event.Sign L key message) answer next x = told_on answer next (region_event world L (sign_event L key message) (awake_in world)) x (region_on world L (sign_event L key message) (awake_in world) refl)
+machine_on world event.Status answer next x = told_on answer next (status_event world (running_state_in world)) x (status_on world (running_state_in world) refl)
+machine_on world (event.Command text draw) answer next x = command_on world text draw (running_state_in world) answer next refl x
+machine_on world event.Go answer next x = told_on answer next (go_event world (running_state_in world)) x (go_on world (running_state_in world) refl)
+machine_on world (event.Put L name value) answer next x = told_on answer next (region_event world L (put_event L name value) (running_state_in world)) x (region_on world L (put_event L name value) (running_state_in world) refl)
+machine_on world (event.Get L name) answer next x = told_on answer next (region_event world L (get_event L name) (running_state_in world)) x (region_on world L (get_event L name) (running_state_in world) refl)
+machine_on world (event.Drop L name) answer next x = told_on answer next (region_event world L (drop_event L name) (running_state_in world)) x (region_on world L (drop_event L name) (running_state_in world) refl)
+machine_on world (event.Sign L key message) answer next x = told_on answer next (region_event world L (sign_event L key message) (running_state_in world)) x (region_on world L (sign_event L key message) (running_state_in world) refl)
 
 -- power is on after an event that was answered as one that writes
 pub written_is_on : (world : World) (given : Event) (answer : Reply) (next : World) → Step world given answer next → may_be_cut answer ≡ true → next.phase ≡ off → ⊥
-written_is_on world given answer next (answered x) = machine_on world given answer next x
+written_is_on world given answer next (machine_step x) = machine_on world given answer next x
 written_is_on world given answer next (lacks_memory p) = quiet answer reply.NoMemory next p.answered refl
 written_is_on world given answer next (loses_power p) = quiet answer reply.Stopped next p.answered refl
 
 -- a device that was tampered with has no state
 pub tampered_is_dead : (world : World) (answer : Reply) (next : World) → Step world event.Tamper answer next → next.state ≡ None
-tampered_is_dead world answer next (answered x) = ap (λ (w : World). w.state) x.1
+tampered_is_dead world answer next (machine_step x) = ap (λ (w : World). w.state) x.1
 tampered_is_dead world answer next (lacks_memory p) = absurd (grind (arith, p.wanted))
 tampered_is_dead world answer next (loses_power p) =
     let clash : IsTrue (may_be_cut reply.Tampered) = subst (λ (r : Reply). IsTrue (may_be_cut r)) p.machine.0 p.writes in
@@ -317,17 +317,17 @@ machine_is_function world event.Boot a b m n are x y = one_told a b m n (boot_ev
 machine_is_function world event.Off a b m n are x y = (x.0 ∙ sym y.0, x.1 ∙ sym y.1)
 machine_is_function world event.Tamper a b m n are x y = (x.0 ∙ sym y.0, x.1 ∙ sym y.1)
 machine_is_function world (event.Cut count tear) a b m n are x y = (x.0 ∙ sym y.0, x.1 ∙ sym y.1)
-machine_is_function world event.Status a b m n are x y = one_told a b m n (status_event world (awake_in world)) x y
-machine_is_function world (event.Command text draw) a b m n are x y = one_command world text draw (awake_in world) a b m n are x y
-machine_is_function world event.Go a b m n are x y = one_told a b m n (go_event world (awake_in world)) x y
-machine_is_function world (event.Put L name value) a b m n are x y = one_told a b m n (region_event world L (put_event L name value) (awake_in world)) x y
-machine_is_function world (event.Get L name) a b m n are x y = one_told a b m n (region_event world L (get_event L name) (awake_in world)) x y
-machine_is_function world (event.Drop L name) a b m n are x y = one_told a b m n (region_event world L (drop_event L name) (awake_in world)) x y
-machine_is_function world (event.Sign L key message) a b m n are x y = one_told a b m n (region_event world L (sign_event L key message) (awake_in world)) x y
+machine_is_function world event.Status a b m n are x y = one_told a b m n (status_event world (running_state_in world)) x y
+machine_is_function world (event.Command text draw) a b m n are x y = one_command world text draw (running_state_in world) a b m n are x y
+machine_is_function world event.Go a b m n are x y = one_told a b m n (go_event world (running_state_in world)) x y
+machine_is_function world (event.Put L name value) a b m n are x y = one_told a b m n (region_event world L (put_event L name value) (running_state_in world)) x y
+machine_is_function world (event.Get L name) a b m n are x y = one_told a b m n (region_event world L (get_event L name) (running_state_in world)) x y
+machine_is_function world (event.Drop L name) a b m n are x y = one_told a b m n (region_event world L (drop_event L name) (running_state_in world)) x y
+machine_is_function world (event.Sign L key message) a b m n are x y = one_told a b m n (region_event world L (sign_event L key message) (running_state_in world)) x y
 
 -- ---- phases
 
-is_awake : (phase : Phase) (state : Option State) (on : ℕ × State) → IsPhase phase → awake phase state ≡ Ok on → (1 ≤ on.0) × (on.0 ≤ 3)
+is_awake : (phase : Phase) (state : Option State) (on : ℕ × State) → IsPhase phase → running_state phase state ≡ Ok on → (1 ≤ on.0) × (on.0 ≤ 3)
 is_awake off state on holds e = absurd (grind (arith, e))
 is_awake dead state on holds e = absurd (grind (arith, e))
 is_awake (ratchet r) None on holds e = absurd (grind (arith, e))
@@ -360,11 +360,11 @@ either_phase false x y first second = second refl
 not_past : (r : ℕ) → nat_lt 2 r ≡ false → r + 1 ≤ 3
 not_past r e = grind (arith, e)
 
-go_phase : (world : World) (on : Result (ℕ × State) Refusal) → awake_in world ≡ on → IsPhase world.phase → IsPhase (go_event world on).1.phase
+go_phase : (world : World) (on : Result (ℕ × State) Refusal) → running_state_in world ≡ on → IsPhase world.phase → IsPhase (go_event world on).1.phase
 go_phase world (Err refusal) is holds = holds
 go_phase world (Ok on) is holds =
-    either_phase (nat_lt 2 on.0) (refused WrongPhase, world) _ (λ past. holds)
-    (λ below. either_phase (is_runnable on.1.layers (on.0 + 1)) (reply.At (on.0 + 1), record world { phase = ratchet (on.0 + 1) }) (refused WrongLayer, world)
+    either_phase (nat_lt 2 on.0) (refusal_reply WrongPhase, world) _ (λ past. holds)
+    (λ below. either_phase (is_runnable on.1.layers (on.0 + 1)) (reply.At (on.0 + 1), record world { phase = ratchet (on.0 + 1) }) (refusal_reply WrongLayer, world)
     (λ runs. (omega arith, not_past on.0 below)) (λ stays. holds))
 
 command_phase : (world : World) (text draw : List ℕ) (on : Result (ℕ × State) Refusal) (answer : Reply) (next : World) → CommandStep world text draw on answer next → next.phase ≡ world.phase
@@ -378,16 +378,16 @@ machine_phase world event.Boot answer next holds x =
 machine_phase world event.Off answer next holds x = subst IsPhase (sym (ap (λ (w : World). w.phase) x.1)) tt
 machine_phase world event.Tamper answer next holds x = subst IsPhase (sym (ap (λ (w : World). w.phase) x.1)) tt
 machine_phase world (event.Cut count tear) answer next holds x = subst IsPhase (sym (ap (λ (w : World). w.phase) x.1)) holds
-machine_phase world event.Status answer next holds x = same_phase world answer next (status_event world (awake_in world)) holds (status_phase world (awake_in world)) x
-machine_phase world (event.Command text draw) answer next holds x = subst IsPhase (sym (command_phase world text draw (awake_in world) answer next x)) holds
-machine_phase world event.Go answer next holds x = subst IsPhase (sym (ap (λ (t : Told). t.1.phase) x)) (go_phase world (awake_in world) refl holds)
-machine_phase world (event.Put L name value) answer next holds x = same_phase world answer next (region_event world L (put_event L name value) (awake_in world)) holds (region_phase world L (put_event L name value) (awake_in world)) x
-machine_phase world (event.Get L name) answer next holds x = same_phase world answer next (region_event world L (get_event L name) (awake_in world)) holds (region_phase world L (get_event L name) (awake_in world)) x
-machine_phase world (event.Drop L name) answer next holds x = same_phase world answer next (region_event world L (drop_event L name) (awake_in world)) holds (region_phase world L (drop_event L name) (awake_in world)) x
-machine_phase world (event.Sign L key message) answer next holds x = same_phase world answer next (region_event world L (sign_event L key message) (awake_in world)) holds (region_phase world L (sign_event L key message) (awake_in world)) x
+machine_phase world event.Status answer next holds x = same_phase world answer next (status_event world (running_state_in world)) holds (status_phase world (running_state_in world)) x
+machine_phase world (event.Command text draw) answer next holds x = subst IsPhase (sym (command_phase world text draw (running_state_in world) answer next x)) holds
+machine_phase world event.Go answer next holds x = subst IsPhase (sym (ap (λ (t : Told). t.1.phase) x)) (go_phase world (running_state_in world) refl holds)
+machine_phase world (event.Put L name value) answer next holds x = same_phase world answer next (region_event world L (put_event L name value) (running_state_in world)) holds (region_phase world L (put_event L name value) (running_state_in world)) x
+machine_phase world (event.Get L name) answer next holds x = same_phase world answer next (region_event world L (get_event L name) (running_state_in world)) holds (region_phase world L (get_event L name) (running_state_in world)) x
+machine_phase world (event.Drop L name) answer next holds x = same_phase world answer next (region_event world L (drop_event L name) (running_state_in world)) holds (region_phase world L (drop_event L name) (running_state_in world)) x
+machine_phase world (event.Sign L key message) answer next holds x = same_phase world answer next (region_event world L (sign_event L key message) (running_state_in world)) holds (region_phase world L (sign_event L key message) (running_state_in world)) x
 
 pub phases_stay_phases : (world : World) (given : Event) (answer : Reply) (next : World) → IsPhase world.phase → Step world given answer next → IsPhase next.phase
-phases_stay_phases world given answer next holds (answered x) = machine_phase world given answer next holds x
+phases_stay_phases world given answer next holds (machine_step x) = machine_phase world given answer next holds x
 phases_stay_phases world given answer next holds (lacks_memory p) = subst IsPhase (sym (ap (λ (w : World). w.phase) p.stays)) holds
 phases_stay_phases world given answer next holds (loses_power p) = subst IsPhase (sym (ap (λ (w : World). w.phase) p.follows)) tt
 
@@ -398,13 +398,13 @@ first_or_later zero low = absurd (omega (arith, low))
 first_or_later (suc zero) low = inl (omega arith)
 first_or_later (suc (suc r)) low = inr (omega arith)
 
-some_command : (world : World) (text draw : List ℕ) (on : Result (ℕ × State) Refusal) → awake_in world ≡ on → IsPhase world.phase → IsBytes text
+some_command : (world : World) (text draw : List ℕ) (on : Result (ℕ × State) Refusal) → running_state_in world ≡ on → IsPhase world.phase → IsBytes text
     → ((answer : Reply) (next : World) → CommandStep world text draw on answer next → ⊥) → ⊥
-some_command world text draw (Err refusal) is holds are none = none (refused refusal) world (refl, refl)
+some_command world text draw (Err refusal) is holds are none = none (refusal_reply refusal) world (refl, refl)
 some_command world text draw (Ok on) is holds are none =
     elim (first_or_later on.0 (is_awake world.phase world.state on holds is).0) [
       | inl one ↦ some_order_step on.1 text draw are (λ answer state step. none answer (record world { state = Some state }) (inl (one, (state, step, refl))))
-      | inr past ↦ none (refused WrongPhase) world (inr (past, refl, refl))
+      | inr past ↦ none (refusal_reply WrongPhase) world (inr (past, refl, refl))
     ]
 
 pub machine_answers : (world : World) (given : Event) → IsPhase world.phase → BringsBytes given → ((answer : Reply) (next : World) → Machine world given answer next → ⊥) → ⊥
@@ -413,7 +413,7 @@ machine_answers world event.Off holds are none = none _ _ (refl, refl)
 machine_answers world event.Tamper holds are none = none _ _ (refl, refl)
 machine_answers world (event.Cut count tear) holds are none = none _ _ (refl, refl)
 machine_answers world event.Status holds are none = none _ _ refl
-machine_answers world (event.Command text draw) holds are none = some_command world text draw (awake_in world) refl holds are none
+machine_answers world (event.Command text draw) holds are none = some_command world text draw (running_state_in world) refl holds are none
 machine_answers world event.Go holds are none = none _ _ refl
 machine_answers world (event.Put L name value) holds are none = none _ _ refl
 machine_answers world (event.Get L name) holds are none = none _ _ refl

@@ -11,7 +11,7 @@ use Rattle.mb_model.specs.declared.reply.Reply.TheVariants as reply
 use Rattle.mb_model.specs.declared.reply.Standing.{Standing}
 use Rattle.mb_model.specs.declared.state.State.{State}
 use Rattle.mb_model.specs.Layers.{is_runnable}
-use Rattle.mb_model.specs.Refusals.{refused}
+use Rattle.mb_model.specs.Refusals.{refusal_reply}
 use Rattle.mb_model.specs.Regions.{region_of}
 use Rattle.mb_model.specs.OrderStep.{OrderStep, spells_none, fails_check, is_obeyed}
 use Rattle.mb_model.specs.LayerEvents.{Outcome, has_name, value_reply, put_event, get_event, drop_event}
@@ -61,7 +61,7 @@ module _ (test : Reply → Bool) (value : Bool) (has : HasValue test value) wher
   pub region_has : (world : World) (L : ℕ) (does : State → Outcome) (on : Result (ℕ × State) Refusal) → ((state : State) → test (does state).0 ≡ value) → test (region_event world L does on).0 ≡ value
   region_has world L does (Err refusal) each = has.refused _
   region_has world L does (Ok on) each =
-      either_reply (nat_lt L on.0 || not (is_runnable on.1.layers L)) (refused WrongLayer, on.1) (does on.1) (has.refused _) (each on.1)
+      either_reply (nat_lt L on.0 || not (is_runnable on.1.layers L)) (refusal_reply WrongLayer, on.1) (does on.1) (has.refused _) (each on.1)
 
   pub boot_has : (world : World) (phase : Phase) (state : Option State) → test (boot_event world phase state).0 ≡ value
   boot_has world off (Some state) = has.booted

@@ -17,7 +17,7 @@ use Rattle.mb_model.specs.declared.entry.Entry.{Entry}
 use Rattle.mb_model.specs.declared.entry.Entry.TheVariants.{Birth, Change, NewKey, Succession}
 use Rattle.mb_model.specs.Log.{figures_of, layers_of, AreFirst, MayHaveVersion, Ruled, RuledLog}
 use Rattle.mb_model_lemmas.proofs.LogLemmas.{layers_of-push, by_entries}
-use Rattle.mb_model.specs.Rules.{kind_of, change_of, Condition, CanPlace, placed, admits, layer_after, after}
+use Rattle.mb_model.specs.Rules.{kind_of, change_of, Condition, CanPlace, layer_from_order, admits, layer_after, after}
 
 -- what a change puts in place is a layer that a device can hold
 pub placed_is_layer : (layers : Layers) (kind : ChangeKind) (k : ℕ) (new : Layer)
@@ -61,19 +61,19 @@ after_are_layers layers kind k cosigned new is allowed can =
     }
 
 -- what an order puts in place, a change of its kind can put in place
-pub placed_can : (old : Layer) (order : Act) (kind : ChangeKind) → change_of (kind_of order) ≡ Some kind → CanPlace kind old (placed old order)
+pub placed_can : (old : Layer) (order : Act) (kind : ChangeKind) → change_of (kind_of order) ≡ Some kind → CanPlace kind old (layer_from_order old order)
 placed_can old (act.Establish owner trust) kind e =
     let same : Establish ≡ kind = cc in
-    subst (λ (c : ChangeKind). CanPlace c old (placed old (act.Establish owner trust))) same (refl, refl, refl)
+    subst (λ (c : ChangeKind). CanPlace c old (layer_from_order old (act.Establish owner trust))) same (refl, refl, refl)
 placed_can old act.Surrender kind e =
     let same : Surrender ≡ kind = cc in
-    subst (λ (c : ChangeKind). CanPlace c old (placed old act.Surrender)) same refl
+    subst (λ (c : ChangeKind). CanPlace c old (layer_from_order old act.Surrender)) same refl
 placed_can old (act.Load payload) kind e =
     let same : Load ≡ kind = cc in
-    subst (λ (c : ChangeKind). CanPlace c old (placed old (act.Load payload))) same (refl, refl, refl)
+    subst (λ (c : ChangeKind). CanPlace c old (layer_from_order old (act.Load payload))) same (refl, refl, refl)
 placed_can old (act.Emergency payload) kind e =
     let same : Emergency ≡ kind = cc in
-    subst (λ (c : ChangeKind). CanPlace c old (placed old (act.Emergency payload))) same (refl, refl, refl)
+    subst (λ (c : ChangeKind). CanPlace c old (layer_from_order old (act.Emergency payload))) same (refl, refl, refl)
 placed_can old (act.NewKey key_kind) kind e = grind arith
 
 -- an entry of version 2 may name any layers after any entries
@@ -93,9 +93,9 @@ layer_same a b owner code reliable trust =
 
 -- and what a change can put in place, some order of its kind does, with code of that name
 pub can_is_placed : (kind : ChangeKind) (old new : Layer) → CanPlace kind old new
-    → (order : Act) × (change_of (kind_of order) ≡ Some kind) × (record (placed old order) { code = new.code } ≡ new)
+    → (order : Act) × (change_of (kind_of order) ≡ Some kind) × (record (layer_from_order old order) { code = new.code } ≡ new)
 can_is_placed Establish old new can =
-    (elim (new.owner) as (λ (o : Option PublicKey). new.owner ≡ o → IsSome o → (order : Act) × (change_of (kind_of order) ≡ Some Establish) × (record (placed old order) { code = new.code } ≡ new)) [
+    (elim (new.owner) as (λ (o : Option PublicKey). new.owner ≡ o → IsSome o → (order : Act) × (change_of (kind_of order) ≡ Some Establish) × (record (layer_from_order old order) { code = new.code } ≡ new)) [
       | None ↦ λ is some. absurd (grind (arith, some))
       | Some owner ↦ λ is some. (act.Establish owner new.trust, refl, layer_same _ new (sym is) refl (sym can.2) refl)
     ]) refl can.0

@@ -11,7 +11,7 @@ use Rattle.sha2.proofs.Facts256.{length-sha256}
 use Rattle.mb_model.specs.declared.key.KeySeed.{KeySeed}
 use Rattle.mb_model.specs.declared.key.Chains.TheVariants.{W4}
 use Rattle.mb_model.specs.Key.{IsSized}
-use Rattle.mb_model.specs.Winternitz.{coef, chain_step, steps_from, steps, value_at, chain_ends, one_time_key, one_time_key_mark, digits_of, message_hash}
+use Rattle.mb_model.specs.Winternitz.{coef, chain_step, value_after_count, value_after_steps, value_at, chain_ends, one_time_key, one_time_key_mark, digits_of, message_hash}
 use Rattle.mb_model.specs.Pieces.{part}
 use Rattle.mb_model.specs.Merkle.{leaf_node, inner_node, parent_node, climb, leaf_number, randomizer, root_from, hash_of, HasForm, Verifies}
 use Rattle.mb_model.specs.Signing.{private_value, randomizer_of, public_ends, one_time_public, node_above, levels_above, node_of, public_of, signed_values, signed_digits, sibling, path_from, signature_of}
@@ -50,19 +50,19 @@ value_at-row piece sized (suc n) i less = elim (cases_lt i n) as (λ _. value_at
 
 -- steps after steps
 steps_from-steps_from : (id : List ℕ) (q i a b c : ℕ) (x : List ℕ)
-    → steps_from id q i (a + b) c (steps_from id q i a b x) ≡ steps_from id q i a (b + c) x
-unfolding steps_from
-steps_from-steps_from id q i a b zero x = ap (λ n. steps_from id q i a n x) (omega arith)
+    → value_after_count id q i (a + b) c (value_after_count id q i a b x) ≡ value_after_count id q i a (b + c) x
+unfolding value_after_count
+steps_from-steps_from id q i a b zero x = ap (λ n. value_after_count id q i a n x) (omega arith)
 steps_from-steps_from id q i a b (suc c) x =
     let together : a + b + c ≡ a + (b + c) = omega arith in
     let next : suc (b + c) ≡ b + suc c = omega arith in
     ap (chain_step id q i (a + b + c)) (steps_from-steps_from id q i a b c x)
-    ∙ ap (λ j. chain_step id q i j (steps_from id q i a (b + c) x)) together
-    ∙ ap (λ n. steps_from id q i a n x) next
+    ∙ ap (λ j. chain_step id q i j (value_after_count id q i a (b + c) x)) together
+    ∙ ap (λ n. value_after_count id q i a n x) next
 
 -- a value of 32 bytes stays one on its chain
-length-steps_from : (id : List ℕ) (q i a n : ℕ) (x : List ℕ) → length x ≡ 32 → length (steps_from id q i a n x) ≡ 32
-unfolding steps_from chain_step
+length-steps_from : (id : List ℕ) (q i a n : ℕ) (x : List ℕ) → length x ≡ 32 → length (value_after_count id q i a n x) ≡ 32
+unfolding value_after_count chain_step
 length-steps_from id q i a zero x is = is
 length-steps_from id q i a (suc n) x is = length-sha256 _
 
@@ -171,19 +171,19 @@ coef-bound digits i = and_le_l 15 _
 
 -- a value that was taken as far as a digit says, and then to its chain's end
 whole_chain : (id : List ℕ) (q i digit : ℕ) (x : List ℕ) → digit ≤ 15
-    → steps id q i digit 15 (steps id q i 0 digit x) ≡ steps id q i 0 15 x
+    → value_after_steps id q i digit 15 (value_after_steps id q i 0 digit x) ≡ value_after_steps id q i 0 15 x
 whole_chain id q i digit x within =
     let none : digit - 0 ≡ digit = omega arith in
     let start : digit ≡ 0 + digit = omega arith in
     let all : digit + (15 - digit) ≡ 15 = omega arith in
-    ap (λ n. steps_from id q i digit (15 - digit) (steps_from id q i 0 n x)) none
-    ∙ ap (λ a. steps_from id q i a (15 - digit) (steps_from id q i 0 digit x)) start
+    ap (λ n. value_after_count id q i digit (15 - digit) (value_after_count id q i 0 n x)) none
+    ∙ ap (λ a. value_after_count id q i a (15 - digit) (value_after_count id q i 0 digit x)) start
     ∙ steps_from-steps_from id q i 0 digit (15 - digit) x
-    ∙ ap (λ n. steps_from id q i 0 n x) all
+    ∙ ap (λ n. value_after_count id q i 0 n x) all
 
 -- y[i]: what the signature of these digits shows of chain i
 abbrev signed_value : KeySeed → ℕ → List ℕ → ℕ → List ℕ
-signed_value key q digits i = steps key.identifier q i 0 (coef digits i 4) (private_value key q i)
+signed_value key q digits i = value_after_steps key.identifier q i 0 (coef digits i 4) (private_value key q i)
 
 length-private_value : (key : KeySeed) (q i : ℕ) → length (private_value key q i) ≡ 32
 unfolding private_value
@@ -214,8 +214,8 @@ chain_ends-signed : (key : KeySeed) (q : ℕ) (digits values : List ℕ) (n : �
 unfolding chain_ends public_ends
 chain_ends-signed key q digits values zero signed = refl
 chain_ends-signed key q digits values (suc n) signed =
-    ap (λ ends. ends ++ steps key.identifier q n (coef digits n 4) 15 (value_at values n)) (chain_ends-signed key q digits values n (λ i less. signed i (omega arith)))
-    ∙ ap (λ value. public_ends key q n ++ steps key.identifier q n (coef digits n 4) 15 value) (signed n (omega arith))
+    ap (λ ends. ends ++ value_after_steps key.identifier q n (coef digits n 4) 15 (value_at values n)) (chain_ends-signed key q digits values n (λ i less. signed i (omega arith)))
+    ∙ ap (λ value. public_ends key q n ++ value_after_steps key.identifier q n (coef digits n 4) 15 value) (signed n (omega arith))
     ∙ ap (λ end. public_ends key q n ++ end) (whole_chain key.identifier q n (coef digits n 4) (private_value key q n) (coef-bound digits n))
 
 -- and so they belong to the one-time public key

@@ -19,12 +19,12 @@ use Rattle.mb_model.specs.declared.entry.Entry.TheVariants.{Succession}
 use Rattle.mb_model.specs.declared.state.Codes.{Codes}
 use Rattle.mb_model.specs.declared.state.State.{State}
 use Rattle.mb_model.specs.Layers.{layer_of, is_layer_number}
-use Rattle.mb_model.specs.Rules.{kind_of, change_of, renews, Condition, CanPlace, placed, is_load, may_cosign, kept_regions, admits, after}
-use Rattle.mb_model.specs.Log.{figures_of, entries_of, layers_of, used, has_version_two, Ruled}
+use Rattle.mb_model.specs.Rules.{kind_of, change_of, renews, Condition, CanPlace, layer_from_order, is_load, may_cosign, kept_regions, admits, after}
+use Rattle.mb_model.specs.Log.{figures_of, entries_of, layers_of, uses_of_device_key, has_version_two, Ruled}
 use Rattle.mb_model.specs.Signing.{public_of}
 use Rattle.mb_model.specs.Regions.{region_of}
 use Rattle.mb_model.specs.OrderChecks.{IsCountersigned, view_of}
-use Rattle.mb_model.specs.OrderEffects.{next_key, succeeded, device_after, uses_after, code_after, codes_after, cosigned_by, named_next, changed, keyed, entry_of, change_fact}
+use Rattle.mb_model.specs.OrderEffects.{next_key, state_after_succession, device_after, uses_after, code_after, codes_after, cosigners_of, next_device_key, state_after_change, state_after_new_key, entry_of, change_fact}
 use Rattle.mb_model.specs.declared.state.Fact.TheVariants as fact
 use Rattle.mb_model.specs.Valid.{IsNamed, AreNamed, IsValidState}
 use Rattle.mb_model_lemmas.specs.RegionLaws.{HasValidRegions}
@@ -60,7 +60,7 @@ pub own_layer : (layers : Layers) (kind : ChangeKind) (k : ℕ) (by : Pair) (new
 unfolding after
 own_layer layers kind k by new is = at_number (λ m. k ≡ m → layer_of (after layers kind m by new) m ≡ new) k is (λ e. refl) (λ e. refl) (λ e. refl) refl
 
-named_placed : (old : Layer) (code : Option (List ℕ)) (a : Act) → is_some (change_of (kind_of a)) ≡ true → IsNamed (placed old a).code (code_after code a)
+named_placed : (old : Layer) (code : Option (List ℕ)) (a : Act) → is_some (change_of (kind_of a)) ≡ true → IsNamed (layer_from_order old a).code (code_after code a)
 named_placed old code (act.Establish owner trust) is = tt
 named_placed old code act.Surrender is = tt
 named_placed old code (act.Load payload) is = refl
@@ -84,10 +84,10 @@ swapped m k =
     ]) refl
 
 codes_follow : (layers : Layers) (codes : Codes) (kind : ChangeKind) (k : ℕ) (by : Pair) (a : Act) → change_of (kind_of a) ≡ Some kind
-    → AreNamed layers codes → AreNamed (after layers kind k by (placed (layer_of layers k) a)) (codes_after codes k a)
+    → AreNamed layers codes → AreNamed (after layers kind k by (layer_from_order (layer_of layers k) a)) (codes_after codes k a)
 unfolding after
 codes_follow layers codes kind k by a is named =
-    let new : Layer = placed (layer_of layers k) a in
+    let new : Layer = layer_from_order (layer_of layers k) a in
     let some : is_some (change_of (kind_of a)) ≡ true = ap is_some is in
     record {
       one = named_after (1 == k) (k == 1) (nat_lt 1 k) (admits layers kind k by 1) layers.one new codes.one a (swapped 1 k) (named_placed (layer_of layers k) codes.one a some) named.one;
@@ -128,26 +128,26 @@ regions_of : (state : State) → IsValidState state → HasValidRegions state
 regions_of state valid = record { two = valid.two; three = valid.three }
 
 -- the state after a succession is valid, where the device key has its last index left
-pub succeeded_valid : (state : State) (draw : List ℕ) → IsValidState state → used (entries_of state.log) ≡ 31 → IsValidState (succeeded state draw)
-unfolding succeeded
+pub succeeded_valid : (state : State) (draw : List ℕ) → IsValidState state → uses_of_device_key (entries_of state.log) ≡ 31 → IsValidState (state_after_succession state draw)
+unfolding state_after_succession
 succeeded_valid state draw valid last =
     let entry : Entry = Succession (length state.log) (public_of (next_key (view_of state) draw)) in
-    valid_after state entry (succeeded state draw) valid (named_is_some (entries_of state.log) (public_of state.device) valid.device, last) refl refl
+    valid_after state entry (state_after_succession state draw) valid (named_is_some (entries_of state.log) (public_of state.device) valid.device, last) refl refl
     refl refl refl refl refl valid.codes (succeeded_keeps state draw (regions_of state valid))
 
 -- ---- a change
 
 device_named : (next : Bool) (state : State) (draw : List ℕ)
-    → Some (public_of (device_after next (view_of state) draw)) ≡ option_or (named_next next (view_of state) draw) (Some (public_of state.device))
+    → Some (public_of (device_after next (view_of state) draw)) ≡ option_or (next_device_key next (view_of state) draw) (Some (public_of state.device))
 device_named true state draw = refl
 device_named false state draw = refl
 
 uses_counted : (next : Bool) (state : State) (draw : List ℕ)
-    → uses_after next (view_of state) ≡ (if is_some (named_next next (view_of state) draw) then 0 else used (entries_of state.log) + 1)
+    → uses_after next (view_of state) ≡ (if is_some (next_device_key next (view_of state) draw) then 0 else uses_of_device_key (entries_of state.log) + 1)
 uses_counted true state draw = refl
 uses_counted false state draw = refl
 
-is_named_next : (next : Bool) (state : State) (draw : List ℕ) → is_some (named_next next (view_of state) draw) ≡ next
+is_named_next : (next : Bool) (state : State) (draw : List ℕ) → is_some (next_device_key next (view_of state) draw) ≡ next
 is_named_next true state draw = refl
 is_named_next false state draw = refl
 
@@ -157,15 +157,15 @@ pub record MayChange (state : State) (kind : ChangeKind) (order : Order) : Type 
   pub allowed : Condition state.layers (Some kind) order.layer
   pub above : All (IsAbove (Some kind) order.layer) order.countersignatures
   pub signed : All (IsCountersigned (view_of state) order) order.countersignatures
-  pub index : used (entries_of state.log) ≡ 31 → IsTrue (renews (Some kind) order.layer)
+  pub index : uses_of_device_key (entries_of state.log) ≡ 31 → IsTrue (renews (Some kind) order.layer)
 
 change_ruled : (state : State) (kind : ChangeKind) (order : Order) (draw : List ℕ) → IsValidState state → MayChange state kind order
     → Ruled (figures_of (entries_of state.log)) (entry_of (view_of state) (change_fact state.layers kind order) draw)
 change_ruled state kind order draw valid may =
     let past : List Entry = entries_of state.log in
     let k : ℕ = order.layer in
-    let by : Pair = cosigned_by order in
-    let new : Layer = placed (layer_of state.layers k) order.act in
+    let by : Pair = cosigners_of order in
+    let new : Layer = layer_from_order (layer_of state.layers k) order.act in
     let now : Layers = after state.layers kind k by new in
     let same : state.layers ≡ layers_of past = valid.layers in
     let own : layer_of now k ≡ new = own_layer state.layers kind k by new (condition_number state.layers kind k may.allowed) in
@@ -191,23 +191,23 @@ change_ruled state kind order draw valid may =
 
 -- the state after a change is valid
 pub changed_valid : (state : State) (kind : ChangeKind) (order : Order) (draw : List ℕ) → IsValidState state → MayChange state kind order
-    → IsValidState (changed state kind order draw)
-unfolding changed
+    → IsValidState (state_after_change state kind order draw)
+unfolding state_after_change
 changed_valid state kind order draw valid may =
-    valid_after state (entry_of (view_of state) (change_fact state.layers kind order) draw) (changed state kind order draw) valid (change_ruled state kind order draw valid may) refl refl
+    valid_after state (entry_of (view_of state) (change_fact state.layers kind order) draw) (state_after_change state kind order draw) valid (change_ruled state kind order draw valid may) refl refl
     refl refl refl
     (device_named (renews (Some kind) order.layer) state draw)
     (uses_counted (renews (Some kind) order.layer) state draw)
-    (codes_follow state.layers state.codes kind order.layer (cosigned_by order) order.act may.kind_is valid.codes)
+    (codes_follow state.layers state.codes kind order.layer (cosigners_of order) order.act may.kind_is valid.codes)
     (changed_keeps state kind order draw may.kind_is valid.layers (regions_of state valid))
 
 -- ---- a new key
 
 -- the state after a new key of layer 2 or 3 is valid
 pub keyed_valid : (state : State) (L : ℕ) (kind : KeyKind) (draw : List ℕ) → IsValidState state
-    → Condition state.layers None L → used (entries_of state.log) ≢ 31 → length (region_of state L).keys < 8
-    → IsValidState (keyed state L kind draw)
-unfolding keyed
+    → Condition state.layers None L → uses_of_device_key (entries_of state.log) ≢ 31 → length (region_of state L).keys < 8
+    → IsValidState (state_after_new_key state L kind draw)
+unfolding state_after_new_key
 keyed_valid state L kind draw valid allowed index room =
     let past : List Entry = entries_of state.log in
     let entry : Entry = entry_of (view_of state) (fact.NewKey L kind) draw in
@@ -220,5 +220,5 @@ keyed_valid state L kind draw valid allowed index room =
         last_index = index;
       },
     ) in
-    valid_after state entry (keyed state L kind draw) valid ruled refl refl refl refl refl refl refl valid.codes
+    valid_after state entry (state_after_new_key state L kind draw) valid ruled refl refl refl refl refl refl refl valid.codes
     (keyed_keeps state L kind draw (valid_is_ruled state valid) allowed room (regions_of state valid))

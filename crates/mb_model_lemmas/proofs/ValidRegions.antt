@@ -24,8 +24,8 @@ use Rattle.mb_model.specs.declared.region.RegionKey.{RegionKey}
 use Rattle.mb_model.specs.declared.region.Secret.{Secret}
 use Rattle.mb_model.specs.Layers.{layer_of, is_upper, is_in, Runnable}
 use Rattle.mb_model.specs.Rules.{Condition, CanPlace, admits, is_kept, kept_regions, after}
-use Rattle.mb_model.specs.Log.{is_change, number_of, layers_of, made, RuledLog}
-use Rattle.mb_model.specs.Lives.{ends, MadeKey, alive_keys}
+use Rattle.mb_model.specs.Log.{is_change, number_of, layers_of, keys_made_by, RuledLog}
+use Rattle.mb_model.specs.Lives.{ends_keys, MadeKey, alive_keys}
 use Rattle.mb_model.specs.Regions.{empty_region, is_epoch, without_configuration_keys, region_after, with_key, AdmittedSince, KeyAdmitted, RegionKeptRightly}
 use Rattle.mb_model.specs.LayerEvents.{has_name, with_secret, has_number, with_use}
 use Rattle.mb_model.specs.Signing.{public_of}
@@ -73,7 +73,7 @@ not_above : (k L : ℕ) → nat_le k L ≡ not (nat_lt L k)
 not_above k L = grind arith
 
 ended_is : (layers : Layers) (version position number : ℕ) (kind : ChangeKind) (k : ℕ) (cosigned : Pair) (now : Layers) (next : Option PublicKey) (L : ℕ) → IsTrue (is_upper L) → (key_kind : KeyKind)
-    → ends key_kind L (Change version position number kind k cosigned now (kept_regions layers kind k cosigned) next) ≡ ended_by (nat_lt L k) (admits layers kind k cosigned L) key_kind
+    → ends_keys key_kind L (Change version position number kind k cosigned now (kept_regions layers kind k cosigned) next) ≡ ended_by (nat_lt L k) (admits layers kind k cosigned L) key_kind
 ended_is layers version position number kind k cosigned now next L upper kinds.Epoch = ap not (kept_at layers kind k cosigned L upper) ∙ by (nat_lt L k) (admits layers kind k cosigned L)
   where
     by : (beneath agrees : Bool) → not (beneath || agrees) ≡ ended_by beneath agrees kinds.Epoch
@@ -138,7 +138,7 @@ valid_over_change log layers version position number kind k cosigned new next L 
 
 -- ---- other entries
 
-not_ended : (entry : Entry) (L : ℕ) → is_change entry ≡ false → (kind : KeyKind) → ends kind L entry ≡ false
+not_ended : (entry : Entry) (L : ℕ) → is_change entry ≡ false → (kind : KeyKind) → ends_keys kind L entry ≡ false
 not_ended (Birth version serial key layers) L other kinds.Epoch = refl
 not_ended (Birth version serial key layers) L other kinds.Configuration = refl
 not_ended (Change version position number change layer cosigned layers kept next) L other kind = absurd (true≢false other)
@@ -198,10 +198,10 @@ may_hold layers L region upper runs not_reliable = absurd (true≢false (sym (ru
 -- a new key of the layer, with the key that the region gets
 pub valid_over_new_key : (log : List Entry) (layers : Layers) (position L : ℕ) (kind : KeyKind) (seed : KeySeed) (region : Region)
     → RuledLog log → Condition layers None L → length region.keys < 8 → IsValidRegion log layers L region
-    → IsValidRegion (log ++ NewKey position (number_of log) (made log) L kind (public_of seed) ∷ []) layers L (with_key (record { number = made log; kind = kind; seed = seed; uses = 0 }) region)
+    → IsValidRegion (log ++ NewKey position (number_of log) (keys_made_by log) L kind (public_of seed) ∷ []) layers L (with_key (record { number = keys_made_by log; kind = kind; seed = seed; uses = 0 }) region)
 valid_over_new_key log layers position L kind seed region ruled allowed room valid =
-    let key : RegionKey = record { number = made log; kind = kind; seed = seed; uses = 0 } in
-    let entry : Entry = NewKey position (number_of log) (made log) L kind (public_of seed) in
+    let key : RegionKey = record { number = keys_made_by log; kind = kind; seed = seed; uses = 0 } in
+    let entry : Entry = NewKey position (number_of log) (keys_made_by log) L kind (public_of seed) in
     let own : made_by L entry ≡ as_made key ∷ [] = ap (λ b. if b then as_made key ∷ [] else []) (eq-eqb L L refl) in
     record {
       empty = may_hold layers L (with_key key region) (and_parts (is_upper L) _ allowed).0 (and_parts (is_upper L) _ allowed).1;

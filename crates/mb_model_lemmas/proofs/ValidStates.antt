@@ -19,14 +19,14 @@ use Rattle.mb_model.specs.declared.region.Region.{Region}
 use Rattle.mb_model.specs.declared.region.RegionKey.{RegionKey}
 use Rattle.mb_model.specs.declared.state.State.{State}
 use Rattle.mb_model.specs.Layers.{layer_of, is_upper, is_runnable, Runnable}
-use Rattle.mb_model.specs.Rules.{kind_of, change_of, renews, Condition, placed, kept_regions, after}
-use Rattle.mb_model.specs.Log.{figures_of, entries_of, layers_of, number_of, made, Ruled, RuledLog}
+use Rattle.mb_model.specs.Rules.{kind_of, change_of, renews, Condition, layer_from_order, kept_regions, after}
+use Rattle.mb_model.specs.Log.{figures_of, entries_of, layers_of, number_of, keys_made_by, Ruled, RuledLog}
 use Rattle.mb_model.specs.Regions.{region_after, with_key, KeptRightly}
 use Rattle.mb_model.specs.Regions.{region_of, with_region}
 use Rattle.mb_model.specs.OrderChecks.{view_of}
-use Rattle.mb_model.specs.OrderEffects.{signed_by, log_with, next_key, cosigned_by, succeeded, changed, keyed}
+use Rattle.mb_model.specs.OrderEffects.{entry_signed_by, log_with, next_key, cosigners_of, state_after_succession, state_after_change, state_after_new_key}
 use Rattle.mb_model.specs.declared.reply.Refusal.TheVariants.{WrongLayer}
-use Rattle.mb_model.specs.Refusals.{refused}
+use Rattle.mb_model.specs.Refusals.{refusal_reply}
 use Rattle.mb_model.specs.Signing.{public_of}
 use Rattle.mb_model.specs.LayerEvents.{Outcome, has_name, has_number, put_event, get_event, drop_event, sign_with, sign_event}
 use Rattle.mb_model.specs.Valid.{EachFollows, IsValidRegion, IsValidState, Valid}
@@ -89,7 +89,7 @@ where_it_runs : (L : ℕ) (event : State → Outcome) → ((state : State) → R
 where_it_runs L event keeps = λ state ratchet valid. by state valid (nat_lt L ratchet) (is_runnable state.layers L) refl
   where
     by : (state : State) → IsValidState state → (past runs : Bool) → is_runnable state.layers L ≡ runs
-        → IsValidState (if past || not runs then (refused WrongLayer, state) else event state).1
+        → IsValidState (if past || not runs then (refusal_reply WrongLayer, state) else event state).1
     by state valid true runs is = valid
     by state valid false false is = valid
     by state valid false true is = keeps state is valid
@@ -131,12 +131,12 @@ sign_keeps L number message =
 -- ---- orders
 
 -- the device key gives way to the next
-pub succeeded_keeps : (state : State) (draw : List ℕ) → HasValidRegions state → HasValidRegions (succeeded state draw)
-unfolding succeeded signed_by
+pub succeeded_keeps : (state : State) (draw : List ℕ) → HasValidRegions state → HasValidRegions (state_after_succession state draw)
+unfolding state_after_succession entry_signed_by
 succeeded_keeps state draw valid =
     let past : List Entry = entries_of state.log in
     let key : PublicKey = public_of (next_key (view_of state) draw) in
-    let same : entries_of (succeeded state draw).log ≡ past ++ Succession (length state.log) key ∷ [] = entries_of-push state.log _ in
+    let same : entries_of (state_after_succession state draw).log ≡ past ++ Succession (length state.log) key ∷ [] = entries_of-push state.log _ in
     record {
       two = subst (λ es. IsValidRegion es state.layers 2 state.two) (sym same) (valid_over_succession past state.layers (length state.log) key 2 state.two valid.two);
       three = subst (λ es. IsValidRegion es state.layers 3 state.three) (sym same) (valid_over_succession past state.layers (length state.log) key 3 state.three valid.three);
@@ -144,17 +144,17 @@ succeeded_keeps state draw valid =
 
 -- an order changes a layer
 pub changed_keeps : (state : State) (kind : ChangeKind) (order : Order) (draw : List ℕ) → change_of (kind_of order.act) ≡ Some kind
-    → state.layers ≡ layers_of (entries_of state.log) → HasValidRegions state → HasValidRegions (changed state kind order draw)
-unfolding changed signed_by
+    → state.layers ≡ layers_of (entries_of state.log) → HasValidRegions state → HasValidRegions (state_after_change state kind order draw)
+unfolding state_after_change entry_signed_by
 changed_keeps state kind order draw of_kind are valid =
     let past : List Entry = entries_of state.log in
     let k : ℕ = order.layer in
-    let by : Pair = cosigned_by order in
-    let new : Layer = placed (layer_of state.layers k) order.act in
+    let by : Pair = cosigners_of order in
+    let new : Layer = layer_from_order (layer_of state.layers k) order.act in
     let named : Option PublicKey = if renews (Some kind) k then Some (public_of (next_key (view_of state) draw)) else None in
     let can = placed_can (layer_of state.layers k) order.act kind of_kind in
     let entry : Entry = Change 2 (length state.log) (number_of past + 1) kind k by (after state.layers kind k by new) (kept_regions state.layers kind k by) named in
-    let same : entries_of (changed state kind order draw).log ≡ past ++ entry ∷ [] = entries_of-push state.log _ in
+    let same : entries_of (state_after_change state kind order draw).log ≡ past ++ entry ∷ [] = entries_of-push state.log _ in
     record {
       two = subst (λ es. IsValidRegion es (after state.layers kind k by new) 2 (region_after state.layers kind k by 2 state.two)) (sym same) (valid_over_change past state.layers 2 (length state.log) (number_of past + 1) kind k by new named 2 state.two refl are can valid.two);
       three = subst (λ es. IsValidRegion es (after state.layers kind k by new) 3 (region_after state.layers kind k by 3 state.three)) (sym same) (valid_over_change past state.layers 2 (length state.log) (number_of past + 1) kind k by new named 3 state.three refl are can valid.three);
@@ -162,22 +162,22 @@ changed_keeps state kind order draw of_kind are valid =
 
 -- an order makes a key
 pub keyed_keeps : (state : State) (L : ℕ) (kind : KeyKind) (draw : List ℕ) → RuledLog (entries_of state.log) → Condition state.layers None L
-    → length (region_of state L).keys < 8 → HasValidRegions state → HasValidRegions (keyed state L kind draw)
-unfolding keyed signed_by
+    → length (region_of state L).keys < 8 → HasValidRegions state → HasValidRegions (state_after_new_key state L kind draw)
+unfolding state_after_new_key entry_signed_by
 keyed_keeps state L kind draw ruled allowed room valid =
     let past : List Entry = entries_of state.log in
     let seed : KeySeed = next_key (view_of state) draw in
     let size : ℕ = length state.log in
-    let key : RegionKey = record { number = made past; kind = kind; seed = seed; uses = 0 } in
-    let entry : ℕ → Entry = λ m. NewKey size (number_of past) (made past) m kind (public_of seed) in
+    let key : RegionKey = record { number = keys_made_by past; kind = kind; seed = seed; uses = 0 } in
+    let entry : ℕ → Entry = λ m. NewKey size (number_of past) (keys_made_by past) m kind (public_of seed) in
     let same : (m : ℕ) → entries_of (log_with state (entry m)) ≡ past ++ entry m ∷ [] = λ m. entries_of-push state.log _ in
-    at_upper (λ m. Condition state.layers None m → length (region_of state m).keys < 8 → HasValidRegions (keyed state m kind draw)) L (and_parts (is_upper L) (is_runnable state.layers L) allowed).0
+    at_upper (λ m. Condition state.layers None m → length (region_of state m).keys < 8 → HasValidRegions (state_after_new_key state m kind draw)) L (and_parts (is_upper L) (is_runnable state.layers L) allowed).0
     (λ may few. record {
       two = subst (λ es. IsValidRegion es state.layers 2 (with_key key state.two)) (sym (same 2)) (valid_over_new_key past state.layers size 2 kind seed state.two ruled may few valid.two);
-      three = subst (λ es. IsValidRegion es state.layers 3 state.three) (sym (same 2)) (valid_over_other_key past state.layers size (number_of past) (made past) 2 kind (public_of seed) 3 state.three (λ e. omega (arith, e)) valid.three);
+      three = subst (λ es. IsValidRegion es state.layers 3 state.three) (sym (same 2)) (valid_over_other_key past state.layers size (number_of past) (keys_made_by past) 2 kind (public_of seed) 3 state.three (λ e. omega (arith, e)) valid.three);
     })
     (λ may few. record {
-      two = subst (λ es. IsValidRegion es state.layers 2 state.two) (sym (same 3)) (valid_over_other_key past state.layers size (number_of past) (made past) 3 kind (public_of seed) 2 state.two (λ e. omega (arith, e)) valid.two);
+      two = subst (λ es. IsValidRegion es state.layers 2 state.two) (sym (same 3)) (valid_over_other_key past state.layers size (number_of past) (keys_made_by past) 3 kind (public_of seed) 2 state.two (λ e. omega (arith, e)) valid.two);
       three = subst (λ es. IsValidRegion es state.layers 3 (with_key key state.three)) (sym (same 3)) (valid_over_new_key past state.layers size 3 kind seed state.three ruled may few valid.three);
     })
     allowed room

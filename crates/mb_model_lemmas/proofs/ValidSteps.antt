@@ -18,22 +18,22 @@ use Rattle.mb_model.specs.declared.event.Answered.{Answered}
 use Rattle.mb_model.specs.declared.reply.Reply.{Reply}
 use Rattle.mb_model.specs.declared.reply.Reply.TheVariants as reply
 use Rattle.mb_model.specs.declared.state.State.{State}
-use Rattle.mb_model.specs.OrderFormat.{Climb, climbed, countersignature_format, countersignatures_format, order_format}
+use Rattle.mb_model.specs.OrderFormat.{Climb, climb_after, countersignature_format, countersignatures_format, order_format}
 use Rattle.mb_model.specs.Layers.{is_runnable}
 use Rattle.mb_model.specs.Rules.{kind_of, change_of, renews, Condition}
-use Rattle.mb_model.specs.Log.{entries_of, used}
+use Rattle.mb_model.specs.Log.{entries_of, uses_of_device_key}
 use Rattle.mb_model.specs.Signing.{public_of}
 use Rattle.mb_model.specs.declared.reply.Refusal.{Refusal}
 use Rattle.mb_model.specs.declared.reply.Refusal.TheVariants.{WrongPhase, WrongLayer}
-use Rattle.mb_model.specs.Refusals.{refused}
+use Rattle.mb_model.specs.Refusals.{refusal_reply}
 use Rattle.mb_model.specs.Regions.{empty_region}
 use Rattle.mb_model.specs.declared.region.Region.{Region}
 use Rattle.mb_model.specs.Regions.{region_of}
 use Rattle.mb_model.specs.OrderChecks.{IsCountersigned, needs_succession, RegionHasRoom, region_keys, Passes, view_of}
-use Rattle.mb_model.specs.OrderEffects.{next_key, succeeded, carried_out, obeyed}
+use Rattle.mb_model.specs.OrderEffects.{next_key, state_after_succession, state_after_act, state_after_order}
 use Rattle.mb_model.specs.OrderStep.{OrderStep, spells_none, fails_check, is_obeyed}
 use Rattle.mb_model.specs.LayerEvents.{Outcome, put_event, get_event, drop_event, sign_event}
-use Rattle.mb_model.specs.Machine.{Phase, off, dead, ratchet, World, Told, boot_event, awake, awake_in, status_event, go_event, region_event, CommandStep, Machine, Step, answered, lacks_memory, loses_power, Run}
+use Rattle.mb_model.specs.Machine.{Phase, off, dead, ratchet, World, Told, boot_event, running_state, running_state_in, status_event, go_event, region_event, CommandStep, Machine, Step, machine_step, lacks_memory, loses_power, Run}
 use Rattle.mb_model.specs.Valid.{IsValidState, Valid}
 use Rattle.mb_model_lemmas.proofs.LogLemmas.{used-push}
 use Rattle.mb_model_lemmas.specs.RegionLaws.{KeepsStatesValid}
@@ -45,14 +45,14 @@ use Rattle.mb_model_lemmas.proofs.ValidOrders.{IsAbove, succeeded_valid, changed
 
 -- each of some countersignatures in a row is of a layer above the one before the first
 climbing : (n : ℕ) (climb : Climb) (k : ℕ) (cs : List Countersignature) → k ≤ climb.below
-    → (items countersignature_format climbed n climb).Allowed cs → All (λ by. k < by.layer) cs
+    → (items countersignature_format climb_after n climb).Allowed cs → All (λ by. k < by.layer) cs
 unfolding items
 climbing zero climb k cs low allowed = subst (All (λ (by : Countersignature). k < by.layer)) (sym allowed) (All-nil (λ (by : Countersignature). k < by.layer))
 climbing (suc n) climb k [] low allowed = absurd allowed
 climbing (suc n) climb k (c ∷ cs) low allowed =
     let P : Countersignature → Type 0 = λ by. k < by.layer in
     let above : climb.below + 1 ≤ c.layer = allowed.0.0.0 in
-    All-cons P c cs (omega (arith, above, low)) (climbing n (climbed climb c) k cs (omega (arith, above, low)) allowed.1)
+    All-cons P c cs (omega (arith, above, low)) (climbing n (climb_after climb c) k cs (omega (arith, above, low)) allowed.1)
 
 above_by : (a : Act) (layer : ℕ) (targets : List Target) (cs : List Countersignature)
     → (countersignatures_format (record { layer = layer; targets = targets; act = a })).Allowed cs → All (IsAbove (change_of (kind_of a)) layer) cs
@@ -72,12 +72,12 @@ all_above order allowed = above_by order.act order.layer order.targets order.cou
 -- ---- orders
 
 -- a succession leaves the layers and the regions, and the new key has signed nothing
-over_succession_condition : (state : State) (draw : List ℕ) (kind : Option ChangeKind) (k : ℕ) → Condition state.layers kind k → Condition (succeeded state draw).layers kind k
-unfolding succeeded
+over_succession_condition : (state : State) (draw : List ℕ) (kind : Option ChangeKind) (k : ℕ) → Condition state.layers kind k → Condition (state_after_succession state draw).layers kind k
+unfolding state_after_succession
 over_succession_condition state draw kind k is = is
 
-over_succession_signed : (state : State) (draw : List ℕ) (order : Order) → All (IsCountersigned (view_of state) order) order.countersignatures → All (IsCountersigned (view_of (succeeded state draw)) order) order.countersignatures
-unfolding succeeded
+over_succession_signed : (state : State) (draw : List ℕ) (order : Order) → All (IsCountersigned (view_of state) order) order.countersignatures → All (IsCountersigned (view_of (state_after_succession state draw)) order) order.countersignatures
+unfolding state_after_succession
 over_succession_signed state draw order is = is
 
 keys_if : (a b : Bool) (x y : Region) → (if a then length x.keys else if b then length y.keys else 0) ≡ length (if a then x else if b then y else empty_region).keys
@@ -89,8 +89,8 @@ keys_if false false x y = refl
 pub region_keys_are : (state : State) (L : ℕ) → region_keys (view_of state) L ≡ length (region_of state L).keys
 region_keys_are state L = keys_if (L == 2) (L == 3) state.two state.three
 
-over_succession_room : (state : State) (draw : List ℕ) (L : ℕ) (a : Act) → RegionHasRoom (view_of state) L a → RegionHasRoom (view_of (succeeded state draw)) L a
-unfolding succeeded
+over_succession_room : (state : State) (draw : List ℕ) (L : ℕ) (a : Act) → RegionHasRoom (view_of state) L a → RegionHasRoom (view_of (state_after_succession state draw)) L a
+unfolding state_after_succession
 over_succession_room state draw L (act.Establish owner trust) is = is
 over_succession_room state draw L act.Surrender is = is
 over_succession_room state draw L (act.Load payload) is = is
@@ -100,19 +100,19 @@ over_succession_room state draw L (act.NewKey kind) is = is
 never : (n : ℕ) → n ≡ 31 → n ≡ 0 → ⊥
 never n e f = omega (arith, e, f)
 
-used_anew : (state : State) (draw : List ℕ) → used (entries_of (succeeded state draw).log) ≡ 0
-unfolding succeeded
+used_anew : (state : State) (draw : List ℕ) → uses_of_device_key (entries_of (state_after_succession state draw).log) ≡ 0
+unfolding state_after_succession
 used_anew state draw =
     let entry : Entry = Succession (length state.log) (public_of (next_key (view_of state) draw)) in
-    ap used (entries_of-signed state entry) ∙ used-push (entries_of state.log) entry
+    ap uses_of_device_key (entries_of-signed state entry) ∙ used-push (entries_of state.log) entry
 
 -- an order leads to a valid state, where the device key has an index for it
 carried_by : (ready : State) (order : Order) (draw : List ℕ) (a : Act) → order.act ≡ a → IsValidState ready
     → Condition ready.layers (change_of (kind_of a)) order.layer → All (IsAbove (change_of (kind_of a)) order.layer) order.countersignatures
     → All (IsCountersigned (view_of ready) order) order.countersignatures
-    → (used (entries_of ready.log) ≡ 31 → IsTrue (renews (change_of (kind_of a)) order.layer))
+    → (uses_of_device_key (entries_of ready.log) ≡ 31 → IsTrue (renews (change_of (kind_of a)) order.layer))
     → RegionHasRoom (view_of ready) order.layer a
-    → IsValidState (carried_out ready order a draw)
+    → IsValidState (state_after_act ready order a draw)
 carried_by ready order draw (act.Establish owner trust) is valid allowed above signed index room =
     changed_valid ready Establish order draw valid (record { kind_is = ap (λ (x : Act). change_of (kind_of x)) is; allowed = allowed; above = above; signed = signed; index = index })
 carried_by ready order draw act.Surrender is valid allowed above signed index room =
@@ -135,21 +135,21 @@ not_needed n false e last = absurd (grind (arith, e, last))
 
 -- the order finds an index, and then is carried out
 pub obeyed_valid : (state : State) (order : Order) (draw : List ℕ) → IsValidState state → order_format.Allowed order → Passes (view_of state) order
-    → IsValidState (obeyed state order draw)
-unfolding obeyed
+    → IsValidState (state_after_order state order draw)
+unfolding state_after_order
 obeyed_valid state order draw valid allowed passes =
     let above = all_above order allowed in
-    (elim (needs_succession (view_of state) order) as (λ b. needs_succession (view_of state) order ≡ b → IsValidState (carried_out (if b then succeeded state draw else state) order order.act draw)) [
+    (elim (needs_succession (view_of state) order) as (λ b. needs_succession (view_of state) order ≡ b → IsValidState (state_after_act (if b then state_after_succession state draw else state) order order.act draw)) [
       | true ↦ λ e.
-          let last : used (entries_of state.log) ≡ 31 = needed_last (used (entries_of state.log)) (renews (change_of (kind_of order.act)) order.layer) e in
-          carried_by (succeeded state draw) order draw order.act refl (succeeded_valid state draw valid last)
+          let last : uses_of_device_key (entries_of state.log) ≡ 31 = needed_last (uses_of_device_key (entries_of state.log)) (renews (change_of (kind_of order.act)) order.layer) e in
+          carried_by (state_after_succession state draw) order draw order.act refl (succeeded_valid state draw valid last)
           (over_succession_condition state draw (change_of (kind_of order.act)) order.layer passes.condition) above
           (over_succession_signed state draw order passes.countersignatures)
-          (λ f. absurd (never (used (entries_of (succeeded state draw).log)) f (used_anew state draw)))
+          (λ f. absurd (never (uses_of_device_key (entries_of (state_after_succession state draw).log)) f (used_anew state draw)))
           (over_succession_room state draw order.layer order.act passes.keys)
       | false ↦ λ e.
           carried_by state order draw order.act refl valid passes.condition above passes.countersignatures
-          (not_needed (used (entries_of state.log)) (renews (change_of (kind_of order.act)) order.layer) e) passes.keys
+          (not_needed (uses_of_device_key (entries_of state.log)) (renews (change_of (kind_of order.act)) order.layer) e) passes.keys
     ]) refl
 
 pub order_step_valid : (state : State) (text draw : List ℕ) (answer : Reply) (next : State) → IsValidState state → OrderStep state text draw answer next → IsValidState next
@@ -171,7 +171,7 @@ status_valid world (Err refusal) valid = valid
 status_valid world (Ok on) valid = valid
 
 go_on : (last runs : Bool) (world : World) (r : ℕ) → Valid world.state
-    → Valid (let told : Told = if last then (refused WrongPhase, world) else if runs then (reply.At (r + 1), record world { phase = ratchet (r + 1) }) else (refused WrongLayer, world) in told).1.state
+    → Valid (let told : Told = if last then (refusal_reply WrongPhase, world) else if runs then (reply.At (r + 1), record world { phase = ratchet (r + 1) }) else (refusal_reply WrongLayer, world) in told).1.state
 go_on true runs world r valid = valid
 go_on false true world r valid = valid
 go_on false false world r valid = valid
@@ -180,10 +180,10 @@ pub go_valid : (world : World) (on : Result (ℕ × State) Refusal) → Valid wo
 go_valid world (Err refusal) valid = valid
 go_valid world (Ok on) valid = go_on (nat_lt 2 on.0) (is_runnable on.1.layers (on.0 + 1)) world on.0 valid
 
-awake_valid : (world : World) → Valid world.state → (on : ℕ × State) → awake world.phase world.state ≡ Ok on → IsValidState on.1
+awake_valid : (world : World) → Valid world.state → (on : ℕ × State) → running_state world.phase world.state ≡ Ok on → IsValidState on.1
 awake_valid world valid on e = awake_by world.phase world.state on valid e
   where
-    awake_by : (phase : Phase) (state : Option State) (on : ℕ × State) → Valid state → awake phase state ≡ Ok on → IsValidState on.1
+    awake_by : (phase : Phase) (state : Option State) (on : ℕ × State) → Valid state → running_state phase state ≡ Ok on → IsValidState on.1
     awake_by off state on valid e = absurd (grind (arith, e))
     awake_by dead state on valid e = absurd (grind (arith, e))
     awake_by (ratchet r) None on valid e = absurd (grind (arith, e))
@@ -191,12 +191,12 @@ awake_valid world valid on e = awake_by world.phase world.state on valid e
         let same : ◌≡◌ {A = ℕ × State} (r, state) on = cc in
         subst (λ (p : ℕ × State). IsValidState p.1) same valid
 
-region_event_valid : (world : World) (L : ℕ) (event : State → Outcome) (on : Result (ℕ × State) Refusal) → awake world.phase world.state ≡ on
+region_event_valid : (world : World) (L : ℕ) (event : State → Outcome) (on : Result (ℕ × State) Refusal) → running_state world.phase world.state ≡ on
     → KeepsStatesValid L event → Valid world.state → Valid (region_event world L event on).1.state
 region_event_valid world L event (Err refusal) e keeps valid = valid
 region_event_valid world L event (Ok on) e keeps valid = keeps on.1 on.0 (awake_valid world valid on e)
 
-command_valid : (world : World) (text draw : List ℕ) (on : Result (ℕ × State) Refusal) (answer : Reply) (next : World) → awake world.phase world.state ≡ on
+command_valid : (world : World) (text draw : List ℕ) (on : Result (ℕ × State) Refusal) (answer : Reply) (next : World) → running_state world.phase world.state ≡ on
     → Valid world.state → CommandStep world text draw on answer next → Valid next.state
 command_valid world text draw (Err refusal) answer next e valid step = subst (λ (w : World). Valid w.state) (sym step.1) valid
 command_valid world text draw (Ok on) answer next e valid (inl obeyed) =
@@ -212,17 +212,17 @@ machine_valid world event.Boot answer next valid is = told_valid answer next _ i
 machine_valid world event.Off answer next valid is = subst (λ (w : World). Valid w.state) (sym is.1) valid
 machine_valid world event.Tamper answer next valid is = subst (λ (w : World). Valid w.state) (sym is.1) tt
 machine_valid world (event.Cut count tear) answer next valid is = subst (λ (w : World). Valid w.state) (sym is.1) valid
-machine_valid world event.Status answer next valid is = told_valid answer next _ is (status_valid world (awake_in world) valid)
-machine_valid world (event.Command text draw) answer next valid is = command_valid world text draw (awake_in world) answer next refl valid is
-machine_valid world event.Go answer next valid is = told_valid answer next _ is (go_valid world (awake_in world) valid)
-machine_valid world (event.Put L name value) answer next valid is = told_valid answer next _ is (region_event_valid world L (put_event L name value) (awake_in world) refl (put_keeps L name value) valid)
-machine_valid world (event.Get L name) answer next valid is = told_valid answer next _ is (region_event_valid world L (get_event L name) (awake_in world) refl (get_keeps L name) valid)
-machine_valid world (event.Drop L name) answer next valid is = told_valid answer next _ is (region_event_valid world L (drop_event L name) (awake_in world) refl (drop_keeps L name) valid)
-machine_valid world (event.Sign L key message) answer next valid is = told_valid answer next _ is (region_event_valid world L (sign_event L key message) (awake_in world) refl (sign_keeps L key message) valid)
+machine_valid world event.Status answer next valid is = told_valid answer next _ is (status_valid world (running_state_in world) valid)
+machine_valid world (event.Command text draw) answer next valid is = command_valid world text draw (running_state_in world) answer next refl valid is
+machine_valid world event.Go answer next valid is = told_valid answer next _ is (go_valid world (running_state_in world) valid)
+machine_valid world (event.Put L name value) answer next valid is = told_valid answer next _ is (region_event_valid world L (put_event L name value) (running_state_in world) refl (put_keeps L name value) valid)
+machine_valid world (event.Get L name) answer next valid is = told_valid answer next _ is (region_event_valid world L (get_event L name) (running_state_in world) refl (get_keeps L name) valid)
+machine_valid world (event.Drop L name) answer next valid is = told_valid answer next _ is (region_event_valid world L (drop_event L name) (running_state_in world) refl (drop_keeps L name) valid)
+machine_valid world (event.Sign L key message) answer next valid is = told_valid answer next _ is (region_event_valid world L (sign_event L key message) (running_state_in world) refl (sign_keeps L key message) valid)
 
 -- each step leads from a valid state to a valid one
 pub step_valid : (world : World) (e : Event) (answer : Reply) (next : World) → Valid world.state → Step world e answer next → Valid next.state
-step_valid world e answer next valid (answered machine) = machine_valid world e answer next valid machine
+step_valid world e answer next valid (machine_step machine) = machine_valid world e answer next valid machine
 step_valid world e answer next valid (lacks_memory lacks) = subst (λ (w : World). Valid w.state) (sym lacks.stays) valid
 step_valid world e answer next valid (loses_power lost) =
     let left : Valid lost.state = elim (lost.counts) [

@@ -10,9 +10,9 @@ use Rattle.mb_model.specs.declared.state.State.{State}
 use Rattle.mb_model.specs.Pieces.{part}
 use Rattle.mb_model.specs.RootFormat.{root_format}
 use Rattle.mb_model.specs.RegionFormat.{written_region}
-use Rattle.mb_model.specs.Board.{erased, zeros}
+use Rattle.mb_model.specs.Board.{erased_bytes, zeros}
 use Rattle.mb_model.specs.Flash.{HoldsPublic}
-use Rattle.mb_model.specs.Memory.{AreSized, IsBlank, slots, life_byte, selector_of, spare, first_area, second_area, current, other, HoldsInArea}
+use Rattle.mb_model.specs.Memory.{AreSized, IsBlank, slots, life_byte, selector_of, spare_bytes, first_area, second_area, area_of_slot, inactive_area_of_slot, HoldsInArea}
 use Rattle.mb_model.specs.Meaning.{is_dead}
 use Rattle.mb_model.specs.WrittenFlash.{written_flash}
 use Rattle.mb_model.specs.Clean.{root_of, IsCleanFor}
@@ -78,8 +78,8 @@ slot_areas_are bytes short = (length-area bytes short, (length-zeros 4096, tt))
 -- a slot whose selector is zero has its record in the first of its areas, and nothing in the second
 slot_holds : (bbram : List ℕ) (slot : ℕ) (before : List (List ℕ)) (bytes : List ℕ) (rest : List (List ℕ))
     → bbram ≡ concat (before ++ area_with bytes ∷ zeros 4096 ∷ rest) → AreAreas before → length bytes ≤ 4094 → selector_of bbram slot ≡ 0
-    → (slots slot).first ≡ 4096 * length before → (slots slot).second ≡ 4096 * (length before + 1) → HoldsInArea (current bbram slot) bytes × IsBlank (other bbram slot)
-unfolding current other first_area second_area
+    → (slots slot).first ≡ 4096 * length before → (slots slot).second ≡ 4096 * (length before + 1) → HoldsInArea (area_of_slot bbram slot) bytes × IsBlank (inactive_area_of_slot bbram slot)
+unfolding area_of_slot inactive_area_of_slot first_area second_area
 slot_holds bbram slot before bytes rest whole are short zero first second =
     let own : List ℕ = area_with bytes in
     let later : bbram ≡ concat ((before ++ own ∷ []) ++ zeros 4096 ∷ rest) = whole ∙ ap concat (sym (append_assoc before (own ∷ []) (zeros 4096 ∷ rest))) in
@@ -87,8 +87,8 @@ slot_holds bbram slot before bytes rest whole are short zero first second =
     let at : (slots slot).second ≡ 4096 * length (before ++ own ∷ []) = second ∙ ap (λ n. 4096 * n) (sym (length-append before (own ∷ []))) in
     let one : part (slots slot).first 4096 bbram ≡ own = ap (λ n. part n 4096 bbram) first ∙ area_in bbram before own (zeros 4096 ∷ rest) whole are (length-area bytes short) in
     let two : part (slots slot).second 4096 bbram ≡ zeros 4096 = ap (λ n. part n 4096 bbram) at ∙ area_in bbram (before ++ own ∷ []) (zeros 4096) rest later both (length-zeros 4096) in
-    let is_current : current bbram slot ≡ own = ap (λ n. if n % 2 == 0 then first_area bbram slot else second_area bbram slot) zero ∙ one in
-    let is_other : other bbram slot ≡ zeros 4096 = ap (λ n. if n % 2 == 0 then second_area bbram slot else first_area bbram slot) zero ∙ two in
+    let is_current : area_of_slot bbram slot ≡ own = ap (λ n. if n % 2 == 0 then first_area bbram slot else second_area bbram slot) zero ∙ one in
+    let is_other : inactive_area_of_slot bbram slot ≡ zeros 4096 = ap (λ n. if n % 2 == 0 then second_area bbram slot else first_area bbram slot) zero ∙ two in
     (subst (λ area. HoldsInArea area bytes) (sym is_current) (area_holds bytes short), subst IsBlank (sym is_other) (zeros_blank 4096))
 
 -- ---- records
@@ -138,8 +138,8 @@ module _ (state : State) (fits : FitsImage state) where
   bbram_sized : length (written_bbram state) ≡ 28672
   bbram_sized = ap length in_areas ∙ length-concat (before_three ++ slot_areas (written_region state.three)) are_areas
 
-  spare_is : spare (written_bbram state) ≡ zeros 4092
-  unfolding spare written_bbram
+  spare_is : spare_bytes (written_bbram state) ≡ zeros 4092
+  unfolding spare_bytes written_bbram
   spare_is =
       take_at (zeros 4092) (area_with root ++ (zeros 4096 ++ (area_with (written_region state.two) ++ (zeros 4096 ++ (area_with (written_region state.three) ++ zeros 4096))))) 4092 (length-zeros 4092)
 
@@ -151,13 +151,13 @@ module _ (state : State) (fits : FitsImage state) where
   unfolding written_bbram
   selectors_are = (refl, refl, refl)
 
-  root_holds : HoldsInArea (current (written_bbram state) 1) root × IsBlank (other (written_bbram state) 1)
+  root_holds : HoldsInArea (area_of_slot (written_bbram state) 1) root × IsBlank (inactive_area_of_slot (written_bbram state) 1)
   root_holds = slot_holds (written_bbram state) 1 (front ∷ []) root (slot_areas (written_region state.two) ++ slot_areas (written_region state.three)) in_areas front_is_area (root_fits state fits) selectors_are.0 refl refl
 
-  two_holds : HoldsInArea (current (written_bbram state) 2) (written_region state.two) × IsBlank (other (written_bbram state) 2)
+  two_holds : HoldsInArea (area_of_slot (written_bbram state) 2) (written_region state.two) × IsBlank (inactive_area_of_slot (written_bbram state) 2)
   two_holds = slot_holds (written_bbram state) 2 before_two (written_region state.two) (slot_areas (written_region state.three)) in_areas are_before_two (two_fits state fits) selectors_are.1 refl refl
 
-  three_holds : HoldsInArea (current (written_bbram state) 3) (written_region state.three) × IsBlank (other (written_bbram state) 3)
+  three_holds : HoldsInArea (area_of_slot (written_bbram state) 3) (written_region state.three) × IsBlank (inactive_area_of_slot (written_bbram state) 3)
   three_holds = slot_holds (written_bbram state) 3 before_three (written_region state.three) [] in_areas are_before_three (three_fits state fits) selectors_are.2 refl refl
 
   written_is_clean : IsCleanFor (written_bbram state) state
@@ -188,9 +188,9 @@ written_memory_is_clean state fits = (written_is_clean state fits, refl)
 pub written_is_well_formed : WrittenImagesAreWellFormed
 unfolding written_image written_is_clean
 written_is_well_formed None fits valid =
-    let sized : AreSized (erased 1048576) (zeros 28672) = record { flash = length-erased 1048576; bbram = length-zeros 28672 } in
+    let sized : AreSized (erased_bytes 1048576) (zeros 28672) = record { flash = length-erased 1048576; bbram = length-zeros 28672 } in
     record {
-      flash = erased 1048576;
+      flash = erased_bytes 1048576;
       bbram = zeros 28672;
       image_is = (refl, sized);
       stands = record { sized = sized; meaning = is_dead (zeros_blank 28672) refl };
@@ -210,7 +210,7 @@ written_is_well_formed (Some state) fits valid =
 
 pub length-image : (state : Option State) → IfSome state FitsImage → length (written_image state) ≡ 1077248
 unfolding written_image
-length-image None fits = omega (arith, length-append (erased 1048576) (zeros 28672), length-erased 1048576, length-zeros 28672)
+length-image None fits = omega (arith, length-append (erased_bytes 1048576) (zeros 28672), length-erased 1048576, length-zeros 28672)
 length-image (Some state) fits =
     let sized : AreSized (written_flash state.codes state.log) (written_bbram state) = written_is_sized state fits in
     omega (arith, length-append (written_flash state.codes state.log) (written_bbram state), sized.flash, sized.bbram)

@@ -10,7 +10,7 @@ use Rattle.mb_model.specs.declared.entry.Entry.{Entry}
 use Rattle.mb_model.specs.declared.entry.SignedEntry.{SignedEntry}
 use Rattle.mb_model.specs.declared.state.Codes.{Codes}
 use Rattle.mb_model.specs.declared.stored.Root.{Root}
-use Rattle.mb_model.specs.Board.{erased}
+use Rattle.mb_model.specs.Board.{erased_bytes}
 use Rattle.mb_model.specs.EntryFormat.{entry_format, signed_entry_format}
 use Rattle.mb_model.specs.HeaderFormat.{code_length_format, slot_format, entry_bytes_format, unsigned_format, header_format, log_format}
 use Rattle.mb_model.specs.Pieces.{part}
@@ -36,12 +36,12 @@ stands_at pre bytes post flash at whole size =
 
 length-in_sectors : (n : ℕ) (bytes : List ℕ) → length bytes ≤ 4096 * n → length (in_sectors n bytes) ≡ 4096 * n
 unfolding in_sectors
-length-in_sectors n bytes short = omega (arith, length-append bytes (erased (4096 * n - length bytes)), length-erased (4096 * n - length bytes), short)
+length-in_sectors n bytes short = omega (arith, length-append bytes (erased_bytes (4096 * n - length bytes)), length-erased (4096 * n - length bytes), short)
 
 -- a piece with its erased bytes, and what follows
-opened : (n : ℕ) (bytes post : List ℕ) → in_sectors n bytes ++ post ≡ bytes ++ (erased (4096 * n - length bytes) ++ post)
+opened : (n : ℕ) (bytes post : List ℕ) → in_sectors n bytes ++ post ≡ bytes ++ (erased_bytes (4096 * n - length bytes) ++ post)
 unfolding in_sectors
-opened n bytes post = append_assoc bytes (erased (4096 * n - length bytes)) post
+opened n bytes post = append_assoc bytes (erased_bytes (4096 * n - length bytes)) post
 
 -- a list of pieces, with the first of them joined
 joined : (flash a b c : List ℕ) → flash ≡ a ++ (b ++ c) → flash ≡ (a ++ b) ++ c
@@ -68,7 +68,7 @@ code_in : (layer : ℕ) (code : Option (List ℕ)) (pre post flash : List ℕ) �
 unfolding slots_with code_slot
 code_in layer None pre post flash fits whole size = refl
 code_in layer (Some code) pre post flash fits whole size =
-    let after : List ℕ = erased (4096 * 16 - length code) ++ post in
+    let after : List ℕ = erased_bytes (4096 * 16 - length code) ++ post in
     let pieces : flash ≡ pre ++ (code ++ after) = whole ∙ ap (λ (xs : List ℕ). pre ++ xs) (opened 16 code post) in (
       (λ e. omega (arith, e)),
       sym (take-take (length code) 32768 (drop (4096 * code_sector layer 1) flash) fits ∙ stands_at pre code after flash (4096 * code_sector layer 1) pieces size),
@@ -117,7 +117,7 @@ log_in log pre post flash are whole size = record {
       let text : List ℕ = entry_in_log signed in
       let after : List ℕ = sectors_of rest in
       let start : List ℕ = pre ++ sectors_of before in
-      let pieces : flash ≡ start ++ (text ++ (erased (4096 * 1 - length text) ++ (after ++ post))) =
+      let pieces : flash ≡ start ++ (text ++ (erased_bytes (4096 * 1 - length text) ++ (after ++ post))) =
       whole
       ∙ ap (λ (xs : List SignedEntry). pre ++ (sectors_of xs ++ post)) split
       ∙ ap (λ (xs : List ℕ). pre ++ (xs ++ post)) (sectors_split before signed rest)
@@ -128,7 +128,7 @@ log_in log pre post flash are whole size = record {
       let at : length start ≡ 4096 * log_sector (length before) =
       omega (arith, length-append pre (sectors_of before), length-sectors before front, size) in
       holds_entry (sector flash (log_sector (length before))) text signed (entry_has_bytes signed own).0
-      (front_of_sector flash text (log_sector (length before)) (omega (arith, entry_fits signed own)) (stands_at start text (erased (4096 * 1 - length text) ++ (after ++ post)) flash (4096 * log_sector (length before)) pieces at)));
+      (front_of_sector flash text (log_sector (length before)) (omega (arith, entry_fits signed own)) (stands_at start text (erased_bytes (4096 * 1 - length text) ++ (after ++ post)) flash (4096 * log_sector (length before)) pieces at)));
 }
 
 -- ---- the header
@@ -209,17 +209,17 @@ module _ (codes : Codes) (log : List SignedEntry) (fit : CodesFitSlots codes) (f
       let at_e : flash ≡ (((H ++ A) ++ B) ++ C) ++ (E ++ (L ++ Z)) = joined flash ((H ++ A) ++ B) C (E ++ (L ++ Z)) at_c in
       let front : List ℕ = (((H ++ A) ++ B) ++ C) ++ E in
       let at_l : flash ≡ front ++ (L ++ Z) = joined flash (((H ++ A) ++ B) ++ C) E (L ++ Z) at_e in
-      let rest : List ℕ = erased (4096 * 128 - length (sectors_of log)) ++ Z in
+      let rest : List ℕ = erased_bytes (4096 * 128 - length (sectors_of log)) ++ Z in
       let at_log : flash ≡ front ++ (sectors_of log ++ rest) = at_l ∙ ap (λ (xs : List ℕ). front ++ xs) (opened 128 (sectors_of log) Z) in
       let after : List ℕ = A ++ (B ++ (C ++ (E ++ (L ++ Z)))) in
-      let at_header : flash ≡ header ++ (erased (4096 * 2 - length header) ++ after) = at_a ∙ opened 2 header after in
+      let at_header : flash ≡ header ++ (erased_bytes (4096 * 2 - length header) ++ after) = at_a ∙ opened 2 header after in
       let size_a : length (H ++ A) ≡ 73728 = omega (arith, length-append H A, long_h, long_a) in
       let size_b : length ((H ++ A) ++ B) ≡ 139264 = omega (arith, length-append (H ++ A) B, size_a, long_b) in
       let size_c : length (((H ++ A) ++ B) ++ C) ≡ 204800 = omega (arith, length-append ((H ++ A) ++ B) C, size_b, long_c) in
       let size_e : length front ≡ 262144 = omega (arith, length-append (((H ++ A) ++ B) ++ C) E, size_c, long_e) in
       let begins : HoldsHeader flash 0 (first_header codes log) =
       begins_with header_format (sector flash 0) header (first_header codes log) (record { allowed = first_allowed codes log fit fits; whole = refl })
-      (front_of_sector flash header 0 (omega (arith, short_header)) (stands_at [] header (erased (4096 * 2 - length header) ++ after) flash 0 at_header refl))
+      (front_of_sector flash header 0 (omega (arith, short_header)) (stands_at [] header (erased_bytes (4096 * 2 - length header) ++ after) flash 0 at_header refl))
       in
       record {
         header = first_header codes log;

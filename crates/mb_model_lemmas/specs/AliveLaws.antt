@@ -9,12 +9,12 @@ use Rattle.mb_model.specs.declared.entry.Entry.{Entry}
 use Rattle.mb_model.specs.declared.entry.Entry.TheVariants.{Birth, Change, NewKey, Succession}
 use Rattle.mb_model.specs.declared.state.Configuration.{Configuration}
 use Rattle.mb_model.specs.Layers.{is_upper}
-use Rattle.mb_model.specs.Log.{layers_of, made, RuledLog}
-use Rattle.mb_model.specs.Lives.{ends, Alive, configuration, opened_by, lives_of, MadeKey, alive_keys}
+use Rattle.mb_model.specs.Log.{layers_of, keys_made_by, RuledLog}
+use Rattle.mb_model.specs.Lives.{ends_keys, Alive, configuration, configurations_opened_by, lives_of, MadeKey, alive_keys}
 
 -- the entry does not end the key, which is one of layer L
 abbrev pub goes_on : ℕ → Entry → MadeKey → Bool
-goes_on L entry key = not (ends key.kind L entry)
+goes_on L entry key = not (ends_keys key.kind L entry)
 
 -- the key that an entry makes in the region of layer L
 abbrev pub made_by : ℕ → Entry → List MadeKey
@@ -65,11 +65,11 @@ AliveNumbersIncrease =
 -- and the next key's number is above them all
 abbrev pub AliveNumbersAreBelowTheNext : Type 0
 AliveNumbersAreBelowTheNext =
-    (log : List Entry) (L : ℕ) → RuledLog log → All (λ key. key.number < made log) (alive_keys log L)
+    (log : List Entry) (L : ℕ) → RuledLog log → All (λ key. key.number < keys_made_by log) (alive_keys log L)
 
 -- no entry has made a key with the next key's number, or with one above
 abbrev pub HighNumbersAreUnmade : Type 0
-HighNumbersAreUnmade = (log : List Entry) (n : ℕ) → RuledLog log → made log ≤ n → IsUnmade log n
+HighNumbersAreUnmade = (log : List Entry) (n : ℕ) → RuledLog log → keys_made_by log ≤ n → IsUnmade log n
 
 -- a key that no entry makes has lived in no configuration
 abbrev pub UnmadeKeysHaveNoLives : Type 0
@@ -88,7 +88,8 @@ LivesAfterOneMore =
     (log before later : List Entry) (position number n L : ℕ) (kind : KeyKind) (key : PublicKey) (entry : Entry)
     → log ≡ before ++ NewKey position number n L kind key ∷ later → RuledLog (log ++ entry ∷ [])
     → lives_of (log ++ entry ∷ []) n
-    ≡ lives_of log n ++ (if list_all (λ e. not (ends kind L e)) (later ++ entry ∷ []) then opened_by L entry else [])
+    ≡ lives_of log n
+    ++ (if list_all (λ e. not (ends_keys kind L e)) (later ++ entry ∷ []) then configurations_opened_by L entry else [])
 
 -- A key that is alive lives in the layers that stand: its last configuration has these, up to its own.
 abbrev pub AliveKeysLiveNow : Type 0

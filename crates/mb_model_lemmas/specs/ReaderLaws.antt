@@ -5,7 +5,7 @@ use Rattle.mb_model.specs.declared.entry.Entry.{Entry}
 use Rattle.mb_model.specs.declared.entry.Entry.TheVariants.{Birth, Change, NewKey, Succession}
 use Rattle.mb_model.specs.declared.state.Configuration.{Configuration}
 use Rattle.mb_model.specs.Log.{layers_of, RuledLog}
-use Rattle.mb_model.specs.Lives.{ends, Alive, configuration, opened_by, lives_of}
+use Rattle.mb_model.specs.Lives.{ends_keys, Alive, configuration, configurations_opened_by, lives_of}
 use Rattle.mb_model.specs.Acceptance.{KeyEntry, key_in, key_of, is_alive}
 
 -- the first configuration of the key with this number, where an entry after a log makes it
@@ -49,7 +49,8 @@ abbrev pub StaysAlive : Type 0
 StaysAlive =
     (log : List Entry) (entry : Entry) (n : ℕ) (made : KeyEntry) → RuledLog (log ++ entry ∷ [])
     → key_of log n ≡ Some made
-    → is_alive (log ++ entry ∷ []) n made.layer ≡ (is_alive log n made.layer && not (ends made.kind made.layer entry))
+    → is_alive (log ++ entry ∷ []) n made.layer
+    ≡ (is_alive log n made.layer && not (ends_keys made.kind made.layer entry))
 
 -- and lives on in what entries open while it is alive
 abbrev pub LivesOn : Type 0
@@ -58,7 +59,8 @@ LivesOn =
     → key_of log n ≡ Some made
     → lives_of (log ++ entry ∷ []) n
     ≡ lives_of log n
-    ++ (if is_alive log n made.layer && not (ends made.kind made.layer entry) then opened_by made.layer entry else [])
+    ++ (if is_alive log n made.layer && not (ends_keys made.kind made.layer entry)
+    then configurations_opened_by made.layer entry else [])
 
 -- the log holds the entry of a key that is made
 abbrev pub MadeKeysStandInTheLog : Type 0

@@ -21,17 +21,17 @@ use Rattle.mb_model.specs.declared.stored.Fate.{Fate}
 use Rattle.mb_model.specs.declared.stored.Fate.TheVariants.{Keep, AddKey}
 use Rattle.mb_model.specs.Layers.{layer_of, is_upper, Runnable}
 use Rattle.mb_model.specs.Rules.{kind_of, change_of, Condition, CanPlace, kept_regions, after}
-use Rattle.mb_model.specs.Log.{entries_of, is_change, number_of, layers_of, made, RuledLog}
+use Rattle.mb_model.specs.Log.{entries_of, is_change, number_of, layers_of, keys_made_by, RuledLog}
 use Rattle.mb_model.specs.Lives.{Alive, alive_keys}
 use Rattle.mb_model.specs.Regions.{region_after, with_key}
 use Rattle.mb_model.specs.Signing.{public_of}
 use Rattle.mb_model.specs.Regions.{region_of, with_region}
 use Rattle.mb_model.specs.OrderChecks.{view_of}
-use Rattle.mb_model.specs.OrderEffects.{key_made, cosigned_by, succeeded, changed, keyed}
+use Rattle.mb_model.specs.OrderEffects.{key_made, cosigners_of, state_after_succession, state_after_change, state_after_new_key}
 use Rattle.mb_model.specs.LayerEvents.{Outcome, has_name, with_secret, has_number, with_use, put_event, get_event}
 use Rattle.mb_model.specs.LayerEvents.{drop_event, sign_event, on_region}
 use Rattle.mb_model.specs.Fates.{change_fate, key_fate}
-use Rattle.mb_model.specs.Meaning.{fated}
+use Rattle.mb_model.specs.Meaning.{region_after_fate}
 use Rattle.mb_model.specs.Valid.{as_made, IsValidRegion, IsValidState}
 use Rattle.mb_model_lemmas.specs.AliveLaws.{made_by}
 
@@ -58,10 +58,10 @@ ChangesKeepRegionsValid =
 -- the log with the next key, and this key as it stands in its region
 abbrev pub with_new_key : List Entry → ℕ → ℕ → KeyKind → KeySeed → List Entry
 with_new_key log position L kind seed =
-    log ++ NewKey position (number_of log) (made log) L kind (public_of seed) ∷ []
+    log ++ NewKey position (number_of log) (keys_made_by log) L kind (public_of seed) ∷ []
 
 abbrev pub unused_key : List Entry → KeyKind → KeySeed → RegionKey
-unused_key log kind seed = record { number = made log; kind = kind; seed = seed; uses = 0 }
+unused_key log kind seed = record { number = keys_made_by log; kind = kind; seed = seed; uses = 0 }
 
 -- a new key of the layer, with the key that the region gets
 abbrev pub NewKeysKeepRegionsValid : Type 0
@@ -168,21 +168,22 @@ pub record HasValidRegions (state : State) : Type 0 where
 -- the device key gives way to the next
 abbrev pub SuccessionsKeepBothValid : Type 0
 SuccessionsKeepBothValid =
-    (state : State) (draw : List ℕ) → HasValidRegions state → HasValidRegions (succeeded state draw)
+    (state : State) (draw : List ℕ) → HasValidRegions state → HasValidRegions (state_after_succession state draw)
 
 -- an order changes a layer
 abbrev pub ChangesKeepBothValid : Type 0
 ChangesKeepBothValid =
     (state : State) (kind : ChangeKind) (order : Order) (draw : List ℕ) → change_of (kind_of order.act) ≡ Some kind
     → state.layers ≡ layers_of (entries_of state.log) → HasValidRegions state
-    → HasValidRegions (changed state kind order draw)
+    → HasValidRegions (state_after_change state kind order draw)
 
 -- an order makes a key
 abbrev pub NewKeysKeepBothValid : Type 0
 NewKeysKeepBothValid =
     (state : State) (L : ℕ) (kind : KeyKind) (draw : List ℕ)
     → RuledLog (entries_of state.log) → Condition state.layers None L
-    → length (region_of state L).keys < 8 → HasValidRegions state → HasValidRegions (keyed state L kind draw)
+    → length (region_of state L).keys < 8 → HasValidRegions state
+    → HasValidRegions (state_after_new_key state L kind draw)
 
 -- ---- numbers of keys
 
@@ -196,7 +197,7 @@ RegionNumbersIncrease =
 abbrev pub HighNumbersAreNotThere : Type 0
 HighNumbersAreNotThere =
     (log : List Entry) (L n : ℕ) (keys : List RegionKey) → RuledLog log → map as_made keys ≡ alive_keys log L
-    → made log ≤ n → list_any (has_number n) keys ≡ false
+    → keys_made_by log ≤ n → list_any (has_number n) keys ≡ false
 
 -- where numbers increase, a key is found by its number
 abbrev pub KeysAreFoundByNumber : Type 0
@@ -216,36 +217,38 @@ KeysAreUsedByNumber =
 
 -- a fate that is done twice is done once
 abbrev pub TwiceFatedIsFated : Type 0
-TwiceFatedIsFated = (fate : Fate) (region : Region) → fated fate (fated fate region) ≡ fated fate region
+TwiceFatedIsFated =
+    (fate : Fate) (region : Region)
+    → region_after_fate fate (region_after_fate fate region) ≡ region_after_fate fate region
 
 -- where a region is kept, it stays as it is
 abbrev pub KeptIsAsBefore : Type 0
-KeptIsAsBefore = (region : Region) → fated Keep region ≡ region
+KeptIsAsBefore = (region : Region) → region_after_fate Keep region ≡ region
 
 -- a change has such a fate for each region
 abbrev pub ChangesAreFates : Type 0
 ChangesAreFates =
     (layers : Layers) (kind : ChangeKind) (k : ℕ) (cosigned : Pair) (L : ℕ) (region : Region)
-    → region_after layers kind k cosigned L region ≡ fated (change_fate layers kind k cosigned L) region
+    → region_after layers kind k cosigned L region ≡ region_after_fate (change_fate layers kind k cosigned L) region
 
 -- a new key is added, where none has its number
 abbrev pub NewKeysAreFates : Type 0
 NewKeysAreFates =
     (key : RegionKey) (region : Region) → list_any (has_number key.number) region.keys ≡ false
-    → with_key key region ≡ fated (AddKey key) region
+    → with_key key region ≡ region_after_fate (AddKey key) region
 
 -- both regions are left as these fates say
 pub record AreFated (before after : State) (two three : Fate) : Type 0 where
-  pub two_is : after.two ≡ fated two before.two
-  pub three_is : after.three ≡ fated three before.three
+  pub two_is : after.two ≡ region_after_fate two before.two
+  pub three_is : after.three ≡ region_after_fate three before.three
 
 -- an order that changes a layer
 abbrev pub ChangedStatesAreFated : Type 0
 ChangedStatesAreFated =
     (state : State) (kind : ChangeKind) (order : Order) (draw : List ℕ)
-    → AreFated state (changed state kind order draw)
-    (change_fate state.layers kind order.layer (cosigned_by order) 2)
-    (change_fate state.layers kind order.layer (cosigned_by order) 3)
+    → AreFated state (state_after_change state kind order draw)
+    (change_fate state.layers kind order.layer (cosigners_of order) 2)
+    (change_fate state.layers kind order.layer (cosigners_of order) 3)
 
 -- an order that makes a key
 abbrev pub KeyedStatesAreFated : Type 0
@@ -253,7 +256,7 @@ KeyedStatesAreFated =
     (state : State) (L : ℕ) (kind : KeyKind) (draw : List ℕ) (key : RegionKey) → IsTrue (is_upper L)
     → RuledLog (entries_of state.log) → HasValidRegions state
     → key ≡ key_made (view_of state) kind draw
-    → AreFated state (keyed state L kind draw) (key_fate L key 2) (key_fate L key 3)
+    → AreFated state (state_after_new_key state L kind draw) (key_fate L key 2) (key_fate L key 3)
 
 -- ---- keys and the log
 

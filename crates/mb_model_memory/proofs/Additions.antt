@@ -11,7 +11,7 @@ use Rattle.mb_model.specs.declared.state.View.{View}
 use Rattle.mb_model.specs.declared.stored.Fate.{Fate}
 use Rattle.mb_model.specs.declared.stored.Outgoing.{Outgoing}
 use Rattle.mb_model.specs.Rules.{kind_of, change_of, renews}
-use Rattle.mb_model.specs.Log.{entries_of, used}
+use Rattle.mb_model.specs.Log.{entries_of, uses_of_device_key}
 use Rattle.mb_model.specs.OrderChecks.{change_by, view_of, needs_succession}
 use Rattle.mb_model.specs.OrderEffects.{fact_of, names_next, entry_of, succession_entry, ready_for}
 use Rattle.mb_model.specs.Work.{outgoing_by, key_by, region_fate, bodies_by, bodies_for, fate_for}
@@ -19,7 +19,7 @@ use Rattle.mb_model_lemmas.proofs.AdditionLemmas.{view_ready, ready_layers, entr
 use Rattle.mb_model_memory.specs.Commits.{new_entries}
 
 abbrev pub outgoing_key : State → Outgoing
-outgoing_key state = record { seed = state.device; uses = used (entries_of state.log) + 1 }
+outgoing_key state = record { seed = state.device; uses = uses_of_device_key (entries_of state.log) + 1 }
 
 abbrev pub outgoing_with : Bool → State → Option Outgoing
 outgoing_with next state = if next then Some (outgoing_key state) else None

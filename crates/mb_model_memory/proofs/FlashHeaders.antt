@@ -8,7 +8,7 @@ use Rattle.mb_model.specs.declared.order.Act.{Act}
 use Rattle.mb_model.specs.declared.order.Act.TheVariants as act
 use Rattle.mb_model.specs.declared.stored.Slot.{Slot}
 use Rattle.mb_model.specs.EntryFormat.{entry_format}
-use Rattle.mb_model.specs.HeaderFormat.{code_length_format, slot_format, entry_bytes_format, most_unsigned, unsigned_format, header_format}
+use Rattle.mb_model.specs.HeaderFormat.{code_length_format, slot_format, entry_bytes_format, unsigned_limit, unsigned_format, header_format}
 use Rattle.mb_model.specs.OrderFormat.{differs_in, act_by}
 use Rattle.mb_model.specs.Rules.{kind_of}
 use Rattle.mb_model.specs.Layers.{are_equal}
@@ -29,7 +29,7 @@ few_by : (b : Bool) (signed n : ℕ) → nat_le (signed + 2) 128 ≡ b → n ≤
 few_by true signed n e few room = few
 few_by false signed n e few room = omega (arith, room)
 
-room_is : (signed n : ℕ) → n ≤ 2 → signed + n ≤ 128 → n ≤ most_unsigned signed
+room_is : (signed n : ℕ) → n ≤ 2 → signed + n ≤ 128 → n ≤ unsigned_limit signed
 room_is signed n few room = few_by (nat_le (signed + 2) 128) signed n refl few room
 
 pub entries_have_texts : EntriesHaveTexts

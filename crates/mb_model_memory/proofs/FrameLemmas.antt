@@ -7,16 +7,16 @@ use Rattle.mb_model.specs.declared.state.Codes.{Codes}
 use Rattle.mb_model.specs.declared.state.State.{State}
 use Rattle.mb_model.specs.declared.stored.Root.{Root}
 use Rattle.mb_model.specs.RootFormat.{root_format}
-use Rattle.mb_model.specs.Memory.{AreSized, IsBlank, life_byte, spare, current, HoldsRecord}
+use Rattle.mb_model.specs.Memory.{AreSized, IsBlank, life_byte, spare_bytes, area_of_slot, HoldsRecord}
 use Rattle.mb_model.specs.Flash.{HoldsPublic}
-use Rattle.mb_model.specs.Meaning.{RootIn, HoldsRegion, Contents, HoldsContents, meant, HasMeaning, is_dead, is_live, StandsFor}
+use Rattle.mb_model.specs.Meaning.{RootIn, HoldsRegion, Contents, HoldsContents, state_of_contents, HasMeaning, is_dead, is_live, StandsFor}
 use Rattle.mb_model_memory.specs.FlashInForce.{AgreeForArea}
 use Rattle.mb_model_memory.specs.InForce.{AgreeInForce, AgreeBesides}
 use Rattle.mb_model_memory.proofs.FlashFrames.{segments_stay, agree_turned}
 use Rattle.mb_model_memory.proofs.CommitLemmas.{stands_for_meant, live_contents}
 
 -- the root stands where its bytes do
-root_moved : (bbram other_bbram : List ℕ) (root : Root) → life_byte other_bbram ≡ life_byte bbram → spare other_bbram ≡ spare bbram → current other_bbram 1 ≡ current bbram 1
+root_moved : (bbram other_bbram : List ℕ) (root : Root) → life_byte other_bbram ≡ life_byte bbram → spare_bytes other_bbram ≡ spare_bytes bbram → area_of_slot other_bbram 1 ≡ area_of_slot bbram 1
     → RootIn bbram root → RootIn other_bbram root
 root_moved bbram other_bbram root life between same has = record {
   alive = life ∙ has.alive;
@@ -55,7 +55,7 @@ state_agrees flash bbram other_flash other_bbram state sized agree stands =
 dead_by : (flash bbram other_flash : List ℕ) (known : Option State) → known ≡ None → HasMeaning flash bbram known → HasMeaning other_flash bbram known
 dead_by flash bbram other_flash known e (is_dead blank none) = is_dead blank none
 dead_by flash bbram other_flash known e (is_live c holds index live) =
-    let no : None ≡ Some (meant c) = sym e ∙ live in
+    let no : None ≡ Some (state_of_contents c) = sym e ∙ live in
     absurd (grind (arith, no))
 
 pub dead_flash : (flash bbram other_flash : List ℕ) → AreSized other_flash bbram → StandsFor flash bbram None → StandsFor other_flash bbram None
@@ -68,10 +68,10 @@ other_root : (slot : ℕ) (bbram other_bbram : List ℕ) (root : Root) → 1 ≢
 other_root slot bbram other_bbram root apart agree has = root_moved bbram other_bbram root agree.life agree.between (agree.others 1 (omega arith) (omega arith) apart) has
 
 -- and so does a region
-other_region : (slot m : ℕ) (bbram other_bbram : List ℕ) (region : Region) → 1 ≤ m → m ≤ 3 → m ≢ slot → AgreeBesides slot bbram other_bbram → HoldsRegion (current bbram m) region → HoldsRegion (current other_bbram m) region
+other_region : (slot m : ℕ) (bbram other_bbram : List ℕ) (region : Region) → 1 ≤ m → m ≤ 3 → m ≢ slot → AgreeBesides slot bbram other_bbram → HoldsRegion (area_of_slot bbram m) region → HoldsRegion (area_of_slot other_bbram m) region
 other_region slot m bbram other_bbram region least most apart agree holds = subst (λ (area : List ℕ). HoldsRegion area region) (sym (agree.others m least most apart)) holds
 
-pub two_replaced : (flash bbram other_bbram : List ℕ) (contents : Contents) (region : Region) → AgreeBesides 2 bbram other_bbram → HoldsRegion (current other_bbram 2) region
+pub two_replaced : (flash bbram other_bbram : List ℕ) (contents : Contents) (region : Region) → AgreeBesides 2 bbram other_bbram → HoldsRegion (area_of_slot other_bbram 2) region
     → HoldsContents flash bbram contents → HoldsContents flash other_bbram (record contents { two = region })
 two_replaced flash bbram other_bbram c region agree own holds = record {
   root = other_root 2 bbram other_bbram c.root (λ e. omega (arith, e)) agree holds.root;
@@ -80,7 +80,7 @@ two_replaced flash bbram other_bbram c region agree own holds = record {
   three = other_region 2 3 bbram other_bbram c.three (omega arith) (omega arith) (λ e. omega (arith, e)) agree holds.three;
 }
 
-pub three_replaced : (flash bbram other_bbram : List ℕ) (contents : Contents) (region : Region) → AgreeBesides 3 bbram other_bbram → HoldsRegion (current other_bbram 3) region
+pub three_replaced : (flash bbram other_bbram : List ℕ) (contents : Contents) (region : Region) → AgreeBesides 3 bbram other_bbram → HoldsRegion (area_of_slot other_bbram 3) region
     → HoldsContents flash bbram contents → HoldsContents flash other_bbram (record contents { three = region })
 three_replaced flash bbram other_bbram c region agree own holds = record {
   root = other_root 3 bbram other_bbram c.root (λ e. omega (arith, e)) agree holds.root;
@@ -90,7 +90,7 @@ three_replaced flash bbram other_bbram c region agree own holds = record {
 }
 
 pub root_replaced : (flash bbram other_bbram : List ℕ) (contents : Contents) (root : Root) (codes : Codes) (signed : List SignedEntry) (unsigned : List Entry)
-    → AgreeBesides 1 bbram other_bbram → HoldsRecord root_format (current other_bbram 1) root → HoldsPublic flash root codes signed unsigned → HoldsContents flash bbram contents
+    → AgreeBesides 1 bbram other_bbram → HoldsRecord root_format (area_of_slot other_bbram 1) root → HoldsPublic flash root codes signed unsigned → HoldsContents flash bbram contents
     → HoldsContents flash other_bbram (record contents { root = root; codes = codes; signed = signed; unsigned = unsigned })
 root_replaced flash bbram other_bbram c root codes signed unsigned agree own public holds = record {
   root = record { alive = agree.life ∙ holds.root.alive; blank = subst IsBlank (sym agree.between) holds.root.blank; holds = own };

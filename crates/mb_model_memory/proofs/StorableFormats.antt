@@ -25,8 +25,8 @@ use Rattle.mb_model.specs.declared.region.RegionKey.{RegionKey}
 use Rattle.mb_model.specs.declared.region.Secret.{Secret}
 use Rattle.mb_model.specs.declared.state.Codes.{Codes}
 use Rattle.mb_model.specs.declared.stored.Fate.TheVariants.{Keep}
-use Rattle.mb_model.specs.Layers.{are_equal, unowned, layer_of}
-use Rattle.mb_model.specs.Rules.{kind_of, change_of, is_load, placed, loaded_layer, admits, after}
+use Rattle.mb_model.specs.Layers.{are_equal, layer_without_owner, layer_of}
+use Rattle.mb_model.specs.Rules.{kind_of, change_of, is_load, layer_from_order, loaded_layer, admits, after}
 use Rattle.mb_model.specs.Born.{born_key}
 use Rattle.mb_model.specs.Signing.{public_of}
 use Rattle.mb_model.specs.SignedTexts.{entry_text}
@@ -38,7 +38,7 @@ use Rattle.mb_model.specs.RegionFormat.{is_name, secret_format}
 use Rattle.mb_model.specs.OrderFormat.{differs_in, payload_format, act_by}
 use Rattle.mb_model.specs.PublicRecord.{code_format, codes_format}
 use Rattle.mb_model.specs.WrittenFlash.{CodesFitSlots}
-use Rattle.mb_model.specs.OrderEffects.{signed_by, code_after, codes_after}
+use Rattle.mb_model.specs.OrderEffects.{entry_signed_by, code_after, codes_after}
 use Rattle.mb_model_lemmas.proofs.SignatureLemmas.{length-signature_of, public_sized, born_key-sized}
 use Rattle.mb_model_lemmas.proofs.RuleLemmas.{layer_with}
 
@@ -81,7 +81,7 @@ used_key_allowed key is left = (is.0, (tt, (is.1.1.0, (omega arith, omega (arith
 
 -- ---- layers
 
-pub unowned_allowed : (layer_format 2).Allowed unowned
+pub unowned_allowed : (layer_format 2).Allowed layer_without_owner
 unfolding layer_format
 unowned_allowed = (tt, ((refl, refl), (refl, (refl, refl))))
 
@@ -125,7 +125,7 @@ layers_allowed layers one two three = (one, (two, three))
 pub layer_of-allowed : (layers : Layers) (n : ℕ) → (layers_format 2).Allowed layers → (layer_format 2).Allowed (layer_of layers n)
 unfolding layers_format
 layer_of-allowed layers n are =
-    let last = either_layer (n == 3) layers.three unowned are.1.1 unowned_allowed in
+    let last = either_layer (n == 3) layers.three layer_without_owner are.1.1 unowned_allowed in
     either_layer (n == 1) layers.one _ are.0 (either_layer (n == 2) layers.two _ are.1.0 last)
 
 -- the layers after a change
@@ -178,7 +178,7 @@ established_allowed owner trust is = (tt, ((tt, tt), (is, (refl, refl))))
 
 -- what an order puts in place, where a layer that is loaded has an owner
 pub placed_allowed : (old : Layer) (a : Act) → (layer_format 2).Allowed old → (act_by (kind_of a) (differs_in a)).Allowed a → (is_load (change_of (kind_of a)) ≡ true → IsSome old.owner)
-    → (layer_format 2).Allowed (placed old a)
+    → (layer_format 2).Allowed (layer_from_order old a)
 placed_allowed old (act.Establish owner trust) is allowed owned = established_allowed owner trust allowed.0
 placed_allowed old act.Surrender is allowed owned = unowned_allowed
 placed_allowed old (act.Load payload) is allowed owned = loaded_by old.owner old.code old.reliable old.trust payload is (version_small (not (are_equal payload.trust)) payload allowed) (owned refl)
@@ -259,8 +259,8 @@ unfolding entry_format succession_format
 succession_allowed position key small is = (refl, (small, is))
 
 -- an entry that a key signs
-pub signed_allowed : (key : KeySeed) (index : ℕ) (entry : Entry) → entry_format.Allowed entry → signed_entry_format.Allowed (signed_by key index entry)
-unfolding signed_entry_format signed_by
+pub signed_allowed : (key : KeySeed) (index : ℕ) (entry : Entry) → entry_format.Allowed entry → signed_entry_format.Allowed (entry_signed_by key index entry)
+unfolding signed_entry_format entry_signed_by
 signed_allowed key index entry is = (is, length-signature_of key index (entry_text entry))
 
 -- ---- fates and secrets

@@ -30,11 +30,11 @@ use Rattle.mb_model.specs.LayerFormat.{layers_format}
 use Rattle.mb_model.specs.EntryFormat.{birth_format, change_format, entry_format, signed_entry_format}
 use Rattle.mb_model.specs.RootFormat.{region_key_format, fate_format, pending_format, root_format}
 use Rattle.mb_model.specs.RegionFormat.{secret_format, secrets_format, keys_format, region_by, region_format, SpellsRegion}
-use Rattle.mb_model.specs.OrderEffects.{signed_by}
-use Rattle.mb_model.specs.StoredLog.{signed_for, outgoing_of, completed}
+use Rattle.mb_model.specs.OrderEffects.{entry_signed_by}
+use Rattle.mb_model.specs.StoredLog.{entries_signed_for, outgoing_of, log_completed_by}
 use Rattle.mb_model.specs.Flash.{HoldsPublic}
 use Rattle.mb_model.specs.OldFlash.{HeldPublic}
-use Rattle.mb_model.specs.Meaning.{Contents, FlashForm, HoldsContentsBy, fated, fate_of_two, fate_of_three, meant, StandsForBy}
+use Rattle.mb_model.specs.Meaning.{Contents, FlashForm, HoldsContentsBy, region_after_fate, fate_of_two, fate_of_three, state_of_contents, StandsForBy}
 use Rattle.mb_model.specs.Valid.{IsValidState}
 use Rattle.mb_model.specs.Factory.{layers_at_birth, serial_from, birth_entry, state_at_birth}
 use Rattle.mb_model.proofs.Places.{length-part}
@@ -93,8 +93,8 @@ added_all true key keys own are = are
 added_all false key keys own are = All-push region_key_format.Allowed keys key are own
 
 -- what is left of a region by a fate that is stored, where it has no more keys than it may
-pub fated_storable : (fate : Fate) (region : Region) → fate_format.Allowed fate → IsStorableRegion region → length (fated fate region).keys ≤ 8 → IsStorableRegion (fated fate region)
-unfolding fated
+pub fated_storable : (fate : Fate) (region : Region) → fate_format.Allowed fate → IsStorableRegion region → length (region_after_fate fate region).keys ≤ 8 → IsStorableRegion (region_after_fate fate region)
+unfolding region_after_fate
 fated_storable Keep region allowed is few = is
 fated_storable Empty region allowed is few = empty_storable
 fated_storable DropConfiguration region allowed is few = record {
@@ -112,16 +112,16 @@ fated_storable (AddKey key) region allowed is few = record {
 
 -- ---- the log
 
-mapped_signed : (key : KeySeed) (index : ℕ) (unsigned : List Entry) → AllByRecursion entry_format.Allowed unsigned → All signed_entry_format.Allowed (map (signed_by key index) unsigned)
+mapped_signed : (key : KeySeed) (index : ℕ) (unsigned : List Entry) → AllByRecursion entry_format.Allowed unsigned → All signed_entry_format.Allowed (map (entry_signed_by key index) unsigned)
 mapped_signed key index [] are = All-nil signed_entry_format.Allowed
 mapped_signed key index (entry ∷ more) are =
-    All-cons signed_entry_format.Allowed (signed_by key index entry) (map (signed_by key index) more) (signed_allowed key index entry are.0) (mapped_signed key index more are.1)
+    All-cons signed_entry_format.Allowed (entry_signed_by key index entry) (map (entry_signed_by key index) more) (signed_allowed key index entry are.0) (mapped_signed key index more are.1)
 
-all_signed : (device : KeySeed) (uses : ℕ) (outgoing : Option Outgoing) (unsigned : List Entry) → AllByRecursion entry_format.Allowed unsigned → All signed_entry_format.Allowed (signed_for device uses outgoing unsigned)
+all_signed : (device : KeySeed) (uses : ℕ) (outgoing : Option Outgoing) (unsigned : List Entry) → AllByRecursion entry_format.Allowed unsigned → All signed_entry_format.Allowed (entries_signed_for device uses outgoing unsigned)
 all_signed device uses None unsigned are = mapped_signed device _ unsigned are
 all_signed device uses (Some outgoing) [] are = All-nil signed_entry_format.Allowed
 all_signed device uses (Some outgoing) (first ∷ rest) are =
-    All-cons signed_entry_format.Allowed _ (map (signed_by device 0) rest) (signed_allowed outgoing.seed _ first are.0) (mapped_signed device 0 rest are.1)
+    All-cons signed_entry_format.Allowed _ (map (entry_signed_by device 0) rest) (signed_allowed outgoing.seed _ first are.0) (mapped_signed device 0 rest are.1)
 
 -- the layers that entries name can be stored
 abbrev NamesAllowed : Option Layers → Type 0
@@ -155,31 +155,31 @@ layers_of-allowed log are = named_or_none (last_of layers_in (entries_of log)) (
 -- ---- the state
 
 completed_allowed : (root : Root) (codes : Codes) (signed : List SignedEntry) (unsigned : List Entry) → PublicPartsFit codes signed unsigned
-    → All signed_entry_format.Allowed (completed root signed unsigned)
-unfolding completed
+    → All signed_entry_format.Allowed (log_completed_by root signed unsigned)
+unfolding log_completed_by
 completed_allowed root codes signed unsigned fit =
-    All-append signed_entry_format.Allowed signed (signed_for root.device root.uses (outgoing_of root.pending) unsigned) fit.signed_allowed
+    All-append signed_entry_format.Allowed signed (entries_signed_for root.device root.uses (outgoing_of root.pending) unsigned) fit.signed_allowed
     (all_signed root.device root.uses (outgoing_of root.pending) unsigned (recursion_from_All entry_format.Allowed unsigned fit.unsigned_allowed))
 
-completed_few : (root : Root) (codes : Codes) (signed : List SignedEntry) (unsigned : List Entry) → PublicPartsFit codes signed unsigned → length (completed root signed unsigned) ≤ 128
-unfolding completed
+completed_few : (root : Root) (codes : Codes) (signed : List SignedEntry) (unsigned : List Entry) → PublicPartsFit codes signed unsigned → length (log_completed_by root signed unsigned) ≤ 128
+unfolding log_completed_by
 completed_few root codes signed unsigned fit =
-    omega (arith, fit.together, length-append signed (signed_for root.device root.uses (outgoing_of root.pending) unsigned), length-signed_for root.device root.uses (outgoing_of root.pending) unsigned)
+    omega (arith, fit.together, length-append signed (entries_signed_for root.device root.uses (outgoing_of root.pending) unsigned), length-signed_for root.device root.uses (outgoing_of root.pending) unsigned)
 
 -- what a flash holds by this form fits a device
 module _ (Form : FlashForm) (fits : HoldsFittingParts Form) (flash bbram : List ℕ) where
-  meant_storable : (contents : Contents) → HoldsContentsBy Form flash bbram contents → length (meant contents).two.keys ≤ 8 → length (meant contents).three.keys ≤ 8
-      → IsStorableState (meant contents)
-  unfolding meant
+  meant_storable : (contents : Contents) → HoldsContentsBy Form flash bbram contents → length (state_of_contents contents).two.keys ≤ 8 → length (state_of_contents contents).three.keys ≤ 8
+      → IsStorableState (state_of_contents contents)
+  unfolding state_of_contents
   meant_storable c holds few_two few_three =
       let root : root_format.Allowed c.root = holds.root.holds.spelled.allowed in
       let public : PublicPartsFit c.codes c.signed c.unsigned = fits flash c.root c.codes c.signed c.unsigned holds.public in
       let pending : (optional pending_format).Allowed c.root.pending = root_pending c.root root in
-      let log : All signed_entry_format.Allowed (completed c.root c.signed c.unsigned) = completed_allowed c.root c.codes c.signed c.unsigned public in
+      let log : All signed_entry_format.Allowed (log_completed_by c.root c.signed c.unsigned) = completed_allowed c.root c.codes c.signed c.unsigned public in
       record {
         serial = root_serial c.root root;
         device = root_device c.root root;
-        layers = layers_of-allowed (completed c.root c.signed c.unsigned) log;
+        layers = layers_of-allowed (log_completed_by c.root c.signed c.unsigned) log;
         codes = fitting_codes c.codes public.codes_fit;
         log = log;
         few = completed_few c.root c.codes c.signed c.unsigned public;
@@ -190,7 +190,7 @@ module _ (Form : FlashForm) (fits : HoldsFittingParts Form) (flash bbram : List 
   pub stands_storable_by : (state : State) → StandsForBy Form flash bbram (Some state) → IsValidState state → IsStorableState state
   stands_storable_by state stands valid =
       let live = live_contents_by Form flash bbram state stands in
-      let own : IsValidState (meant live.contents) = subst IsValidState live.means valid in
+      let own : IsValidState (state_of_contents live.contents) = subst IsValidState live.means valid in
       subst IsStorableState (sym live.means) (meant_storable live.contents live.holds own.two.few own.three.few)
 
 pub stands_storable : StoredStatesAreStorable
@@ -215,7 +215,7 @@ birth_storable maker index owner code noise is short long =
       device = born_seed_allowed (take 32 noise) (serial_from noise) 0;
       layers = layers;
       codes = first_codes_allowed code short;
-      log = All-cons signed_entry_format.Allowed (signed_by maker index (birth_entry owner code noise)) [] (signed_allowed maker index (birth_entry owner code noise) entry) (All-nil signed_entry_format.Allowed);
+      log = All-cons signed_entry_format.Allowed (entry_signed_by maker index (birth_entry owner code noise)) [] (signed_allowed maker index (birth_entry owner code noise) entry) (All-nil signed_entry_format.Allowed);
       few = omega arith;
       two = empty_storable;
       three = empty_storable;

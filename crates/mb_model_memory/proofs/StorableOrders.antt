@@ -20,8 +20,8 @@ use Rattle.mb_model.specs.declared.region.Region.{Region}
 use Rattle.mb_model.specs.declared.region.RegionKey.{RegionKey}
 use Rattle.mb_model.specs.declared.state.State.{State}
 use Rattle.mb_model.specs.Layers.{layer_of}
-use Rattle.mb_model.specs.Rules.{kind_of, change_of, least_layer, MayBeFor, is_load, renews, Condition, placed, after, admits, kept_regions}
-use Rattle.mb_model.specs.Log.{entries_of, number_of, used, made}
+use Rattle.mb_model.specs.Rules.{kind_of, change_of, least_layer, MayBeFor, is_load, renews, Condition, layer_from_order, after, admits, kept_regions}
+use Rattle.mb_model.specs.Log.{entries_of, number_of, uses_of_device_key, keys_made_by}
 use Rattle.mb_model.specs.Regions.{empty_region, is_epoch, without_configuration_keys, region_after, with_key}
 use Rattle.mb_model.specs.KeyFormat.{public_key_format, key_seed_format}
 use Rattle.mb_model.specs.LayerFormat.{layer_format, layers_format}
@@ -31,7 +31,7 @@ use Rattle.mb_model.specs.OrderFormat.{differs_in, act_by, body_format, order_fo
 use Rattle.mb_model_lemmas.proofs.ValidSteps.{region_keys_are}
 use Rattle.mb_model.specs.Regions.{region_of, with_region}
 use Rattle.mb_model.specs.OrderChecks.{change_by, needs_succession, RegionHasRoom, Passes, view_of}
-use Rattle.mb_model.specs.OrderEffects.{signed_by, log_with, succeeded, device_after, cosigned_by, named_next, changed, key_made, keyed, ready_for, carried_out, obeyed, succession_entry, entry_of, change_fact}
+use Rattle.mb_model.specs.OrderEffects.{entry_signed_by, log_with, state_after_succession, device_after, cosigners_of, next_device_key, state_after_change, key_made, state_after_new_key, ready_for, state_after_act, state_after_order, succession_entry, entry_of, change_fact}
 use Rattle.mb_model.specs.declared.state.Fact.TheVariants as fact
 use Rattle.mb_model_lemmas.proofs.LogLemmas.{number_of-le-length, made-le-length, length-entries_of}
 use Rattle.mb_model_memory.specs.Storable.{IsStorableRegion, IsStorableState}
@@ -98,30 +98,30 @@ next_number_small : (state : State) → length state.log + 1 ≤ 128 → number_
 next_number_small state room =
     small_number (number_of (entries_of state.log) + 1) (omega (arith, room, number_of-le-length (entries_of state.log), length-entries_of state.log))
 
-made_small : (state : State) → IsStorableState state → made (entries_of state.log) < limit w32
+made_small : (state : State) → IsStorableState state → keys_made_by (entries_of state.log) < limit w32
 made_small state is =
-    small_number (made (entries_of state.log)) (omega (arith, is.few, made-le-length (entries_of state.log), length-entries_of state.log))
+    small_number (keys_made_by (entries_of state.log)) (omega (arith, is.few, made-le-length (entries_of state.log), length-entries_of state.log))
 
 log_with_allowed : (state : State) (entry : Entry) → IsStorableState state → entry_format.Allowed entry → All signed_entry_format.Allowed (log_with state entry)
 log_with_allowed state entry is own =
-    All-push signed_entry_format.Allowed state.log (signed_by state.device (used (entries_of state.log)) entry) is.log (signed_allowed state.device (used (entries_of state.log)) entry own)
+    All-push signed_entry_format.Allowed state.log (entry_signed_by state.device (uses_of_device_key (entries_of state.log)) entry) is.log (signed_allowed state.device (uses_of_device_key (entries_of state.log)) entry own)
 
 log_with_length : (state : State) (entry : Entry) → length (log_with state entry) ≡ length state.log + 1
-log_with_length state entry = length-append state.log (signed_by state.device (used (entries_of state.log)) entry ∷ [])
+log_with_length state entry = length-append state.log (entry_signed_by state.device (uses_of_device_key (entries_of state.log)) entry ∷ [])
 
 log_with_few : (state : State) (entry : Entry) → length state.log + 1 ≤ 128 → length (log_with state entry) ≤ 128
 log_with_few state entry room = omega (arith, room, log_with_length state entry)
 
 -- ---- a succession
 
-pub succeeded_storable : (state : State) (draw : List ℕ) → IsStorableState state → length state.log + 1 ≤ 128 → IsStorableState (succeeded state draw)
-unfolding succeeded
+pub succeeded_storable : (state : State) (draw : List ℕ) → IsStorableState state → length state.log + 1 ≤ 128 → IsStorableState (state_after_succession state draw)
+unfolding state_after_succession
 succeeded_storable state draw is room =
     let entry : Entry = succession_entry (view_of state) draw in
-    let own : entry_format.Allowed entry = succession_allowed (length state.log) _ (small_length state is) (born_public_allowed draw state.serial (made (entries_of state.log))) in
+    let own : entry_format.Allowed entry = succession_allowed (length state.log) _ (small_length state is) (born_public_allowed draw state.serial (keys_made_by (entries_of state.log))) in
     record {
       serial = is.serial;
-      device = born_seed_allowed draw state.serial (made (entries_of state.log));
+      device = born_seed_allowed draw state.serial (keys_made_by (entries_of state.log));
       layers = is.layers;
       codes = is.codes;
       log = log_with_allowed state entry is own;
@@ -130,38 +130,38 @@ succeeded_storable state draw is room =
       three = is.three;
     }
 
-succeeded_length : (state : State) (draw : List ℕ) → length (succeeded state draw).log ≡ length state.log + 1
-unfolding succeeded
+succeeded_length : (state : State) (draw : List ℕ) → length (state_after_succession state draw).log ≡ length state.log + 1
+unfolding state_after_succession
 succeeded_length state draw = log_with_length state (succession_entry (view_of state) draw)
 
 -- ---- a change
 
 device_after_allowed : (next : Bool) (state : State) (draw : List ℕ) → IsStorableState state → key_seed_format.Allowed (device_after next (view_of state) draw)
-device_after_allowed true state draw is = born_seed_allowed draw state.serial (made (entries_of state.log))
+device_after_allowed true state draw is = born_seed_allowed draw state.serial (keys_made_by (entries_of state.log))
 device_after_allowed false state draw is = is.device
 
-named_next_allowed : (next : Bool) (state : State) (draw : List ℕ) → (optional public_key_format).Allowed (named_next next (view_of state) draw)
-named_next_allowed true state draw = some_allowed public_key_format _ (born_public_allowed draw state.serial (made (entries_of state.log)))
+named_next_allowed : (next : Bool) (state : State) (draw : List ℕ) → (optional public_key_format).Allowed (next_device_key next (view_of state) draw)
+named_next_allowed true state draw = some_allowed public_key_format _ (born_public_allowed draw state.serial (keys_made_by (entries_of state.log)))
 named_next_allowed false state draw = none_allowed public_key_format
 
 -- what an order of a kind brings can be stored, and its layer is one
 record CanBring (state : State) (order : Order) : Type 0 where
   least : 1 ≤ order.layer
   most : order.layer ≤ 3
-  placed : (layer_format 2).Allowed (placed (layer_of state.layers order.layer) order.act)
+  placed : (layer_format 2).Allowed (layer_from_order (layer_of state.layers order.layer) order.act)
   allowed : (act_by (kind_of order.act) (differs_in order.act)).Allowed order.act
   room : length state.log + 1 ≤ 128
 
-changed_storable : (state : State) (kind : ChangeKind) (order : Order) (draw : List ℕ) → IsStorableState state → CanBring state order → IsStorableState (changed state kind order draw)
-unfolding changed
+changed_storable : (state : State) (kind : ChangeKind) (order : Order) (draw : List ℕ) → IsStorableState state → CanBring state order → IsStorableState (state_after_change state kind order draw)
+unfolding state_after_change
 changed_storable state kind order draw is can =
     let k : ℕ = order.layer in
-    let by : Pair = cosigned_by order in
-    let now : Layers = after state.layers kind k by (placed (layer_of state.layers k) order.act) in
-    let layers : (layers_format 2).Allowed now = after_allowed state.layers kind k by (placed (layer_of state.layers k) order.act) is.layers can.placed in
+    let by : Pair = cosigners_of order in
+    let now : Layers = after state.layers kind k by (layer_from_order (layer_of state.layers k) order.act) in
+    let layers : (layers_format 2).Allowed now = after_allowed state.layers kind k by (layer_from_order (layer_of state.layers k) order.act) is.layers can.placed in
     let entry : Entry = entry_of (view_of state) (change_fact state.layers kind order) draw in
     let own : entry_format.Allowed entry =
-    change_allowed (length state.log) (number_of (entries_of state.log) + 1) kind k by now (kept_regions state.layers kind k by) (named_next (renews (Some kind) k) (view_of state) draw)
+    change_allowed (length state.log) (number_of (entries_of state.log) + 1) kind k by now (kept_regions state.layers kind k by) (next_device_key (renews (Some kind) k) (view_of state) draw)
     (small_length state is) (next_number_small state can.room) can.least can.most layers (named_next_allowed (renews (Some kind) k) state draw)
     in
     record {
@@ -179,15 +179,15 @@ changed_storable state kind order draw is can =
 
 pub key_made_allowed : (state : State) (kind : KeyKind) (draw : List ℕ) → IsStorableState state → region_key_format.Allowed (key_made (view_of state) kind draw)
 key_made_allowed state kind draw is =
-    region_key_allowed (key_made (view_of state) kind draw) (made_small state is) (born_seed_allowed draw state.serial (made (entries_of state.log))) (omega arith)
+    region_key_allowed (key_made (view_of state) kind draw) (made_small state is) (born_seed_allowed draw state.serial (keys_made_by (entries_of state.log))) (omega arith)
 
 with_log : (state : State) (L : ℕ) (kind : KeyKind) (draw : List ℕ) → IsStorableState state → 2 ≤ L → L ≤ 3 → length state.log + 1 ≤ 128 → (uses : ℕ)
     → IsStorableState (record state { log = log_with state (entry_of (view_of state) (fact.NewKey L kind) draw); uses = uses })
 with_log state L kind draw is least most room uses =
     let entry : Entry = entry_of (view_of state) (fact.NewKey L kind) draw in
     let own : entry_format.Allowed entry =
-    new_key_allowed (length state.log) (number_of (entries_of state.log)) (made (entries_of state.log)) L kind _
-    (small_length state is) (number_small state is) (made_small state is) least most (born_public_allowed draw state.serial (made (entries_of state.log)))
+    new_key_allowed (length state.log) (number_of (entries_of state.log)) (keys_made_by (entries_of state.log)) L kind _
+    (small_length state is) (number_small state is) (made_small state is) least most (born_public_allowed draw state.serial (keys_made_by (entries_of state.log)))
     in
     record {
       serial = is.serial;
@@ -201,8 +201,8 @@ with_log state L kind draw is least most room uses =
     }
 
 keyed_storable : (state : State) (L : ℕ) (kind : KeyKind) (draw : List ℕ) → IsStorableState state → 2 ≤ L → L ≤ 3 → length state.log + 1 ≤ 128
-    → length (region_of state L).keys < 8 → IsStorableState (keyed state L kind draw)
-unfolding keyed
+    → length (region_of state L).keys < 8 → IsStorableState (state_after_new_key state L kind draw)
+unfolding state_after_new_key
 keyed_storable state L kind draw is least most room keys =
     with_region_storable _ L (with_key (key_made (view_of state) kind draw) (region_of state L)) (with_log state L kind draw is least most room _)
     (with_key_storable (key_made (view_of state) kind draw) (region_of state L) (key_made_allowed state kind draw is) keys (region_of-storable state L is))
@@ -247,7 +247,7 @@ can_bring ready order is allowed condition room =
     }
 
 carried_storable : (ready : State) (order : Order) (a : Act) (draw : List ℕ) → IsStorableState ready → CanBring ready order → least_layer (kind_of a) ≤ order.layer
-    → RegionHasRoom (view_of ready) order.layer a → IsStorableState (carried_out ready order a draw)
+    → RegionHasRoom (view_of ready) order.layer a → IsStorableState (state_after_act ready order a draw)
 carried_storable ready order (act.Establish owner trust) draw is can least keys = changed_storable ready Establish order draw is can
 carried_storable ready order act.Surrender draw is can least keys = changed_storable ready Surrender order draw is can
 carried_storable ready order (act.Load payload) draw is can least keys = changed_storable ready Load order draw is can
@@ -257,17 +257,17 @@ carried_storable ready order (act.NewKey kind) draw is can least keys = keyed_st
 -- ---- the state that is ready
 
 ready_room : (state : State) (draw : List ℕ) (needed : Bool) → length state.log + (if needed then 2 else 1) ≤ 128
-    → length (if needed then succeeded state draw else state).log + 1 ≤ 128
+    → length (if needed then state_after_succession state draw else state).log + 1 ≤ 128
 ready_room state draw true room = omega (arith, room, succeeded_length state draw)
 ready_room state draw false room = room
 
 pub ready_by_storable : (state : State) (draw : List ℕ) (needed : Bool) → IsStorableState state → length state.log + (if needed then 2 else 1) ≤ 128
-    → IsStorableState (if needed then succeeded state draw else state)
+    → IsStorableState (if needed then state_after_succession state draw else state)
 ready_by_storable state draw true is room = succeeded_storable state draw is (omega (arith, room))
 ready_by_storable state draw false is room = is
 
-succeeded_region : (state : State) (draw : List ℕ) (L : ℕ) → region_of (succeeded state draw) L ≡ region_of state L
-unfolding succeeded
+succeeded_region : (state : State) (draw : List ℕ) (L : ℕ) → region_of (state_after_succession state draw) L ≡ region_of state L
+unfolding state_after_succession
 succeeded_region state draw L = refl
 
 ready_keys : (state : State) (order : Order) (draw : List ℕ) (L : ℕ) (a : Act) → RegionHasRoom (view_of state) L a → RegionHasRoom (view_of (ready_for state order draw)) L a
@@ -280,8 +280,8 @@ ready_keys state order draw L (act.NewKey kind) room =
     (subst (λ (region : Region). length region.keys < 8) (sym (kept_ready (λ (s : State). region_of s L) state order draw (succeeded_region state draw L))) (subst (λ n. n < 8) (region_keys_are state L) room))
 
 pub obeyed_storable : (state : State) (order : Order) (draw : List ℕ) → order_format.Allowed order → Passes (view_of state) order → IsStorableState state
-    → IsStorableState (obeyed state order draw)
-unfolding obeyed
+    → IsStorableState (state_after_order state order draw)
+unfolding state_after_order
 obeyed_storable state order draw allowed passes is =
     let ready : State = ready_for state order draw in
     let needed : Bool = needs_succession (view_of state) order in

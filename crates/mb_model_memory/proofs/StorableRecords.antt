@@ -26,7 +26,7 @@ use Rattle.mb_model.specs.declared.stored.Fate.TheVariants.{Keep, Empty, DropCon
 use Rattle.mb_model.specs.declared.stored.Public.{Public}
 use Rattle.mb_model.specs.declared.stored.Root.{Root}
 use Rattle.mb_model.specs.Rules.{admits}
-use Rattle.mb_model.specs.Log.{entries_of, used, made}
+use Rattle.mb_model.specs.Log.{entries_of, uses_of_device_key, keys_made_by}
 use Rattle.mb_model.specs.Signing.{public_of}
 use Rattle.mb_model.specs.KeyFormat.{key_seed_format}
 use Rattle.mb_model.specs.EntryFormat.{entry_format, signed_entry_format}
@@ -38,7 +38,7 @@ use Rattle.mb_model.specs.WrittenFlash.{CodesFitSlots}
 use Rattle.mb_model.specs.WrittenImage.{FitsImage}
 use Rattle.mb_model.specs.OldFlash.{with_signature, without_signature, public_of_parts}
 use Rattle.mb_model.specs.OrderChecks.{needs_succession, Passes, view_of}
-use Rattle.mb_model.specs.OrderEffects.{signed_by, log_with, cosigned_by, key_made, ready_for, obeyed, succession_entry, entry_of, fact_of}
+use Rattle.mb_model.specs.OrderEffects.{entry_signed_by, log_with, cosigners_of, key_made, ready_for, state_after_order, succession_entry, entry_of, fact_of}
 use Rattle.mb_model.specs.Work.{pending_for}
 use Rattle.mb_model_memory.specs.Commits.{new_entries}
 use Rattle.mb_model_memory.proofs.Additions.{own_fate, gives_way, outgoing_with, outgoing_is, fate_is, new_entries_are}
@@ -64,7 +64,7 @@ root_allowed : (root : Root) → root.area ≤ 1 → length root.serial ≡ 16 �
 unfolding root_format
 root_allowed root area serial device uses pending = (tt, ((omega arith, area), (serial, (device, ((omega arith, uses), pending)))))
 
-used_few : (state : State) → IsValidState state → used (entries_of state.log) ≤ 31
+used_few : (state : State) → IsValidState state → uses_of_device_key (entries_of state.log) ≤ 31
 used_few state valid = used-bound (entries_of state.log) (valid_is_ruled state valid)
 
 uses_few : (state : State) → IsValidState state → state.uses ≤ 32
@@ -96,10 +96,10 @@ change_fate_allowed layers kind k cosigned L =
     either_fate (nat_lt L k) Keep _ keep_allowed (either_fate (admits layers kind k cosigned L) DropConfiguration Empty drop_allowed empty_allowed)
 
 own_fate_allowed : (ready : State) (order : Order) (a : Act) (draw : List ℕ) (m : ℕ) → IsStorableState ready → fate_format.Allowed (own_fate ready order a draw m)
-own_fate_allowed ready order (act.Establish owner trust) draw m is = change_fate_allowed ready.layers Establish order.layer (cosigned_by order) m
-own_fate_allowed ready order act.Surrender draw m is = change_fate_allowed ready.layers Surrender order.layer (cosigned_by order) m
-own_fate_allowed ready order (act.Load payload) draw m is = change_fate_allowed ready.layers Load order.layer (cosigned_by order) m
-own_fate_allowed ready order (act.Emergency payload) draw m is = change_fate_allowed ready.layers Emergency order.layer (cosigned_by order) m
+own_fate_allowed ready order (act.Establish owner trust) draw m is = change_fate_allowed ready.layers Establish order.layer (cosigners_of order) m
+own_fate_allowed ready order act.Surrender draw m is = change_fate_allowed ready.layers Surrender order.layer (cosigners_of order) m
+own_fate_allowed ready order (act.Load payload) draw m is = change_fate_allowed ready.layers Load order.layer (cosigners_of order) m
+own_fate_allowed ready order (act.Emergency payload) draw m is = change_fate_allowed ready.layers Emergency order.layer (cosigners_of order) m
 own_fate_allowed ready order (act.NewKey kind) draw m is =
     either_fate (m == order.layer) (AddKey (key_made (view_of ready) kind draw)) Keep (add_allowed (key_made (view_of ready) kind draw) (key_made_allowed ready kind draw is)) keep_allowed
 
@@ -130,9 +130,9 @@ pub committed_root : (state : State) (order : Order) (draw : List ℕ) (area : �
     → root_format.Allowed (root_for state order draw area)
 unfolding root_for
 committed_root state order draw area small valid is allowed passes =
-    let after : IsStorableState (obeyed state order draw) = obeyed_storable state order draw allowed passes is in
+    let after : IsStorableState (state_after_order state order draw) = obeyed_storable state order draw allowed passes is in
     let pending = some_allowed pending_format (pending_for state order draw) (pending_allowed state order draw valid is passes) in
-    root_allowed (root_for state order draw area) small is.serial after.device (uses_few (obeyed state order draw) (obeyed_valid state order draw valid allowed passes)) pending
+    root_allowed (root_for state order draw area) small is.serial after.device (uses_few (state_after_order state order draw) (obeyed_valid state order draw valid allowed passes)) pending
 
 pub root_room : (root : Root) → root_format.Allowed root → length (root_format.spelling root) ≤ 4094
 root_room root is = omega (arith, root_short.short root is)
@@ -179,12 +179,12 @@ resting_public state valid is =
 
 own_allowed : (state : State) (order : Order) (draw : List ℕ) → order_format.Allowed order → Passes (view_of state) order → IsStorableState state
     → entry_format.Allowed (entry_of (view_of (ready_for state order draw)) (fact_of (ready_for state order draw).layers order order.act) draw)
-unfolding signed_by
+unfolding entry_signed_by
 own_allowed state order draw allowed passes is =
     let ready : State = ready_for state order draw in
     let own : Entry = entry_of (view_of ready) (fact_of ready.layers order order.act) draw in
     let are : All signed_entry_format.Allowed (log_with ready own) = subst (All signed_entry_format.Allowed) (appends_own state order draw) (obeyed_storable state order draw allowed passes is).log in
-    entry_from_signed (signed_by ready.device (used (entries_of ready.log)) own) (All-split signed_entry_format.Allowed ready.log (signed_by ready.device (used (entries_of ready.log)) own) [] are)
+    entry_from_signed (entry_signed_by ready.device (uses_of_device_key (entries_of ready.log)) own) (All-split signed_entry_format.Allowed ready.log (entry_signed_by ready.device (uses_of_device_key (entries_of ready.log)) own) [] are)
 
 new_allowed : (needed : Bool) (first own : Entry) → entry_format.Allowed first → entry_format.Allowed own → All entry_format.Allowed (if needed then first ∷ own ∷ [] else own ∷ [])
 new_allowed true first own is is_own =
@@ -197,16 +197,16 @@ new_few log true first own room = (omega arith, omega (arith, room))
 new_few log false first own room = (omega arith, omega (arith, room))
 
 pub committed_public : (state : State) (order : Order) (draw : List ℕ) → IsStorableState state → order_format.Allowed order → Passes (view_of state) order
-    → public_format.Allowed (public_of_parts (obeyed state order draw).codes state.log (new_entries state order draw))
+    → public_format.Allowed (public_of_parts (state_after_order state order draw).codes state.log (new_entries state order draw))
 committed_public state order draw is allowed passes =
     let needed : Bool = needs_succession (view_of state) order in
     let first : Entry = succession_entry (view_of state) draw in
     let own : Entry = entry_of (view_of (ready_for state order draw)) (fact_of (ready_for state order draw).layers order order.act) draw in
-    let first_is : entry_format.Allowed first = succession_allowed (length state.log) _ (small_length state is) (born_public_allowed draw state.serial (made (entries_of state.log))) in
+    let first_is : entry_format.Allowed first = succession_allowed (length state.log) _ (small_length state is) (born_public_allowed draw state.serial (keys_made_by (entries_of state.log))) in
     let are : All entry_format.Allowed (if needed then first ∷ own ∷ [] else own ∷ []) = new_allowed needed first own first_is (own_allowed state order draw allowed passes is) in
     let few = new_few state.log needed first own passes.log in
-    subst (λ (es : List Entry). public_format.Allowed (public_of_parts (obeyed state order draw).codes state.log es)) (sym (new_entries_are state order draw))
-    (public_allowed (obeyed state order draw).codes state.log (if needed then first ∷ own ∷ [] else own ∷ []) (obeyed_storable state order draw allowed passes is).codes is.log are few.0 few.1)
+    subst (λ (es : List Entry). public_format.Allowed (public_of_parts (state_after_order state order draw).codes state.log es)) (sym (new_entries_are state order draw))
+    (public_allowed (state_after_order state order draw).codes state.log (if needed then first ∷ own ∷ [] else own ∷ []) (obeyed_storable state order draw allowed passes is).codes is.log are few.0 few.1)
 
 pub public_room : (public : Public) → public_format.Allowed public → length (public_format.spelling public) ≤ 470000
 public_room public is = omega (arith, public_short.short public is)

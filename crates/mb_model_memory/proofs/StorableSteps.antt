@@ -19,13 +19,13 @@ use Rattle.mb_model.specs.Layers.{is_upper, is_runnable}
 use Rattle.mb_model.specs.Log.{entries_of, number_of}
 use Rattle.mb_model.specs.declared.reply.Refusal.{Refusal}
 use Rattle.mb_model.specs.declared.reply.Refusal.TheVariants.{WrongPhase, WrongLayer}
-use Rattle.mb_model.specs.Refusals.{refused}
+use Rattle.mb_model.specs.Refusals.{refusal_reply}
 use Rattle.mb_model.specs.RootFormat.{region_key_format}
 use Rattle.mb_model.specs.RegionFormat.{is_name_byte, is_name, secret_format}
 use Rattle.mb_model.specs.Regions.{region_of}
 use Rattle.mb_model.specs.OrderStep.{OrderStep, spells_none, fails_check, is_obeyed}
 use Rattle.mb_model.specs.LayerEvents.{Outcome, has_name, with_secret, has_number, with_use, put_event, get_event, drop_event, sign_with, sign_event, on_region}
-use Rattle.mb_model.specs.Machine.{Phase, off, dead, ratchet, World, Told, boot_event, awake, awake_in, status_event, go_event, region_event, CommandStep, Machine, Step, answered, lacks_memory, loses_power, Run}
+use Rattle.mb_model.specs.Machine.{Phase, off, dead, ratchet, World, Told, boot_event, running_state, running_state_in, status_event, go_event, region_event, CommandStep, Machine, Step, machine_step, lacks_memory, loses_power, Run}
 use Rattle.mb_model.specs.Script.{IsName, FitsMessage, IsScriptEvent}
 use Rattle.mb_model.specs.Valid.{IsValidState, Valid}
 use Rattle.mb_model_lemmas.proofs.FateLemmas.{keys_increase, pairs_head, pairs_tail}
@@ -46,7 +46,7 @@ KeepsStorable does = (state : State) → IsValidState state → IsStorableState 
 where_it_runs : (r L : ℕ) (does : State → Outcome) (state : State) → KeepsStorable does → IsValidState state → IsStorableState state → IsStorableState (on_region r L does state).1
 where_it_runs r L does state keeps valid is = by (nat_lt L r || not (is_runnable state.layers L))
   where
-    by : (refuses : Bool) → IsStorableState (if refuses then (refused WrongLayer, state) else does state).1
+    by : (refuses : Bool) → IsStorableState (if refuses then (refusal_reply WrongLayer, state) else does state).1
     by true = is
     by false = keeps state valid is
 
@@ -224,7 +224,7 @@ status_state world (Err refusal) = refl
 status_state world (Ok on) = refl
 
 go_state : (last runs : Bool) (world : World) (r : ℕ)
-    → (let told : Told = if last then (refused WrongPhase, world) else if runs then (reply.At (r + 1), record world { phase = ratchet (r + 1) }) else (refused WrongLayer, world) in told).1.state ≡ world.state
+    → (let told : Told = if last then (refusal_reply WrongPhase, world) else if runs then (reply.At (r + 1), record world { phase = ratchet (r + 1) }) else (refusal_reply WrongLayer, world) in told).1.state ≡ world.state
 go_state true runs world r = refl
 go_state false true world r = refl
 go_state false false world r = refl
@@ -233,14 +233,14 @@ gone_state : (world : World) (on : Result (ℕ × State) Refusal) → (go_event 
 gone_state world (Err refusal) = refl
 gone_state world (Ok on) = go_state (nat_lt 2 on.0) (is_runnable on.1.layers (on.0 + 1)) world on.0
 
-region_event_storable : (world : World) (L : ℕ) (does : State → Outcome) (on : Result (ℕ × State) Refusal) → awake world.phase world.state ≡ on → KeepsStorable does
+region_event_storable : (world : World) (L : ℕ) (does : State → Outcome) (on : Result (ℕ × State) Refusal) → running_state world.phase world.state ≡ on → KeepsStorable does
     → Valid world.state → Storable world.state → Storable (region_event world L does on).1.state
 region_event_storable world L does (Err refusal) e keeps valid is = is
 region_event_storable world L does (Ok on) e keeps valid is =
     let own : world.state ≡ Some on.1 = awake_state world.phase world.state on e in
     where_it_runs on.0 L does on.1 keeps (subst Valid own valid) (subst Storable own is)
 
-command_storable : (world : World) (text draw : List ℕ) (on : Result (ℕ × State) Refusal) (answer : Reply) (next : World) → awake world.phase world.state ≡ on
+command_storable : (world : World) (text draw : List ℕ) (on : Result (ℕ × State) Refusal) (answer : Reply) (next : World) → running_state world.phase world.state ≡ on
     → Storable world.state → CommandStep world text draw on answer next → Storable next.state
 command_storable world text draw (Err refusal) answer next e is step = subst (λ (w : World). Storable w.state) (sym step.1) is
 command_storable world text draw (Ok on) answer next e is (inl obeyed) =
@@ -260,20 +260,20 @@ machine_storable world event.Boot answer next script valid is step = told_same w
 machine_storable world event.Off answer next script valid is step = subst (λ (w : World). Storable w.state) (sym step.1) is
 machine_storable world event.Tamper answer next script valid is step = subst (λ (w : World). Storable w.state) (sym step.1) tt
 machine_storable world (event.Cut count tear) answer next script valid is step = subst (λ (w : World). Storable w.state) (sym step.1) is
-machine_storable world event.Status answer next script valid is step = told_same world answer next _ step (status_state world (awake_in world)) is
-machine_storable world (event.Command text draw) answer next script valid is step = command_storable world text draw (awake_in world) answer next refl is step
-machine_storable world event.Go answer next script valid is step = told_same world answer next _ step (gone_state world (awake_in world)) is
+machine_storable world event.Status answer next script valid is step = told_same world answer next _ step (status_state world (running_state_in world)) is
+machine_storable world (event.Command text draw) answer next script valid is step = command_storable world text draw (running_state_in world) answer next refl is step
+machine_storable world event.Go answer next script valid is step = told_same world answer next _ step (gone_state world (running_state_in world)) is
 machine_storable world (event.Put L name value) answer next script valid is step =
-    told_storable answer next _ step (region_event_storable world L (put_event L name value) (awake_in world) refl (put_keeps L name value script.1 script.2) valid is)
+    told_storable answer next _ step (region_event_storable world L (put_event L name value) (running_state_in world) refl (put_keeps L name value script.1 script.2) valid is)
 machine_storable world (event.Get L name) answer next script valid is step =
-    told_storable answer next _ step (region_event_storable world L (get_event L name) (awake_in world) refl (get_keeps L name) valid is)
+    told_storable answer next _ step (region_event_storable world L (get_event L name) (running_state_in world) refl (get_keeps L name) valid is)
 machine_storable world (event.Drop L name) answer next script valid is step =
-    told_storable answer next _ step (region_event_storable world L (drop_event L name) (awake_in world) refl (drop_keeps L name) valid is)
+    told_storable answer next _ step (region_event_storable world L (drop_event L name) (running_state_in world) refl (drop_keeps L name) valid is)
 machine_storable world (event.Sign L key message) answer next script valid is step =
-    told_storable answer next _ step (region_event_storable world L (sign_event L key message) (awake_in world) refl (sign_keeps L key message script.0) valid is)
+    told_storable answer next _ step (region_event_storable world L (sign_event L key message) (running_state_in world) refl (sign_keeps L key message script.0) valid is)
 
 pub step_keeps_storable : (world : World) (e : Event) (answer : Reply) (next : World) → IsScriptEvent e → Valid world.state → Storable world.state → Step world e answer next → Storable next.state
-step_keeps_storable world e answer next script valid is (answered machine) = machine_storable world e answer next script valid is machine
+step_keeps_storable world e answer next script valid is (machine_step machine) = machine_storable world e answer next script valid is machine
 step_keeps_storable world e answer next script valid is (lacks_memory lacks) = subst (λ (w : World). Storable w.state) (sym lacks.stays) is
 step_keeps_storable world e answer next script valid is (loses_power lost) =
     let left : Storable lost.state = elim (lost.counts) [

@@ -13,13 +13,13 @@ use Rattle.mb_model.specs.Log.{entries_of, layers_of}
 use Rattle.mb_model.specs.OrderFormat.{order_format}
 use Rattle.mb_model.specs.RootFormat.{root_format}
 use Rattle.mb_model.specs.OrderChecks.{Passes, view_of}
-use Rattle.mb_model.specs.OrderEffects.{obeyed}
+use Rattle.mb_model.specs.OrderEffects.{state_after_order}
 use Rattle.mb_model_memory.specs.Commits.{new_entries}
 use Rattle.mb_model.specs.Valid.{IsValidState}
-use Rattle.mb_model.specs.Memory.{AreSized, current, HoldsRecord}
+use Rattle.mb_model.specs.Memory.{AreSized, area_of_slot, HoldsRecord}
 use Rattle.mb_model.specs.StoredLog.{AreCounted, HasIndex}
 use Rattle.mb_model.specs.Flash.{HoldsPublic}
-use Rattle.mb_model.specs.Meaning.{HoldsRegion, Contents, HoldsContents, meant, StandsFor}
+use Rattle.mb_model.specs.Meaning.{HoldsRegion, Contents, HoldsContents, state_of_contents, StandsFor}
 use Rattle.mb_model.specs.Clean.{root_of, IsCleanFor}
 use Rattle.mb_model_memory.specs.Commits.{root_for, committed, two_done, three_done, both_done, IsUnderWay}
 use Rattle.mb_model_memory.specs.Commits.{at_rest}
@@ -32,7 +32,8 @@ use Rattle.mb_model_memory.specs.InForce.{AgreeInForce, AgreeBesides}
 abbrev pub CommitsMeanTheirOrder : Type 0
 CommitsMeanTheirOrder =
     (state : State) (order : Order) (draw : List ℕ) (area : ℕ) → IsValidState state → order_format.Allowed order
-    → Passes (view_of state) order → meant (committed state order draw area) ≡ obeyed state order draw
+    → Passes (view_of state) order
+    → state_of_contents (committed state order draw area) ≡ state_after_order state order draw
 
 -- its unsigned entries are as many as its root says, and can be signed
 abbrev pub CommitsAreCounted : Type 0
@@ -52,32 +53,34 @@ CommittedMemoriesStand =
     (flash bbram : List ℕ) (state : State) (order : Order) (draw : List ℕ) (area : ℕ) → AreSized flash bbram
     → IsValidState state → order_format.Allowed order → Passes (view_of state) order
     → HoldsContents flash bbram (committed state order draw area)
-    → StandsFor flash bbram (Some (obeyed state order draw))
+    → StandsFor flash bbram (Some (state_after_order state order draw))
 
 -- ---- the work
 
 -- contents mean the same, once what is to be done to region 2 is done
 abbrev pub TwoDoneMeansTheSame : Type 0
-TwoDoneMeansTheSame = (contents : Contents) → meant (two_done contents) ≡ meant contents
+TwoDoneMeansTheSame = (contents : Contents) → state_of_contents (two_done contents) ≡ state_of_contents contents
 
 -- or what is to be done to region 3
 abbrev pub ThreeDoneMeansTheSame : Type 0
-ThreeDoneMeansTheSame = (contents : Contents) → meant (three_done contents) ≡ meant contents
+ThreeDoneMeansTheSame = (contents : Contents) → state_of_contents (three_done contents) ≡ state_of_contents contents
 
 -- or both
 abbrev pub BothDoneMeansTheSame : Type 0
-BothDoneMeansTheSame = (contents : Contents) → meant (both_done contents) ≡ meant contents
+BothDoneMeansTheSame = (contents : Contents) → state_of_contents (both_done contents) ≡ state_of_contents contents
 
 -- and once each entry is signed, in either area of the flash, and nothing is pending
 abbrev pub SettledMeansTheSame : Type 0
-SettledMeansTheSame = (contents : Contents) (area : ℕ) → meant (at_rest (meant contents) area) ≡ meant contents
+SettledMeansTheSame =
+    (contents : Contents) (area : ℕ)
+    → state_of_contents (at_rest (state_of_contents contents) area) ≡ state_of_contents contents
 
 -- so a memory stands for one state, however far the work has come
 abbrev pub WorkUnderWayStands : Type 0
 WorkUnderWayStands =
     (flash bbram : List ℕ) (contents now : Contents) → AreSized flash bbram
     → HasIndex contents.root contents.root.pending → IsUnderWay contents now → HoldsContents flash bbram now
-    → StandsFor flash bbram (Some (meant contents))
+    → StandsFor flash bbram (Some (state_of_contents contents))
 
 -- and what is done again, wherever the work was broken off, ends where it would have ended
 abbrev pub WorkEndsTheSame : Type 0
@@ -88,7 +91,8 @@ WorkEndsTheSame = (contents now : Contents) → IsUnderWay contents now → both
 -- what is stored of a state where nothing is pending means that state
 abbrev pub RestMeansItsState : Type 0
 RestMeansItsState =
-    (state : State) (area : ℕ) → state.layers ≡ layers_of (entries_of state.log) → meant (at_rest state area) ≡ state
+    (state : State) (area : ℕ) → state.layers ≡ layers_of (entries_of state.log)
+    → state_of_contents (at_rest state area) ≡ state
 
 -- so a memory that holds it stands for that state
 abbrev pub RestingMemoriesStand : Type 0
@@ -101,7 +105,7 @@ RestingMemoriesStand =
 abbrev pub NothingPendingIsRest : Type 0
 NothingPendingIsRest =
     (contents : Contents) → contents.root.pending ≡ None → AreCounted contents.root.pending contents.unsigned
-    → contents ≡ at_rest (meant contents) contents.root.area
+    → contents ≡ at_rest (state_of_contents contents) contents.root.area
 
 -- a memory that is clean for a state, and stands for it, holds just that
 abbrev pub CleanMemoriesAreAtRest : Type 0
@@ -137,14 +141,14 @@ DeadFlashIsAny =
 abbrev pub TwoIsReplaced : Type 0
 TwoIsReplaced =
     (flash bbram other_bbram : List ℕ) (contents : Contents) (region : Region) → AgreeBesides 2 bbram other_bbram
-    → HoldsRegion (current other_bbram 2) region → HoldsContents flash bbram contents
+    → HoldsRegion (area_of_slot other_bbram 2) region → HoldsContents flash bbram contents
     → HoldsContents flash other_bbram (record contents { two = region })
 
 -- so it is with region 3
 abbrev pub ThreeIsReplaced : Type 0
 ThreeIsReplaced =
     (flash bbram other_bbram : List ℕ) (contents : Contents) (region : Region) → AgreeBesides 3 bbram other_bbram
-    → HoldsRegion (current other_bbram 3) region → HoldsContents flash bbram contents
+    → HoldsRegion (area_of_slot other_bbram 3) region → HoldsContents flash bbram contents
     → HoldsContents flash other_bbram (record contents { three = region })
 
 -- and with the root, where the area of the flash that it names holds codes and entries
@@ -152,7 +156,7 @@ abbrev pub RootIsReplaced : Type 0
 RootIsReplaced =
     (flash bbram other_bbram : List ℕ) (contents : Contents) (root : Root) (codes : Codes) (signed : List SignedEntry)
     (unsigned : List Entry) → AgreeBesides 1 bbram other_bbram
-    → HoldsRecord root_format (current other_bbram 1) root → HoldsPublic flash root codes signed unsigned
+    → HoldsRecord root_format (area_of_slot other_bbram 1) root → HoldsPublic flash root codes signed unsigned
     → HoldsContents flash bbram contents
     → HoldsContents flash other_bbram
     (record contents { root = root; codes = codes; signed = signed; unsigned = unsigned })
@@ -172,8 +176,8 @@ abbrev pub OrderIsCommitted : Type 0
 OrderIsCommitted =
     (flash bbram other_bbram : List ℕ) (state : State) (order : Order) (draw : List ℕ) (area other_area : ℕ)
     → AgreeBesides 1 bbram other_bbram
-    → HoldsRecord root_format (current other_bbram 1) (root_for state order draw other_area)
-    → HoldsPublic flash (root_for state order draw other_area) (obeyed state order draw).codes state.log
+    → HoldsRecord root_format (area_of_slot other_bbram 1) (root_for state order draw other_area)
+    → HoldsPublic flash (root_for state order draw other_area) (state_after_order state order draw).codes state.log
     (new_entries state order draw)
     → HoldsContents flash bbram (at_rest state area)
     → HoldsContents flash other_bbram (committed state order draw other_area)
@@ -183,6 +187,7 @@ OrderIsCommitted =
 abbrev pub WorkIsFinished : Type 0
 WorkIsFinished =
     (flash bbram other_bbram : List ℕ) (contents : Contents) (area : ℕ) → AgreeBesides 1 bbram other_bbram
-    → HoldsRecord root_format (current other_bbram 1) (root_of (meant contents) area)
-    → HoldsPublic flash (root_of (meant contents) area) contents.codes (meant contents).log []
-    → HoldsContents flash bbram (both_done contents) → HoldsContents flash other_bbram (at_rest (meant contents) area)
+    → HoldsRecord root_format (area_of_slot other_bbram 1) (root_of (state_of_contents contents) area)
+    → HoldsPublic flash (root_of (state_of_contents contents) area) contents.codes (state_of_contents contents).log []
+    → HoldsContents flash bbram (both_done contents)
+    → HoldsContents flash other_bbram (at_rest (state_of_contents contents) area)

@@ -4,10 +4,10 @@ use Rattle.std.specs.Prelude.{◌≡◌, ℕ, List, [], Some}
 use Rattle.mb_model.specs.declared.order.Order.{Order}
 use Rattle.mb_model.specs.declared.state.State.{State}
 use Rattle.mb_model.specs.declared.stored.Root.{Root}
-use Rattle.mb_model.specs.OrderEffects.{obeyed}
+use Rattle.mb_model.specs.OrderEffects.{state_after_order}
 use Rattle.mb_model.specs.declared.entry.Entry.{Entry}
 use Rattle.mb_model.specs.Work.{bodies_for, pending_for}
-use Rattle.mb_model.specs.Meaning.{Contents, fated, fate_of_two, fate_of_three}
+use Rattle.mb_model.specs.Meaning.{Contents, region_after_fate, fate_of_two, fate_of_three}
 use Rattle.mb_model.specs.Clean.{root_of}
 
 -- the root that commits: device key and uses as the order leaves them, and the pending work, with the public record in
@@ -16,8 +16,8 @@ unfoldable pub root_for : State → Order → List ℕ → ℕ → Root
 root_for state order draw area = record {
   area = area;
   serial = state.serial;
-  device = (obeyed state order draw).device;
-  uses = (obeyed state order draw).uses;
+  device = (state_after_order state order draw).device;
+  uses = (state_after_order state order draw).uses;
   pending = Some (pending_for state order draw);
 }
 
@@ -32,7 +32,7 @@ new_entries state order draw = (bodies_for state order draw).entries
 unfoldable pub committed : State → Order → List ℕ → ℕ → Contents
 committed state order draw area = record {
   root = root_for state order draw area;
-  codes = (obeyed state order draw).codes;
+  codes = (state_after_order state order draw).codes;
   signed = state.log;
   unsigned = new_entries state order draw;
   two = state.two;
@@ -41,11 +41,11 @@ committed state order draw area = record {
 
 -- the same contents, where what is to be done to region 2 is done
 abbrev pub two_done : Contents → Contents
-two_done contents = record contents { two = fated (fate_of_two contents.root.pending) contents.two }
+two_done contents = record contents { two = region_after_fate (fate_of_two contents.root.pending) contents.two }
 
 -- and where what is to be done to region 3 is
 abbrev pub three_done : Contents → Contents
-three_done contents = record contents { three = fated (fate_of_three contents.root.pending) contents.three }
+three_done contents = record contents { three = region_after_fate (fate_of_three contents.root.pending) contents.three }
 
 -- and where both are
 abbrev pub both_done : Contents → Contents

@@ -1,7 +1,7 @@
 -- Which bytes of two memories count. What may be written elsewhere, and the state stays?
 use Rattle.std.specs.Prelude.{◌≡◌, ◌≢◌, ℕ, ◌≤◌, List}
 use Rattle.mb_model.specs.declared.stored.Root.{Root}
-use Rattle.mb_model.specs.Memory.{life_byte, spare, current}
+use Rattle.mb_model.specs.Memory.{life_byte, spare_bytes, area_of_slot}
 use Rattle.mb_model.specs.Meaning.{RootIn}
 use Rattle.mb_model_memory.specs.FlashInForce.{AgreeForArea}
 
@@ -9,14 +9,14 @@ use Rattle.mb_model_memory.specs.FlashInForce.{AgreeForArea}
 -- areas, the area in force of each slot, and the area of the flash that the root names.
 pub record AgreeInForce (flash bbram other_flash other_bbram : List ℕ) : Type 0 where
   pub life : life_byte other_bbram ≡ life_byte bbram
-  pub between : spare other_bbram ≡ spare bbram
-  pub root : current other_bbram 1 ≡ current bbram 1
-  pub two : current other_bbram 2 ≡ current bbram 2
-  pub three : current other_bbram 3 ≡ current bbram 3
+  pub between : spare_bytes other_bbram ≡ spare_bytes bbram
+  pub root : area_of_slot other_bbram 1 ≡ area_of_slot bbram 1
+  pub two : area_of_slot other_bbram 2 ≡ area_of_slot bbram 2
+  pub three : area_of_slot other_bbram 3 ≡ area_of_slot bbram 3
   pub public : (root : Root) → RootIn bbram root → AgreeForArea flash other_flash root.area
 
 -- two battery-backed memories have the same bytes in force, but for those of one slot
 pub record AgreeBesides (slot : ℕ) (bbram other_bbram : List ℕ) : Type 0 where
   pub life : life_byte other_bbram ≡ life_byte bbram
-  pub between : spare other_bbram ≡ spare bbram
-  pub others : (m : ℕ) → 1 ≤ m → m ≤ 3 → m ≢ slot → current other_bbram m ≡ current bbram m
+  pub between : spare_bytes other_bbram ≡ spare_bytes bbram
+  pub others : (m : ℕ) → 1 ≤ m → m ≤ 3 → m ≢ slot → area_of_slot other_bbram m ≡ area_of_slot bbram m

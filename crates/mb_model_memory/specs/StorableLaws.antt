@@ -18,7 +18,7 @@ use Rattle.mb_model.specs.WrittenImage.{FitsImage}
 use Rattle.mb_model.specs.PublicRecord.{public_format}
 use Rattle.mb_model.specs.OldFlash.{public_of_parts, HeldPublic}
 use Rattle.mb_model.specs.OrderChecks.{Passes, view_of}
-use Rattle.mb_model.specs.OrderEffects.{obeyed}
+use Rattle.mb_model.specs.OrderEffects.{state_after_order}
 use Rattle.mb_model_memory.specs.Commits.{new_entries}
 use Rattle.mb_model.specs.Machine.{World, Step, Run}
 use Rattle.mb_model.specs.Valid.{IsValidState, Valid}
@@ -54,7 +54,7 @@ BornStatesAreStorable =
 abbrev pub ObeyedStatesAreStorable : Type 0
 ObeyedStatesAreStorable =
     (state : State) (order : Order) (draw : List ℕ) → order_format.Allowed order → Passes (view_of state) order
-    → IsStorableState state → IsStorableState (obeyed state order draw)
+    → IsStorableState state → IsStorableState (state_after_order state order draw)
 
 -- each step of an event that a script can give leads from a valid state that can be stored to one that can be stored
 abbrev pub StepsKeepStorable : Type 0
@@ -93,7 +93,8 @@ abbrev pub CommittedPublicsAreAllowed : Type 0
 CommittedPublicsAreAllowed =
     (state : State) (order : Order) (draw : List ℕ) → IsStorableState state → order_format.Allowed order
     → Passes (view_of state) order
-    → public_format.Allowed (public_of_parts (obeyed state order draw).codes state.log (new_entries state order draw))
+    → public_format.Allowed
+    (public_of_parts (state_after_order state order draw).codes state.log (new_entries state order draw))
 
 -- each region that can be stored can be written
 abbrev pub StorableRegionsCanBeWritten : Type 0

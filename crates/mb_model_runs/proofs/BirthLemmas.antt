@@ -10,7 +10,7 @@ use Rattle.mb_model.specs.declared.entry.Entry.{Entry}
 use Rattle.mb_model.specs.declared.entry.Entry.TheVariants.{NewKey}
 use Rattle.mb_model.specs.declared.entry.SignedEntry.{SignedEntry}
 use Rattle.mb_model.specs.declared.state.State.{State}
-use Rattle.mb_model.specs.Log.{figures_of, entries_of, made, RuledLog}
+use Rattle.mb_model.specs.Log.{figures_of, entries_of, keys_made_by, RuledLog}
 use Rattle.mb_model.specs.ChainFormat.{chain_format}
 use Rattle.mb_model.specs.SignedTexts.{entry_text, IsSignedBy}
 use Rattle.mb_model.specs.Valid.{EachFollows, IsValidState}
@@ -56,8 +56,8 @@ unfolding key_of
 key_of-split before position number n L kind key later ruled =
     let own : Entry = NewKey position number n L kind key in
     let says : KeyEntry = record { layer = L; kind = kind; key = key } in
-    let counted : n ≡ made before = (ruled before own later refl).1.key_counted in
-    let less : n < made (before ++ own ∷ []) = omega (arith, counted, made-push before own) in
+    let counted : n ≡ keys_made_by before = (ruled before own later refl).1.key_counted in
+    let less : n < keys_made_by (before ++ own ∷ []) = omega (arith, counted, made-push before own) in
     let unmade : IsUnmade later n = later_is_unmade (before ++ own ∷ []) later n less (subst RuledLog (sym (append_snoc before own later)) ruled) in
     let named : key_in n own ≡ Some says = ap (λ b. if b then Some says else None) (eq-eqb n n refl) in
     last_of-split (key_in n) before own later says named (All-weaker (λ e. makes n e ≡ false) (λ e. key_in n e ≡ None) (makes_none n) later unmade)

@@ -5,7 +5,7 @@ use Rattle.std.proofs.lemmas.List.Elements.{All-head, All-tail}
 use Rattle.mb_model.specs.declared.event.Answered.{Answered}
 use Rattle.mb_model.specs.declared.event.Event.TheVariants.{Tamper}
 use Rattle.mb_model.specs.declared.reply.Reply.TheVariants.{Booted, Stopped}
-use Rattle.mb_model.specs.Acknowledged.{HoldsNoOther, powered, zeroed, left, AreWiping, MayAnswer}
+use Rattle.mb_model.specs.Acknowledged.{HoldsNoOther, power_is_on, device_was_tampered, nothing_was_left, AreWiping, MayAnswer}
 use Rattle.mb_model.specs.Board.{Held}
 use Rattle.mb_model.specs.Machine.{may_be_cut}
 use Rattle.mb_model_lemmas.proofs.RefusalLemmas.{written_is_on}
@@ -15,8 +15,8 @@ use Rattle.mb_model_runs.specs.RunLaws.{MayAnswerAll}
 wiped : (standing now : Held) (this : Answered) → MayAnswer standing now this.event this.reply → (this.reply ≡ Booted) ⊎ (this.event ≡ Tamper) → HoldsNoOther now
 wiped standing now this may (inl booted) =
     let on = written_is_on may.before this.event this.reply may.after may.step (ap may_be_cut booted) in
-    record { world = may.after; shown = may.shown; clean = may.clean (powered (λ dark. on (may.shown.phase ∙ dark))) }
-wiped standing now this may (inr tampered) = record { world = may.after; shown = may.shown; clean = may.clean (zeroed tampered) }
+    record { world = may.after; shown = may.shown; clean = may.clean (power_is_on (λ dark. on (may.shown.phase ∙ dark))) }
+wiped standing now this may (inr tampered) = record { world = may.after; shown = may.shown; clean = may.clean (device_was_tampered tampered) }
 
 -- answers after which power has held
 stays : (standing : Held) (answered : List Answered) (now : Held) → MayAnswerAll standing answered now → All (λ a. a.reply ≢ Stopped) answered → HoldsNoOther standing → HoldsNoOther now
@@ -24,7 +24,7 @@ stays standing [] now same held clean = subst HoldsNoOther (sym same) clean
 stays standing (this ∷ rest) now (mid, may, more) held clean =
     let P : Answered → Type 0 = λ a. a.reply ≢ Stopped in
     stays mid rest now more (All-tail P this rest held)
-    (record { world = may.after; shown = may.shown; clean = may.clean (left clean (All-head P this rest held)) })
+    (record { world = may.after; shown = may.shown; clean = may.clean (nothing_was_left clean (All-head P this rest held)) })
 
 wiped_and_stays : (standing : Held) (sooner : List Answered) (this : Answered) (later : List Answered) (now : Held) → MayAnswerAll standing (sooner ++ this ∷ later) now
     → (this.reply ≡ Booted) ⊎ (this.event ≡ Tamper) → All (λ a. a.reply ≢ Stopped) later → HoldsNoOther now

@@ -9,10 +9,10 @@ use Rattle.mb_model.specs.declared.entry.SignedEntry.{SignedEntry}
 use Rattle.mb_model.specs.declared.event.Answered.{Answered}
 use Rattle.mb_model.specs.declared.order.Order.{Order}
 use Rattle.mb_model.specs.declared.state.State.{State}
-use Rattle.mb_model.specs.Log.{entries_of, used}
+use Rattle.mb_model.specs.Log.{entries_of, uses_of_device_key}
 use Rattle.mb_model.specs.Signing.{public_of}
 use Rattle.mb_model.specs.OrderChecks.{needs_succession, view_of}
-use Rattle.mb_model.specs.OrderEffects.{signed_by, log_with, next_key, succeeded, ready_for, obeyed, entry_of, fact_of}
+use Rattle.mb_model.specs.OrderEffects.{entry_signed_by, log_with, next_key, state_after_succession, ready_for, state_after_order, entry_of, fact_of}
 use Rattle.mb_model.specs.Machine.{World, Run}
 use Rattle.mb_model_lemmas.proofs.OwnEntries.{appends_own}
 use Rattle.mb_model.specs.Runs.{BeginsWith, LogGoesOn, worlds_of}
@@ -25,20 +25,20 @@ pub begins_on : (a b c : List SignedEntry) → BeginsWith b a → BeginsWith c b
 begins_on a b c x y = (x.0 ++ y.0, y.1 ∙ ap (λ log. log ++ y.0) x.1 ∙ append_assoc a x.0 y.0)
 
 begins_more : (state : State) (entry : Entry) → BeginsWith (log_with state entry) state.log
-begins_more state entry = (signed_by state.device (used (entries_of state.log)) entry ∷ [], refl)
+begins_more state entry = (entry_signed_by state.device (uses_of_device_key (entries_of state.log)) entry ∷ [], refl)
 
-ready_begins : (b : Bool) (state : State) (draw : List ℕ) → BeginsWith (if b then succeeded state draw else state).log state.log
-unfolding succeeded
+ready_begins : (b : Bool) (state : State) (draw : List ℕ) → BeginsWith (if b then state_after_succession state draw else state).log state.log
+unfolding state_after_succession
 ready_begins true state draw = begins_more state (Succession (length state.log) (public_of (next_key (view_of state) draw)))
 ready_begins false state draw = begins_same state.log
 
 -- an order only adds to the log
-pub obeyed_begins : (state : State) (order : Order) (draw : List ℕ) → BeginsWith (obeyed state order draw).log state.log
+pub obeyed_begins : (state : State) (order : Order) (draw : List ℕ) → BeginsWith (state_after_order state order draw).log state.log
 obeyed_begins state order draw =
     let ready : State = ready_for state order draw in
     let own : Entry = entry_of (view_of ready) (fact_of ready.layers order order.act) draw in
     let more = begins_more ready own in
-    begins_on state.log ready.log (obeyed state order draw).log (ready_begins (needs_succession (view_of state) order) state draw)
+    begins_on state.log ready.log (state_after_order state order draw).log (ready_begins (needs_succession (view_of state) order) state draw)
     (more.0, appends_own state order draw ∙ more.1)
 
 -- a live state comes of a live one, whose log is the beginning of its own

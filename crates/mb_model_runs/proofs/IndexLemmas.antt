@@ -9,7 +9,7 @@ use Rattle.mb_model.specs.declared.entry.Entry.{Entry}
 use Rattle.mb_model.specs.declared.entry.SignedEntry.{SignedEntry}
 use Rattle.mb_model.specs.declared.state.State.{State}
 use Rattle.mb_model.specs.Merkle.{leaf_number}
-use Rattle.mb_model.specs.Log.{entries_of, device_in, last_of, device_of, used}
+use Rattle.mb_model.specs.Log.{entries_of, device_in, last_of, device_of, uses_of_device_key}
 use Rattle.mb_model.specs.SignedTexts.{entry_text, IsSignedBy}
 use Rattle.mb_model.specs.Valid.{IsValidState}
 use Rattle.mb_model_lemmas.proofs.LogLemmas.{used-split}
@@ -35,7 +35,7 @@ indices_count state front namer between signed valid has =
     let key = some_is (device_in namer.entry) has.names in
     let none : All (λ e. device_in e ≡ None) (entries_of between) = All-map (λ e. device_in e ≡ None) entry_in between has.none in
     (follows.in_order some).next
-    ∙ ap used whole
+    ∙ ap uses_of_device_key whole
     ∙ used-split (entries_of front) namer.entry (entries_of between) key.0 key.1 none
     ∙ length-map between entry_in
 

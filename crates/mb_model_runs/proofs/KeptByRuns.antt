@@ -15,12 +15,12 @@ use Rattle.mb_model.specs.declared.state.State.{State}
 use Rattle.mb_model.specs.Layers.{is_runnable}
 use Rattle.mb_model.specs.declared.reply.Refusal.{Refusal}
 use Rattle.mb_model.specs.declared.reply.Refusal.TheVariants.{WrongPhase, WrongLayer}
-use Rattle.mb_model.specs.Refusals.{refused}
+use Rattle.mb_model.specs.Refusals.{refusal_reply}
 use Rattle.mb_model.specs.Regions.{region_of, with_region}
-use Rattle.mb_model.specs.OrderEffects.{obeyed}
+use Rattle.mb_model.specs.OrderEffects.{state_after_order}
 use Rattle.mb_model.specs.OrderStep.{OrderStep, spells_none, fails_check, is_obeyed}
 use Rattle.mb_model.specs.LayerEvents.{Outcome, on_region, has_name, has_number, with_use, put_event, get_event, drop_event, sign_with, sign_event}
-use Rattle.mb_model.specs.Machine.{Phase, off, dead, ratchet, World, Told, boot_event, awake_in, status_event, go_event, region_event, CommandStep, Machine, Step, answered, lacks_memory, loses_power, Run}
+use Rattle.mb_model.specs.Machine.{Phase, off, dead, ratchet, World, Told, boot_event, running_state_in, status_event, go_event, region_event, CommandStep, Machine, Step, machine_step, lacks_memory, loses_power, Run}
 use Rattle.mb_model_lemmas.proofs.RefusalLemmas.{awake_state}
 use Rattle.mb_model.specs.Runs.{worlds_of}
 
@@ -39,7 +39,7 @@ pub record IsKept (R : Option State → Option State → Type 0) : Type 0 where
   pub dies : (o : Option State) → R o None
   pub secrets : (state : State) (L : ℕ) (secrets : List Secret) → R (Some state) (Some (with_secrets state L secrets))
   pub used : (state : State) (L number : ℕ) → R (Some state) (Some (with_one_use state L number))
-  pub order : (state : State) (order : Order) (draw : List ℕ) → R (Some state) (Some (obeyed state order draw))
+  pub order : (state : State) (order : Order) (draw : List ℕ) → R (Some state) (Some (state_after_order state order draw))
 
 module _ (R : Option State → Option State → Type 0) (kept : IsKept R) where
   either_kept : (state : State) (b : Bool) (x y : Outcome) → R (Some state) (Some x.1) → R (Some state) (Some y.1) → R (Some state) (Some (if b then x else y).1)
@@ -70,12 +70,12 @@ module _ (R : Option State → Option State → Type 0) (kept : IsKept R) where
   unfolding sign_event
   sign_kept L number message state = sign_with_kept L (find (has_number number) (region_of state L).keys) message state
 
-  region_kept : (world : World) (L : ℕ) (does : State → Outcome) (on : Result (ℕ × State) Refusal) → awake_in world ≡ on
+  region_kept : (world : World) (L : ℕ) (does : State → Outcome) (on : Result (ℕ × State) Refusal) → running_state_in world ≡ on
       → ((state : State) → R (Some state) (Some (does state).1)) → R world.state (region_event world L does on).1.state
   region_kept world L does (Err refusal) is each = kept.same world.state
   region_kept world L does (Ok on) is each =
       let after : Outcome = on_region on.0 L does on.1 in
-      let from : R (Some on.1) (Some after.1) = either_kept on.1 (nat_lt L on.0 || not (is_runnable on.1.layers L)) (refused WrongLayer, on.1) (does on.1) (kept.same (Some on.1)) (each on.1) in
+      let from : R (Some on.1) (Some after.1) = either_kept on.1 (nat_lt L on.0 || not (is_runnable on.1.layers L)) (refusal_reply WrongLayer, on.1) (does on.1) (kept.same (Some on.1)) (each on.1) in
       subst (λ (o : Option State). R o (Some after.1)) (sym (awake_state world.phase world.state on is)) from
 
   order_kept : (state : State) (text draw : List ℕ) (answer : Reply) (next : State) → OrderStep state text draw answer next → R (Some state) (Some next)
@@ -87,7 +87,7 @@ module _ (R : Option State → Option State → Type 0) (kept : IsKept R) where
   of_same : (world next other : World) → next ≡ other → R world.state other.state → R world.state next.state
   of_same world next other same holds = subst (λ (w : World). R world.state w.state) (sym same) holds
 
-  command_kept : (world : World) (text draw : List ℕ) (on : Result (ℕ × State) Refusal) (answer : Reply) (next : World) → awake_in world ≡ on
+  command_kept : (world : World) (text draw : List ℕ) (on : Result (ℕ × State) Refusal) (answer : Reply) (next : World) → running_state_in world ≡ on
       → CommandStep world text draw on answer next → R world.state next.state
   command_kept world text draw (Err refusal) answer next is x = of_same world next world x.1 (kept.same world.state)
   command_kept world text draw (Ok on) answer next is (inl x) =
@@ -113,8 +113,8 @@ module _ (R : Option State → Option State → Type 0) (kept : IsKept R) where
   go_kept : (world : World) (on : Result (ℕ × State) Refusal) → R world.state (go_event world on).1.state
   go_kept world (Err refusal) = kept.same world.state
   go_kept world (Ok on) =
-      either_told world (nat_lt 2 on.0) (refused WrongPhase, world) _ (kept.same world.state)
-      (either_told world (is_runnable on.1.layers (on.0 + 1)) (reply.At (on.0 + 1), record world { phase = ratchet (on.0 + 1) }) (refused WrongLayer, world)
+      either_told world (nat_lt 2 on.0) (refusal_reply WrongPhase, world) _ (kept.same world.state)
+      (either_told world (is_runnable on.1.layers (on.0 + 1)) (reply.At (on.0 + 1), record world { phase = ratchet (on.0 + 1) }) (refusal_reply WrongLayer, world)
       (kept.same world.state) (kept.same world.state))
 
   told_kept : (world : World) (answer : Reply) (next : World) (told : Told) → ◌≡◌ {A = Told} (answer, next) told → R world.state told.1.state → R world.state next.state
@@ -125,21 +125,21 @@ module _ (R : Option State → Option State → Type 0) (kept : IsKept R) where
   machine_kept world event.Off answer next x = of_same world next (record world { phase = off }) x.1 (kept.same world.state)
   machine_kept world event.Tamper answer next x = of_same world next (record world { phase = off; state = None }) x.1 (kept.dies world.state)
   machine_kept world (event.Cut count tear) answer next x = of_same world next (record world { armed = true }) x.1 (kept.same world.state)
-  machine_kept world event.Status answer next x = told_kept world answer next (status_event world (awake_in world)) x (status_kept world (awake_in world))
-  machine_kept world (event.Command text draw) answer next x = command_kept world text draw (awake_in world) answer next refl x
-  machine_kept world event.Go answer next x = told_kept world answer next (go_event world (awake_in world)) x (go_kept world (awake_in world))
+  machine_kept world event.Status answer next x = told_kept world answer next (status_event world (running_state_in world)) x (status_kept world (running_state_in world))
+  machine_kept world (event.Command text draw) answer next x = command_kept world text draw (running_state_in world) answer next refl x
+  machine_kept world event.Go answer next x = told_kept world answer next (go_event world (running_state_in world)) x (go_kept world (running_state_in world))
   machine_kept world (event.Put L name value) answer next x =
-      told_kept world answer next (region_event world L (put_event L name value) (awake_in world)) x (region_kept world L (put_event L name value) (awake_in world) refl (put_kept L name value))
+      told_kept world answer next (region_event world L (put_event L name value) (running_state_in world)) x (region_kept world L (put_event L name value) (running_state_in world) refl (put_kept L name value))
   machine_kept world (event.Get L name) answer next x =
-      told_kept world answer next (region_event world L (get_event L name) (awake_in world)) x (region_kept world L (get_event L name) (awake_in world) refl (get_kept L name))
+      told_kept world answer next (region_event world L (get_event L name) (running_state_in world)) x (region_kept world L (get_event L name) (running_state_in world) refl (get_kept L name))
   machine_kept world (event.Drop L name) answer next x =
-      told_kept world answer next (region_event world L (drop_event L name) (awake_in world)) x (region_kept world L (drop_event L name) (awake_in world) refl (drop_kept L name))
+      told_kept world answer next (region_event world L (drop_event L name) (running_state_in world)) x (region_kept world L (drop_event L name) (running_state_in world) refl (drop_kept L name))
   machine_kept world (event.Sign L key message) answer next x =
-      told_kept world answer next (region_event world L (sign_event L key message) (awake_in world)) x (region_kept world L (sign_event L key message) (awake_in world) refl (sign_kept L key message))
+      told_kept world answer next (region_event world L (sign_event L key message) (running_state_in world)) x (region_kept world L (sign_event L key message) (running_state_in world) refl (sign_kept L key message))
 
   -- a power loss leaves the state before or the one after
   pub step_kept : (world : World) (given : Event) (answer : Reply) (next : World) → Step world given answer next → R world.state next.state
-  step_kept world given answer next (answered x) = machine_kept world given answer next x
+  step_kept world given answer next (machine_step x) = machine_kept world given answer next x
   step_kept world given answer next (lacks_memory p) = of_same world next world p.stays (kept.same world.state)
   step_kept world given answer next (loses_power p) =
       let left : R world.state p.state = elim (p.counts) [

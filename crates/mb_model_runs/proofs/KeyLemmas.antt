@@ -12,7 +12,7 @@ use Rattle.mb_model.specs.declared.region.Region.{Region}
 use Rattle.mb_model.specs.declared.region.RegionKey.{RegionKey}
 use Rattle.mb_model.specs.declared.state.State.{State}
 use Rattle.mb_model.specs.Layers.{is_upper}
-use Rattle.mb_model.specs.Log.{entries_of, keys_in, made, RuledLog}
+use Rattle.mb_model.specs.Log.{entries_of, keys_in, keys_made_by, RuledLog}
 use Rattle.mb_model.specs.Lives.{Alive}
 use Rattle.mb_model.specs.Regions.{empty_region}
 use Rattle.mb_model.specs.Signing.{public_of}
@@ -26,8 +26,8 @@ use Rattle.mb_model_lemmas.proofs.ValidStates.{valid_is_ruled, region_is_valid}
 -- ---- keys of the log
 
 -- the keys made before an entry that makes one are fewer
-pub made_past : (before : List Entry) (own : Entry) (more : List Entry) → keys_in own ≡ 1 → made before < made (before ++ own ∷ more)
-unfolding made
+pub made_past : (before : List Entry) (own : Entry) (more : List Entry) → keys_in own ≡ 1 → keys_made_by before < keys_made_by (before ++ own ∷ more)
+unfolding keys_made_by
 made_past before own more one =
     let whole = sum_by-append keys_in before (own ∷ more) in
     let rest = sum_by-cons keys_in own more in
@@ -41,10 +41,10 @@ one_entry p q a b m n L M kind other key public e = cc
 not_after : (log : List Entry) (m n L M : ℕ) (kind other : KeyKind) (key public : PublicKey) → RuledLog log → (a : Alive log m L kind key) (b : Alive log n M other public) → m ≡ n
     → (more : List Entry) → b.before ≡ a.before ++ NewKey a.position a.number m L kind key ∷ more → ⊥
 not_after log m n L M kind other key public ruled a b same more is =
-    let first : m ≡ made a.before = (ruled a.before (NewKey a.position a.number m L kind key) a.later a.split).1.key_counted in
-    let second : n ≡ made b.before = (ruled b.before (NewKey b.position b.number n M other public) b.later b.split).1.key_counted in
-    let past : made a.before < made (a.before ++ NewKey a.position a.number m L kind key ∷ more) = made_past a.before (NewKey a.position a.number m L kind key) more refl in
-    let whole : made b.before ≡ made (a.before ++ NewKey a.position a.number m L kind key ∷ more) = ap made is in
+    let first : m ≡ keys_made_by a.before = (ruled a.before (NewKey a.position a.number m L kind key) a.later a.split).1.key_counted in
+    let second : n ≡ keys_made_by b.before = (ruled b.before (NewKey b.position b.number n M other public) b.later b.split).1.key_counted in
+    let past : keys_made_by a.before < keys_made_by (a.before ++ NewKey a.position a.number m L kind key ∷ more) = made_past a.before (NewKey a.position a.number m L kind key) more refl in
+    let whole : keys_made_by b.before ≡ keys_made_by (a.before ++ NewKey a.position a.number m L kind key ∷ more) = ap keys_made_by is in
     omega (arith, first, second, past, whole, same)
 
 -- keys with one number are of one layer
@@ -94,13 +94,13 @@ key_lives state L key valid within =
     region_key_lives (entries_of state.log) state.layers L (region_of state L) key (region_is_valid state L (upper_of state L key within) valid) within
 
 -- a key's number is below the next key's
-pub key_born : (state : State) (L : ℕ) (key : RegionKey) → IsValidState state → Contains (region_of state L).keys key → key.number < made (entries_of state.log)
+pub key_born : (state : State) (L : ℕ) (key : RegionKey) → IsValidState state → Contains (region_of state L).keys key → key.number < keys_made_by (entries_of state.log)
 key_born state L key valid within =
     let alive = key_lives state L key valid within in
     let own : Entry = NewKey alive.position alive.number key.number L key.kind (public_of key.seed) in
-    let counted : key.number ≡ made alive.before = (valid_is_ruled state valid alive.before own alive.later alive.split).1.key_counted in
-    let past : made alive.before < made (alive.before ++ own ∷ alive.later) = made_past alive.before own alive.later refl in
-    let whole : made (entries_of state.log) ≡ made (alive.before ++ own ∷ alive.later) = ap made alive.split in
+    let counted : key.number ≡ keys_made_by alive.before = (valid_is_ruled state valid alive.before own alive.later alive.split).1.key_counted in
+    let past : keys_made_by alive.before < keys_made_by (alive.before ++ own ∷ alive.later) = made_past alive.before own alive.later refl in
+    let whole : keys_made_by (entries_of state.log) ≡ keys_made_by (alive.before ++ own ∷ alive.later) = ap keys_made_by alive.split in
     omega (arith, counted, past, whole)
 
 pub one_region : (state : State) (L M : ℕ) (a b : RegionKey) → IsValidState state → Contains (region_of state L).keys a → Contains (region_of state M).keys b → a.number ≡ b.number → L ≡ M

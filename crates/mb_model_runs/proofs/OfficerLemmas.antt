@@ -13,11 +13,11 @@ use Rattle.mb_model.specs.Layers.{layer_of}
 use Rattle.mb_model.specs.Rules.{authority}
 use Rattle.mb_model.specs.OrderFormat.{order_format, order_body}
 use Rattle.mb_model.specs.OrderChecks.{change_by, IsSigned, IsCountersigned, view_of}
-use Rattle.mb_model.specs.OrderEffects.{obeyed}
+use Rattle.mb_model.specs.OrderEffects.{state_after_order}
 use Rattle.mb_model.specs.OrderStep.{OrderStep, is_obeyed}
 use Rattle.mb_model.specs.Log.{entries_of, number_of}
 use Rattle.mb_model.specs.declared.reply.Refusal.{Refusal}
-use Rattle.mb_model.specs.Machine.{Phase, ratchet, World, awake, awake_in, CommandStep, Machine}
+use Rattle.mb_model.specs.Machine.{Phase, ratchet, World, running_state, running_state_in, CommandStep, Machine}
 use Rattle.mb_model.specs.declared.event.Event.TheVariants as event
 use Rattle.mb_model.specs.declared.reply.Reply.{Reply}
 use Rattle.mb_model.specs.declared.reply.Reply.TheVariants as reply
@@ -45,12 +45,12 @@ right_countersignature state order by right =
 
 -- ---- an order that is obeyed
 
-runs_first : (world : World) (state : State) → world.phase ≡ ratchet 1 → world.state ≡ Some state → awake_in world ≡ Ok (1, state)
-runs_first world state at was = ap (λ (p : Phase). awake p world.state) at ∙ ap (awake (ratchet 1)) was
+runs_first : (world : World) (state : State) → world.phase ≡ ratchet 1 → world.state ≡ Some state → running_state_in world ≡ Ok (1, state)
+runs_first world state at was = ap (λ (p : Phase). running_state p world.state) at ∙ ap (running_state (ratchet 1)) was
 
 order_obeyed : (state : State) (text draw : List ℕ) (order : Order) → Spells order_format text order → PassesTheRest state order
     → IsRightlySigned state order → All (IsRightlyCountersigned state order) order.countersignatures
-    → OrderStep state text draw (reply.Done (number_of (entries_of (obeyed state order draw).log)) (length (obeyed state order draw).log)) (obeyed state order draw)
+    → OrderStep state text draw (reply.Done (number_of (entries_of (state_after_order state order draw).log)) (length (state_after_order state order draw).log)) (state_after_order state order draw)
 order_obeyed state text draw order spelled stands signed countersigned =
     is_obeyed (record {
       order = order;
@@ -70,11 +70,11 @@ order_obeyed state text draw order spelled stands signed countersigned =
 pub right_order_obeyed : (world : World) (state : State) (text draw : List ℕ) (order : Order)
     → world.phase ≡ ratchet 1 → world.state ≡ Some state → Spells order_format text order → PassesTheRest state order
     → IsRightlySigned state order → All (IsRightlyCountersigned state order) order.countersignatures
-    → let next : State = obeyed state order draw in
+    → let next : State = state_after_order state order draw in
     let answer : Reply = reply.Done (number_of (entries_of next.log)) (length next.log) in
     Machine world (event.Command text draw) answer (record world { state = Some next })
 right_order_obeyed world state text draw order at was spelled stands signed countersigned =
-    let next : State = obeyed state order draw in
+    let next : State = state_after_order state order draw in
     let answer : Reply = reply.Done (number_of (entries_of next.log)) (length next.log) in
     let step : OrderStep state text draw answer next = order_obeyed state text draw order spelled stands signed countersigned in
     subst (λ (on : Result (ℕ × State) Refusal). CommandStep world text draw on answer (record world { state = Some next })) (sym (runs_first world state at was))

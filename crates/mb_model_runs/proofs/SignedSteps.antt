@@ -10,12 +10,12 @@ use Rattle.mb_model.specs.declared.state.State.{State}
 use Rattle.mb_model.specs.Layers.{is_runnable}
 use Rattle.mb_model.specs.declared.reply.Refusal.{Refusal}
 use Rattle.mb_model.specs.declared.reply.Refusal.TheVariants.{WrongLayer, KeySpent}
-use Rattle.mb_model.specs.Refusals.{refused}
+use Rattle.mb_model.specs.Refusals.{refusal_reply}
 use Rattle.mb_model.specs.Regions.{region_of}
 use Rattle.mb_model.specs.LayerEvents.{Outcome, on_region, has_number, put_event, get_event, drop_event, statement_of, sign_with, sign_event}
 use Rattle.mb_model.specs.Listing.{is_signed}
 use Rattle.mb_model.specs.ChainFormat.{statement_format}
-use Rattle.mb_model.specs.Machine.{World, Told, awake_in, region_event, Machine, Step, answered, lacks_memory, loses_power}
+use Rattle.mb_model.specs.Machine.{World, Told, running_state_in, region_event, Machine, Step, machine_step, lacks_memory, loses_power}
 use Rattle.mb_model_lemmas.proofs.RefusalLemmas.{awake_state}
 use Rattle.mb_model_lemmas.proofs.ReplyTests.{HasValue, boot_has, status_has, go_has, region_has, put_has, get_has, drop_has, command_has}
 use Rattle.mb_model_memory.proofs.StorableSteps.{found_number}
@@ -76,7 +76,7 @@ sign_with_signs : (L : ℕ) (found : Option RegionKey) (number : ℕ) (message :
 sign_with_signs L None number message state n index statement is = λ e. absurd (grind (arith, e))
 sign_with_signs L (Some key) number message state n index statement is =
     let stated : List ℕ = statement_format.spelling (statement_of state key message) in
-    either_signs state L number message n index statement (nat_le 32 key.uses) (refused KeySpent, state) (reply.Signed key.number key.uses stated, with_one_use state L key.number)
+    either_signs state L number message n index statement (nat_le 32 key.uses) (refusal_reply KeySpent, state) (reply.Signed key.number key.uses stated, with_one_use state L key.number)
     (λ spent e. absurd (grind (arith, e)))
     (λ fresh e.
     let parts = signed_parts key.number n key.uses index stated statement e in (
@@ -100,7 +100,7 @@ sign_signs L number message state n index statement =
 on_region_signs : (r L number : ℕ) (message : List ℕ) (state : State) (n index : ℕ) (statement : List ℕ)
     → Signs state L number message n index statement (on_region r L (sign_event L number message) state)
 on_region_signs r L number message state n index statement =
-    either_signs state L number message n index statement (nat_lt L r || not (is_runnable state.layers L)) (refused WrongLayer, state) (sign_event L number message state)
+    either_signs state L number message n index statement (nat_lt L r || not (is_runnable state.layers L)) (refusal_reply WrongLayer, state) (sign_event L number message state)
     (λ past e. absurd (grind (arith, e)))
     (λ here. sign_signs L number message state n index statement)
 
@@ -135,9 +135,9 @@ no_statements = record {
 
 -- ---- the step
 
-region_signs : (world : World) (L number : ℕ) (message : List ℕ) (on : Result (ℕ × State) Refusal) (n index : ℕ) (statement : List ℕ) (next : World) → awake_in world ≡ on
+region_signs : (world : World) (L number : ℕ) (message : List ℕ) (on : Result (ℕ × State) Refusal) (n index : ℕ) (statement : List ℕ) (next : World) → running_state_in world ≡ on
     → ◌≡◌ {A = Told} (reply.Signed n index statement, next) (region_event world L (sign_event L number message) on) → StepSigns world (event.Sign L number message) n index statement next
-region_signs world L number message (Err refusal) n index statement next is e = absurd (not_told n index statement next (refused refusal, world) refl e)
+region_signs world L number message (Err refusal) n index statement next is e = absurd (not_told n index statement next (refusal_reply refusal, world) refl e)
 region_signs world L number message (Ok on) n index statement next is e =
     let outcome : Outcome = on_region on.0 L (sign_event L number message) on.1 in
     let told : reply.Signed n index statement ≡ outcome.0 = ap (λ (t : Told). t.0) e in
@@ -159,20 +159,20 @@ machine_signs world event.Boot n index statement next x = absurd (not_told n ind
 machine_signs world event.Off n index statement next x = absurd (not_signed n index statement reply.Off refl x.0)
 machine_signs world event.Tamper n index statement next x = absurd (not_signed n index statement reply.Tampered refl x.0)
 machine_signs world (event.Cut count tear) n index statement next x = absurd (not_signed n index statement reply.Armed refl x.0)
-machine_signs world event.Status n index statement next x = absurd (not_told n index statement next _ (status_has is_signed false no_statements world (awake_in world)) x)
+machine_signs world event.Status n index statement next x = absurd (not_told n index statement next _ (status_has is_signed false no_statements world (running_state_in world)) x)
 machine_signs world (event.Command text draw) n index statement next x =
-    absurd (not_signed n index statement (reply.Signed n index statement) (command_has is_signed false no_statements world text draw (awake_in world) (reply.Signed n index statement) next x) refl)
-machine_signs world event.Go n index statement next x = absurd (not_told n index statement next _ (go_has is_signed false no_statements world (awake_in world)) x)
+    absurd (not_signed n index statement (reply.Signed n index statement) (command_has is_signed false no_statements world text draw (running_state_in world) (reply.Signed n index statement) next x) refl)
+machine_signs world event.Go n index statement next x = absurd (not_told n index statement next _ (go_has is_signed false no_statements world (running_state_in world)) x)
 machine_signs world (event.Put L name value) n index statement next x =
-    absurd (not_told n index statement next _ (region_has is_signed false no_statements world L (put_event L name value) (awake_in world) (put_has is_signed false no_statements L name value)) x)
+    absurd (not_told n index statement next _ (region_has is_signed false no_statements world L (put_event L name value) (running_state_in world) (put_has is_signed false no_statements L name value)) x)
 machine_signs world (event.Get L name) n index statement next x =
-    absurd (not_told n index statement next _ (region_has is_signed false no_statements world L (get_event L name) (awake_in world) (get_has is_signed false no_statements L name)) x)
+    absurd (not_told n index statement next _ (region_has is_signed false no_statements world L (get_event L name) (running_state_in world) (get_has is_signed false no_statements L name)) x)
 machine_signs world (event.Drop L name) n index statement next x =
-    absurd (not_told n index statement next _ (region_has is_signed false no_statements world L (drop_event L name) (awake_in world) (drop_has is_signed false no_statements L name)) x)
-machine_signs world (event.Sign L key message) n index statement next x = region_signs world L key message (awake_in world) n index statement next refl x
+    absurd (not_told n index statement next _ (region_has is_signed false no_statements world L (drop_event L name) (running_state_in world) (drop_has is_signed false no_statements L name)) x)
+machine_signs world (event.Sign L key message) n index statement next x = region_signs world L key message (running_state_in world) n index statement next refl x
 
 pub step_signs : (world : World) (given : Event) (n index : ℕ) (statement : List ℕ) (next : World) → Step world given (reply.Signed n index statement) next
     → StepSigns world given n index statement next
-step_signs world given n index statement next (answered x) = machine_signs world given n index statement next x
+step_signs world given n index statement next (machine_step x) = machine_signs world given n index statement next x
 step_signs world given n index statement next (lacks_memory p) = absurd (not_signed n index statement reply.NoMemory refl p.answered)
 step_signs world given n index statement next (loses_power p) = absurd (not_signed n index statement reply.Stopped refl p.answered)

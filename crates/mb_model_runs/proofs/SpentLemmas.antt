@@ -20,12 +20,12 @@ use Rattle.mb_model.specs.declared.region.Secret.{Secret}
 use Rattle.mb_model.specs.declared.reply.Reply.{Reply}
 use Rattle.mb_model.specs.declared.state.State.{State}
 use Rattle.mb_model.specs.Rules.{admits}
-use Rattle.mb_model.specs.Log.{entries_of, made}
+use Rattle.mb_model.specs.Log.{entries_of, keys_made_by}
 use Rattle.mb_model.specs.Regions.{empty_region, is_epoch, without_configuration_keys, region_after, with_key}
 use Rattle.mb_model.specs.Signing.{public_of}
 use Rattle.mb_model.specs.Regions.{region_of}
 use Rattle.mb_model.specs.OrderChecks.{needs_succession, view_of}
-use Rattle.mb_model.specs.OrderEffects.{log_with, next_key, cosigned_by, succeeded, key_made, changed, keyed, carried_out, obeyed, entry_of, change_fact}
+use Rattle.mb_model.specs.OrderEffects.{log_with, next_key, cosigners_of, state_after_succession, key_made, state_after_change, state_after_new_key, state_after_act, state_after_order, entry_of, change_fact}
 use Rattle.mb_model.specs.declared.state.Fact.TheVariants as fact
 use Rattle.mb_model.specs.LayerEvents.{has_number, with_use}
 use Rattle.mb_model.specs.Machine.{World, Step, Run}
@@ -48,7 +48,7 @@ IsUsed n u key = key.number ≡ n → u ≤ key.uses
 
 -- the key with the number n was made, and has used the first u of its indices, where it is there
 record IsSpent (n u : ℕ) (state : State) : Type 0 where
-  born : n < made (entries_of state.log)
+  born : n < keys_made_by (entries_of state.log)
   two : All (IsUsed n u) state.two.keys
   three : All (IsUsed n u) state.three.keys
 
@@ -86,9 +86,9 @@ uses_stay number n u keys all =
 
 -- ---- orders
 
-born_more : (n : ℕ) (state : State) (entry : Entry) → n < made (entries_of state.log) → n < made (entries_of (log_with state entry))
+born_more : (n : ℕ) (state : State) (entry : Entry) → n < keys_made_by (entries_of state.log) → n < keys_made_by (entries_of (log_with state entry))
 born_more n state entry less =
-    let whole : made (entries_of (log_with state entry)) ≡ made (entries_of state.log ++ entry ∷ []) = ap made (entries_of-signed state entry) in
+    let whole : keys_made_by (entries_of (log_with state entry)) ≡ keys_made_by (entries_of state.log ++ entry ∷ []) = ap keys_made_by (entries_of-signed state entry) in
     omega (arith, less, whole, made-push (entries_of state.log) entry)
 
 after_stays : (P : RegionKey → Type 0) (layers : Layers) (kind : ChangeKind) (k : ℕ) (by : Pair) (L : ℕ) (region : Region)
@@ -100,18 +100,18 @@ after_stays P layers kind k by L region all = each (nat_lt L k) (admits layers k
     each false true = All-filter (λ (key : RegionKey). is_epoch key.kind) P region.keys all
     each false false = All-nil P
 
-changed_spent : (n u : ℕ) (state : State) (kind : ChangeKind) (order : Order) (draw : List ℕ) → IsSpent n u state → IsSpent n u (changed state kind order draw)
-unfolding changed
+changed_spent : (n u : ℕ) (state : State) (kind : ChangeKind) (order : Order) (draw : List ℕ) → IsSpent n u state → IsSpent n u (state_after_change state kind order draw)
+unfolding state_after_change
 changed_spent n u state kind order draw spent = record {
   born = born_more n state (entry_of (view_of state) (change_fact state.layers kind order) draw) spent.born;
-  two = after_stays (IsUsed n u) state.layers kind order.layer (cosigned_by order) 2 state.two spent.two;
-  three = after_stays (IsUsed n u) state.layers kind order.layer (cosigned_by order) 3 state.three spent.three;
+  two = after_stays (IsUsed n u) state.layers kind order.layer (cosigners_of order) 2 state.two spent.two;
+  three = after_stays (IsUsed n u) state.layers kind order.layer (cosigners_of order) 3 state.three spent.three;
 }
 
-keyed_spent : (n u : ℕ) (state : State) (L : ℕ) (kind : KeyKind) (draw : List ℕ) → IsSpent n u state → IsSpent n u (keyed state L kind draw)
-unfolding keyed
+keyed_spent : (n u : ℕ) (state : State) (L : ℕ) (kind : KeyKind) (draw : List ℕ) → IsSpent n u state → IsSpent n u (state_after_new_key state L kind draw)
+unfolding state_after_new_key
 keyed_spent n u state L kind draw spent =
-    let born : n < made (entries_of state.log) = spent.born in
+    let born : n < keys_made_by (entries_of state.log) = spent.born in
     let new : RegionKey = key_made (view_of state) kind draw in
     let other : IsUsed n u new = λ is. absurd (omega (arith, is, born)) in
     let keeps : (r : Region) → All (IsUsed n u) r.keys → All (IsUsed n u) (with_key new r).keys = λ r all. All-push (IsUsed n u) r.keys new all other in
@@ -121,8 +121,8 @@ keyed_spent n u state L kind draw spent =
       three = kept_three (IsUsed n u) (with_key new) keeps (L == 2) (L == 3) state.two state.three spent.two spent.three;
     }
 
-ready_spent : (n u : ℕ) (b : Bool) (state : State) (draw : List ℕ) → IsSpent n u state → IsSpent n u (if b then succeeded state draw else state)
-unfolding succeeded
+ready_spent : (n u : ℕ) (b : Bool) (state : State) (draw : List ℕ) → IsSpent n u state → IsSpent n u (if b then state_after_succession state draw else state)
+unfolding state_after_succession
 ready_spent n u true state draw spent = record {
   born = born_more n state (Succession (length state.log) (public_of (next_key (view_of state) draw))) spent.born;
   two = spent.two;
@@ -130,18 +130,18 @@ ready_spent n u true state draw spent = record {
 }
 ready_spent n u false state draw spent = spent
 
-carried_spent : (n u : ℕ) (ready : State) (order : Order) (a : Act) (draw : List ℕ) → IsSpent n u ready → IsSpent n u (carried_out ready order a draw)
+carried_spent : (n u : ℕ) (ready : State) (order : Order) (a : Act) (draw : List ℕ) → IsSpent n u ready → IsSpent n u (state_after_act ready order a draw)
 carried_spent n u ready order (act.Establish owner trust) draw spent = changed_spent n u ready Establish order draw spent
 carried_spent n u ready order act.Surrender draw spent = changed_spent n u ready Surrender order draw spent
 carried_spent n u ready order (act.Load payload) draw spent = changed_spent n u ready Load order draw spent
 carried_spent n u ready order (act.Emergency payload) draw spent = changed_spent n u ready Emergency order draw spent
 carried_spent n u ready order (act.NewKey kind) draw spent = keyed_spent n u ready order.layer kind draw spent
 
-obeyed_spent : (n u : ℕ) (state : State) (order : Order) (draw : List ℕ) → IsSpent n u state → IsSpent n u (obeyed state order draw)
-unfolding obeyed
+obeyed_spent : (n u : ℕ) (state : State) (order : Order) (draw : List ℕ) → IsSpent n u state → IsSpent n u (state_after_order state order draw)
+unfolding state_after_order
 obeyed_spent n u state order draw spent =
     let b : Bool = needs_succession (view_of state) order in
-    carried_spent n u (if b then succeeded state draw else state) order order.act draw (ready_spent n u b state draw spent)
+    carried_spent n u (if b then state_after_succession state draw else state) order order.act draw (ready_spent n u b state draw spent)
 
 -- ---- steps
 

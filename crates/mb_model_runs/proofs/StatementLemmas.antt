@@ -24,7 +24,7 @@ use Rattle.mb_model.specs.declared.reply.Reply.TheVariants as reply
 use Rattle.mb_model.specs.declared.state.State.{State}
 use Rattle.mb_model.specs.Merkle.{Verifies}
 use Rattle.mb_model.specs.Log.{figures_of, entries_of, is_change, serial_in, last_of, number_of, serial_of, Ruled, RuledLog}
-use Rattle.mb_model.specs.Lives.{ends, Alive}
+use Rattle.mb_model.specs.Lives.{ends_keys, Alive}
 use Rattle.mb_model.specs.Signing.{public_of, signature_of}
 use Rattle.mb_model.specs.ChainFormat.{statement_format, chain_format}
 use Rattle.mb_model.specs.Script.{IsScriptEvent}
@@ -198,7 +198,7 @@ none_changes (signed ∷ rest) quiet =
     let zero : ◌≡◌ {A = ℕ} (cond (is_change signed.entry) 1 0) 0 = ap (λ (b : Bool). let n : ℕ = cond b 1 0 in n) first in
     omega (arith, sum_by-cons (λ e. cond (is_change e) 1 0) signed.entry (entries_of rest), zero, none_changes rest (All-tail IsQuiet signed rest quiet))
 
-none_ends : (kind : KeyKind) (L : ℕ) (entry : Entry) → is_change entry ≡ false → ends kind L entry ≡ false
+none_ends : (kind : KeyKind) (L : ℕ) (entry : Entry) → is_change entry ≡ false → ends_keys kind L entry ≡ false
 none_ends kinds.Epoch L (Birth version serial key layers) e = refl
 none_ends kinds.Epoch L (Change version position number kind layer cosigned layers kept next) e = absurd (grind (arith, e))
 none_ends kinds.Epoch L (NewKey position number key_number layer kind key) e = refl
@@ -218,16 +218,16 @@ AreGood-front maker log rest good =
 alive_on : (log : List Entry) (cut : List SignedEntry) (n L : ℕ) (kind : KeyKind) (key : PublicKey) → All IsQuiet cut → Alive log n L kind key → Alive (log ++ entries_of cut) n L kind key
 alive_on log cut n L kind key quiet alive =
     let own : Entry = NewKey alive.position alive.number n L kind key in
-    let last : All (λ (e : Entry). ends kind L e ≡ false) (entries_of cut) =
-    All-map (λ (e : Entry). ends kind L e ≡ false) (λ (s : SignedEntry). s.entry) cut
-    (All-weaker IsQuiet (λ (s : SignedEntry). ends kind L s.entry ≡ false) (λ s q. none_ends kind L s.entry q.change) cut quiet) in
+    let last : All (λ (e : Entry). ends_keys kind L e ≡ false) (entries_of cut) =
+    All-map (λ (e : Entry). ends_keys kind L e ≡ false) (λ (s : SignedEntry). s.entry) cut
+    (All-weaker IsQuiet (λ (s : SignedEntry). ends_keys kind L s.entry ≡ false) (λ s q. none_ends kind L s.entry q.change) cut quiet) in
     record {
       before = alive.before;
       position = alive.position;
       number = alive.number;
       later = alive.later ++ entries_of cut;
       split = ap (λ es. es ++ entries_of cut) alive.split ∙ append_assoc alive.before (own ∷ alive.later) (entries_of cut);
-      lasts = All-append (λ (e : Entry). ends kind L e ≡ false) alive.later (entries_of cut) alive.lasts last;
+      lasts = All-append (λ (e : Entry). ends_keys kind L e ≡ false) alive.later (entries_of cut) alive.lasts last;
     }
 
 serial_on : (log : List Entry) (cut : List SignedEntry) → All IsQuiet cut → serial_of (log ++ entries_of cut) ≡ serial_of log

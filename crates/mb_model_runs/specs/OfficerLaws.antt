@@ -15,7 +15,7 @@ use Rattle.mb_model.specs.Log.{entries_of, number_of}
 use Rattle.mb_model.specs.OrderFormat.{order_format, order_body}
 use Rattle.mb_model.specs.OrderChecks.{view_of, change_by, TargetsHold, MayBeGiven, IsSigned, IsCountersigned}
 use Rattle.mb_model.specs.OrderChecks.{LogHasRoom, RegionHasRoom}
-use Rattle.mb_model.specs.OrderEffects.{obeyed}
+use Rattle.mb_model.specs.OrderEffects.{state_after_order}
 use Rattle.mb_model.specs.Machine.{ratchet, World, Machine}
 use Rattle.mb_model.specs.SignedTexts.{order_text, countersigned_text}
 use Rattle.mb_model.specs.SignedOrders.{signed_order, countersigned_order}
@@ -68,7 +68,7 @@ RightOrdersAreObeyed =
     (world : World) (state : State) (text draw : List ℕ) (order : Order)
     → world.phase ≡ ratchet 1 → world.state ≡ Some state → Spells order_format text order → PassesTheRest state order
     → IsRightlySigned state order → All (IsRightlyCountersigned state order) order.countersignatures
-    → let next : State = obeyed state order draw in
+    → let next : State = state_after_order state order draw in
     let answer : Reply = reply.Done (number_of (entries_of next.log)) (length next.log) in
     Machine world (event.Command text draw) answer (record world { state = Some next })
 

@@ -14,7 +14,7 @@ use Rattle.mb_model.specs.EntryFormat.{entry_format, signed_entry_format}
 use Rattle.mb_model.specs.Regions.{empty_region}
 use Rattle.mb_model.specs.Signing.{public_of, signature_of}
 use Rattle.mb_model.specs.SignedTexts.{entry_text}
-use Rattle.mb_model.specs.OrderEffects.{signed_by}
+use Rattle.mb_model.specs.OrderEffects.{entry_signed_by}
 use Rattle.mb_model.specs.WrittenImage.{written_image, FitsImage}
 use Rattle.mb_model.specs.Factory.{serial_from, first_key, layers_at_birth, birth_entry, codes_at_birth, state_at_birth, IsFactoryImage}
 use Rattle.mb_model_lemmas.proofs.FactoryLemmas.{birth_is_valid}
@@ -32,8 +32,8 @@ owner_allowed owner sized = (tt, (tt, (sized.identifier, sized.root)))
 
 -- the signature of an entry whose bytes were written
 pub birth_signed : (maker : KeySeed) (index : ℕ) (birth : Entry) (signature text empty : List ℕ) → signature ≡ signature_of maker index ((3 ∷ []) ++ text)
-    → text ≡ empty ++ entry_format.spelling birth → empty ≡ [] → record { entry = birth; signature = signature } ≡ signed_by maker index birth
-unfolding signed_by entry_text
+    → text ≡ empty ++ entry_format.spelling birth → empty ≡ [] → record { entry = birth; signature = signature } ≡ entry_signed_by maker index birth
+unfolding entry_signed_by entry_text
 birth_signed maker index birth signature text empty is spelled none =
     ap (λ (s : List ℕ). record { entry = birth; signature = s })
     (is ∙ ap (λ (t : List ℕ). signature_of maker index (3 ∷ t)) (spelled ∙ ap (λ (front : List ℕ). front ++ entry_format.spelling birth) none))
@@ -60,7 +60,7 @@ module _ (maker : KeySeed) (index : ℕ) (owner : PublicKey) (code noise : List 
 
   pub state_is : (serial : List ℕ) (key : KeySeed) (layers : Layers) (birth : Entry) (own : ℕ) (signed : SignedEntry) (kept : List ℕ) (log : List SignedEntry) (state : State)
       → serial ≡ serial_from noise → key ≡ first_key noise → layers ≡ layers_at_birth owner code → birth ≡ Birth 2 serial (public_of key) layers
-      → own ≡ index → signed ≡ signed_by maker own birth → kept ≡ code → log ≡ signed ∷ [] → state ≡ newborn serial key layers kept log
+      → own ≡ index → signed ≡ entry_signed_by maker own birth → kept ≡ code → log ≡ signed ∷ [] → state ≡ newborn serial key layers kept log
       → state ≡ state_at_birth maker index owner code noise
   unfolding state_at_birth
   state_is serial key layers birth own signed kept log state is_serial is_key is_layers is_birth is_index is_signed is_code is_log is_state =
@@ -68,9 +68,9 @@ module _ (maker : KeySeed) (index : ℕ) (owner : PublicKey) (code noise : List 
 
 module _ (maker : KeySeed) (index : ℕ) (owner : PublicKey) (code noise : List ℕ) (is : public_key_format.Allowed owner) (short : length code ≤ 32768) (long : 48 ≤ length noise) where
   birth_spelled : entry_format.Allowed (birth_entry owner code noise)
-  unfolding signed_by state_at_birth
+  unfolding entry_signed_by state_at_birth
   birth_spelled =
-      let signed : SignedEntry = signed_by maker index (birth_entry owner code noise) in
+      let signed : SignedEntry = entry_signed_by maker index (birth_entry owner code noise) in
       entry_from_signed signed (All-head signed_entry_format.Allowed signed [] (birth_storable maker index owner code noise is short long).log)
 
   birth_fits : FitsImage (state_at_birth maker index owner code noise)

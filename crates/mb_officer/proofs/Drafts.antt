@@ -15,7 +15,7 @@ use Rattle.mb_model.specs.declared.order.Act.TheVariants as act
 use Rattle.mb_model.specs.declared.order.Target.{Target}
 use Rattle.mb_model.specs.declared.order.Order.{Order}
 use Rattle.mb_model.specs.Key.{key_bytes}
-use Rattle.mb_model.specs.Lines.{HasLines, spaced, IsBeginning, bad_line, ends_early, ReadsLines, TextFailsAtLine}
+use Rattle.mb_model.specs.Lines.{HasLines, spaced_words, IsBeginning, bad_line, ends_early, ReadsLines, TextFailsAtLine}
 use Rattle.mb_model.specs.Drafts.{SaysTarget, SayAct, IsDraft}
 use Rattle.hex.specs.Hex.{decode_pairs}
 use Rattle.mb_model.specs.Texts.{IsHex}
@@ -149,9 +149,9 @@ ends_heading kind.Surrender layer targets room = record {
   says = surrender_finished layer targets room;
 }
 ends_heading (kind.Load l) layer targets room = record {
-  more = spaced (codes "version" ∷ decimal 0 ∷ []) ∷ codes "trust always" ∷ codes "code -" ∷ [];
+  more = spaced_words (codes "version" ∷ decimal 0 ∷ []) ∷ codes "trust always" ∷ codes "code -" ∷ [];
   order = drafted layer targets (load_act l 0 (equal_trusts Always) []);
-  says = from_version l layer targets (spaced (codes "version" ∷ decimal 0 ∷ [])) 0 (codes "trust always" ∷ codes "code -" ∷ [])
+  says = from_version l layer targets (spaced_words (codes "version" ∷ decimal 0 ∷ [])) 0 (codes "trust always" ∷ codes "code -" ∷ [])
       (drafted layer targets (load_act l 0 (equal_trusts Always) [])) room (omega arith) refl (ends_load l layer 0 targets);
 }
 ends_heading (kind.NewKey key) layer targets room = record {

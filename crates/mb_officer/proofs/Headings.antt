@@ -14,7 +14,7 @@ use Rattle.mb_model.specs.declared.order.Target.{Target}
 use Rattle.mb_model.specs.declared.order.Order.{Order}
 use Rattle.mb_model.specs.Layers.{is_layer_number}
 use Rattle.mb_model.specs.Rules.{kind_of, MayBeFor}
-use Rattle.mb_model.specs.Lines.{spaced}
+use Rattle.mb_model.specs.Lines.{spaced_words}
 use Rattle.mb_model.specs.Drafts.{kind_word, SaysTarget, order_words, IsDraft}
 use Rattle.mb_model_lemmas.proofs.LineLemmas.{cons_same}
 use Rattle.mb_model_lemmas.proofs.DraftLemmas.{letters_at, kind_word-same}
@@ -123,7 +123,7 @@ heading_same line (kind.NewKey key) k m n hj hk =
 -- ---- a first line and the lines after it
 
 -- the words of a first line are its heading
-words_are : (a : Act) (layer : ℕ) → spaced (order_words a layer) ≡ heading_line (ordered_by a) layer
+words_are : (a : Act) (layer : ℕ) → spaced_words (order_words a layer) ≡ heading_line (ordered_by a) layer
 words_are (act.Establish owner trust) layer = refl
 words_are act.Surrender layer = refl
 words_are (act.Load payload) layer = refl
@@ -161,13 +161,13 @@ from_targets k layer line more order is says = record {
 -- the first line of a draft is a heading
 pub first_is : (line : List ℕ) (more : List (List ℕ)) (order : Order) → IsDraft (line ∷ more) order → IsHeading line (ordered_by order.act) order.layer
 first_is line more order is =
-    let parts = cons_same line (spaced (order_words order.act order.layer)) more (is.target_lines ++ is.act_lines) is.spelled in
+    let parts = cons_same line (spaced_words (order_words order.act order.layer)) more (is.target_lines ++ is.act_lines) is.spelled in
     (subst (λ (x : OrderKind). MayBeFor x order.layer) (kind_is order.act) is.named, parts.0 ∙ words_are order.act order.layer)
 
 pub to_targets : (line : List ℕ) (more : List (List ℕ)) (order : Order) → IsDraft (line ∷ more) order
     → SaysTargets (ordered_by order.act) order.layer [] more order
 to_targets line more order is =
-    let parts = cons_same line (spaced (order_words order.act order.layer)) more (is.target_lines ++ is.act_lines) is.spelled in
+    let parts = cons_same line (spaced_words (order_words order.act order.layer)) more (is.target_lines ++ is.act_lines) is.spelled in
     record {
       target_lines = is.target_lines;
       act_lines = is.act_lines;

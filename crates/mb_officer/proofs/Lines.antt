@@ -13,7 +13,7 @@ use Rattle.mb_model.specs.declared.order.Target.{Target}
 use Rattle.mb_model.specs.declared.order.Order.{Order}
 use Rattle.mb_model.specs.Key.{key_bytes, IsSized}
 use Rattle.mb_model.specs.Rules.{MayBeFor}
-use Rattle.mb_model.specs.Lines.{spaced, number_limit}
+use Rattle.mb_model.specs.Lines.{spaced_words, number_limit}
 use Rattle.mb_model.specs.Script.{EndsInHex}
 use Rattle.mb_model.specs.Drafts.{SaysTarget, SaysTrusts, AreLoadLines, SayAct}
 use Rattle.mb_model_lemmas.proofs.LineLemmas.{cons_same, cons_none}
@@ -149,7 +149,7 @@ act_turn k layer targets line more order none (act_next acts of_kind made) = (ac
 pub data FirstOf (k : Kind) (layer : ℕ) (targets : List Target) (line : List ℕ) (more : List (List ℕ)) (order : Order) : Type 0 where
   owner_first : (owner : PublicKey) → k ≡ kind.Establish → IsSized owner → EndsInHex line (codes "owner" ∷ []) (key_bytes owner)
       → SaysOwner layer owner targets more order → FirstOf k layer targets line more order
-  version_first : (l : Loading) (version : ℕ) → k ≡ kind.Load l → version ≤ number_limit → line ≡ spaced (codes "version" ∷ decimal version ∷ [])
+  version_first : (l : Loading) (version : ℕ) → k ≡ kind.Load l → version ≤ number_limit → line ≡ spaced_words (codes "version" ∷ decimal version ∷ [])
       → SaysLoad l layer version targets more order → FirstOf k layer targets line more order
 
 load_first : (k : Kind) (l : Loading) (layer : ℕ) (targets : List Target) (line : List ℕ) (more : List (List ℕ)) (order : Order) (version : ℕ) (trust : Trusts) (code : List ℕ)
@@ -204,7 +204,7 @@ load_same : (j l : Loading) → kind.Load j ≡ kind.Load l → j ≡ l
 load_same j l e = cc
 
 load_lines : (line : List ℕ) (more : List (List ℕ)) (version : ℕ) (trust : Trusts) (line_of_trusts : List ℕ) → SaysTrusts line_of_trusts trust → (code_line code : List ℕ) (remaining : List (List ℕ)) → EndsInHex code_line (codes "code" ∷ []) code
-    → length code ≤ 32768 → version ≤ number_limit → line ≡ spaced (codes "version" ∷ decimal version ∷ []) → more ≡ line_of_trusts ∷ remaining → remaining ≡ code_line ∷ []
+    → length code ≤ 32768 → version ≤ number_limit → line ≡ spaced_words (codes "version" ∷ decimal version ∷ []) → more ≡ line_of_trusts ∷ remaining → remaining ≡ code_line ∷ []
     → AreLoadLines (line ∷ more) (record { version = version; trust = trust; code = code })
 load_lines line more version trust line_of_trusts trusted code_line code remaining coded fits small spelled second third = record {
   code_line = code_line;
@@ -272,7 +272,7 @@ Follows-owner k layer n targets line owner none sound is_kind same sized owned =
 -- ---- the version of a load
 
 pub from_version : (l : Loading) (layer : ℕ) (targets : List Target) (line : List ℕ) (version : ℕ) (more : List (List ℕ)) (order : Order) → length targets ≤ 8
-    → version ≤ number_limit → line ≡ spaced (codes "version" ∷ decimal version ∷ []) → SaysLoad l layer version targets more order
+    → version ≤ number_limit → line ≡ spaced_words (codes "version" ∷ decimal version ∷ []) → SaysLoad l layer version targets more order
     → SaysTargets (kind.Load l) layer targets (line ∷ more) order
 from_version loading.Ordinary layer targets line version more order room fits spelled says =
     subst (λ (x : Order). SaysTargets (kind.Load loading.Ordinary) layer targets (line ∷ more) x) (sym says.coded.made)
@@ -284,7 +284,7 @@ from_version loading.Emergency layer targets line version more order room fits s
     (load_lines line more version says.trust says.line_of_trusts says.trusted says.coded.line says.coded.code says.remaining says.coded.coded says.coded.fits fits spelled says.spelled says.coded.spelled) refl)
 
 to_version : (l : Loading) (layer : ℕ) (targets : List Target) (line : List ℕ) (version : ℕ) (more : List (List ℕ)) (order : Order) → version ≤ number_limit
-    → line ≡ spaced (codes "version" ∷ decimal version ∷ []) → FirstOf (kind.Load l) layer targets line more order → SaysLoad l layer version targets more order
+    → line ≡ spaced_words (codes "version" ∷ decimal version ∷ []) → FirstOf (kind.Load l) layer targets line more order → SaysLoad l layer version targets more order
 to_version l layer targets line version more order fits spelled (owner_first other of_kind also_sized also_owned rest) = absurd (establish_load l (sym of_kind))
 to_version l layer targets line version more order fits spelled (version_first j number of_kind small is rest) =
     let word = append_cancel_left (codes "version ") (decimal number) (decimal version) (sym is ∙ spelled) in
@@ -293,7 +293,7 @@ to_version l layer targets line version more order fits spelled (version_first j
     subst (λ (x : ℕ). SaysLoad l layer x targets more order) same (subst (λ (x : Loading). SaysLoad x layer number targets more order) loads rest)
 
 Follows-version : (k : Kind) (layer : ℕ) (l : Loading) (n : ℕ) (targets : List Target) (line : List ℕ) (version : ℕ) → ((t : Target) → SaysTarget line t → ⊥)
-    → IsSoundDraft (said.Heading k layer) targets → k ≡ kind.Load l → n ≡ layer → version ≤ number_limit → line ≡ spaced (codes "version" ∷ decimal version ∷ [])
+    → IsSoundDraft (said.Heading k layer) targets → k ≡ kind.Load l → n ≡ layer → version ≤ number_limit → line ≡ spaced_words (codes "version" ∷ decimal version ∷ [])
     → LineFollows (said.Heading k layer) targets line (said.Version l n version) targets
 Follows-version k layer l n targets line version none sound is_kind same fits spelled =
     subst (λ (x : ℕ). LineFollows (said.Heading k layer) targets line (said.Version l x version) targets) (sym same)

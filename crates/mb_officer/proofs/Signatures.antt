@@ -10,7 +10,7 @@ use Rattle.mb_model.specs.declared.order.Countersignature.{Countersignature}
 use Rattle.mb_model.specs.declared.order.Order.{Order}
 use Rattle.mb_model.specs.declared.tools.Keyfile.{Keyfile}
 use Rattle.mb_model.specs.Layers.{is_upper}
-use Rattle.mb_model.specs.OrderFormat.{order_body, body_format, most_countersigned, sized_signature_format, climbed, countersignature_format, countersignatures_format, order_format}
+use Rattle.mb_model.specs.OrderFormat.{order_body, body_format, countersignature_limit, sized_signature_format, climb_after, countersignature_format, countersignatures_format, order_format}
 use Rattle.mb_model.specs.Rules.{kind_of, change_of, least_layer, is_load}
 use Rattle.mb_model.specs.SignedTexts.{order_text, countersigned_text}
 use Rattle.mb_model.specs.Signing.{signature_of}
@@ -55,7 +55,7 @@ first_layer : (order : Order) → order_format.Allowed order → 1 ≤ order.lay
 unfolding order_format body_format
 first_layer order allowed = layer_least order.act order.layer allowed.0.1.0.0
 
-load_most : (a : Act) (n : ℕ) → IsTrue (is_load (change_of (kind_of a))) → most_countersigned (kind_of a) n ≡ 3 - n
+load_most : (a : Act) (n : ℕ) → IsTrue (is_load (change_of (kind_of a))) → countersignature_limit (kind_of a) n ≡ 3 - n
 load_most (act.Establish owner trust) n is = absurd (cc)
 load_most act.Surrender n is = absurd (cc)
 load_most (act.Load payload) n is = refl
@@ -63,7 +63,7 @@ load_most (act.Emergency payload) n is = refl
 load_most (act.NewKey kind) n is = absurd (cc)
 
 abbrev AreAllowed : ℕ → List Countersignature → Type 0
-AreAllowed n list = (items countersignature_format climbed (length list) (record { below = n; left = length list })).Allowed list
+AreAllowed n list = (items countersignature_format climb_after (length list) (record { below = n; left = length list })).Allowed list
 
 one_allowed : (n : ℕ) (c : Countersignature) → n + 1 ≤ c.layer → c.layer ≤ 3 → sized_signature_format.Allowed c.signature → AreAllowed n (c ∷ [])
 unfolding items

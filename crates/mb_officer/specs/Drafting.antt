@@ -14,7 +14,7 @@ use Rattle.mb_model.specs.declared.order.Target.{Target}
 use Rattle.mb_model.specs.declared.order.Order.{Order}
 use Rattle.mb_model.specs.Key.{key_bytes, IsSized}
 use Rattle.mb_model.specs.Rules.{MayBeFor}
-use Rattle.mb_model.specs.Lines.{spaced, number_limit, ReadsLines, TextFailsAtLine}
+use Rattle.mb_model.specs.Lines.{spaced_words, number_limit, ReadsLines, TextFailsAtLine}
 use Rattle.mb_model.specs.Script.{EndsInHex}
 use Rattle.mb_model.specs.Drafts.{kind_word, trust_word, SaysTarget, SaysTrusts, SayAct, IsDraft}
 use Rattle.mb_words.specs.declared.said.NotSaid.{NotSaid}
@@ -204,5 +204,5 @@ IsFirst k layer line (said.Owner n owner) =
     (k ≡ kind.Establish) × (n ≡ layer) × IsSized owner × EndsInHex line (codes "owner" ∷ []) (key_bytes owner)
 IsFirst k layer line (said.Version l n version) =
     (k ≡ kind.Load l) × (n ≡ layer) × (version ≤ number_limit)
-    × (line ≡ spaced (codes "version" ∷ decimal version ∷ []))
+    × (line ≡ spaced_words (codes "version" ∷ decimal version ∷ []))
 IsFirst k layer line other = ⊥

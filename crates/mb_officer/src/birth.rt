@@ -9,8 +9,8 @@ ghost use Rattle.mb_model.specs.Key.{IsSized};
 ghost use Rattle.mb_model.specs.EntryFormat.{entry_format};
 ghost use Rattle.mb_model.specs.Regions.{empty_region};
 ghost use Rattle.mb_model.specs.Signing.{public_of};
-ghost use Rattle.mb_model.specs.OrderEffects.{signed_by};
-ghost use Rattle.mb_model.specs.SignedOrders.{used_once};
+ghost use Rattle.mb_model.specs.OrderEffects.{entry_signed_by};
+ghost use Rattle.mb_model.specs.SignedOrders.{keyfile_after_use};
 ghost use Rattle.mb_model.specs.Meaning.{IsWellFormed};
 ghost use Rattle.mb_model.specs.Factory.{serial_from, first_key, layers_at_birth, codes_at_birth, state_at_birth, IsFactoryImage};
 ghost use Rattle.mb_lms.specs.declared.hash_count.TheConstants.{SIGNING_HASHES, TREE_HASHES};
@@ -55,7 +55,7 @@ pub fn factory<L: Ledger>(
     requires code { length code.now ≤ CODE_LIMIT }
     ensures image { IfOk result (λ image. IsFactoryImage k.old.seed k.old.next owner.now code.now noise.now image.items) }
     ensures stands { IfOk result (λ image. IsWellFormed image.items (Some (state_at_birth k.old.seed k.old.next owner.now code.now noise.now))) }
-    ensures used { OnOk result (k.new ≡ used_once k.old) }
+    ensures used { OnOk result (k.new ≡ keyfile_after_use k.old) }
     ensures spent { IsErrOf result SignEnd.Spent ↔ (k.old.next ≡ KEY_USES) }
     ensures countersignable { IsErrOf result SignEnd.NotCountersignable → ⊥ }
     ensures unchanged { OnErr result ((k.new ≡ k.old) × (hashes.new ≡ hashes.old)) }
@@ -167,7 +167,7 @@ fn sign_birth<L: Ledger>(
     requires empty { text.old.items ≡ [] }
     requires room { vec_len text.old + LONGEST_ENTRY ≤ vec_capacity text.old }
     ensures text { text.new.items ≡ entry_format.spelling birth }
-    ensures signed { result ≡ signed_by seed.now index birth }
+    ensures signed { result ≡ entry_signed_by seed.now index birth }
     ensures cost { hashes.new ≤ hashes.old + SIGNING_HASHES }
 {
     let Ok(()) = write_entry(&birth, text) else {

@@ -2,7 +2,7 @@
 
 ghost use Rattle.std.specs.Prelude.{◌≡◌, ◌∷◌, [], IfOk};
 ghost use Rattle.mb_format.specs.Format.{Spells};
-ghost use Rattle.mb_model.specs.Texts.{ended};
+ghost use Rattle.mb_model.specs.Texts.{line_with_lf};
 ghost use Rattle.mb_model.specs.OrderFormat.{order_format};
 ghost use Rattle.mb_model.specs.OrderLines.{IsOrderLine, order_line};
 ghost use Rattle.mb_words.specs.Words.{Finds};
@@ -75,7 +75,7 @@ fn order_of(alloc: Global, bytes: &[u8]) -> Result<Order, NotSaid>
 /// The line of an order, which has a spelling, with its LF.
 pub fn write_order_line(alloc: Global, order: &Order) -> Result<Vec<u8>, NoMemory>
     requires { order_format.Allowed order.now }
-    ensures { IfOk result (λ text. text.items ≡ ended (order_line order.now)) }
+    ensures { IfOk result (λ text. text.items ≡ line_with_lf (order_line order.now)) }
 {
     let mut bytes = Vec::new(alloc);
     write_order(order, &mut bytes)?;

@@ -5,7 +5,7 @@ ghost use Rattle.mb_model.specs.declared.limits.TheConstants.{KEY_USES, LAST_IND
 ghost use Rattle.mb_model.specs.Layers.{is_upper};
 ghost use Rattle.mb_model.specs.OrderFormat.{order_format};
 ghost use Rattle.mb_model.specs.Signing.{signature_of};
-ghost use Rattle.mb_model.specs.SignedOrders.{used_once, signed_order, countersigned_order, with_countersignature, IsCountersignable};
+ghost use Rattle.mb_model.specs.SignedOrders.{keyfile_after_use, signed_order, countersigned_order, with_countersignature, IsCountersignable};
 ghost use Rattle.mb_model.specs.Rules.{kind_of, change_of, is_load};
 ghost use Rattle.mb_lms.specs.declared.hash_count.TheConstants.{SIGNING_HASHES};
 
@@ -52,7 +52,7 @@ pub fn sign_order<L: Ledger>(
     hashes: &mut HashCount<L>,
 ) -> Result<u32, SignEnd>
     requires spelled { order_format.Allowed order.old }
-    ensures signed { IfOk result (λ index. (index ≡ k.old.next) × (k.new ≡ used_once k.old) × (order.new ≡ signed_order k.old order.old)) }
+    ensures signed { IfOk result (λ index. (index ≡ k.old.next) × (k.new ≡ keyfile_after_use k.old) × (order.new ≡ signed_order k.old order.old)) }
     ensures spelled { OnOk result (order_format.Allowed order.new) }
     ensures spent { IsErrOf result SignEnd.Spent ↔ (k.old.next ≡ KEY_USES) }
     ensures countersignable { IsErrOf result SignEnd.NotCountersignable → ⊥ }
@@ -85,7 +85,7 @@ pub fn countersign<L: Ledger>(
 ) -> Result<u32, SignEnd>
     requires spelled { order_format.Allowed order.old }
     requires layer { IsTrue (is_upper layer) }
-    ensures signed { IfOk result (λ index. (index ≡ k.old.next) × (k.new ≡ used_once k.old) × (order.new ≡ countersigned_order k.old layer order.old)) }
+    ensures signed { IfOk result (λ index. (index ≡ k.old.next) × (k.new ≡ keyfile_after_use k.old) × (order.new ≡ countersigned_order k.old layer order.old)) }
     ensures spelled { OnOk result (order_format.Allowed order.new) }
     ensures countersignable { IsErrOf result SignEnd.NotCountersignable ↔ (IsCountersignable order.old layer → ⊥) }
     ensures spent { IsErrOf result SignEnd.Spent ↔ (IsCountersignable order.old layer × (k.old.next ≡ KEY_USES)) }

@@ -5,7 +5,7 @@ ghost use Rattle.std.specs.Fmt.{decimal};
 ghost use Rattle.mb_model.specs.declared.limits.TheConstants.{CODE_LIMIT};
 ghost use Rattle.mb_model.specs.Key.{key_bytes, IsSized};
 ghost use Rattle.mb_model.specs.Layers.{is_layer_number};
-ghost use Rattle.mb_model.specs.Lines.{number_limit, spaced};
+ghost use Rattle.mb_model.specs.Lines.{number_limit, spaced_words};
 ghost use Rattle.mb_model.specs.Script.{EndsInHex};
 ghost use Rattle.mb_model.specs.Drafts.{SaysTarget, trust_word, trust_line, trusts_line, SaysTrusts};
 ghost use Rattle.mb_words.specs.Words.{Finds, FindsSome};
@@ -185,7 +185,7 @@ pub(crate) fn read_owner(line: &[u8]) -> Option<PublicKey>
 
 /// Reads the version of code from its line.
 pub(crate) fn read_version(line: &[u8]) -> Option<u32>
-    ensures { FindsSome (λ version. (version ≤ number_limit) × (line.now ≡ spaced (codes "version" ∷ decimal version ∷ []))) result }
+    ensures { FindsSome (λ version. (version ≤ number_limit) × (line.now ≡ spaced_words (codes "version" ∷ decimal version ∷ []))) result }
 {
     match after_word(line, b"version ") {
         Some(word) => read_number(word, u32::MAX),

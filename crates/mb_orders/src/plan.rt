@@ -3,7 +3,7 @@
 ghost use Rattle.std.specs.Prelude.{◌≡◌, ◌+◌, ◌≤◌, ◌==◌, IfOk, IsSome, OnErr, ◌*◌};
 ghost use Rattle.std.specs.List.{list_any};
 ghost use Rattle.mb_model.specs.OrderChecks.{LogHasRoom};
-ghost use Rattle.mb_model.specs.OrderEffects.{cosigned_by, change_fact, fact_of, layers_after};
+ghost use Rattle.mb_model.specs.OrderEffects.{cosigners_of, change_fact, fact_of, layers_after};
 ghost use Rattle.mb_model.specs.Fates.{change_fate};
 ghost use Rattle.mb_model.specs.Work.{region_fate};
 ghost use Rattle.mb_log.specs.Additions.{IsInRange};
@@ -44,7 +44,7 @@ fn is_cosigned(order: &Order, layer: u8) -> bool
 
 /// The layers above whose owners countersigned the order.
 fn cosigned_by(order: &Order) -> Pair
-    ensures { result ≡ cosigned_by order.now }
+    ensures { result ≡ cosigners_of order.now }
 {
     Pair {
         two: is_cosigned(order, 2),

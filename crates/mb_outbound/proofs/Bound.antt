@@ -6,7 +6,7 @@ use Rattle.mb_model.specs.declared.region.Region.{Region}
 use Rattle.mb_model.specs.declared.region.RegionKey.{RegionKey}
 use Rattle.mb_model.specs.declared.state.State.{State}
 use Rattle.mb_model.specs.Board.{Memory, IsLoaded}
-use Rattle.mb_model.specs.Memory.{current}
+use Rattle.mb_model.specs.Memory.{area_of_slot}
 use Rattle.mb_model.specs.RegionFormat.{SpellsRegion, CanBeWritten}
 use Rattle.mb_model.specs.Meaning.{HoldsRegion}
 use Rattle.mb_layout_edits.specs.declared.usage.NotUsed.{NotUsed}
@@ -73,20 +73,20 @@ either_then slot region before between after first second = inr (replaces_then s
 pub use_stands : (area bytes : List ℕ) (number : ℕ) (found : RegionKey) → ((region : Region) → HoldsRegion area region → IsUsable region number found bytes) → (region : Region) → HoldsRegion area region → SpellsRegion bytes (region_with_use number region)
 use_stands area bytes number found usable region has = (usable region has).stands
 
-pub stores_use : (slot number : ℕ) (before after : Memory) (bytes : List ℕ) (found : RegionKey) → IsRegionSlot slot → ((region : Region) → HoldsRegion (current before.bbram slot) region → IsUsable region number found bytes)
+pub stores_use : (slot number : ℕ) (before after : Memory) (bytes : List ℕ) (found : RegionKey) → IsRegionSlot slot → ((region : Region) → HoldsRegion (area_of_slot before.bbram slot) region → IsUsable region number found bytes)
     → ((region : Region) → SpellsRegion bytes region → ReplacesRegion slot region before after) → StoresUse slot number before after
 stores_use slot number before after bytes found which usable done =
-    record { stored = edited_holds slot (region_with_use number) before after bytes which (use_stands (current before.bbram slot) bytes number found usable) done }
+    record { stored = edited_holds slot (region_with_use number) before after bytes which (use_stands (area_of_slot before.bbram slot) bytes number found usable) done }
 
-pub keeps_or_stores : (slot number : ℕ) (before after : Memory) (bytes : List ℕ) (found : RegionKey) → IsRegionSlot slot → ((region : Region) → HoldsRegion (current before.bbram slot) region → IsUsable region number found bytes)
+pub keeps_or_stores : (slot number : ℕ) (before after : Memory) (bytes : List ℕ) (found : RegionKey) → IsRegionSlot slot → ((region : Region) → HoldsRegion (area_of_slot before.bbram slot) region → IsUsable region number found bytes)
     → ((region : Region) → SpellsRegion bytes region → KeepsOrReplaces slot region before after) → KeepsOrStoresUse slot number before after
 keeps_or_stores slot number before after bytes found which usable done =
-    edited_either slot (region_with_use number) before after bytes which (use_stands (current before.bbram slot) bytes number found usable) done
+    edited_either slot (region_with_use number) before after bytes which (use_stands (area_of_slot before.bbram slot) bytes number found usable) done
 
 -- ---- at the place of the slot
 
-pub at_place : (bbram : List ℕ) {region : Region} (slot place : ℕ) → slot ≡ place → HoldsRegion (current bbram place) region → HoldsRegion (current bbram slot) region
-at_place bbram {region} slot place same has = subst (λ (n : ℕ). HoldsRegion (current bbram n) region) (sym same) has
+pub at_place : (bbram : List ℕ) {region : Region} (slot place : ℕ) → slot ≡ place → HoldsRegion (area_of_slot bbram place) region → HoldsRegion (area_of_slot bbram slot) region
+at_place bbram {region} slot place same has = subst (λ (n : ℕ). HoldsRegion (area_of_slot bbram n) region) (sym same) has
 
 pub stands_still : {read known : List ℕ} (region : Region) → read ≡ known → SpellsRegion known region → SpellsRegion read region
 stands_still region same stands = subst (λ (xs : List ℕ). SpellsRegion xs region) (sym same) stands

@@ -5,7 +5,7 @@ ghost use Rattle.mb_layout.specs.Plans.{SamePlans};
 ghost use Rattle.mb_model.specs.declared.limits.TheConstants.{RECORD_LIMIT, KEY_USES};
 ghost use Rattle.mb_model.specs.declared.region.Region.{Region};
 ghost use Rattle.mb_model.specs.declared.state.State.{State};
-ghost use Rattle.mb_model.specs.Memory.{IsBlank, current, other};
+ghost use Rattle.mb_model.specs.Memory.{IsBlank, area_of_slot, inactive_area_of_slot};
 ghost use Rattle.mb_model.specs.Meaning.{HoldsRegion};
 ghost use Rattle.mb_model.specs.RegionFormat.{SpellsRegion};
 ghost use Rattle.mb_board.specs.Calls.{IsUp};
@@ -38,8 +38,8 @@ pub enum BindEnd<S> {
 /// stand for the region with one more use of the key.
 fn next_use<B: Board>(b: &B, slot: u16, key: u32, room: &mut Room) -> Result<RegionKey, NotUsed>
     requires can_use { CanUse (B.seen b.now) slot }
-    requires held { HoldsOrdered (current (B.seen b.now).memory.bbram slot) }
-    ensures used { (region : Region) → HoldsRegion (current (B.seen b.now).memory.bbram slot) region
+    requires held { HoldsOrdered (area_of_slot (B.seen b.now).memory.bbram slot) }
+    ensures used { (region : Region) → HoldsRegion (area_of_slot (B.seen b.now).memory.bbram slot) region
         → FindsUse region key result room.new.other.items }
     ensures short { OnOk result (length room.new.other.items ≤ RECORD_LIMIT) }
     ensures plans { SamePlans room.old room.new }
@@ -59,7 +59,7 @@ fn store<S: Reaches<L>, L: Named, B: Board>(s: S, b: &mut B, room: &mut Room) ->
         → OnOk result (ReplacesRegion L.place region (B.seen b.old).memory (B.seen b.new).memory) }
     ensures either { (region : Region) → SpellsRegion room.old.other.items region
         → KeepsOrReplaces L.place region (B.seen b.old).memory (B.seen b.new).memory }
-    ensures blank { OnOk result (IsBlank (other (B.seen b.new).memory.bbram L.place)) }
+    ensures blank { OnOk result (IsBlank (inactive_area_of_slot (B.seen b.new).memory.bbram L.place)) }
     ensures besides { AgreeBesides L.place (B.seen b.old).memory.bbram (B.seen b.new).memory.bbram }
     ensures ran { RanInSlot 3 L.place result (B.seen b.old) (B.seen b.new) }
     ensures plans { SamePlans room.old room.new }
@@ -91,9 +91,9 @@ pub fn bind<S: Reaches<L>, L: Named, B: Board>(
     room: &mut Room,
 ) -> Result<(S, OneUse, KeySeed), BindEnd<S>>
     requires up { IsUp S.stage (B.seen b.old) }
-    requires held { HoldsOrdered (current (B.seen b.old).memory.bbram L.place) }
+    requires held { HoldsOrdered (area_of_slot (B.seen b.old).memory.bbram L.place) }
     ensures bound { (region : Region)
-        → HoldsRegion (current (B.seen b.old).memory.bbram L.place) region
+        → HoldsRegion (area_of_slot (B.seen b.old).memory.bbram L.place) region
         → BindOf region key result }
     ensures done { OnOk result (StoresUse L.place key (B.seen b.old).memory (B.seen b.new).memory) }
     ensures either { KeepsOrStoresUse L.place key (B.seen b.old).memory (B.seen b.new).memory }
@@ -104,7 +104,7 @@ pub fn bind<S: Reaches<L>, L: Named, B: Board>(
         → Means (B.seen b.old).memory state
         → Means (B.seen b.new).memory state
         ⊎ Means (B.seen b.new).memory (state_used L.place key state) }
-    ensures blank { OnOk result (IsBlank (other (B.seen b.new).memory.bbram L.place)) }
+    ensures blank { OnOk result (IsBlank (inactive_area_of_slot (B.seen b.new).memory.bbram L.place)) }
     ensures unwritten { StaysUnbound result (B.seen b.old).memory (B.seen b.new).memory
         (B.seen b.old).meter (B.seen b.new).meter }
     ensures besides { AgreeBesides L.place (B.seen b.old).memory.bbram (B.seen b.new).memory.bbram }

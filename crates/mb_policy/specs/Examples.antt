@@ -5,7 +5,7 @@ use Rattle.mb_model.specs.declared.layer.Layer.{Layer}
 use Rattle.mb_model.specs.declared.order.KeyKind.TheVariants as kinds
 use Rattle.mb_model.specs.declared.state.Configuration.{Configuration}
 use Rattle.mb_model.specs.declared.state.Report.{Report}
-use Rattle.mb_model.specs.Layers.{unowned, equal_trusts}
+use Rattle.mb_model.specs.Layers.{layer_without_owner, equal_trusts}
 use Rattle.mb_model.specs.Lines.{TextFailsAtLine}
 use Rattle.mb_policy.specs.declared.judging.Judgement.TheVariants as judgement
 use Rattle.mb_policy.specs.Policies.{HashSet, Test, PolicyRule, PolicyItem, set_item, rule_item, test_depth, SaysRule}
@@ -35,7 +35,7 @@ abbrev pub small_configuration : ℕ → Configuration
 small_configuration number = record {
   number = number;
   upto = 2;
-  layers = record { one = coded_layer 17; two = coded_layer 34; three = unowned };
+  layers = record { one = coded_layer 17; two = coded_layer 34; three = layer_without_owner };
 }
 
 -- a key that lived in configurations 4 and 5

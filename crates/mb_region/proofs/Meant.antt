@@ -6,7 +6,7 @@ use Rattle.mb_model.specs.declared.stored.Root.{Root}
 use Rattle.mb_model.specs.declared.stored.Fate.{Fate}
 use Rattle.mb_model.specs.declared.stored.Fate.TheVariants.{Keep}
 use Rattle.mb_model.specs.Board.{Memory, IsLoaded}
-use Rattle.mb_model.specs.Meaning.{Contents, meant, fated, fate_of_two, fate_of_three}
+use Rattle.mb_model.specs.Meaning.{Contents, state_of_contents, region_after_fate, fate_of_two, fate_of_three}
 use Rattle.mb_model.specs.Regions.{region_of, with_region}
 use Rattle.mb_model.specs.StoredLog.{HasIndex}
 use Rattle.mb_model_lemmas.proofs.FateLemmas.{kept_as_before}
@@ -16,30 +16,30 @@ use Rattle.mb_region.specs.Regions.{IsRegionSlot, HasNoFate, ReplacesRegion, Kee
 use Rattle.mb_region.proofs.Replaced.{root_in}
 
 -- where nothing is to be done to a region, an edit of it is one of the state
-edit_kept : (fate : Fate) (edit : Region → Region) (region : Region) → fate ≡ Keep → fated fate (edit region) ≡ edit (fated fate region)
+edit_kept : (fate : Fate) (edit : Region → Region) (region : Region) → fate ≡ Keep → region_after_fate fate (edit region) ≡ edit (region_after_fate fate region)
 edit_kept fate edit region none =
-    let plain : (r : Region) → fated fate r ≡ r = λ r. ap (λ (f : Fate). fated f r) none ∙ kept_as_before r in
+    let plain : (r : Region) → region_after_fate fate r ≡ r = λ r. ap (λ (f : Fate). region_after_fate f r) none ∙ kept_as_before r in
     plain (edit region) ∙ ap edit (sym (plain region))
 
 two_edited : (edit : Region → Region) (contents : Contents) → fate_of_two contents.root.pending ≡ Keep
-    → meant (with_region_in 2 (edit contents.two) contents) ≡ with_region (meant contents) 2 (edit (region_of (meant contents) 2))
-unfolding meant
+    → state_of_contents (with_region_in 2 (edit contents.two) contents) ≡ with_region (state_of_contents contents) 2 (edit (region_of (state_of_contents contents) 2))
+unfolding state_of_contents
 two_edited edit contents none =
-    ap (λ (r : Region). let s : State = record (meant contents) { two = r } in s) (edit_kept (fate_of_two contents.root.pending) edit contents.two none)
+    ap (λ (r : Region). let s : State = record (state_of_contents contents) { two = r } in s) (edit_kept (fate_of_two contents.root.pending) edit contents.two none)
 
 three_edited : (edit : Region → Region) (contents : Contents) → fate_of_three contents.root.pending ≡ Keep
-    → meant (with_region_in 3 (edit contents.three) contents) ≡ with_region (meant contents) 3 (edit (region_of (meant contents) 3))
-unfolding meant
+    → state_of_contents (with_region_in 3 (edit contents.three) contents) ≡ with_region (state_of_contents contents) 3 (edit (region_of (state_of_contents contents) 3))
+unfolding state_of_contents
 three_edited edit contents none =
-    ap (λ (r : Region). let s : State = record (meant contents) { three = r } in s) (edit_kept (fate_of_three contents.root.pending) edit contents.three none)
+    ap (λ (r : Region). let s : State = record (state_of_contents contents) { three = r } in s) (edit_kept (fate_of_three contents.root.pending) edit contents.three none)
 
 edited_means : (slot : ℕ) (edit : Region → Region) (contents : Contents) → IsRegionSlot slot → fate_in_slot slot contents.root.pending ≡ Keep
-    → meant (with_region_in slot (edit (region_in_slot slot contents)) contents) ≡ with_region (meant contents) slot (edit (region_of (meant contents) slot))
+    → state_of_contents (with_region_in slot (edit (region_in_slot slot contents)) contents) ≡ with_region (state_of_contents contents) slot (edit (region_of (state_of_contents contents) slot))
 edited_means slot edit contents (inl same) none =
-    subst (λ (n : ℕ). meant (with_region_in n (edit (region_in_slot n contents)) contents) ≡ with_region (meant contents) n (edit (region_of (meant contents) n))) (sym same)
+    subst (λ (n : ℕ). state_of_contents (with_region_in n (edit (region_in_slot n contents)) contents) ≡ with_region (state_of_contents contents) n (edit (region_of (state_of_contents contents) n))) (sym same)
     (two_edited edit contents (subst (λ (n : ℕ). fate_in_slot n contents.root.pending ≡ Keep) same none))
 edited_means slot edit contents (inr same) none =
-    subst (λ (n : ℕ). meant (with_region_in n (edit (region_in_slot n contents)) contents) ≡ with_region (meant contents) n (edit (region_of (meant contents) n))) (sym same)
+    subst (λ (n : ℕ). state_of_contents (with_region_in n (edit (region_in_slot n contents)) contents) ≡ with_region (state_of_contents contents) n (edit (region_of (state_of_contents contents) n))) (sym same)
     (three_edited edit contents (subst (λ (n : ℕ). fate_in_slot n contents.root.pending ≡ Keep) same none))
 
 -- a memory that holds the edited contents stands for the edited state
@@ -61,7 +61,7 @@ edited_or_kept slot edit before after which sized none either state means =
     let live = live_contents before.flash before.bbram state means in
     each live.contents live.index (sym live.means) (none.none live.contents live.holds) (either live.contents live.holds)
   where
-    each : (contents : Contents) → HasIndex contents.root contents.root.pending → meant contents ≡ state → fate_in_slot slot contents.root.pending ≡ Keep
+    each : (contents : Contents) → HasIndex contents.root contents.root.pending → state_of_contents contents ≡ state → fate_in_slot slot contents.root.pending ≡ Keep
         → Holds after contents ⊎ Holds after (with_region_in slot (edit (region_in_slot slot contents)) contents)
         → Means after state ⊎ Means after (with_region state slot (edit (region_of state slot)))
     each contents index same free (inl holds) = inl (stands_for_meant after.flash after.bbram contents state sized holds index same)

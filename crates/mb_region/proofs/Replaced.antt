@@ -6,11 +6,11 @@ use Rattle.mb_model.specs.declared.state.State.{State}
 use Rattle.mb_model.specs.declared.stored.Fate.{Fate}
 use Rattle.mb_model.specs.declared.stored.Fate.TheVariants.{Keep}
 use Rattle.mb_model.specs.Board.{Memory, IsLoaded}
-use Rattle.mb_model.specs.Memory.{current, HoldsInArea}
+use Rattle.mb_model.specs.Memory.{area_of_slot, HoldsInArea}
 use Rattle.mb_model.specs.StoredLog.{HasIndex}
 use Rattle.mb_model.specs.Regions.{empty_region}
 use Rattle.mb_model.specs.RegionFormat.{region_format, SpellsRegion, CanBeWritten, written_region}
-use Rattle.mb_model.specs.Meaning.{HoldsRegion, Contents, HoldsContents, fated, meant}
+use Rattle.mb_model.specs.Meaning.{HoldsRegion, Contents, HoldsContents, region_after_fate, state_of_contents}
 use Rattle.mb_model.proofs.RegionWriting.{written_spells, spelled_short, written_short, written_is_record}
 use Rattle.mb_model_lemmas.proofs.MeaningLemmas.{one_region}
 use Rattle.mb_model_lemmas.proofs.FateLemmas.{kept_as_before}
@@ -70,58 +70,58 @@ record_written region old new (Err e) can some wrote none empty room =
     absurd (omega (arith, wrote.no_room, empty, room, ap length (written_is_record region some), written_short region can))
 
 -- after its fate a held region has the bytes that the edit left
-pub fated_stands : (fate : Fate) (area read bytes new : List ℕ) (region : Region) → IsBytes read → read ≡ area → CanBeFated fate area → HoldsInArea read bytes → IsFated fate bytes new → HoldsRegion area region → SpellsRegion new (fated fate region)
+pub fated_stands : (fate : Fate) (area read bytes new : List ℕ) (region : Region) → IsBytes read → read ≡ area → CanBeFated fate area → HoldsInArea read bytes → IsFated fate bytes new → HoldsRegion area region → SpellsRegion new (region_after_fate fate region)
 fated_stands fate area read bytes new region are same can found edited has =
     let here : HoldsRegion read region = subst (λ (xs : List ℕ). HoldsRegion xs region) (sym same) has in
     let one : can.region ≡ region = region_found area read can.region region are same (subst (λ (xs : List ℕ). HoldsRegion xs can.region) (sym same) can.holds) has in
-    let after : CanBeWritten (fated fate region) = subst (λ (r : Region). CanBeWritten (fated fate r)) one can.stored in
-    stands_written new (fated fate region) after (edited region (held_stands read bytes region found here) after)
+    let after : CanBeWritten (region_after_fate fate region) = subst (λ (r : Region). CanBeWritten (region_after_fate fate r)) one can.stored in
+    stands_written new (region_after_fate fate region) after (edited region (held_stands read bytes region found here) after)
 
 -- ---- the contents
 
-replaced_in : (slot : ℕ) (flash bbram other_bbram : List ℕ) (contents : Contents) (region : Region) → IsRegionSlot slot → AgreeBesides slot bbram other_bbram → HoldsRegion (current other_bbram slot) region
+replaced_in : (slot : ℕ) (flash bbram other_bbram : List ℕ) (contents : Contents) (region : Region) → IsRegionSlot slot → AgreeBesides slot bbram other_bbram → HoldsRegion (area_of_slot other_bbram slot) region
     → HoldsContents flash bbram contents → HoldsContents flash other_bbram (with_region_in slot region contents)
 replaced_in slot flash bbram other_bbram contents region (inl same) agree own holds =
     subst (λ (n : ℕ). HoldsContents flash other_bbram (with_region_in n region contents)) (sym same)
-    (two_replaced flash bbram other_bbram contents region (subst (λ (n : ℕ). AgreeBesides n bbram other_bbram) same agree) (subst (λ (n : ℕ). HoldsRegion (current other_bbram n) region) same own) holds)
+    (two_replaced flash bbram other_bbram contents region (subst (λ (n : ℕ). AgreeBesides n bbram other_bbram) same agree) (subst (λ (n : ℕ). HoldsRegion (area_of_slot other_bbram n) region) same own) holds)
 replaced_in slot flash bbram other_bbram contents region (inr same) agree own holds =
     subst (λ (n : ℕ). HoldsContents flash other_bbram (with_region_in n region contents)) (sym same)
-    (three_replaced flash bbram other_bbram contents region (subst (λ (n : ℕ). AgreeBesides n bbram other_bbram) same agree) (subst (λ (n : ℕ). HoldsRegion (current other_bbram n) region) same own) holds)
+    (three_replaced flash bbram other_bbram contents region (subst (λ (n : ℕ). AgreeBesides n bbram other_bbram) same agree) (subst (λ (n : ℕ). HoldsRegion (area_of_slot other_bbram n) region) same own) holds)
 
-pub replaces : (slot : ℕ) (region : Region) (before after : Memory) → IsRegionSlot slot → after.flash ≡ before.flash → AgreeBesides slot before.bbram after.bbram → HoldsRegion (current after.bbram slot) region
+pub replaces : (slot : ℕ) (region : Region) (before after : Memory) → IsRegionSlot slot → after.flash ≡ before.flash → AgreeBesides slot before.bbram after.bbram → HoldsRegion (area_of_slot after.bbram slot) region
     → ReplacesRegion slot region before after
 replaces slot region before after which flash agree own = record {
   replaced = λ contents holds.
       subst (λ (f : List ℕ). HoldsContents f after.bbram (with_region_in slot region contents)) (sym flash) (replaced_in slot before.flash before.bbram after.bbram contents region which agree own holds);
 }
 
-as_it_was : (slot : ℕ) (flash bbram other_bbram : List ℕ) (contents : Contents) → IsRegionSlot slot → AgreeBesides slot bbram other_bbram → current other_bbram slot ≡ current bbram slot
+as_it_was : (slot : ℕ) (flash bbram other_bbram : List ℕ) (contents : Contents) → IsRegionSlot slot → AgreeBesides slot bbram other_bbram → area_of_slot other_bbram slot ≡ area_of_slot bbram slot
     → HoldsContents flash bbram contents → HoldsContents flash other_bbram contents
 as_it_was slot flash bbram other_bbram contents (inl same) agree area holds =
     two_replaced flash bbram other_bbram contents contents.two (subst (λ (n : ℕ). AgreeBesides n bbram other_bbram) same agree)
-    (subst (λ (a : List ℕ). HoldsRegion a contents.two) (sym (subst (λ (n : ℕ). current other_bbram n ≡ current bbram n) same area)) holds.two) holds
+    (subst (λ (a : List ℕ). HoldsRegion a contents.two) (sym (subst (λ (n : ℕ). area_of_slot other_bbram n ≡ area_of_slot bbram n) same area)) holds.two) holds
 as_it_was slot flash bbram other_bbram contents (inr same) agree area holds =
     three_replaced flash bbram other_bbram contents contents.three (subst (λ (n : ℕ). AgreeBesides n bbram other_bbram) same agree)
-    (subst (λ (a : List ℕ). HoldsRegion a contents.three) (sym (subst (λ (n : ℕ). current other_bbram n ≡ current bbram n) same area)) holds.three) holds
+    (subst (λ (a : List ℕ). HoldsRegion a contents.three) (sym (subst (λ (n : ℕ). area_of_slot other_bbram n ≡ area_of_slot bbram n) same area)) holds.three) holds
 
-pub keeps : (slot : ℕ) (before after : Memory) → IsRegionSlot slot → after.flash ≡ before.flash → AgreeBesides slot before.bbram after.bbram → current after.bbram slot ≡ current before.bbram slot → KeepsContents before after
+pub keeps : (slot : ℕ) (before after : Memory) → IsRegionSlot slot → after.flash ≡ before.flash → AgreeBesides slot before.bbram after.bbram → area_of_slot after.bbram slot ≡ area_of_slot before.bbram slot → KeepsContents before after
 keeps slot before after which flash agree area = record {
   kept = λ contents holds. subst (λ (f : List ℕ). HoldsContents f after.bbram contents) (sym flash) (as_it_was slot before.flash before.bbram after.bbram contents which agree area holds);
 }
 
 pub keeps_or_replaces : (slot : ℕ) (before after : Memory) (bytes : List ℕ) → IsRegionSlot slot → after.flash ≡ before.flash → AgreeBesides slot before.bbram after.bbram
-    → (current after.bbram slot ≡ current before.bbram slot) ⊎ HoldsInArea (current after.bbram slot) bytes → (region : Region) → SpellsRegion bytes region → KeepsOrReplaces slot region before after
+    → (area_of_slot after.bbram slot ≡ area_of_slot before.bbram slot) ⊎ HoldsInArea (area_of_slot after.bbram slot) bytes → (region : Region) → SpellsRegion bytes region → KeepsOrReplaces slot region before after
 keeps_or_replaces slot before after bytes which flash agree (inl same) region spelled = inl (keeps slot before after which flash agree same)
 keeps_or_replaces slot before after bytes which flash agree (inr holds) region spelled =
     inr (replaces slot region before after which flash agree (record { bytes = bytes; holds = holds; spelled = spelled }))
 
 -- ---- fates
 
-region_held : (slot : ℕ) (memory : Memory) (contents : Contents) → IsRegionSlot slot → Holds memory contents → HoldsRegion (current memory.bbram slot) (region_in_slot slot contents)
-region_held slot memory contents (inl same) holds = subst (λ (n : ℕ). HoldsRegion (current memory.bbram n) (region_in_slot n contents)) (sym same) holds.two
-region_held slot memory contents (inr same) holds = subst (λ (n : ℕ). HoldsRegion (current memory.bbram n) (region_in_slot n contents)) (sym same) holds.three
+region_held : (slot : ℕ) (memory : Memory) (contents : Contents) → IsRegionSlot slot → Holds memory contents → HoldsRegion (area_of_slot memory.bbram slot) (region_in_slot slot contents)
+region_held slot memory contents (inl same) holds = subst (λ (n : ℕ). HoldsRegion (area_of_slot memory.bbram n) (region_in_slot n contents)) (sym same) holds.two
+region_held slot memory contents (inr same) holds = subst (λ (n : ℕ). HoldsRegion (area_of_slot memory.bbram n) (region_in_slot n contents)) (sym same) holds.three
 
-kept_in : (b : Bool) (contents : Contents) → ◌≡◌ {A = Contents} (if b then record contents { two = fated Keep (if b then contents.two else contents.three) } else record contents { three = fated Keep (if b then contents.two else contents.three) }) contents
+kept_in : (b : Bool) (contents : Contents) → ◌≡◌ {A = Contents} (if b then record contents { two = region_after_fate Keep (if b then contents.two else contents.three) } else record contents { three = region_after_fate Keep (if b then contents.two else contents.three) }) contents
 kept_in true contents = ap (λ (r : Region). let c : Contents = record contents { two = r } in c) (kept_as_before contents.two)
 kept_in false contents = ap (λ (r : Region). let c : Contents = record contents { three = r } in c) (kept_as_before contents.three)
 
@@ -137,14 +137,14 @@ abbrev pub AreEdited : (Region → Region) → List ℕ → List ℕ → Type 0
 AreEdited edit area bytes = (region : Region) → HoldsRegion area region → SpellsRegion bytes (edit region)
 
 -- so where a region is replaced by the one for which they stand, the contents have the region after the edit
-pub edited_holds : (slot : ℕ) (edit : Region → Region) (before after : Memory) (bytes : List ℕ) → IsRegionSlot slot → AreEdited edit (current before.bbram slot) bytes
+pub edited_holds : (slot : ℕ) (edit : Region → Region) (before after : Memory) (bytes : List ℕ) → IsRegionSlot slot → AreEdited edit (area_of_slot before.bbram slot) bytes
     → ((region : Region) → SpellsRegion bytes region → ReplacesRegion slot region before after)
     → (contents : Contents) → Holds before contents → Holds after (with_region_in slot (edit (region_in_slot slot contents)) contents)
 edited_holds slot edit before after bytes which spelled done contents holds =
     (done (edit (region_in_slot slot contents)) (spelled (region_in_slot slot contents) (region_held slot before contents which holds))).replaced contents holds
 
 -- and where it may be replaced, they stay or have it
-pub edited_either : (slot : ℕ) (edit : Region → Region) (before after : Memory) (bytes : List ℕ) → IsRegionSlot slot → AreEdited edit (current before.bbram slot) bytes
+pub edited_either : (slot : ℕ) (edit : Region → Region) (before after : Memory) (bytes : List ℕ) → IsRegionSlot slot → AreEdited edit (area_of_slot before.bbram slot) bytes
     → ((region : Region) → SpellsRegion bytes region → KeepsOrReplaces slot region before after)
     → (contents : Contents) → Holds before contents → Holds after contents ⊎ Holds after (with_region_in slot (edit (region_in_slot slot contents)) contents)
 edited_either slot edit before after bytes which spelled done contents holds =
@@ -155,26 +155,26 @@ edited_either slot edit before after bytes which spelled done contents holds =
     each (inl keeps) = inl (keeps.kept contents holds)
     each (inr replaces) = inr (replaces.replaced contents holds)
 
-pub fate_done : {A E : Type 0} (slot : ℕ) (fate : Fate) (before after : Memory) (written bytes : List ℕ) (result : Result A E) → IsRegionSlot slot → written ≡ bytes → AreEdited (fated fate) (current before.bbram slot) bytes
+pub fate_done : {A E : Type 0} (slot : ℕ) (fate : Fate) (before after : Memory) (written bytes : List ℕ) (result : Result A E) → IsRegionSlot slot → written ≡ bytes → AreEdited (region_after_fate fate) (area_of_slot before.bbram slot) bytes
     → ((region : Region) → SpellsRegion written region → OnOk result (ReplacesRegion slot region before after)) → OnOk result (AppliesFate slot fate before after)
 fate_done slot fate before after written bytes (Ok value) which same spelled done =
-    record { applied = edited_holds slot (fated fate) before after written which (subst (AreEdited (fated fate) (current before.bbram slot)) (sym same) spelled) done }
+    record { applied = edited_holds slot (region_after_fate fate) before after written which (subst (AreEdited (region_after_fate fate) (area_of_slot before.bbram slot)) (sym same) spelled) done }
 fate_done slot fate before after written bytes (Err error) which same spelled done = tt
 
-pub fate_either : (slot : ℕ) (fate : Fate) (before after : Memory) (written bytes : List ℕ) → IsRegionSlot slot → written ≡ bytes → AreEdited (fated fate) (current before.bbram slot) bytes
+pub fate_either : (slot : ℕ) (fate : Fate) (before after : Memory) (written bytes : List ℕ) → IsRegionSlot slot → written ≡ bytes → AreEdited (region_after_fate fate) (area_of_slot before.bbram slot) bytes
     → ((region : Region) → SpellsRegion written region → KeepsOrReplaces slot region before after) → KeepsOrApplies slot fate before after
 fate_either slot fate before after written bytes which same spelled done =
-    edited_either slot (fated fate) before after written which (subst (AreEdited (fated fate) (current before.bbram slot)) (sym same) spelled) done
+    edited_either slot (region_after_fate fate) before after written which (subst (AreEdited (region_after_fate fate) (area_of_slot before.bbram slot)) (sym same) spelled) done
 
 -- ---- the meaning
 
-done_means : (slot : ℕ) (fate : Fate) (contents : Contents) → IsRegionSlot slot → fate_in_slot slot contents.root.pending ≡ fate → meant (fated_in slot fate contents) ≡ meant contents
+done_means : (slot : ℕ) (fate : Fate) (contents : Contents) → IsRegionSlot slot → fate_in_slot slot contents.root.pending ≡ fate → state_of_contents (fated_in slot fate contents) ≡ state_of_contents contents
 done_means slot fate contents (inl same) is =
-    subst (λ (f : Fate). meant (fated_in slot f contents) ≡ meant contents) is
-    (subst (λ (n : ℕ). meant (fated_in n (fate_in_slot n contents.root.pending) contents) ≡ meant contents) (sym same) (two_done_means contents))
+    subst (λ (f : Fate). state_of_contents (fated_in slot f contents) ≡ state_of_contents contents) is
+    (subst (λ (n : ℕ). state_of_contents (fated_in n (fate_in_slot n contents.root.pending) contents) ≡ state_of_contents contents) (sym same) (two_done_means contents))
 done_means slot fate contents (inr same) is =
-    subst (λ (f : Fate). meant (fated_in slot f contents) ≡ meant contents) is
-    (subst (λ (n : ℕ). meant (fated_in n (fate_in_slot n contents.root.pending) contents) ≡ meant contents) (sym same) (three_done_means contents))
+    subst (λ (f : Fate). state_of_contents (fated_in slot f contents) ≡ state_of_contents contents) is
+    (subst (λ (n : ℕ). state_of_contents (fated_in n (fate_in_slot n contents.root.pending) contents) ≡ state_of_contents contents) (sym same) (three_done_means contents))
 
 pub root_in : (b : Bool) (region other_region : Region) (contents : Contents) → ◌≡◌ {A = Root} (if b then record contents { two = region } else record contents { three = other_region }).root contents.root
 root_in true region other_region contents = refl
@@ -186,7 +186,7 @@ fate_means slot fate before after state which sized is either means =
     let live = live_contents before.flash before.bbram state means in
     each live.contents live.index (sym live.means) (is.pending live.contents live.holds) (either live.contents live.holds)
   where
-    each : (contents : Contents) → HasIndex contents.root contents.root.pending → meant contents ≡ state → fate_in_slot slot contents.root.pending ≡ fate
+    each : (contents : Contents) → HasIndex contents.root contents.root.pending → state_of_contents contents ≡ state → fate_in_slot slot contents.root.pending ≡ fate
         → Holds after contents ⊎ Holds after (fated_in slot fate contents) → Means after state
     each contents index same pending (inl holds) = stands_for_meant after.flash after.bbram contents state sized holds index same
     each contents index same pending (inr holds) =

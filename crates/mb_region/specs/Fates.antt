@@ -4,25 +4,25 @@ use Rattle.mb_model.specs.declared.region.Region.{Region}
 use Rattle.mb_model.specs.declared.stored.Fate.{Fate}
 use Rattle.mb_model.specs.Board.{Memory}
 use Rattle.mb_model.specs.RegionFormat.{CanBeWritten}
-use Rattle.mb_model.specs.Meaning.{HoldsRegion, Contents, fated}
+use Rattle.mb_model.specs.Meaning.{HoldsRegion, Contents, region_after_fate}
 use Rattle.mb_model_memory.specs.Holding.{Holds, region_in_slot, with_region_in, fate_in_slot}
 
 -- an area holds a region that can be written after this fate
 pub record CanBeFated (fate : Fate) (area : List ℕ) : Type 0 where
   pub region : Region
   pub holds : HoldsRegion area region
-  pub stored : CanBeWritten (fated fate region)
+  pub stored : CanBeWritten (region_after_fate fate region)
 
 -- The memory holds contents for whose region in the slot this fate is pending, and that region can be written after it.
 pub record IsPending (slot : ℕ) (fate : Fate) (memory : Memory) : Type 0 where
   pub contents : Contents
   pub holds : Holds memory contents
   pub pending : (any : Contents) → Holds memory any → fate_in_slot slot any.root.pending ≡ fate
-  pub stored : CanBeWritten (fated fate (region_in_slot slot contents))
+  pub stored : CanBeWritten (region_after_fate fate (region_in_slot slot contents))
 
 -- the contents after the fate of the region in the slot
 abbrev pub fated_in : ℕ → Fate → Contents → Contents
-fated_in slot fate contents = with_region_in slot (fated fate (region_in_slot slot contents)) contents
+fated_in slot fate contents = with_region_in slot (region_after_fate fate (region_in_slot slot contents)) contents
 
 -- whatever the memory held, it holds after the fate
 pub record AppliesFate (slot : ℕ) (fate : Fate) (before after : Memory) : Type 0 where

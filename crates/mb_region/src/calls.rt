@@ -6,7 +6,7 @@ ghost use Rattle.mb_model.specs.declared.limits.TheConstants.{AREA_LENGTH, RECOR
 ghost use Rattle.mb_model.specs.declared.region.Region.{Region};
 ghost use Rattle.mb_model.specs.declared.state.State.{State};
 ghost use Rattle.mb_model.specs.declared.stored.Fate.TheVariants.{Keep};
-ghost use Rattle.mb_model.specs.Memory.{IsBlank, current, other};
+ghost use Rattle.mb_model.specs.Memory.{IsBlank, area_of_slot, inactive_area_of_slot};
 ghost use Rattle.mb_model.specs.Meaning.{HoldsRegion};
 ghost use Rattle.mb_model.specs.RegionFormat.{SpellsRegion, CanBeWritten};
 ghost use Rattle.mb_model.specs.Regions.{with_region};
@@ -34,9 +34,9 @@ pub fn read_stored<S: Reaches<L>, L: Named, B: Board>(
     room: &mut Room,
 ) -> Result<Region, NoMemory>
     requires up { IsUp S.stage (B.seen b.now) }
-    requires held { HoldsSomeRegion (current (B.seen b.now).memory.bbram L.place) }
+    requires held { HoldsSomeRegion (area_of_slot (B.seen b.now).memory.bbram L.place) }
     ensures region { (region : Region)
-        → HoldsRegion (current (B.seen b.now).memory.bbram L.place) region
+        → HoldsRegion (area_of_slot (B.seen b.now).memory.bbram L.place) region
         → IfOk result (λ it. it ≡ region) }
     ensures plans { SamePlans room.old room.new }
 {
@@ -46,9 +46,9 @@ pub fn read_stored<S: Reaches<L>, L: Named, B: Board>(
 /// Counts the keys of the stored region. Takes no memory.
 pub fn count_stored_keys<L: Named, B: Board>(_up: &Up<R1>, b: &B, room: &mut Room) -> u32
     requires up { IsUp 1 (B.seen b.now) }
-    requires held { HoldsSomeRegion (current (B.seen b.now).memory.bbram L.place) }
+    requires held { HoldsSomeRegion (area_of_slot (B.seen b.now).memory.bbram L.place) }
     ensures count { (region : Region)
-        → HoldsRegion (current (B.seen b.now).memory.bbram L.place) region
+        → HoldsRegion (area_of_slot (B.seen b.now).memory.bbram L.place) region
         → result ≡ length region.keys }
     ensures plans { SamePlans room.old room.new }
 {
@@ -70,8 +70,8 @@ pub fn commit_record<S: Reaches<L>, L: Named, B: Board>(
         → OnOk result (ReplacesRegion L.place region (B.seen b.old).memory (B.seen b.new).memory) }
     ensures either { (region : Region) → SpellsRegion bytes.now region
         → KeepsOrReplaces L.place region (B.seen b.old).memory (B.seen b.new).memory }
-    ensures left { OnOk result (other (B.seen b.new).memory.bbram L.place
-        ≡ current (B.seen b.old).memory.bbram L.place) }
+    ensures left { OnOk result (inactive_area_of_slot (B.seen b.new).memory.bbram L.place
+        ≡ area_of_slot (B.seen b.old).memory.bbram L.place) }
     ensures besides { AgreeBesides L.place (B.seen b.old).memory.bbram (B.seen b.new).memory.bbram }
     ensures ran { RanInSlot 2 L.place result (B.seen b.old) (B.seen b.new) }
     ensures capacity { vec_capacity area.old ≤ vec_capacity area.new }
@@ -103,8 +103,8 @@ pub fn commit_region<S: Reaches<L>, L: Named, B: Board>(
         → Means (B.seen b.old).memory state
         → Means (B.seen b.new).memory state
         ⊎ Means (B.seen b.new).memory (with_region state L.place region.now) }
-    ensures left { OnOk result (other (B.seen b.new).memory.bbram L.place
-        ≡ current (B.seen b.old).memory.bbram L.place) }
+    ensures left { OnOk result (inactive_area_of_slot (B.seen b.new).memory.bbram L.place
+        ≡ area_of_slot (B.seen b.old).memory.bbram L.place) }
     ensures besides { AgreeBesides L.place (B.seen b.old).memory.bbram (B.seen b.new).memory.bbram }
     ensures ran { RanInSlot 2 L.place result (B.seen b.old) (B.seen b.new) }
     ensures plans { SamePlans room.old room.new }
@@ -147,11 +147,11 @@ pub fn apply_fate<S: Reaches<L>, L: Named, B: Board>(
 /// one write call.
 pub fn wipe_region<S: Reaches<L>, L: Named, B: Board>(s: S, b: &mut B) -> Result<S, Off>
     requires up { IsUp S.stage (B.seen b.old) }
-    ensures blank { OnOk result (IsBlank (other (B.seen b.new).memory.bbram L.place)) }
-    ensures current { current (B.seen b.new).memory.bbram L.place
-        ≡ current (B.seen b.old).memory.bbram L.place }
+    ensures blank { OnOk result (IsBlank (inactive_area_of_slot (B.seen b.new).memory.bbram L.place)) }
+    ensures current { area_of_slot (B.seen b.new).memory.bbram L.place
+        ≡ area_of_slot (B.seen b.old).memory.bbram L.place }
     ensures contents { KeepsContents (B.seen b.old).memory (B.seen b.new).memory }
-    ensures idle { IsBlank (other (B.seen b.old).memory.bbram L.place)
+    ensures idle { IsBlank (inactive_area_of_slot (B.seen b.old).memory.bbram L.place)
         → IsOk result × ((B.seen b.new).memory ≡ (B.seen b.old).memory)
         × ((B.seen b.new).meter ≡ (B.seen b.old).meter) }
     ensures besides { AgreeBesides L.place (B.seen b.old).memory.bbram (B.seen b.new).memory.bbram }

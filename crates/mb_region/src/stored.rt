@@ -6,8 +6,8 @@ ghost use Rattle.mb_layout.specs.Plans.{SamePlans};
 ghost use Rattle.mb_model.specs.declared.limits.TheConstants.{AREA_LENGTH, RECORD_LIMIT};
 ghost use Rattle.mb_model.specs.declared.region.Region.{Region};
 ghost use Rattle.mb_model.specs.declared.stored.Fate.TheVariants.{Keep};
-ghost use Rattle.mb_model.specs.Memory.{current, other, HoldsInArea};
-ghost use Rattle.mb_model.specs.Meaning.{HoldsRegion, fated};
+ghost use Rattle.mb_model.specs.Memory.{area_of_slot, inactive_area_of_slot, HoldsInArea};
+ghost use Rattle.mb_model.specs.Meaning.{HoldsRegion, region_after_fate};
 ghost use Rattle.mb_model.specs.Regions.{empty_region};
 ghost use Rattle.mb_model.specs.RegionFormat.{SpellsRegion, CanBeWritten};
 ghost use Rattle.mb_model_memory.specs.InForce.{AgreeBesides};
@@ -32,12 +32,12 @@ fn commit_bytes<B: Board>(
     requires can_use { CanUse (B.seen b.old) slot }
     requires short { length bytes.now ≤ RECORD_LIMIT }
     requires room { AREA_LENGTH ≤ vec_capacity area.old }
-    ensures done { OnOk result (HoldsInArea (current (B.seen b.new).memory.bbram slot) bytes.now) }
-    ensures either { (current (B.seen b.new).memory.bbram slot
-        ≡ current (B.seen b.old).memory.bbram slot)
-        ⊎ HoldsInArea (current (B.seen b.new).memory.bbram slot) bytes.now }
-    ensures left { OnOk result (other (B.seen b.new).memory.bbram slot
-        ≡ current (B.seen b.old).memory.bbram slot) }
+    ensures done { OnOk result (HoldsInArea (area_of_slot (B.seen b.new).memory.bbram slot) bytes.now) }
+    ensures either { (area_of_slot (B.seen b.new).memory.bbram slot
+        ≡ area_of_slot (B.seen b.old).memory.bbram slot)
+        ⊎ HoldsInArea (area_of_slot (B.seen b.new).memory.bbram slot) bytes.now }
+    ensures left { OnOk result (inactive_area_of_slot (B.seen b.new).memory.bbram slot
+        ≡ area_of_slot (B.seen b.old).memory.bbram slot) }
     ensures besides { AgreeBesides slot (B.seen b.old).memory.bbram (B.seen b.new).memory.bbram }
     ensures ran { RanInSlot 2 slot result (B.seen b.old) (B.seen b.new) }
     ensures capacity { vec_capacity area.old ≤ vec_capacity area.new }
@@ -63,8 +63,8 @@ pub(crate) fn replace<B: Board>(
         → OnOk result (ReplacesRegion slot region (B.seen b.old).memory (B.seen b.new).memory) }
     ensures either { (region : Region) → SpellsRegion bytes.now region
         → KeepsOrReplaces slot region (B.seen b.old).memory (B.seen b.new).memory }
-    ensures left { OnOk result (other (B.seen b.new).memory.bbram slot
-        ≡ current (B.seen b.old).memory.bbram slot) }
+    ensures left { OnOk result (inactive_area_of_slot (B.seen b.new).memory.bbram slot
+        ≡ area_of_slot (B.seen b.old).memory.bbram slot) }
     ensures besides { AgreeBesides slot (B.seen b.old).memory.bbram (B.seen b.new).memory.bbram }
     ensures ran { RanInSlot 2 slot result (B.seen b.old) (B.seen b.new) }
     ensures capacity { vec_capacity area.old ≤ vec_capacity area.new }
@@ -107,8 +107,8 @@ pub(crate) fn store_region<B: Board>(
     ensures done { OnOk result (ReplacesRegion slot region.now (B.seen b.old).memory
         (B.seen b.new).memory) }
     ensures either { KeepsOrReplaces slot region.now (B.seen b.old).memory (B.seen b.new).memory }
-    ensures left { OnOk result (other (B.seen b.new).memory.bbram slot
-        ≡ current (B.seen b.old).memory.bbram slot) }
+    ensures left { OnOk result (inactive_area_of_slot (B.seen b.new).memory.bbram slot
+        ≡ area_of_slot (B.seen b.old).memory.bbram slot) }
     ensures besides { AgreeBesides slot (B.seen b.old).memory.bbram (B.seen b.new).memory.bbram }
     ensures ran { RanInSlot 2 slot result (B.seen b.old) (B.seen b.new) }
     ensures plans { SamePlans room.old room.new }
@@ -121,7 +121,7 @@ pub(crate) fn store_region<B: Board>(
 pub fn read_area<B: Board>(b: &B, slot: u16, area: &mut Vec<u8>)
     requires can_use { CanUse (B.seen b.now) slot }
     requires room { AREA_LENGTH ≤ vec_capacity area.old }
-    ensures read { area.new.items ≡ current (B.seen b.now).memory.bbram slot }
+    ensures read { area.new.items ≡ area_of_slot (B.seen b.now).memory.bbram slot }
     ensures bytes { IsBytes area.new.items }
     ensures capacity { vec_capacity area.old ≤ vec_capacity area.new }
 {
@@ -132,10 +132,10 @@ pub fn read_area<B: Board>(b: &B, slot: u16, area: &mut Vec<u8>)
 /// Replaces `room.other` by the bytes that stand for the region in the slot after its fate.
 fn fate_bytes<B: Board>(b: &B, slot: u16, fate: &Fate, room: &mut Room)
     requires can_use { CanUse (B.seen b.now) slot }
-    requires held { CanBeFated fate.now (current (B.seen b.now).memory.bbram slot) }
+    requires held { CanBeFated fate.now (area_of_slot (B.seen b.now).memory.bbram slot) }
     ensures spelled { (region : Region)
-        → HoldsRegion (current (B.seen b.now).memory.bbram slot) region
-        → SpellsRegion room.new.other.items (fated fate.now region) }
+        → HoldsRegion (area_of_slot (B.seen b.now).memory.bbram slot) region
+        → SpellsRegion room.new.other.items (region_after_fate fate.now region) }
     ensures short { length room.new.other.items ≤ RECORD_LIMIT }
     ensures plans { SamePlans room.old room.new }
 {
@@ -181,9 +181,9 @@ pub(crate) fn load_region<B: Board>(
     room: &mut Room,
 ) -> Result<Region, NoMemory>
     requires can_use { CanUse (B.seen b.now) slot }
-    requires held { HoldsSomeRegion (current (B.seen b.now).memory.bbram slot) }
+    requires held { HoldsSomeRegion (area_of_slot (B.seen b.now).memory.bbram slot) }
     ensures region { (region : Region)
-        → HoldsRegion (current (B.seen b.now).memory.bbram slot) region
+        → HoldsRegion (area_of_slot (B.seen b.now).memory.bbram slot) region
         → IfOk result (λ it. it ≡ region) }
     ensures plans { SamePlans room.old room.new }
 {
@@ -197,9 +197,9 @@ pub(crate) fn load_region<B: Board>(
 /// Counts the keys of the region in the slot.
 pub(crate) fn count_keys_in<B: Board>(b: &B, slot: u16, room: &mut Room) -> u32
     requires can_use { CanUse (B.seen b.now) slot }
-    requires held { HoldsSomeRegion (current (B.seen b.now).memory.bbram slot) }
+    requires held { HoldsSomeRegion (area_of_slot (B.seen b.now).memory.bbram slot) }
     ensures count { (region : Region)
-        → HoldsRegion (current (B.seen b.now).memory.bbram slot) region
+        → HoldsRegion (area_of_slot (B.seen b.now).memory.bbram slot) region
         → result ≡ length region.keys }
     ensures plans { SamePlans room.old room.new }
 {

@@ -7,7 +7,7 @@ use Rattle.mb_model.specs.declared.event.Event.{Event}
 use Rattle.mb_model.specs.declared.event.Event.TheVariants as event
 use Rattle.mb_model.specs.declared.event.Tear.{Tear}
 use Rattle.mb_model.specs.Texts.{IsHex}
-use Rattle.mb_model.specs.Lines.{spaced, number_limit}
+use Rattle.mb_model.specs.Lines.{spaced_words, number_limit}
 use Rattle.mb_model.specs.Script.{tear_of, IsName, FitsMessage, IsCutLine, SaysEvent}
 use Rattle.mb_model_lemmas.proofs.LineLemmas.{Without, first_same, first_none}
 use Rattle.mb_model_lemmas.proofs.EventLemmas.{letters, letters_of, says_letters}
@@ -103,11 +103,11 @@ cut_rest rest count tear says =
     elim says.kept [
       | inl words ↦
           let tail = codes "keep " ++ decimal tear.keep ++ 32 ∷ (codes "fill " ++ says.fill_word) in
-          let line = subst (λ (x : List (List ℕ)). codes "cut " ++ rest ≡ spaced (codes "cut" ∷ decimal count ∷ x ++ codes "fill" ∷ says.fill_word ∷ [])) words says.spelled in
+          let line = subst (λ (x : List (List ℕ)). codes "cut " ++ rest ≡ spaced_words (codes "cut" ∷ decimal count ∷ x ++ codes "fill" ∷ says.fill_word ∷ [])) words says.spelled in
           (tail, append_cancel_left (codes "cut ") rest (decimal count ++ 32 ∷ tail) line, kept_some says.allowed.torn.keep refl)
       | inr left_out ↦
           let tail = codes "fill " ++ says.fill_word in
-          let line = subst (λ (x : List (List ℕ)). codes "cut " ++ rest ≡ spaced (codes "cut" ∷ decimal count ∷ x ++ codes "fill" ∷ says.fill_word ∷ [])) left_out.0 says.spelled in
+          let line = subst (λ (x : List (List ℕ)). codes "cut " ++ rest ≡ spaced_words (codes "cut" ∷ decimal count ∷ x ++ codes "fill" ∷ says.fill_word ∷ [])) left_out.0 says.spelled in
           (tail, append_cancel_left (codes "cut ") rest (decimal count ++ 32 ∷ tail) line, none left_out.1 refl)
     ]
 

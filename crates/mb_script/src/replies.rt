@@ -3,7 +3,7 @@
 ghost use Rattle.std.specs.Prelude.{◌≡◌, ◌++◌, ◌∷◌, [], ◌<◌, unwrap_or};
 ghost use Rattle.std.specs.Fmt.{decimal};
 ghost use Rattle.hex.specs.Hex.{encode_lower};
-ghost use Rattle.mb_model.specs.Texts.{ended};
+ghost use Rattle.mb_model.specs.Texts.{line_with_lf};
 ghost use Rattle.mb_model.specs.Lines.{hex_word};
 ghost use Rattle.mb_model.specs.Replies.{standing_word, refusal_words, reply_line};
 ghost use Rattle.mb_bytes.specs.Puts.{Puts, Writes};
@@ -14,7 +14,7 @@ use mb_model::{NoMemory, Reply, Standing};
 /// Appends the line of a reply and its LF, or leaves `out` as it was. The answer is Ok if the capacity holds them. The
 /// line of a refusal whose number no device gives ends after the number and a space.
 pub fn write_reply(reply: &Reply, out: &mut Vec<u8>) -> Result<(), NoMemory>
-    ensures { Writes (ended (reply_line reply.now)) out.old result out.new }
+    ensures { Writes (line_with_lf (reply_line reply.now)) out.old result out.new }
 {
     let length = out.len();
     match put_line(reply, out) {
@@ -28,7 +28,7 @@ pub fn write_reply(reply: &Reply, out: &mut Vec<u8>) -> Result<(), NoMemory>
 
 /// Appends the line of a reply and its LF.
 fn put_line(reply: &Reply, out: &mut Vec<u8>) -> Result<(), NoMemory>
-    ensures { Puts (ended (reply_line reply.now)) out.old result out.new }
+    ensures { Puts (line_with_lf (reply_line reply.now)) out.old result out.new }
 {
     put_reply(reply, out)?;
     put_slice(out, b"\n")

@@ -2,7 +2,7 @@
 
 ghost use Rattle.std.specs.Prelude.{◌≡◌, ◌≤◌, length, IfOk};
 ghost use Rattle.mb_model.specs.declared.limits.TheConstants.{ENTRY_LIMIT, ENTRY_TEXT_LIMIT, FILE_LIMIT};
-ghost use Rattle.mb_model.specs.HeaderFormat.{code_length_format, slot_format, entry_bytes_format, most_unsigned, unsigned_format, header_format};
+ghost use Rattle.mb_model.specs.HeaderFormat.{code_length_format, slot_format, entry_bytes_format, unsigned_limit, unsigned_format, header_format};
 ghost use Rattle.mb_bytes.specs.Reads.{bad_at, Reads, ReadsAs};
 ghost use Rattle.mb_bytes.specs.Puts.{Puts, Writes};
 ghost use Rattle.std.specs.Option.{option_copied};
@@ -82,7 +82,7 @@ pub(crate) fn text_at<'a>(cursor: &mut Cursor<'a>) -> Result<&'a [u8], BadRecord
 /// The most unsigned entries beside this many signed ones.
 fn most_unsigned(signed: u16) -> u8
     requires { signed ≤ ENTRY_LIMIT }
-    ensures { result ≡ most_unsigned signed }
+    ensures { result ≡ unsigned_limit signed }
 {
     if signed <= ENTRY_LIMIT - 2 {
         2

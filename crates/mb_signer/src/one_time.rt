@@ -2,7 +2,7 @@
 
 ghost use Rattle.std.specs.Prelude.{◌≡◌, ℕ, ◌+◌, ◌<◌, ◌++◌, List};
 ghost use Rattle.std.specs.Int.{w16, w32, to_be_bytes};
-ghost use Rattle.mb_model.specs.Winternitz.{chain_step, steps as taken, message_hash};
+ghost use Rattle.mb_model.specs.Winternitz.{chain_step, value_after_steps as taken, message_hash};
 ghost use Rattle.mb_model.specs.Signing.{private_value, randomizer_of, public_ends, one_time_public};
 
 use crate::bytes::marked;

@@ -3,9 +3,9 @@ use Rattle.std.proofs.Common.{◌≡◌, ◌≢◌, ℕ, zero, suc, ◌+◌, ◌
 use Rattle.std.proofs.lemmas.Bool.{cases_order}
 use mathlib.Core.Bool.{not-not}
 use Rattle.mb_model.specs.Pieces.{part}
-use Rattle.mb_model.specs.Board.{Memory, IsLoaded, put}
+use Rattle.mb_model.specs.Board.{Memory, IsLoaded, memory_with_bytes}
 use Rattle.mb_model.specs.declared.limits.TheConstants.{AREA_LENGTH}
-use Rattle.mb_model.specs.Memory.{slots, life_byte, spare, selector_of, first_area, second_area, current, other}
+use Rattle.mb_model.specs.Memory.{slots, life_byte, spare_bytes, selector_of, first_area, second_area, area_of_slot, inactive_area_of_slot}
 use Rattle.mb_model.proofs.Places.{part-put}
 use Rattle.mb_board.specs.Reach.{Reached, selector as in_selector, in_first_area as in_first, in_second_area as in_second}
 use Rattle.mb_board.specs.Calls.{Torn}
@@ -63,12 +63,12 @@ picked_not : (is_first : Bool) (slot : ℕ) (bbram : List ℕ) → (if is_first 
 picked_not true slot bbram = refl
 picked_not false slot bbram = refl
 
-pub current_is : (bbram : List ℕ) (slot : ℕ) → current bbram slot ≡ part (current_offset bbram slot) AREA_LENGTH bbram
-unfolding current first_area second_area
+pub current_is : (bbram : List ℕ) (slot : ℕ) → area_of_slot bbram slot ≡ part (current_offset bbram slot) AREA_LENGTH bbram
+unfolding area_of_slot first_area second_area
 current_is bbram slot = picked (is_first_in_force bbram slot) slot bbram
 
-pub other_is : (bbram : List ℕ) (slot : ℕ) → other bbram slot ≡ part (other_offset bbram slot) AREA_LENGTH bbram
-unfolding other first_area second_area
+pub other_is : (bbram : List ℕ) (slot : ℕ) → inactive_area_of_slot bbram slot ≡ part (other_offset bbram slot) AREA_LENGTH bbram
+unfolding inactive_area_of_slot first_area second_area
 other_is bbram slot = picked_not (is_first_in_force bbram slot) slot bbram
 
 -- ---- after the area that is not in force was written
@@ -83,7 +83,7 @@ selector_kept slot before after least most same =
 first_kept : (slot : ℕ) (before after : List ℕ) → selector_of after slot ≡ selector_of before slot → is_first_in_force after slot ≡ is_first_in_force before slot
 first_kept slot before after same = ap (λ (n : ℕ). n % 2 == 0) same
 
-pub current_kept : (slot : ℕ) (before after : List ℕ) → 1 ≤ slot → slot ≤ 3 → length before ≡ 28672 → IsSameButOther slot before after → current after slot ≡ current before slot
+pub current_kept : (slot : ℕ) (before after : List ℕ) → 1 ≤ slot → slot ≤ 3 → length before ≡ 28672 → IsSameButOther slot before after → area_of_slot after slot ≡ area_of_slot before slot
 current_kept slot before after least most sized same =
     let force : Bool = is_first_in_force before slot in
     let kept : is_first_in_force after slot ≡ force = first_kept slot before after (selector_kept slot before after least most same) in
@@ -93,7 +93,7 @@ current_kept slot before after least most sized same =
     ∙ sym (current_is before slot)
 
 pub other_written : (slot : ℕ) (before after bytes : List ℕ) → 1 ≤ slot → slot ≤ 3 → length before ≡ 28672 → length bytes ≡ 4096 → IsSameButOther slot before after
-    → after ≡ put (other_offset before slot) bytes before → other after slot ≡ bytes
+    → after ≡ memory_with_bytes (other_offset before slot) bytes before → inactive_area_of_slot after slot ≡ bytes
 other_written slot before after bytes least most sized count same whole =
     let force : Bool = is_first_in_force before slot in
     let kept : is_first_in_force after slot ≡ force = first_kept slot before after (selector_kept slot before after least most same) in
@@ -178,14 +178,14 @@ other_selector slot m before after least most m_least m_most apart same =
     let m_at = stands_at m m_least m_most in
     same.bytes (slots m).selector (λ e. apart (sym m_at.selector ∙ e ∙ at.selector)) (inl (omega arith)) (inl (omega arith))
 
-pub other_current : (slot m : ℕ) (before after : List ℕ) → 1 ≤ slot → slot ≤ 3 → 1 ≤ m → m ≤ 3 → m ≢ slot → length before ≡ 28672 → IsSameBut slot before after → current after m ≡ current before m
+pub other_current : (slot m : ℕ) (before after : List ℕ) → 1 ≤ slot → slot ≤ 3 → 1 ≤ m → m ≤ 3 → m ≢ slot → length before ≡ 28672 → IsSameBut slot before after → area_of_slot after m ≡ area_of_slot before m
 other_current slot m before after least most m_least m_most apart sized same =
     current_is after m
     ∙ ap (λ (b : Bool). part (area_offset m b) 4096 after) (first_kept m before after (other_selector slot m before after least most m_least m_most apart same))
     ∙ area_kept slot m (is_first_in_force before m) before after least most m_least m_most apart sized same
     ∙ sym (current_is before m)
 
-pub other_other : (slot m : ℕ) (before after : List ℕ) → 1 ≤ slot → slot ≤ 3 → 1 ≤ m → m ≤ 3 → m ≢ slot → length before ≡ 28672 → IsSameBut slot before after → other after m ≡ other before m
+pub other_other : (slot m : ℕ) (before after : List ℕ) → 1 ≤ slot → slot ≤ 3 → 1 ≤ m → m ≤ 3 → m ≢ slot → length before ≡ 28672 → IsSameBut slot before after → inactive_area_of_slot after m ≡ inactive_area_of_slot before m
 other_other slot m before after least most m_least m_most apart sized same =
     other_is after m
     ∙ ap (λ (b : Bool). part (area_offset m (not b)) 4096 after) (first_kept m before after (other_selector slot m before after least most m_least m_most apart same))
@@ -197,8 +197,8 @@ life_kept slot before after least most same =
     let at = stands_at slot least most in
     same.bytes 0 (λ e. omega (arith, e)) (inl (omega arith)) (inl (omega arith))
 
-spare_kept : (slot : ℕ) (before after : List ℕ) → 1 ≤ slot → slot ≤ 3 → length before ≡ 28672 → IsSameBut slot before after → spare after ≡ spare before
-unfolding spare
+spare_kept : (slot : ℕ) (before after : List ℕ) → 1 ≤ slot → slot ≤ 3 → length before ≡ 28672 → IsSameBut slot before after → spare_bytes after ≡ spare_bytes before
+unfolding spare_bytes
 spare_kept slot before after least most sized same =
     let at = stands_at slot least most in
     apart_from_slot slot 4 4092 before after least most sized same (omega arith) (omega arith) (inl (omega arith))
@@ -229,11 +229,11 @@ either_moved was other_was is now (inr same) e = inr (e ∙ same)
 
 -- whatever byte the selector is, one of the two areas is in force, whole
 pub either_in_force : (slot : ℕ) (before after : List ℕ) → 1 ≤ slot → slot ≤ 3 → length before ≡ 28672 → IsSameOutside slot 1 before after
-    → (current after slot ≡ current before slot) ⊎ (current after slot ≡ other before slot)
+    → (area_of_slot after slot ≡ area_of_slot before slot) ⊎ (area_of_slot after slot ≡ inactive_area_of_slot before slot)
 either_in_force slot before after least most sized same =
     let was : Bool = is_first_in_force before slot in
     let is : Bool = is_first_in_force after slot in
-    rw (current_is before slot, other_is before slot) (either_moved (part (area_offset slot was) 4096 before) (part (area_offset slot (not was)) 4096 before) (part (area_offset slot is) 4096 before) (current after slot)
+    rw (current_is before slot, other_is before slot) (either_moved (part (area_offset slot was) 4096 before) (part (area_offset slot (not was)) 4096 before) (part (area_offset slot is) 4096 before) (area_of_slot after slot)
     (either_half slot was is before)
     (current_is after slot ∙ half_kept slot is before after least most sized same))
 
@@ -243,7 +243,7 @@ flipped slot before after most sized torn = torn_same slot 1 before after (omega
 
 -- and after a selector of the other parity was put, it is the other one
 pub exchanged : (slot byte : ℕ) (before after : List ℕ) → 1 ≤ slot → slot ≤ 3 → length before ≡ 28672 → (byte % 2 == 0) ≡ not (is_first_in_force before slot)
-    → after ≡ put slot (byte ∷ []) before → AreExchanged slot before after
+    → after ≡ memory_with_bytes slot (byte ∷ []) before → AreExchanged slot before after
 exchanged slot byte before after least most sized parity whole =
     let at = stands_at slot least most in
     let was : Bool = is_first_in_force before slot in
@@ -283,11 +283,11 @@ area_is_at level slot at is_first known least most reached same at_is =
 pub reached_as : (level at n : ℕ) → n ≡ 4096 → Reached level at 4096 → Reached level at n
 reached_as level at n same reached = subst (λ (k : ℕ). Reached level at k) (sym same) reached
 
-pub read_as_current : (slot at n : ℕ) (bbram out : List ℕ) → at ≡ current_offset bbram slot → n ≡ 4096 → out ≡ part at n bbram → out ≡ current bbram slot
+pub read_as_current : (slot at n : ℕ) (bbram out : List ℕ) → at ≡ current_offset bbram slot → n ≡ 4096 → out ≡ part at n bbram → out ≡ area_of_slot bbram slot
 read_as_current slot at n bbram out at_is count read =
     read ∙ ap (λ (k : ℕ). part k n bbram) at_is ∙ ap (λ (k : ℕ). part (current_offset bbram slot) k bbram) count ∙ sym (current_is bbram slot)
 
-pub read_as_other : (slot at n : ℕ) (bbram out : List ℕ) → at ≡ other_offset bbram slot → n ≡ 4096 → out ≡ part at n bbram → out ≡ other bbram slot
+pub read_as_other : (slot at n : ℕ) (bbram out : List ℕ) → at ≡ other_offset bbram slot → n ≡ 4096 → out ≡ part at n bbram → out ≡ inactive_area_of_slot bbram slot
 read_as_other slot at n bbram out at_is count read =
     read ∙ ap (λ (k : ℕ). part k n bbram) at_is ∙ ap (λ (k : ℕ). part (other_offset bbram slot) k bbram) count ∙ sym (other_is bbram slot)
 
@@ -300,9 +300,9 @@ torn_other slot at n before after least most sized at_is count torn =
     torn_same (other_offset before slot) 4096 before after (omega (arith, area_within slot (not (is_first_in_force before slot)) least most)) here
 
 pub put_other : (slot at : ℕ) (before after bytes : List ℕ) → 1 ≤ slot → slot ≤ 3 → length before ≡ 28672 → length bytes ≡ 4096 → at ≡ other_offset before slot → IsSameButOther slot before after
-    → after ≡ put at bytes before → other after slot ≡ bytes
+    → after ≡ memory_with_bytes at bytes before → inactive_area_of_slot after slot ≡ bytes
 put_other slot at before after bytes least most sized count at_is same whole =
-    other_written slot before after bytes least most sized count same (whole ∙ ap (λ (k : ℕ). put k bytes before) at_is)
+    other_written slot before after bytes least most sized count same (whole ∙ ap (λ (k : ℕ). memory_with_bytes k bytes before) at_is)
 
 -- what follows on Ok
 pub on_ok : {A E P Q : Type 0} (result : Result A E) → (P → Q) → OnOk result P → OnOk result Q

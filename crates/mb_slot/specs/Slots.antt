@@ -3,7 +3,7 @@
 use Rattle.std.specs.Prelude.{◌≡◌, ◌≢◌, ℕ, ◌+◌, ◌<◌, ◌≤◌, ◌%◌, ◌==◌, ◌⊎◌, List, length, slice_index}
 use Rattle.std.specs.Prelude.{Bool, true, not, if◌then◌else◌, Result}
 use Rattle.mb_model.specs.declared.limits.TheConstants.{AREA_LENGTH, BBRAM_LENGTH}
-use Rattle.mb_model.specs.Memory.{slots, selector_of, current, other}
+use Rattle.mb_model.specs.Memory.{slots, selector_of, area_of_slot, inactive_area_of_slot}
 use Rattle.mb_board.specs.Reach.{Reached}
 use Rattle.mb_model.specs.Board.{IsLoaded}
 use Rattle.mb_board.specs.Calls.{Seen, Ran}
@@ -41,8 +41,8 @@ pub record IsAreaAt (level wanted at : ℕ) : Type 0 where
 
 -- the current area has become the inactive one, and the inactive one the current one
 pub record AreExchanged (slot : ℕ) (before after : List ℕ) : Type 0 where
-  pub in_force : current after slot ≡ other before slot
-  pub not_in_force : other after slot ≡ current before slot
+  pub in_force : area_of_slot after slot ≡ inactive_area_of_slot before slot
+  pub not_in_force : inactive_area_of_slot after slot ≡ area_of_slot before slot
 
 -- ---- what stays
 

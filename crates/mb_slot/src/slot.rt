@@ -1,7 +1,7 @@
 //! The two areas of a slot, and the selector between them.
 
 ghost use Rattle.std.specs.Prelude.{◌≡◌, ◌≢◌, ℕ, ◌≤◌, ◌%◌, ◌==◌, ◌⊎◌, ◌↔◌, length, IsTrue, OnOk, Ok};
-ghost use Rattle.mb_model.specs.Memory.{IsBlank, current, other};
+ghost use Rattle.mb_model.specs.Memory.{IsBlank, area_of_slot, inactive_area_of_slot};
 ghost use Rattle.mb_model.specs.declared.limits.TheConstants.{AREA_LENGTH};
 ghost use Rattle.mb_model_memory.specs.InForce.{AgreeBesides};
 ghost use Rattle.mb_slot.specs.Slots.{CanUse, is_first_in_force, area_offset, current_offset, other_offset, IsAreaAt, AreExchanged, RanInOther, RanInSlot};
@@ -54,9 +54,9 @@ fn other_at<B: Board>(b: &B, slot: u16) -> u16
 fn write_other<B: Board>(b: &mut B, slot: u16, area: &[u8]) -> Result<(), Stopped>
     requires can_use { CanUse (B.seen b.old) slot }
     requires area { length area.now ≡ AREA_LENGTH }
-    ensures done { OnOk result (other (B.seen b.new).memory.bbram slot ≡ area.now) }
-    ensures current { current (B.seen b.new).memory.bbram slot
-        ≡ current (B.seen b.old).memory.bbram slot }
+    ensures done { OnOk result (inactive_area_of_slot (B.seen b.new).memory.bbram slot ≡ area.now) }
+    ensures current { area_of_slot (B.seen b.new).memory.bbram slot
+        ≡ area_of_slot (B.seen b.old).memory.bbram slot }
     ensures ran { RanInOther 1 slot result (B.seen b.old) (B.seen b.new) }
 {
     b.bbram_write(other_at(b, slot), area)
@@ -74,9 +74,9 @@ fn flip<B: Board>(b: &mut B, slot: u16) -> Result<(), Stopped>
     requires can_use { CanUse (B.seen b.old) slot }
     ensures done { OnOk result (AreExchanged slot (B.seen b.old).memory.bbram
         (B.seen b.new).memory.bbram) }
-    ensures either { (current (B.seen b.new).memory.bbram slot
-        ≡ current (B.seen b.old).memory.bbram slot)
-        ⊎ (current (B.seen b.new).memory.bbram slot ≡ other (B.seen b.old).memory.bbram slot) }
+    ensures either { (area_of_slot (B.seen b.new).memory.bbram slot
+        ≡ area_of_slot (B.seen b.old).memory.bbram slot)
+        ⊎ (area_of_slot (B.seen b.new).memory.bbram slot ≡ inactive_area_of_slot (B.seen b.old).memory.bbram slot) }
     ensures ran { RanInSlot 1 slot result (B.seen b.old) (B.seen b.new) }
 {
     let selector = selector_for(!is_first_in_force(b, slot));
@@ -87,7 +87,7 @@ fn flip<B: Board>(b: &mut B, slot: u16) -> Result<(), Stopped>
 pub fn read_current<B: Board>(b: &B, slot: u16, out: &mut [u8])
     requires can_use { CanUse (B.seen b.now) slot }
     requires room { length out.old ≡ AREA_LENGTH }
-    ensures { out.new ≡ current (B.seen b.now).memory.bbram slot }
+    ensures { out.new ≡ area_of_slot (B.seen b.now).memory.bbram slot }
 {
     b.bbram_read(current_at(b, slot), out);
 }
@@ -96,7 +96,7 @@ pub fn read_current<B: Board>(b: &B, slot: u16, out: &mut [u8])
 fn read_other<B: Board>(b: &B, slot: u16, out: &mut [u8])
     requires can_use { CanUse (B.seen b.now) slot }
     requires room { length out.old ≡ AREA_LENGTH }
-    ensures { out.new ≡ other (B.seen b.now).memory.bbram slot }
+    ensures { out.new ≡ inactive_area_of_slot (B.seen b.now).memory.bbram slot }
 {
     b.bbram_read(other_at(b, slot), out);
 }
@@ -104,7 +104,7 @@ fn read_other<B: Board>(b: &B, slot: u16, out: &mut [u8])
 /// Whether each byte of the inactive area is zero.
 pub fn is_other_blank<B: Board>(b: &B, slot: u16) -> bool
     requires can_use { CanUse (B.seen b.now) slot }
-    ensures { IsTrue result ↔ IsBlank (other (B.seen b.now).memory.bbram slot) }
+    ensures { IsTrue result ↔ IsBlank (inactive_area_of_slot (B.seen b.now).memory.bbram slot) }
 {
     let mut area = [0; AREA_LENGTH];
     read_other(b, slot, &mut area);
@@ -116,12 +116,12 @@ pub fn is_other_blank<B: Board>(b: &B, slot: u16) -> bool
 pub fn commit<B: Board>(b: &mut B, slot: u16, area: &[u8]) -> Result<(), Stopped>
     requires can_use { CanUse (B.seen b.old) slot }
     requires area { length area.now ≡ AREA_LENGTH }
-    ensures done { OnOk result (current (B.seen b.new).memory.bbram slot ≡ area.now) }
-    ensures left { OnOk result (other (B.seen b.new).memory.bbram slot
-        ≡ current (B.seen b.old).memory.bbram slot) }
-    ensures either { (current (B.seen b.new).memory.bbram slot
-        ≡ current (B.seen b.old).memory.bbram slot)
-        ⊎ (current (B.seen b.new).memory.bbram slot ≡ area.now) }
+    ensures done { OnOk result (area_of_slot (B.seen b.new).memory.bbram slot ≡ area.now) }
+    ensures left { OnOk result (inactive_area_of_slot (B.seen b.new).memory.bbram slot
+        ≡ area_of_slot (B.seen b.old).memory.bbram slot) }
+    ensures either { (area_of_slot (B.seen b.new).memory.bbram slot
+        ≡ area_of_slot (B.seen b.old).memory.bbram slot)
+        ⊎ (area_of_slot (B.seen b.new).memory.bbram slot ≡ area.now) }
     ensures besides { AgreeBesides slot (B.seen b.old).memory.bbram (B.seen b.new).memory.bbram }
     ensures ran { RanInSlot 2 slot result (B.seen b.old) (B.seen b.new) }
 {
@@ -133,14 +133,14 @@ pub fn commit<B: Board>(b: &mut B, slot: u16, area: &[u8]) -> Result<(), Stopped
 /// call.
 pub fn wipe_other<B: Board>(b: &mut B, slot: u16) -> Result<(), Stopped>
     requires can_use { CanUse (B.seen b.old) slot }
-    ensures blank { OnOk result (IsBlank (other (B.seen b.new).memory.bbram slot)) }
-    ensures current { current (B.seen b.new).memory.bbram slot
-        ≡ current (B.seen b.old).memory.bbram slot }
-    ensures idle { IsBlank (other (B.seen b.old).memory.bbram slot)
+    ensures blank { OnOk result (IsBlank (inactive_area_of_slot (B.seen b.new).memory.bbram slot)) }
+    ensures current { area_of_slot (B.seen b.new).memory.bbram slot
+        ≡ area_of_slot (B.seen b.old).memory.bbram slot }
+    ensures idle { IsBlank (inactive_area_of_slot (B.seen b.old).memory.bbram slot)
         → (result ≡ Ok tt) × ((B.seen b.new).memory ≡ (B.seen b.old).memory)
         × ((B.seen b.new).meter ≡ (B.seen b.old).meter) }
     ensures others { (m : ℕ) → 1 ≤ m → m ≤ 3 → m ≢ slot
-        → other (B.seen b.new).memory.bbram m ≡ other (B.seen b.old).memory.bbram m }
+        → inactive_area_of_slot (B.seen b.new).memory.bbram m ≡ inactive_area_of_slot (B.seen b.old).memory.bbram m }
     ensures besides { AgreeBesides slot (B.seen b.old).memory.bbram (B.seen b.new).memory.bbram }
     ensures ran { RanInOther 1 slot result (B.seen b.old) (B.seen b.new) }
 {

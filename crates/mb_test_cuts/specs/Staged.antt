@@ -1,7 +1,7 @@
 -- What is known of a memory before a call that a test makes.
 use Rattle.std.specs.Prelude.{◌≡◌, ℕ, List, Bool, false, Some}
 use Rattle.mb_model.specs.declared.state.State.{State}
-use Rattle.mb_model.specs.Memory.{current}
+use Rattle.mb_model.specs.Memory.{area_of_slot}
 use Rattle.mb_model.specs.Meaning.{IsWellFormed}
 use Rattle.mb_model.specs.Board.{Memory, IsLoaded, image_of}
 use Rattle.mb_region.specs.Regions.{HoldsSomeRegion}
@@ -22,5 +22,5 @@ pub record HoldsImage (image : List ℕ) (power : Bool) (memory : Memory) : Type
 pub record IsReadyForCalls (memory : Memory) : Type 0 where
   pub loaded : IsLoaded memory
   pub stands : StandsForValid memory
-  pub two : HoldsSomeRegion (current memory.bbram 2)
-  pub three : HoldsSomeRegion (current memory.bbram 3)
+  pub two : HoldsSomeRegion (area_of_slot memory.bbram 2)
+  pub three : HoldsSomeRegion (area_of_slot memory.bbram 3)

@@ -17,14 +17,14 @@ use Rattle.mb_model.specs.Lives.{lives_of}
 use Rattle.mb_model.specs.Valid.{IsValidState}
 use Rattle.mb_model.specs.ChainFormat.{chain_format}
 use Rattle.mb_model.specs.Attach.{bare_chain, stated_chain}
-use Rattle.mb_model.specs.Texts.{ended}
+use Rattle.mb_model.specs.Texts.{line_with_lf}
 use Rattle.mb_model.specs.Lines.{text_of}
 use Rattle.mb_model.specs.Listing.{listing}
-use Rattle.mb_model.specs.Acceptance.{ChainRefusal, Accepts, IsRefused, accepting, refusing, IsVerdict}
+use Rattle.mb_model.specs.Acceptance.{ChainRefusal, Accepts, IsRefused, chain_acceptance, chain_rejection, IsVerdict}
 use Rattle.mb_model.specs.Outside.{Outside}
 use Rattle.mb_model.specs.Commands.{print, refuse, at_first}
 use Rattle.mb_model.specs.ChainCommands.{ChainNames, AttachNames, entries_text, write_entries, IsChainOf, chain_of, attach_statement}
-use Rattle.mb_model.specs.VerifyCommand.{VerifyNames, refused_line, tell_verdict, verify_chain}
+use Rattle.mb_model.specs.VerifyCommand.{VerifyNames, chain_refusal_line, tell_verdict, verify_chain}
 use Rattle.mb_model.specs.AuditCommand.{AuditNames, own_lives, IsAudited, compare, audit_chain}
 use Rattle.mb_model_lemmas.proofs.ValidStates.{valid_is_ruled}
 use Rattle.mb_model_lemmas.proofs.AuditLemmas.{audited}
@@ -83,8 +83,8 @@ has_statement names chain statement before why some refuses = λ final.
 
 -- ---- a chain that is judged
 
-reason_told : (reason : ChainRefusal) (why : End) (before : Outside) → RefusesWith (refused_line reason) why → CarriesOut (refuse (refused_line reason)) before (Err why) before
-reason_told reason why before refuses = λ final. refuse_here (refused_line reason) why at_first [] final before refuses refl
+reason_told : (reason : ChainRefusal) (why : End) (before : Outside) → RefusesWith (chain_refusal_line reason) why → CarriesOut (refuse (chain_refusal_line reason)) before (Err why) before
+reason_told reason why before refuses = λ final. refuse_here (chain_refusal_line reason) why at_first [] final before refuses refl
 
 -- what holds of a reason for which a chain may be refused
 abbrev pub IfReason : Option ChainRefusal → (ChainRefusal → Type 0) → Type 0
@@ -93,23 +93,23 @@ IfReason found P = (reason : ChainRefusal) → found ≡ Some reason → P reaso
 -- ---- verify
 
 pub report_told : (n : ℕ) (report : Report) (text : List ℕ) (before now : Outside) (result : Result (Unit {0}) End) → text ≡ text_of (listing n report)
-    → CarriesOutAfter (writes [] (print text)) before result now → CarriesOut (tell_verdict n (accepting report)) before result now
+    → CarriesOutAfter (writes [] (print text)) before result now → CarriesOut (tell_verdict n (chain_acceptance report)) before result now
 unfolding writes
 report_told n report text before now result is carried = λ final.
     (subst (λ t. CarriesOutAfter (print t) before result now) is carried) at_first final
 
-pub report_lacks : (n : ℕ) (report : Report) (before : Outside) → CarriesOut (tell_verdict n (accepting report)) before (Err end.NoMemory) before
+pub report_lacks : (n : ℕ) (report : Report) (before : Outside) → CarriesOut (tell_verdict n (chain_acceptance report)) before (Err end.NoMemory) before
 report_lacks n report before = λ final. memory_unprinted _ at_first [] final before refl refl
 
 pub chain_accepted : (names : VerifyNames) (maker : PublicKey) (bytes : List ℕ) (report : Report) (before now : Outside) (result : Result (Unit {0}) End) → Accepts maker bytes names.key report
-    → CarriesOut (tell_verdict names.key (accepting report)) before result now → CarriesOut (verify_chain names maker bytes) before result now
+    → CarriesOut (tell_verdict names.key (chain_acceptance report)) before result now → CarriesOut (verify_chain names maker bytes) before result now
 chain_accepted names maker bytes report before now result accepts carried = λ final.
-    finds (IsVerdict maker bytes names.key) (tell_verdict names.key) at_first [] final before now (accepting report) result accepts (carried final)
+    finds (IsVerdict maker bytes names.key) (tell_verdict names.key) at_first [] final before now (chain_acceptance report) result accepts (carried final)
 
 pub chain_refused : (names : VerifyNames) (maker : PublicKey) (bytes : List ℕ) (found : Option ChainRefusal) (why : End) (before : Outside) → IfReason found (IsRefused maker bytes names.key)
     → TellsRefusal found why → CarriesOut (verify_chain names maker bytes) before (Err why) before
 chain_refused names maker bytes (Some reason) why before refused tells = λ final.
-    finds (IsVerdict maker bytes names.key) (tell_verdict names.key) at_first [] final before before (refusing reason) _ (refused reason refl) (reason_told reason why before tells final)
+    finds (IsVerdict maker bytes names.key) (tell_verdict names.key) at_first [] final before before (chain_rejection reason) _ (refused reason refl) (reason_told reason why before tells final)
 chain_refused names maker bytes None why before refused tells =
     subst (λ w. CarriesOut (verify_chain names maker bytes) before (Err w) before) (sym tells) (λ final.
     memory_unfound (IsVerdict maker bytes names.key) (tell_verdict names.key) at_first [] final before refl refl)
@@ -122,34 +122,34 @@ dead_not_audited names maker bytes before why refuses = λ final. refuse_here (c
 
 pub audit_accepted : (names : AuditNames) (state : State) (maker : PublicKey) (bytes : List ℕ) (report : Report) (before now : Outside) (result : Result (Unit {0}) End)
     → IsBytes bytes → IsValidState state → Accepts maker bytes names.key report
-    → CarriesOut (compare state names.key (accepting report)) before result now → CarriesOut (audit_chain names (Some state) maker bytes) before result now
+    → CarriesOut (compare state names.key (chain_acceptance report)) before result now → CarriesOut (audit_chain names (Some state) maker bytes) before result now
 audit_accepted names state maker bytes report before now result are valid accepts carried = λ final.
-    finds (IsAudited state maker bytes names.key) (compare state names.key) at_first [] final before now (accepting report) result
-    (audited state maker bytes names.key (accepting report) are valid accepts) (carried final)
+    finds (IsAudited state maker bytes names.key) (compare state names.key) at_first [] final before now (chain_acceptance report) result
+    (audited state maker bytes names.key (chain_acceptance report) are valid accepts) (carried final)
 
 pub audit_refused : (names : AuditNames) (state : State) (maker : PublicKey) (bytes : List ℕ) (found : Option ChainRefusal) (why : End) (before : Outside)
     → IsBytes bytes → IsValidState state → IfReason found (IsRefused maker bytes names.key) → TellsRefusal found why
     → CarriesOut (audit_chain names (Some state) maker bytes) before (Err why) before
 audit_refused names state maker bytes (Some reason) why before are valid refused tells = λ final.
-    finds (IsAudited state maker bytes names.key) (compare state names.key) at_first [] final before before (refusing reason) _
-    (audited state maker bytes names.key (refusing reason) are valid (refused reason refl)) (reason_told reason why before tells final)
+    finds (IsAudited state maker bytes names.key) (compare state names.key) at_first [] final before before (chain_rejection reason) _
+    (audited state maker bytes names.key (chain_rejection reason) are valid (refused reason refl)) (reason_told reason why before tells final)
 audit_refused names state maker bytes None why before are valid refused tells =
     subst (λ w. CarriesOut (audit_chain names (Some state) maker bytes) before (Err w) before) (sym tells) (λ final.
     memory_unfound (IsAudited state maker bytes names.key) (compare state names.key) at_first [] final before refl refl)
 
 -- the chain lists what the device held
 pub lists_agree : (state : State) (n : ℕ) (report : Report) (text : List ℕ) (before now : Outside) (result : Result (Unit {0}) End) → report.lives ≡ own_lives state report.entries n
-    → text ≡ ended (codes "agrees") → CarriesOutAfter (writes [] (print text)) before result now → CarriesOut (compare state n (accepting report)) before result now
+    → text ≡ line_with_lf (codes "agrees") → CarriesOutAfter (writes [] (print text)) before result now → CarriesOut (compare state n (chain_acceptance report)) before result now
 unfolding writes
 lists_agree state n report text before now result same is carried = λ final.
     goes_first _ _ _ at_first [] final before now result same ((subst (λ t. CarriesOutAfter (print t) before result now) is carried) at_first final)
 
 pub lists_differ : (state : State) (n : ℕ) (report : Report) (before : Outside) (why : End) → report.lives ≢ own_lives state report.entries n → RefusesWith (codes "differs") why
-    → CarriesOut (compare state n (accepting report)) before (Err why) before
+    → CarriesOut (compare state n (chain_acceptance report)) before (Err why) before
 lists_differ state n report before why other refuses = λ final.
     goes_second _ _ _ at_first [] final before before _ other (refuse_here (codes "differs") why at_first [] final before refuses refl)
 
-pub lists_lack : (state : State) (n : ℕ) (report : Report) (before : Outside) → CarriesOut (compare state n (accepting report)) before (Err end.NoMemory) before
+pub lists_lack : (state : State) (n : ℕ) (report : Report) (before : Outside) → CarriesOut (compare state n (chain_acceptance report)) before (Err end.NoMemory) before
 lists_lack state n report before = λ final. memory_chosen _ _ _ at_first [] final before refl refl
 
 -- ---- the device's own list

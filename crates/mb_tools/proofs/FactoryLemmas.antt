@@ -4,12 +4,12 @@ use Rattle.mb_model.specs.declared.key.PublicKey.{PublicKey}
 use Rattle.mb_model.specs.declared.tools.Keyfile.{Keyfile}
 use Rattle.mb_model.specs.declared.role.Role.TheVariants as role
 use Rattle.mb_model.specs.KeyFormat.{keyfile_format}
-use Rattle.mb_model.specs.SignedOrders.{used_once}
+use Rattle.mb_model.specs.SignedOrders.{keyfile_after_use}
 use Rattle.mb_model.specs.Factory.{IsFactoryImage}
 use Rattle.mb_model.specs.Outside.{Outside}
 use Rattle.mb_model.specs.Commands.{Output, print, at_first}
 use Rattle.mb_model.specs.Inputs.{code_input}
-use Rattle.mb_model.specs.FactoryCommand.{FactoryNames, serial_text, write_device, make_device, factory_owned}
+use Rattle.mb_model.specs.FactoryCommand.{FactoryNames, serial_text, write_device, make_device, factory_with_owner}
 use Rattle.mb_officer.specs.declared.signing.SignEnd.{SignEnd}
 use Rattle.mb_officer.specs.declared.signing.SignEnd.TheVariants as sign
 use Rattle.mb_console.specs.declared.end.End.{End}
@@ -25,7 +25,7 @@ outputs_of names file image =
 
 -- the used key and the image were written, and the serial was told
 pub device_written : (names : FactoryNames) (noise : List ℕ) (before key : Keyfile) (image file bytes text : List ℕ) (outside now : Outside) (result : Result (Unit {0}) End)
-    → key ≡ used_once before → file ≡ keyfile_format.spelling key → bytes ≡ image → text ≡ serial_text noise
+    → key ≡ keyfile_after_use before → file ≡ keyfile_format.spelling key → bytes ≡ image → text ≡ serial_text noise
     → CarriesOutAfter (writes (outputs_of names file bytes) (print text)) outside result now
     → CarriesOut (write_device names noise before image) outside result now
 unfolding writes write_device
@@ -63,19 +63,19 @@ key_lacks names noise key owner code outside = λ final. memory_chosen _ _ _ at_
 -- ---- with code that was read
 
 pub device_made : (names : FactoryNames) (noise : List ℕ) (key used : Keyfile) (owner : PublicKey) (code image : List ℕ) (before mid now : Outside) (result : Result (Unit {0}) End)
-    → HasInput (code_input names.code) before mid code → used ≡ used_once key → IsFactoryImage key.seed key.next owner code noise image → (key.next ≡ 32 → ⊥)
-    → ((old : Keyfile) → used ≡ used_once old → CarriesOut (write_device names noise old image) mid result now)
-    → CarriesOut (factory_owned names noise key owner) before result now
+    → HasInput (code_input names.code) before mid code → used ≡ keyfile_after_use key → IsFactoryImage key.seed key.next owner code noise image → (key.next ≡ 32 → ⊥)
+    → ((old : Keyfile) → used ≡ keyfile_after_use old → CarriesOut (write_device names noise old image) mid result now)
+    → CarriesOut (factory_with_owner names noise key owner) before result now
 device_made names noise key used owner code image before mid now result has is_used made left carried = λ final.
     read_on (code_input names.code) (make_device names noise key owner) at_first [] final before mid now code result has
     (key_makes names noise key owner code image mid now result left made (carried key is_used) final)
 
 -- the device was not made
 pub device_not_made : (names : FactoryNames) (noise : List ℕ) (key : Keyfile) (owner : PublicKey) (code : List ℕ) (before mid : Outside) (cause : SignEnd) (why : End) → HasInput (code_input names.code) before mid code
-    → (cause ≡ sign.Spent → key.next ≡ 32) → (cause ≡ sign.NotCountersignable → ⊥) → TellsUnsigned cause why → CarriesOut (factory_owned names noise key owner) before (Err why) mid
+    → (cause ≡ sign.Spent → key.next ≡ 32) → (cause ≡ sign.NotCountersignable → ⊥) → TellsUnsigned cause why → CarriesOut (factory_with_owner names noise key owner) before (Err why) mid
 device_not_made names noise key owner code before mid sign.Spent why has spent never tells = λ final.
     read_on (code_input names.code) (make_device names noise key owner) at_first [] final before mid mid code _ has (key_is_spent names noise key owner code mid why (spent refl) tells final)
 device_not_made names noise key owner code before mid sign.NotCountersignable why has spent never tells = absurd (never refl)
 device_not_made names noise key owner code before mid sign.NoMemory why has spent never tells = λ final.
-    subst (λ w. CarriesOutRest (factory_owned names noise key owner) at_first [] final before (Err w) mid) (sym tells) (
+    subst (λ w. CarriesOutRest (factory_with_owner names noise key owner) at_first [] final before (Err w) mid) (sym tells) (
     read_on (code_input names.code) (make_device names noise key owner) at_first [] final before mid mid code _ has (key_lacks names noise key owner code mid final))

@@ -6,7 +6,7 @@ use Rattle.mb_model.specs.Outside.{Outside, read_once}
 use Rattle.mb_model.specs.Faults.{Fault}
 use Rattle.mb_model.specs.Migration.{CannotMigrate}
 use Rattle.mb_model.specs.Commands.{HasRead, print, at_first}
-use Rattle.mb_model.specs.MigrateCommand.{MigrateNames, old_image_input, migrated_text, write_migrated, migrate}
+use Rattle.mb_model.specs.MigrateCommand.{MigrateNames, old_image_input, migrated_text, write_migrated_image, migrate}
 use Rattle.mb_console.specs.declared.end.End.{End}
 use Rattle.mb_console.specs.Ending.{HasInput, StopsAt, CarriesOutAfter, CarriesOut}
 use Rattle.mb_tools.specs.Images.{TellsFault}
@@ -25,15 +25,15 @@ old_image_stops name bytes before now None why read now_is none tells =
 -- the image was written, and its hash was told
 pub image_written : (names : MigrateNames) (image text : List ℕ) (before now : Outside) (result : Result (Unit {0}) End) → text ≡ migrated_text image
     → CarriesOutAfter (writes (record { role = role.Out; name = names.out; bytes = image } ∷ []) (print text)) before result now
-    → CarriesOut (write_migrated names image) before result now
+    → CarriesOut (write_migrated_image names image) before result now
 unfolding writes
 image_written names image text before now result is carried = λ final.
     (subst (λ t. CarriesOutAfter (writes (record { role = role.Out; name = names.out; bytes = image } ∷ []) (print t)) before result now) is carried) at_first final
 
 -- the image that was made was written
 pub migrated_carried_out : (names : MigrateNames) (image written : List ℕ) (before mid now : Outside) (result : Result (Unit {0}) End) → written ≡ image
-    → HasInput (old_image_input names.image) before mid image → CarriesOut (write_migrated names written) mid result now → CarriesOut (migrate names) before result now
+    → HasInput (old_image_input names.image) before mid image → CarriesOut (write_migrated_image names written) mid result now → CarriesOut (migrate names) before result now
 unfolding migrate
 migrated_carried_out names image written before mid now result is read carried = λ final.
-    read_on (old_image_input names.image) (write_migrated names) at_first [] final before mid now image result read
-    ((subst (λ i. CarriesOut (write_migrated names i) mid result now) is carried) final)
+    read_on (old_image_input names.image) (write_migrated_image names) at_first [] final before mid now image result read
+    ((subst (λ i. CarriesOut (write_migrated_image names i) mid result now) is carried) final)

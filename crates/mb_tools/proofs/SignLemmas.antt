@@ -4,9 +4,9 @@ use Rattle.mb_model.specs.declared.order.Order.{Order}
 use Rattle.mb_model.specs.declared.tools.Keyfile.{Keyfile}
 use Rattle.mb_model.specs.declared.role.Role.TheVariants as role
 use Rattle.mb_model.specs.KeyFormat.{keyfile_format}
-use Rattle.mb_model.specs.Texts.{ended}
+use Rattle.mb_model.specs.Texts.{line_with_lf}
 use Rattle.mb_model.specs.OrderLines.{order_line}
-use Rattle.mb_model.specs.SignedOrders.{used_once, signed_order, countersigned_order, IsCountersignable}
+use Rattle.mb_model.specs.SignedOrders.{keyfile_after_use, signed_order, countersigned_order, IsCountersignable}
 use Rattle.mb_model.specs.Outside.{Outside}
 use Rattle.mb_model.specs.Commands.{Output, print, at_first}
 use Rattle.mb_model.specs.Inputs.{draft_input, order_input}
@@ -26,12 +26,12 @@ outputs_of key_name out_name file line =
 
 -- the used key and the signed order were written, and the index was told
 pub index_used : (key_name out_name : List ℕ) (before key : Keyfile) (order : Order) (index : ℕ) (file line text : List ℕ) (outside now : Outside) (result : Result (Unit {0}) End)
-    → key ≡ used_once before → index ≡ before.next → file ≡ keyfile_format.spelling key → line ≡ ended (order_line order) → text ≡ index_text index
+    → key ≡ keyfile_after_use before → index ≡ before.next → file ≡ keyfile_format.spelling key → line ≡ line_with_lf (order_line order) → text ≡ index_text index
     → CarriesOutAfter (writes (outputs_of key_name out_name file line) (print text)) outside result now
     → CarriesOut (use_index key_name out_name before order) outside result now
 unfolding writes use_index
 index_used key_name out_name before key order index file line text outside now result is_key is_index is_file is_line is_text carried = λ final.
-    (subst (λ f. CarriesOutAfter (writes (outputs_of key_name out_name f (ended (order_line order))) (print (index_text before.next))) outside result now) (is_file ∙ ap keyfile_format.spelling is_key)
+    (subst (λ f. CarriesOutAfter (writes (outputs_of key_name out_name f (line_with_lf (order_line order))) (print (index_text before.next))) outside result now) (is_file ∙ ap keyfile_format.spelling is_key)
     (subst (λ l. CarriesOutAfter (writes (outputs_of key_name out_name file l) (print (index_text before.next))) outside result now) is_line
     (subst (λ t. CarriesOutAfter (writes (outputs_of key_name out_name file line) (print t)) outside result now) (is_text ∙ ap index_text is_index) carried))) at_first final
 
@@ -80,8 +80,8 @@ pub never_both : {E : Type 0} {e : E} (index : ℕ) → IsErrOf (Ok index) e →
 never_both index is = cc
 
 pub draft_signed : (names : SignNames) (key used : Keyfile) (drafted signed : Order) (index : ℕ) (before mid now : Outside) (result : Result (Unit {0}) End)
-    → HasInput (draft_input names.draft) before mid drafted → index ≡ key.next → used ≡ used_once key → signed ≡ signed_order key drafted → (key.next ≡ 32 → ⊥)
-    → ((old : Keyfile) → used ≡ used_once old → index ≡ old.next → CarriesOut (use_index names.key names.out old signed) mid result now)
+    → HasInput (draft_input names.draft) before mid drafted → index ≡ key.next → used ≡ keyfile_after_use key → signed ≡ signed_order key drafted → (key.next ≡ 32 → ⊥)
+    → ((old : Keyfile) → used ≡ keyfile_after_use old → index ≡ old.next → CarriesOut (use_index names.key names.out old signed) mid result now)
     → CarriesOut (sign_draft names key) before result now
 draft_signed names key used drafted signed index before mid now result has is_index is_used is_signed left carried = λ final.
     read_on (draft_input names.draft) (λ order. sign_by names.key names.out key (signed_order key order)) at_first [] final before mid now drafted result has
@@ -89,9 +89,9 @@ draft_signed names key used drafted signed index before mid now result has is_in
     (subst (λ o. CarriesOut (use_index names.key names.out key o) mid result now) is_signed (carried key is_used is_index)) final)
 
 pub order_countersigned : (names : CountersignNames) (key used : Keyfile) (found signed : Order) (index : ℕ) (before mid now : Outside) (result : Result (Unit {0}) End)
-    → HasInput (order_input names.order) before mid found → index ≡ key.next → used ≡ used_once key → signed ≡ countersigned_order key names.layer found
+    → HasInput (order_input names.order) before mid found → index ≡ key.next → used ≡ keyfile_after_use key → signed ≡ countersigned_order key names.layer found
     → ((IsCountersignable found names.layer → ⊥) → ⊥) → (key.next ≡ 32 → ⊥)
-    → ((old : Keyfile) → used ≡ used_once old → index ≡ old.next → CarriesOut (use_index names.key names.out old signed) mid result now)
+    → ((old : Keyfile) → used ≡ keyfile_after_use old → index ≡ old.next → CarriesOut (use_index names.key names.out old signed) mid result now)
     → CarriesOut (countersign_order names key) before result now
 order_countersigned names key used found signed index before mid now result has is_index is_used is_signed can left carried = λ final.
     read_on (order_input names.order) (countersign_by names key) at_first [] final before mid now found result has

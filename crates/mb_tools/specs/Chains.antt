@@ -2,11 +2,11 @@
 -- number, and at its own place?
 use Rattle.std.specs.Prelude.{◌≡◌, Option, Some, None}
 use Rattle.mb_model.specs.Acceptance.{ChainRefusal}
-use Rattle.mb_model.specs.VerifyCommand.{refused_line}
+use Rattle.mb_model.specs.VerifyCommand.{chain_refusal_line}
 use Rattle.mb_console.specs.declared.end.End.{End}
 use Rattle.mb_console.specs.declared.end.End.TheVariants as end
 use Rattle.mb_console.specs.Ending.{RefusesWith}
 
 abbrev pub TellsRefusal : Option ChainRefusal → End → Type 0
-TellsRefusal (Some reason) why = RefusesWith (refused_line reason) why
+TellsRefusal (Some reason) why = RefusesWith (chain_refusal_line reason) why
 TellsRefusal None why = why ≡ end.NoMemory

@@ -3,7 +3,7 @@
 ghost use Rattle.std.specs.Prelude.{◌≡◌, ◌≤◌, ◌↔◌, length, IfOk, IsTrue, Some, map};
 ghost use Rattle.mb_model.specs.declared.limits.TheConstants.{FILE_LIMIT};
 ghost use Rattle.mb_model.specs.Valid.{Valid, IsValidState};
-ghost use Rattle.mb_model.specs.Acceptance.{accepting};
+ghost use Rattle.mb_model.specs.Acceptance.{chain_acceptance};
 ghost use Rattle.mb_model.specs.AuditCommand.{audit, audit_device, audit_under, audit_chain, compare, own_lives};
 ghost use Rattle.mb_model_memory.specs.Storable.{Storable, IsStorableState};
 ghost use Rattle.mb_tools.specs.Names.{audit_files, audit_given};
@@ -124,7 +124,7 @@ fn compare<H: Host>(
 ) -> Result<(), End>
     requires valid { IsValidState state.now }
     requires stored { IsStorableState state.now }
-    ensures { CarriesOut (compare state.now key (accepting report.now)) (H.outside host.old) result (H.outside host.new) }
+    ensures { CarriesOut (compare state.now key (chain_acceptance report.now)) (H.outside host.old) result (H.outside host.new) }
 {
     let Ok(own) = own_lives(alloc, state, report.entries, key) else {
         return Err(End::NoMemory);

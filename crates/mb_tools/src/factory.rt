@@ -2,8 +2,8 @@
 
 ghost use Rattle.std.specs.Prelude.{◌≡◌, IfOk, string_bytes, map};
 ghost use Rattle.mb_model.specs.declared.tools.Keyfile.{Keyfile};
-ghost use Rattle.mb_model.specs.SignedOrders.{used_once};
-ghost use Rattle.mb_model.specs.FactoryCommand.{factory, factory_drawn, factory_keyed, factory_owned, write_device, serial_text};
+ghost use Rattle.mb_model.specs.SignedOrders.{keyfile_after_use};
+ghost use Rattle.mb_model.specs.FactoryCommand.{factory, factory_with_noise, factory_with_key, factory_with_owner, write_device, serial_text};
 ghost use Rattle.mb_tools.specs.Names.{factory_files, factory_given};
 ghost use Rattle.mb_console.specs.Words.{given_argument};
 ghost use Rattle.mb_console.specs.Ending.{CarriesOut};
@@ -66,7 +66,7 @@ fn factory_drawn<H: Host, L: Ledger>(
     host: &mut H,
     hashes: &mut HashCount<L>,
 ) -> Result<(), End>
-    ensures { CarriesOut (factory_drawn (factory_files names.now) noise.now) (H.outside host.old) result (H.outside host.new) }
+    ensures { CarriesOut (factory_with_noise (factory_files names.now) noise.now) (H.outside host.old) result (H.outside host.new) }
 {
     let key = read_as(alloc, host, Role::Key, names.key, KeyForm)?;
     factory_keyed(alloc, names, noise, key, host, hashes)
@@ -81,7 +81,7 @@ fn factory_keyed<H: Host, L: Ledger>(
     host: &mut H,
     hashes: &mut HashCount<L>,
 ) -> Result<(), End>
-    ensures { CarriesOut (factory_keyed (factory_files names.now) noise.now key) (H.outside host.old) result (H.outside host.new) }
+    ensures { CarriesOut (factory_with_key (factory_files names.now) noise.now key) (H.outside host.old) result (H.outside host.new) }
 {
     let owner = read_as(alloc, host, Role::Owner, names.owner, PublicKeyForm)?;
     factory_owned(alloc, names, noise, key, &owner, host, hashes)
@@ -97,7 +97,7 @@ fn factory_owned<H: Host, L: Ledger>(
     host: &mut H,
     hashes: &mut HashCount<L>,
 ) -> Result<(), End>
-    ensures { CarriesOut (factory_owned (factory_files names.now) noise.now key owner.now) (H.outside host.old) result (H.outside host.new) }
+    ensures { CarriesOut (factory_with_owner (factory_files names.now) noise.now key owner.now) (H.outside host.old) result (H.outside host.new) }
 {
     let code = read_as(alloc, host, Role::Code, names.code, CodeForm)?;
     match make_image(alloc, &mut key, owner, &code, noise, hashes) {
@@ -116,7 +116,7 @@ fn write_device<H: Host>(
     image: Vec<u8>,
     host: &mut H,
 ) -> Result<(), End>
-    ensures { (before : Keyfile) → key.now ≡ used_once before
+    ensures { (before : Keyfile) → key.now ≡ keyfile_after_use before
         → CarriesOut (write_device (factory_files names.now) noise.now before image.items) (H.outside host.old) result (H.outside host.new) }
 {
     let Ok(text) = serial_text(alloc, noise) else {

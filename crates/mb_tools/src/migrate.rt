@@ -1,7 +1,7 @@
 //! The command `migrate`.
 
 ghost use Rattle.std.specs.Prelude.{◌≡◌, IfOk, string_bytes, map};
-ghost use Rattle.mb_model.specs.MigrateCommand.{migrate, write_migrated, migrated_text};
+ghost use Rattle.mb_model.specs.MigrateCommand.{migrate, write_migrated_image, migrated_text};
 ghost use Rattle.mb_tools.specs.Names.{migrate_files, migrate_given};
 ghost use Rattle.mb_console.specs.Words.{given_argument};
 ghost use Rattle.mb_console.specs.Ending.{CarriesOut};
@@ -55,7 +55,7 @@ fn write_migrated<H: Host>(
     image: &[u8],
     host: &mut H,
 ) -> Result<(), End>
-    ensures { CarriesOut (write_migrated (migrate_files names.now) image.now) (H.outside host.old) result (H.outside host.new) }
+    ensures { CarriesOut (write_migrated_image (migrate_files names.now) image.now) (H.outside host.old) result (H.outside host.new) }
 {
     let Ok(text) = migrated_text(alloc, image) else {
         return Err(End::NoMemory);

@@ -4,7 +4,7 @@ ghost use Rattle.std.specs.Prelude.{◌≡◌, IfOk, IsTrue, string_bytes, map};
 ghost use Rattle.mb_model.specs.declared.tools.Keyfile.{Keyfile};
 ghost use Rattle.mb_model.specs.Layers.{is_upper};
 ghost use Rattle.mb_model.specs.OrderFormat.{order_format};
-ghost use Rattle.mb_model.specs.SignedOrders.{used_once};
+ghost use Rattle.mb_model.specs.SignedOrders.{keyfile_after_use};
 ghost use Rattle.mb_model.specs.Sign.{sign, sign_draft, countersign, countersign_order, use_index, index_text};
 ghost use Rattle.mb_tools.specs.Names.{sign_files, sign_given, countersign_files, countersign_given};
 ghost use Rattle.mb_console.specs.Words.{given_argument};
@@ -168,7 +168,7 @@ fn write_signed<H: Host>(
     host: &mut H,
 ) -> Result<(), End>
     requires spelled { order_format.Allowed order.now }
-    ensures { (before : Keyfile) → key.now ≡ used_once before → index ≡ before.next
+    ensures { (before : Keyfile) → key.now ≡ keyfile_after_use before → index ≡ before.next
         → CarriesOut (use_index names.entry.key.now names.entry.out.now before order.now) (H.outside host.old) result (H.outside host.new) }
 {
     let Ok(line) = write_order_line(alloc, order) else {

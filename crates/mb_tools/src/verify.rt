@@ -1,7 +1,7 @@
 //! The command `verify`, and the end of a command whose chain is not accepted.
 
 ghost use Rattle.std.specs.Prelude.{◌≡◌, map};
-ghost use Rattle.mb_model.specs.Acceptance.{accepting};
+ghost use Rattle.mb_model.specs.Acceptance.{chain_acceptance};
 ghost use Rattle.mb_model.specs.VerifyCommand.{verify, verify_under, tell_verdict};
 ghost use Rattle.mb_verifier.specs.Ends.{chain_refusal_of};
 ghost use Rattle.mb_tools.specs.Names.{verify_files, verify_given};
@@ -64,7 +64,7 @@ fn verify_under<H: Host>(
 
 /// Prints what an accepted chain says of the key with this number.
 fn print_report<H: Host>(alloc: Global, key: u32, report: &Report, host: &mut H) -> Result<(), End>
-    ensures { CarriesOut (tell_verdict key (accepting report.now)) (H.outside host.old) result (H.outside host.new) }
+    ensures { CarriesOut (tell_verdict key (chain_acceptance report.now)) (H.outside host.old) result (H.outside host.new) }
 {
     match write_listing(alloc, key, report) {
         Ok(text) => finish(host, &[], &text),

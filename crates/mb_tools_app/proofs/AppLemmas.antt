@@ -10,7 +10,7 @@ use Rattle.mb_model.specs.Layers.{layer_of, is_upper, Runnable}
 use Rattle.mb_model.specs.LayerFormat.{layer_format}
 use Rattle.mb_model.specs.PublicRecord.{code_format, codes_format}
 use Rattle.mb_model.specs.Valid.{IsValidState, IsNamed}
-use Rattle.mb_model.specs.Texts.{ended}
+use Rattle.mb_model.specs.Texts.{line_with_lf}
 use Rattle.mb_model.specs.Outside.{Outside}
 use Rattle.mb_model.specs.Commands.{CommandEnds, print, refuse, at_first}
 use Rattle.mb_model_lemmas.proofs.RegionLemmas.{at_upper}
@@ -91,14 +91,14 @@ run_lacks names state input before runs = λ final.
 
 -- ---- what is told
 
-pub line_printed : (line text : List ℕ) (before now : Outside) (result : Result (Unit {0}) End) → text ≡ ended line
-    → CarriesOutAfter (writes [] (print text)) before result now → CarriesOut (print (ended line)) before result now
+pub line_printed : (line text : List ℕ) (before now : Outside) (result : Result (Unit {0}) End) → text ≡ line_with_lf line
+    → CarriesOutAfter (writes [] (print text)) before result now → CarriesOut (print (line_with_lf line)) before result now
 unfolding writes
 line_printed line text before now result is carried = λ final.
     (subst (λ t. CarriesOutAfter (print t) before result now) is carried) at_first final
 
-pub line_lacks : (line : List ℕ) (before : Outside) → CarriesOut (print (ended line)) before (Err end.NoMemory) before
-line_lacks line before = λ final. memory_unprinted (ended line) at_first [] final before refl refl
+pub line_lacks : (line : List ℕ) (before : Outside) → CarriesOut (print (line_with_lf line)) before (Err end.NoMemory) before
+line_lacks line before = λ final. memory_unprinted (line_with_lf line) at_first [] final before refl refl
 
 pub line_refused : (line long : List ℕ) (before : Outside) → long ≡ line → CarriesOut (refuse line) before (Err (end.RefusedAtLength long)) before
 line_refused line long before is = λ final.

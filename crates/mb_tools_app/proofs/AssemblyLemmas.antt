@@ -5,7 +5,7 @@ use Rattle.std.proofs.lemmas.List.Elements.{All-head, All-tail}
 use Rattle.std.proofs.lemmas.List.Concat.{flat_map-cons}
 use Rattle.std.proofs.lemmas.List.Sums.{sum_by-cons, sum_by-append}
 use Rattle.mb_model.specs.declared.role.Role.TheVariants as role
-use Rattle.mb_model.specs.Texts.{ended}
+use Rattle.mb_model.specs.Texts.{line_with_lf}
 use Rattle.mb_model.specs.Lines.{IsLine, text_of}
 use Rattle.mb_model.specs.Outside.{Outside}
 use Rattle.mb_model.specs.Commands.{Output, print, at_first}
@@ -25,7 +25,7 @@ use Rattle.mb_tools_app.specs.AssemblyCommands.{line_of_count, write_counted}
 abbrev pub out_of : List ℕ → List ℕ → Output
 out_of out bytes = record { role = role.Out; name = out; bytes = bytes }
 
-pub counted : (out bytes word : List ℕ) (count : ℕ) (text : List ℕ) (before now : Outside) (result : Result (Unit {0}) End) → text ≡ ended (line_of_count word count)
+pub counted : (out bytes word : List ℕ) (count : ℕ) (text : List ℕ) (before now : Outside) (result : Result (Unit {0}) End) → text ≡ line_with_lf (line_of_count word count)
     → CarriesOutAfter (writes (out_of out bytes ∷ []) (print text)) before result now → CarriesOut (write_counted out bytes word count) before result now
 unfolding writes
 counted out bytes word count text before now result is carried = λ final.
@@ -47,13 +47,13 @@ none_in_line [] is = refl
 none_in_line (byte ∷ line) is =
     omega (arith, sum_by-cons is_lf byte line, no_lf byte (All-head (λ (b : ℕ). b ≢ 10) byte line is), none_in_line line (All-tail (λ (b : ℕ). b ≢ 10) byte line is))
 
-one_in_ended : (line : List ℕ) → IsLine line → count_by (λ byte. byte == 10) (ended line) ≡ 1
+one_in_ended : (line : List ℕ) → IsLine line → count_by (λ byte. byte == 10) (line_with_lf line) ≡ 1
 one_in_ended line is = omega (arith, sum_by-append is_lf line (10 ∷ []), none_in_line line is, sum_by-cons is_lf 10 [])
 
 lines_counted : (lines : List (List ℕ)) → All IsLine lines → count_by (λ byte. byte == 10) (text_of lines) ≡ length lines
 lines_counted [] are = refl
 lines_counted (line ∷ lines) are =
-    omega (arith, ap (count_by (λ (byte : ℕ). byte == 10)) (flat_map-cons ended line lines), sum_by-append is_lf (ended line) (text_of lines), one_in_ended line (All-head IsLine line lines are), lines_counted lines (All-tail IsLine line lines are))
+    omega (arith, ap (count_by (λ (byte : ℕ). byte == 10)) (flat_map-cons line_with_lf line lines), sum_by-append is_lf (line_with_lf line) (text_of lines), one_in_ended line (All-head IsLine line lines are), lines_counted lines (All-tail IsLine line lines are))
 
 -- a listing has a line for each instruction
 pub listing_counted : (text : List ℕ) (listed : List Instruction) (count : ℕ) → All instruction_format.Allowed listed → text ≡ text_of (map instruction_line listed)

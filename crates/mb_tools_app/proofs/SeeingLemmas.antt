@@ -7,9 +7,9 @@ use Rattle.mb_model.specs.declared.state.State.{State}
 use Rattle.mb_model.specs.declared.region.Secret.{Secret}
 use Rattle.mb_model.specs.declared.layer.Layers.{Layers}
 use Rattle.mb_model.specs.Layers.{Runnable}
-use Rattle.mb_model.specs.Texts.{ended}
+use Rattle.mb_model.specs.Texts.{line_with_lf}
 use Rattle.mb_model.specs.Outside.{Outside, HasRisen, Prints}
-use Rattle.mb_model.specs.Commands.{Past, Ended, SaysLine, Stops, WantsMemory, PrintEnds, printed, not_printed, CommandEnds, IsFaultless}
+use Rattle.mb_model.specs.Commands.{Past, Ended, SaysLine, Stops, WantsMemory, PrintEnds, text_is_printed, text_is_not_printed, CommandEnds, IsFaultless}
 use Rattle.mb_appvm.specs.declared.running.AppEnd.{AppEnd}
 use Rattle.mb_appvm.specs.declared.running.AppEnd.TheVariants as end
 use Rattle.mb_appvm.specs.Runs.{is_readable, readable_secrets, AppRun}
@@ -60,7 +60,7 @@ ends_same names a b input past e agree (inr (inr wants)) = inr (inr wants)
 
 -- the line was printed whole, and the command ended with the status
 record TellsLine (line : List ℕ) (status : ℕ) (e : Ended) : Type 0 where
-  prints : Prints (ended line) e.before e.after
+  prints : Prints (line_with_lf line) e.before e.after
   status_is : e.status ≡ status
 
 abbrev IsComplete : Ended → Type 0
@@ -77,10 +77,10 @@ refusal_tells line past e well stops = by stops.says
     by (inl prints) = record { prints = prints; status_is = stops.status_is }
     by (inr fails) = absurd (well.write (subst (λ (n : ℕ). HasRisen e.before.write_faults n) (sym (ap (λ (o : Outside). o.write_faults) fails.stays)) (raised_rises e.before.write_faults)))
 
-halt_tells : (line : List ℕ) (past : Past) (e : Ended) → IsComplete e → PrintEnds (ended line) past e → TellsLine line 0 e
-halt_tells line past e complete (printed prints same status) = record { prints = prints; status_is = status }
-halt_tells line past e (inl zero) (not_printed mid fails stops) = absurd (omega (arith, zero, stops.status_is))
-halt_tells line past e (inr seven) (not_printed mid fails stops) = absurd (omega (arith, seven, stops.status_is))
+halt_tells : (line : List ℕ) (past : Past) (e : Ended) → IsComplete e → PrintEnds (line_with_lf line) past e → TellsLine line 0 e
+halt_tells line past e complete (text_is_printed prints same status) = record { prints = prints; status_is = status }
+halt_tells line past e (inl zero) (text_is_not_printed mid fails stops) = absurd (omega (arith, zero, stops.status_is))
+halt_tells line past e (inr seven) (text_is_not_printed mid fails stops) = absurd (omega (arith, seven, stops.status_is))
 
 -- the status with which an end is told
 abbrev status_of : AppEnd → ℕ
@@ -118,14 +118,14 @@ is_told names state input past e well complete (inr (inr wants)) = absurd (never
 some_same : (x y : List ℕ) → Some x ≡ Some y → x ≡ y
 some_same x y e = cc
 
-line_shown : (line text : List ℕ) (status : ℕ) (e : Ended) → TellsLine line status e → ShowsPrinted e text → text ≡ ended line
+line_shown : (line text : List ℕ) (status : ℕ) (e : Ended) → TellsLine line status e → ShowsPrinted e text → text ≡ line_with_lf line
 line_shown line text status e tells shows =
-    append_cancel_left shows.shown text (ended line) (some_same _ _ (sym shows.after ∙ tells.prints.adds shows.shown shows.before))
+    append_cancel_left shows.shown text (line_with_lf line) (some_same _ _ (sym shows.after ∙ tells.prints.adds shows.shown shows.before))
 
 shown_same : (first second : List ℕ) (m n : ℕ) (e f : Ended) (text line : List ℕ) → first ≡ second → m ≡ n → TellsLine first m e → TellsLine second n f
     → ShowsPrinted e text → ShowsPrinted f line → (text ≡ line) × (e.status ≡ f.status)
 shown_same first second m n e f text line same equal tells other shows also =
-    (line_shown first text m e tells shows ∙ ap ended same ∙ sym (line_shown second line n f other also), tells.status_is ∙ equal ∙ sym other.status_is)
+    (line_shown first text m e tells shows ∙ ap line_with_lf same ∙ sym (line_shown second line n f other also), tells.status_is ∙ equal ∙ sym other.status_is)
 
 endings_same : (layer : ℕ) (a b : State) (input : List ℕ) (steps : ℕ) (first second : AppEnd) → AgreeFor layer a b
     → ((code : List ℕ) → code_of_layer a.codes layer ≡ Some code → IsBytes code) → RunsStoredCode a layer input steps first → RunsStoredCode b layer input steps second

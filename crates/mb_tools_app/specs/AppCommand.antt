@@ -3,8 +3,8 @@ use Rattle.std.specs.Prelude.{◌≡◌, ℕ, ◌==◌, List, [], ◌∷◌, cod
 use Rattle.std.specs.Fmt.{decimal}
 use Rattle.mb_model.specs.declared.state.Codes.{Codes}
 use Rattle.mb_model.specs.declared.state.State.{State}
-use Rattle.mb_model.specs.Texts.{ended}
-use Rattle.mb_model.specs.Lines.{spaced, hex_word}
+use Rattle.mb_model.specs.Texts.{line_with_lf}
+use Rattle.mb_model.specs.Lines.{spaced_words, hex_word}
 use Rattle.mb_model.specs.Layers.{Runnable}
 use Rattle.mb_model.specs.Commands.{Command, read, find, either_command, print, refuse}
 use Rattle.mb_model.specs.Inputs.{image_input}
@@ -34,14 +34,14 @@ pub record RunsStoredCode (state : State) (layer : ℕ) (input : List ℕ) (step
 
 -- the line that tells how a run ends
 abbrev pub app_line : AppEnd → List ℕ
-app_line (end.Halted steps output) = spaced (codes "halted" ∷ decimal steps ∷ hex_word output ∷ [])
+app_line (end.Halted steps output) = spaced_words (codes "halted" ∷ decimal steps ∷ hex_word output ∷ [])
 app_line (end.Trap cause place output) =
-    spaced (codes "trap" ∷ decimal (trap_number cause) ∷ decimal place ∷ hex_word output ∷ [])
-app_line (end.OutOfSteps output) = spaced (codes "out of steps" ∷ hex_word output ∷ [])
+    spaced_words (codes "trap" ∷ decimal (trap_number cause) ∷ decimal place ∷ hex_word output ∷ [])
+app_line (end.OutOfSteps output) = spaced_words (codes "out of steps" ∷ hex_word output ∷ [])
 
 -- the line is printed where the run has halted; any other end is a refusal
 abbrev pub tell_end : AppEnd → Command
-tell_end (end.Halted steps output) = print (ended (app_line (end.Halted steps output)))
+tell_end (end.Halted steps output) = print (line_with_lf (app_line (end.Halted steps output)))
 tell_end (end.Trap cause place output) = refuse (app_line (end.Trap cause place output))
 tell_end (end.OutOfSteps output) = refuse (app_line (end.OutOfSteps output))
 

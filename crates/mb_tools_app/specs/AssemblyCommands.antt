@@ -2,8 +2,8 @@
 use Rattle.std.specs.Prelude.{ℕ, List, [], ◌∷◌, length, map, codes}
 use Rattle.std.specs.Fmt.{decimal}
 use Rattle.mb_model.specs.declared.role.Role.TheVariants as role
-use Rattle.mb_model.specs.Texts.{ended}
-use Rattle.mb_model.specs.Lines.{spaced, text_of}
+use Rattle.mb_model.specs.Texts.{line_with_lf}
+use Rattle.mb_model.specs.Lines.{spaced_words, text_of}
 use Rattle.mb_model.specs.Commands.{Command, read, write, print}
 use Rattle.mb_appvm.specs.declared.instruction.Instruction.{Instruction}
 use Rattle.mb_appvm.specs.Listing.{instruction_line}
@@ -21,12 +21,12 @@ pub record DisasmNames : Type 0 where
 
 -- the line that tells how many of something there are
 abbrev pub line_of_count : List ℕ → ℕ → List ℕ
-line_of_count word count = spaced (word ∷ decimal count ∷ [])
+line_of_count word count = spaced_words (word ∷ decimal count ∷ [])
 
 -- the bytes are written, and a count is told
 abbrev pub write_counted : List ℕ → List ℕ → List ℕ → ℕ → Command
 write_counted out bytes word count =
-    write (record { role = role.Out; name = out; bytes = bytes }) (print (ended (line_of_count word count)))
+    write (record { role = role.Out; name = out; bytes = bytes }) (print (line_with_lf (line_of_count word count)))
 
 -- the code of a text is written, and how many bytes it has is told
 abbrev pub write_code : AsmNames → List ℕ → Command

@@ -2,7 +2,7 @@
 
 ghost use Rattle.std.specs.Prelude.{◌≡◌, ◌≤◌, length, map, IfOk, IsTrue, IsSome, Some, string_bytes};
 ghost use Rattle.mb_model.specs.declared.limits.TheConstants.{FILE_LIMIT};
-ghost use Rattle.mb_model.specs.Texts.{ended};
+ghost use Rattle.mb_model.specs.Texts.{line_with_lf};
 ghost use Rattle.mb_model.specs.Layers.{is_upper, Runnable};
 ghost use Rattle.mb_model.specs.Outside.{Outside};
 ghost use Rattle.mb_model.specs.Commands.{print, refuse};
@@ -187,7 +187,7 @@ fn app_line(alloc: Global, ending: &AppEnd) -> Result<String, NoMemory>
 
 /// Prints a line of any length.
 fn print_line<H: Host>(mut line: String, host: &mut H) -> Result<(), End>
-    ensures { CarriesOut (print (ended (string_bytes line))) (H.outside host.old) result (H.outside host.new) }
+    ensures { CarriesOut (print (line_with_lf (string_bytes line))) (H.outside host.old) result (H.outside host.new) }
 {
     match line.push('\n') {
         Ok(()) => finish(host, &[], line.as_bytes()),

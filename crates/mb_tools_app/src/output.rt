@@ -1,7 +1,7 @@
 //! The output of `asm` and of `disasm`, and the line that tells how much was written.
 
 ghost use Rattle.std.specs.Prelude.{◌≡◌, IfOk, string_bytes};
-ghost use Rattle.mb_model.specs.Texts.{ended};
+ghost use Rattle.mb_model.specs.Texts.{line_with_lf};
 ghost use Rattle.mb_console.specs.Ending.{CarriesOut};
 ghost use Rattle.mb_tools_app.specs.AssemblyCommands.{line_of_count, write_counted};
 
@@ -34,7 +34,7 @@ pub(crate) fn write_counted<H: Host>(
 
 /// The line of a count after a word, with its LF.
 fn count_text(alloc: Global, word: &str, count: usize) -> Result<String, NoMemory>
-    ensures { IfOk result (λ text. string_bytes text ≡ ended (line_of_count word.now count)) }
+    ensures { IfOk result (λ text. string_bytes text ≡ line_with_lf (line_of_count word.now count)) }
 {
     Ok(format!(in alloc; "{word} {count}\n")?)
 }

@@ -8,7 +8,7 @@ use Rattle.mb_model.specs.declared.event.Event.TheVariants as event
 use Rattle.mb_model.specs.declared.event.Answered.{Answered}
 use Rattle.mb_model.specs.declared.state.State.{State}
 use Rattle.mb_model.specs.Board.{Held, IsLoaded, image_of}
-use Rattle.mb_model.specs.Machine.{opening}
+use Rattle.mb_model.specs.Machine.{opening_world}
 use Rattle.mb_model.specs.RunCommand.{IsServed}
 use Rattle.mb_model.specs.Script.{with_before, drawn_event, drawn_events, Drawn}
 use Rattle.mb_model_lemmas.proofs.DrawLemmas.{drawn-length}
@@ -75,10 +75,10 @@ pub is_rehearsed : (state : Option State) (count : ℕ) (cut : CutRun) (list : L
 is_rehearsed state count cut list held can served = record {
   served = served;
   whole = λ found.
-      let run = run_is_machine (opening state) list served.last refl (all_plain list cut.first served.all can.uncut (all_found list found)) served.run in (
+      let run = run_is_machine (opening_world state) list served.last refl (all_plain list cut.first served.all can.uncut (all_found list found)) served.run in (
         served.last.state,
         record { world = served.last; shown = served.shown; is = refl },
-        record { last = served.last; run = subst (λ events. MachineRun (opening state) events served.last) served.all run; state = refl },
+        record { last = served.last; run = subst (λ events. MachineRun (opening_world state) events served.last) served.all run; state = refl },
       );
 }
 
@@ -87,13 +87,13 @@ pub is_cut_served : (state : Option State) (count : ℕ) (cut : CutRun) (list : 
 is_cut_served state count cut list final can served = record {
   served = served;
   counts = λ found stopped.
-      let short = cut_short (opening state) cut.first count cut.tear cut.last list served.last refl can.uncut can.last served.all (all_found list found) served.run in
+      let short = cut_short (opening_world state) cut.first count cut.tear cut.last list served.last refl can.uncut can.last served.all (all_found list found) served.run in
       let same = third_same short.front stopped.before short.that short.boot short.off stopped.last stopped.boot stopped.off (sym short.split ∙ stopped.split) in
       let counted = short.counts (ap (λ (a : Answered). a.reply) same ∙ stopped.stopped) in (
         short.mid.state,
         counted.1.state,
         record { last = short.mid; run = short.run; state = refl },
-        record { last = counted.1; run = one_more (opening state) short.mid counted.1 cut.first cut.last counted.0 short.run counted.2; state = refl },
+        record { last = counted.1; run = one_more (opening_world state) short.mid counted.1 cut.first cut.last counted.0 short.run counted.2; state = refl },
         elim counted.3 [
           | inl before ↦ inl (record { world = served.last; shown = served.shown; is = before })
           | inr after ↦ inr (record { world = served.last; shown = served.shown; is = after })

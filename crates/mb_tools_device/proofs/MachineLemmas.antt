@@ -12,8 +12,8 @@ use Rattle.mb_model.specs.declared.reply.Refusal.{Refusal}
 use Rattle.mb_model.specs.declared.reply.Refusal.TheVariants.{WrongPhase, WrongLayer}
 use Rattle.mb_model.specs.declared.state.State.{State}
 use Rattle.mb_model.specs.Layers.{is_runnable}
-use Rattle.mb_model.specs.Refusals.{refused}
-use Rattle.mb_model.specs.Machine.{Phase, off, dead, ratchet, World, Told, Machine, Step, answered, lacks_memory, loses_power, Run, boot_event, awake_in, status_event, go_event, region_event, CommandStep}
+use Rattle.mb_model.specs.Refusals.{refusal_reply}
+use Rattle.mb_model.specs.Machine.{Phase, off, dead, ratchet, World, Told, Machine, Step, machine_step, lacks_memory, loses_power, Run, boot_event, running_state_in, status_event, go_event, region_event, CommandStep}
 use Rattle.mb_model.specs.LayerEvents.{Outcome, put_event, get_event, drop_event, sign_event}
 use Rattle.mb_model_lemmas.proofs.LineLemmas.{cons_same}
 use Rattle.mb_model_lemmas.proofs.RefusalLemmas.{machine_is_whole}
@@ -43,12 +43,12 @@ status_disarmed world (Err refusal) = refl
 
 go_disarmed : (world : World) (on : Result (ℕ × State) Refusal) → told_disarmed (go_event world on) ≡ go_event (disarmed world) on
 go_disarmed world (Ok on) =
-    chosen (nat_lt 2 on.0) (refused WrongPhase, world)
-    (if is_runnable on.1.layers (on.0 + 1) then (reply.At (on.0 + 1), record world { phase = ratchet (on.0 + 1) }) else (refused WrongLayer, world))
-    (refused WrongPhase, disarmed world)
-    (if is_runnable on.1.layers (on.0 + 1) then (reply.At (on.0 + 1), record (disarmed world) { phase = ratchet (on.0 + 1) }) else (refused WrongLayer, disarmed world)) refl
-    (chosen (is_runnable on.1.layers (on.0 + 1)) (reply.At (on.0 + 1), record world { phase = ratchet (on.0 + 1) }) (refused WrongLayer, world)
-    (reply.At (on.0 + 1), record (disarmed world) { phase = ratchet (on.0 + 1) }) (refused WrongLayer, disarmed world) refl refl)
+    chosen (nat_lt 2 on.0) (refusal_reply WrongPhase, world)
+    (if is_runnable on.1.layers (on.0 + 1) then (reply.At (on.0 + 1), record world { phase = ratchet (on.0 + 1) }) else (refusal_reply WrongLayer, world))
+    (refusal_reply WrongPhase, disarmed world)
+    (if is_runnable on.1.layers (on.0 + 1) then (reply.At (on.0 + 1), record (disarmed world) { phase = ratchet (on.0 + 1) }) else (refusal_reply WrongLayer, disarmed world)) refl
+    (chosen (is_runnable on.1.layers (on.0 + 1)) (reply.At (on.0 + 1), record world { phase = ratchet (on.0 + 1) }) (refusal_reply WrongLayer, world)
+    (reply.At (on.0 + 1), record (disarmed world) { phase = ratchet (on.0 + 1) }) (refusal_reply WrongLayer, disarmed world) refl refl)
 go_disarmed world (Err refusal) = refl
 
 region_disarmed : (world : World) (L : ℕ) (does : State → Outcome) (on : Result (ℕ × State) Refusal) → told_disarmed (region_event world L does on) ≡ region_event (disarmed world) L does on
@@ -65,14 +65,14 @@ pub machine_disarmed : (world : World) (e : Event) (answer : Reply) (next : Worl
 machine_disarmed world event.Boot answer next uncut m = ap told_disarmed m ∙ boot_disarmed world world.phase world.state
 machine_disarmed world event.Off answer next uncut m = (m.0, ap disarmed m.1)
 machine_disarmed world event.Tamper answer next uncut m = (m.0, ap disarmed m.1)
-machine_disarmed world event.Status answer next uncut m = ap told_disarmed m ∙ status_disarmed world (awake_in world)
-machine_disarmed world event.Go answer next uncut m = ap told_disarmed m ∙ go_disarmed world (awake_in world)
+machine_disarmed world event.Status answer next uncut m = ap told_disarmed m ∙ status_disarmed world (running_state_in world)
+machine_disarmed world event.Go answer next uncut m = ap told_disarmed m ∙ go_disarmed world (running_state_in world)
 machine_disarmed world (event.Cut count tear) answer next uncut m = absurd (let no : true ≡ false = uncut in cc)
-machine_disarmed world (event.Command text draw) answer next uncut m = command_disarmed world text draw (awake_in world) answer next m
-machine_disarmed world (event.Put L name value) answer next uncut m = ap told_disarmed m ∙ region_disarmed world L (put_event L name value) (awake_in world)
-machine_disarmed world (event.Get L name) answer next uncut m = ap told_disarmed m ∙ region_disarmed world L (get_event L name) (awake_in world)
-machine_disarmed world (event.Drop L name) answer next uncut m = ap told_disarmed m ∙ region_disarmed world L (drop_event L name) (awake_in world)
-machine_disarmed world (event.Sign L key message) answer next uncut m = ap told_disarmed m ∙ region_disarmed world L (sign_event L key message) (awake_in world)
+machine_disarmed world (event.Command text draw) answer next uncut m = command_disarmed world text draw (running_state_in world) answer next m
+machine_disarmed world (event.Put L name value) answer next uncut m = ap told_disarmed m ∙ region_disarmed world L (put_event L name value) (running_state_in world)
+machine_disarmed world (event.Get L name) answer next uncut m = ap told_disarmed m ∙ region_disarmed world L (get_event L name) (running_state_in world)
+machine_disarmed world (event.Drop L name) answer next uncut m = ap told_disarmed m ∙ region_disarmed world L (drop_event L name) (running_state_in world)
+machine_disarmed world (event.Sign L key message) answer next uncut m = ap told_disarmed m ∙ region_disarmed world L (sign_event L key message) (running_state_in world)
 
 -- ---- an event that is no cut leaves whether a power loss is armed
 
@@ -95,9 +95,9 @@ status_armed world (Err refusal) = refl
 
 go_armed : (world : World) (on : Result (ℕ × State) Refusal) → (go_event world on).1.armed ≡ world.armed
 go_armed world (Ok on) =
-    chosen_armed (nat_lt 2 on.0) (refused WrongPhase, world)
-    (if is_runnable on.1.layers (on.0 + 1) then (reply.At (on.0 + 1), record world { phase = ratchet (on.0 + 1) }) else (refused WrongLayer, world)) world.armed refl
-    (chosen_armed (is_runnable on.1.layers (on.0 + 1)) (reply.At (on.0 + 1), record world { phase = ratchet (on.0 + 1) }) (refused WrongLayer, world) world.armed refl refl)
+    chosen_armed (nat_lt 2 on.0) (refusal_reply WrongPhase, world)
+    (if is_runnable on.1.layers (on.0 + 1) then (reply.At (on.0 + 1), record world { phase = ratchet (on.0 + 1) }) else (refusal_reply WrongLayer, world)) world.armed refl
+    (chosen_armed (is_runnable on.1.layers (on.0 + 1)) (reply.At (on.0 + 1), record world { phase = ratchet (on.0 + 1) }) (refusal_reply WrongLayer, world) world.armed refl refl)
 go_armed world (Err refusal) = refl
 
 region_armed : (world : World) (L : ℕ) (does : State → Outcome) (on : Result (ℕ × State) Refusal) → (region_event world L does on).1.armed ≡ world.armed
@@ -114,14 +114,14 @@ unfolding armed_in
 armed_stays world event.Boot answer next uncut m = ap armed_in m ∙ boot_armed world world.phase world.state
 armed_stays world event.Off answer next uncut m = ap (λ (w : World). w.armed) m.1
 armed_stays world event.Tamper answer next uncut m = ap (λ (w : World). w.armed) m.1
-armed_stays world event.Status answer next uncut m = ap armed_in m ∙ status_armed world (awake_in world)
-armed_stays world event.Go answer next uncut m = ap armed_in m ∙ go_armed world (awake_in world)
+armed_stays world event.Status answer next uncut m = ap armed_in m ∙ status_armed world (running_state_in world)
+armed_stays world event.Go answer next uncut m = ap armed_in m ∙ go_armed world (running_state_in world)
 armed_stays world (event.Cut count tear) answer next uncut m = absurd (let no : true ≡ false = uncut in cc)
-armed_stays world (event.Command text draw) answer next uncut m = command_armed world text draw (awake_in world) answer next m
-armed_stays world (event.Put L name value) answer next uncut m = ap armed_in m ∙ region_armed world L (put_event L name value) (awake_in world)
-armed_stays world (event.Get L name) answer next uncut m = ap armed_in m ∙ region_armed world L (get_event L name) (awake_in world)
-armed_stays world (event.Drop L name) answer next uncut m = ap armed_in m ∙ region_armed world L (drop_event L name) (awake_in world)
-armed_stays world (event.Sign L key message) answer next uncut m = ap armed_in m ∙ region_armed world L (sign_event L key message) (awake_in world)
+armed_stays world (event.Command text draw) answer next uncut m = command_armed world text draw (running_state_in world) answer next m
+armed_stays world (event.Put L name value) answer next uncut m = ap armed_in m ∙ region_armed world L (put_event L name value) (running_state_in world)
+armed_stays world (event.Get L name) answer next uncut m = ap armed_in m ∙ region_armed world L (get_event L name) (running_state_in world)
+armed_stays world (event.Drop L name) answer next uncut m = ap armed_in m ∙ region_armed world L (drop_event L name) (running_state_in world)
+armed_stays world (event.Sign L key message) answer next uncut m = ap armed_in m ∙ region_armed world L (sign_event L key message) (running_state_in world)
 
 -- ---- a run without cuts in which memory is found is the machine's
 
@@ -131,7 +131,7 @@ unarmed false e t = let no : false ≡ true = t in cc
 
 -- a step that no failed allocation and no power loss can be is the machine's own
 pub own_step : (world : World) (e : Event) (answer : Reply) (next : World) → world.armed ≡ false → answer ≢ reply.NoMemory → Step world e answer next → Machine world e answer next
-own_step world e answer next none found (answered m) = m
+own_step world e answer next none found (machine_step m) = m
 own_step world e answer next none found (lacks_memory l) = absurd (found l.answered)
 own_step world e answer next none found (loses_power p) = absurd (unarmed world.armed none p.armed)
 
@@ -182,7 +182,7 @@ record IsEnd (count : ℕ) (tear : Tear) (last : Event) (cut that boot off_ : An
   off_found : IsFound off_
 
 armed_by_cut : (world : World) (count : ℕ) (tear : Tear) (answer : Reply) (next : World) → world.armed ≡ false → Step world (event.Cut count tear) answer next → next ≡ record world { armed = true }
-armed_by_cut world count tear answer next none (answered m) = m.1
+armed_by_cut world count tear answer next none (machine_step m) = m.1
 armed_by_cut world count tear answer next none (lacks_memory l) = absurd (unarmed false refl l.wanted)
 armed_by_cut world count tear answer next none (loses_power p) = absurd (unarmed world.armed none p.armed)
 
@@ -196,7 +196,7 @@ after_boot stopped up next boot off_ none boot_found off_found booted offed =
 stopped_counts : (world armed : World) (last : Event) (answer : Reply) (stopped : World) → world.armed ≡ false → armed ≡ record world { armed = true } → is_cut last ≡ false
     → answer ≡ reply.Stopped → Step armed last answer stopped
     → (stopped.armed ≡ false) × ((told : Reply) × (whole : World) × Machine world last told whole × ((stopped.state ≡ world.state) ⊎ (stopped.state ≡ whole.state)))
-stopped_counts world armed last answer stopped none is uncut stops (answered m) = absurd ((machine_is_whole armed last answer stopped m).1 stops)
+stopped_counts world armed last answer stopped none is uncut stops (machine_step m) = absurd ((machine_is_whole armed last answer stopped m).1 stops)
 stopped_counts world armed last answer stopped none is uncut stops (lacks_memory l) = absurd (let no : reply.NoMemory ≡ reply.Stopped = sym l.answered ∙ stops in cc)
 stopped_counts world armed last answer stopped none is uncut stops (loses_power p) =
     let back : disarmed armed ≡ world = ap disarmed is ∙ ap (λ (b : Bool). record world { armed = b }) (sym none) in

@@ -7,10 +7,10 @@ use Rattle.mb_model.specs.declared.event.Answered.{Answered}
 use Rattle.mb_model.specs.declared.role.Role.TheVariants as role
 use Rattle.mb_model.specs.declared.state.State.{State}
 use Rattle.mb_model.specs.Outside.{Outside}
-use Rattle.mb_model.specs.Machine.{opening, off}
+use Rattle.mb_model.specs.Machine.{opening_world, off}
 use Rattle.mb_model.specs.Meaning.{StandsFor, IsWellFormed}
 use Rattle.mb_model.specs.Script.{IsScriptEvent}
-use Rattle.mb_model.specs.Board.{Memory, Ledger, Meter, Held, IsLoaded, image_of, phase_at, held_at_load, loaded}
+use Rattle.mb_model.specs.Board.{Memory, Ledger, Meter, Held, IsLoaded, image_of, phase_at, held_at_load, ledger_at_load}
 use Rattle.mb_model.specs.Acknowledged.{Shows}
 use Rattle.mb_model.specs.Replies.{replies_text}
 use Rattle.mb_model.specs.RunCommand.{RunNames, IsServed, write_image, serve_events}
@@ -32,7 +32,7 @@ use Rattle.mb_tools.proofs.ImageLemmas.{image_stored}
 
 -- a board on which an image was loaded shows the world that opens with the image's state
 pub loaded_shows : (memory : Memory) (power : Bool) (level : ℕ) (meter : Meter) (image : List ℕ) (state : Option State) → IsLoaded memory → image_of memory ≡ image
-    → power ≡ false → meter.armed ≡ false → IsWellFormed image state → Shows (held_by memory power level meter) (opening state)
+    → power ≡ false → meter.armed ≡ false → IsWellFormed image state → Shows (held_by memory power level meter) (opening_world state)
 loaded_shows memory power level meter image state sized is dark none held =
     let parts = image_parts image held.flash held.bbram memory.flash memory.bbram held.image_is (sym is, sized) in
     record {
@@ -47,7 +47,7 @@ dark_held memory power level meter dark none = ap (λ (b : Bool). let h : Held =
     ∙ ap (λ (b : Bool). let h : Held = record { memory = memory; phase = off; armed = b } in h) none
 
 -- so it holds what it would have held at an answer
-pub loaded_holds : (memory : Memory) (events : List Event) (ledger : Ledger) (power : Bool) (level : ℕ) (meter : Meter) → ledger ≡ loaded memory events → power ≡ false → meter.armed ≡ false
+pub loaded_holds : (memory : Memory) (events : List Event) (ledger : Ledger) (power : Bool) (level : ℕ) (meter : Meter) → ledger ≡ ledger_at_load memory events → power ≡ false → meter.armed ≡ false
     → ledger.standing ≡ held_by memory power level meter
 loaded_holds memory events ledger power level meter is dark none =
     ap (λ (l : Ledger). l.standing) is ∙ sym (dark_held memory power level meter dark none)
@@ -76,7 +76,7 @@ all_scripted (this ∷ rest) (event ∷ events) same scripts =
 -- The events were served from the world that opens with an image's state, and the board holds what it held at the last
 -- answer.
 pub served_whole : (image : List ℕ) (state : Option State) (events : List Event) (memory : Memory) (before after : Ledger) (held : Held) → IsWellFormed image state → All IsScriptEvent events
-    → before ≡ loaded memory events → after.standing ≡ held → IsServedFrom (opening state) before after held → IsServed state events after.answered after.standing
+    → before ≡ ledger_at_load memory events → after.standing ≡ held → IsServedFrom (opening_world state) before after held → IsServed state events after.answered after.standing
 served_whole image state events memory before after held formed scripts is standing from =
     let grown : after.answered ≡ from.more = from.grown ∙ ap (λ l. l.answered ++ from.more) is in
     let all : map (λ a. a.event) from.more ≡ events = from.all ∙ ap (λ l. l.waiting) is in
@@ -88,8 +88,8 @@ served_whole image state events memory before after held formed scripts is stand
       bytes = from.bytes;
       clean = from.clean;
       kept = kept_rightly from.last.state from.valid;
-      sound = run_is_sound (opening state) from.more from.last from.run formed.valid;
-      accepted = statements_stay_accepted (opening state) from.more from.last from.run (all_scripted from.more events all scripts) formed.valid (image_stored image state formed);
+      sound = run_is_sound (opening_world state) from.more from.last from.run formed.valid;
+      accepted = statements_stay_accepted (opening_world state) from.more from.last from.run (all_scripted from.more events all scripts) formed.valid (image_stored image state formed);
     }))
 
 pub events_served : (names : RunNames) (state : Option State) (events : List Event) (answered : List Answered) (final : Held) (before now : Outside) (result : Result (Unit {0}) End)

@@ -10,7 +10,7 @@ use Rattle.mb_model.specs.declared.reply.Reply.TheVariants as reply
 use Rattle.mb_model.specs.declared.role.Role.TheVariants as role
 use Rattle.mb_model.specs.declared.role.Place.TheVariants as fault
 use Rattle.mb_model.specs.declared.state.State.{State}
-use Rattle.mb_model.specs.Texts.{IsHex, ended}
+use Rattle.mb_model.specs.Texts.{IsHex, line_with_lf}
 use Rattle.mb_model.specs.Lines.{ReadsLines, TextFailsAtLine}
 use Rattle.mb_model.specs.Script.{IsScript, tear_of}
 use Rattle.mb_model.specs.Machine.{World}
@@ -126,13 +126,13 @@ pub record ShowSame (held final : Held) : Type 0 where
 -- which state is left where power failed
 abbrev pub tell_state : Held → Held → Command
 tell_state held final =
-    either_command (ShowSame held final) (print (ended (codes "old"))) (print (ended (codes "new")))
+    either_command (ShowSame held final) (print (line_with_lf (codes "old"))) (print (line_with_lf (codes "new")))
 
 -- whether power failed in the last event, and which state is left then
 abbrev pub tell_cut : Held → List Answered → Held → Command
 tell_cut held answered final =
     either_command (AnyLacksMemory answered) lack
-    (either_command (LastIsStopped answered) (tell_state held final) (print (ended (codes "unstopped"))))
+    (either_command (LastIsStopped answered) (tell_state held final) (print (line_with_lf (codes "unstopped"))))
 
 -- once the first run was served, the second is, from the same image
 abbrev pub serve_cut : CutNames → Option State → CutRun → List Answered → Held → Command

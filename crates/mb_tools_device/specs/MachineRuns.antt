@@ -6,7 +6,7 @@ use Rattle.mb_model.specs.declared.event.Answered.{Answered}
 use Rattle.mb_model.specs.declared.reply.Reply.{Reply}
 use Rattle.mb_model.specs.declared.reply.Reply.TheVariants as reply
 use Rattle.mb_model.specs.declared.state.State.{State}
-use Rattle.mb_model.specs.Machine.{World, Machine, Run, opening}
+use Rattle.mb_model.specs.Machine.{World, Machine, Run, opening_world}
 
 -- the events lead from a world to next, each with the machine's own answer
 abbrev pub MachineRun : World → List Event → World → Type 0
@@ -17,7 +17,7 @@ MachineRun world (this ∷ rest) next =
 -- the machine takes a device with the first state over these events to the second
 pub record MachineComesTo (first : Option State) (events : List Event) (second : Option State) : Type 0 where
   pub last : World
-  pub run : MachineRun (opening first) events last
+  pub run : MachineRun (opening_world first) events last
   pub state : last.state ≡ second
 
 -- the event arms a power loss

@@ -3,7 +3,7 @@
 ghost use Rattle.std.specs.Prelude.{◌≡◌, ◌↔◌, ◌+◌, ◌≤◌, ◌++◌, length, decimal, Any, IsTrue};
 ghost use Rattle.arrayvec.specs.ArrayVec.{array_vec_len};
 ghost use Rattle.mb_model.specs.declared.reply.Reply.TheVariants as reply;
-ghost use Rattle.mb_model.specs.Texts.{ended};
+ghost use Rattle.mb_model.specs.Texts.{line_with_lf};
 ghost use Rattle.mb_model.specs.Lines.{text_of};
 ghost use Rattle.mb_model.specs.Listing.{summary, replies_that, is_done, is_signed, is_refused};
 ghost use Rattle.mb_tools_device.specs.Summaries.{hash_line};
@@ -70,7 +70,7 @@ fn count_refused(answered: &[Answered]) -> usize
 /// Appends a line: a name with the space after it, and a number.
 fn put_number(text: &mut Summary, name: &[u8], number: usize)
     requires room { array_vec_len text.old + length name.now + 21 ≤ 256 }
-    ensures line { text.new.items ≡ text.old.items ++ ended (name.now ++ decimal number) }
+    ensures line { text.new.items ≡ text.old.items ++ line_with_lf (name.now ++ decimal number) }
     ensures length { array_vec_len text.new ≤ array_vec_len text.old + length name.now + 21 }
 {
     let mut digits = itoa::Buffer::new();
@@ -82,7 +82,7 @@ fn put_number(text: &mut Summary, name: &[u8], number: usize)
 /// Appends the line of the image's hash.
 fn put_hash(text: &mut Summary, hash: &[u8; 32])
     requires room { array_vec_len text.old + 71 ≤ 256 }
-    ensures { text.new.items ≡ text.old.items ++ ended (hash_line hash.now) }
+    ensures { text.new.items ≡ text.old.items ++ line_with_lf (hash_line hash.now) }
 {
     let mut digits = [0; 64];
     let _whole = hex::encode_to_slice(hash, &mut digits);

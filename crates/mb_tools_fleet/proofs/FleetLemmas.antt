@@ -4,7 +4,7 @@ use Rattle.mb_model.specs.declared.key.PublicKey.{PublicKey}
 use Rattle.mb_model.specs.declared.role.Role.TheVariants as role
 use Rattle.mb_model.specs.Outside.{Outside, read_once}
 use Rattle.mb_model.specs.Inputs.{root_input}
-use Rattle.mb_model.specs.Commands.{Input, Command, Past, Ended, InputEnds, too_long, faulty, not_read, no_room, PrintEnds, printed, not_printed, CommandEnds, ComesToRefusal, read, print, at_first}
+use Rattle.mb_model.specs.Commands.{Input, Command, Past, Ended, InputEnds, input_is_too_long, input_is_faulty, input_is_not_read, memory_lacks, PrintEnds, text_is_printed, text_is_not_printed, CommandEnds, ComesToRefusal, read, print, at_first}
 use Rattle.mb_console.specs.declared.end.End.{End}
 use Rattle.mb_console.specs.declared.end.End.TheVariants as end
 use Rattle.mb_console.specs.Ending.{CarriesOutAfter, CarriesOut}
@@ -55,14 +55,14 @@ other_status : (status n : ℕ) → status ≡ n → n ≢ 7 → status ≢ 7
 other_status status n is other seven = other (sym is ∙ seven)
 
 input_not_refused : {A : Type 0} (input : Input A) (past : Past) (e : Ended) → InputEnds input past e → e.status ≢ 7
-input_not_refused input past e (too_long held stops) = other_status e.status 3 stops.status_is (λ is. cc)
-input_not_refused input past e (faulty bytes has place fault stops) = other_status e.status 3 stops.status_is (λ is. cc)
-input_not_refused input past e (not_read mid fails stops) = other_status e.status 4 stops.status_is (λ is. cc)
-input_not_refused input past e (no_room wants) = other_status e.status 6 wants.stops.status_is (λ is. cc)
+input_not_refused input past e (input_is_too_long held stops) = other_status e.status 3 stops.status_is (λ is. cc)
+input_not_refused input past e (input_is_faulty bytes has place fault stops) = other_status e.status 3 stops.status_is (λ is. cc)
+input_not_refused input past e (input_is_not_read mid fails stops) = other_status e.status 4 stops.status_is (λ is. cc)
+input_not_refused input past e (memory_lacks wants) = other_status e.status 6 wants.stops.status_is (λ is. cc)
 
 print_not_refused : (text : List ℕ) (past : Past) (e : Ended) → PrintEnds text past e → e.status ≢ 7
-print_not_refused text past e (printed prints same is) = other_status e.status 0 is (λ n. cc)
-print_not_refused text past e (not_printed mid fails stops) = other_status e.status 5 stops.status_is (λ is. cc)
+print_not_refused text past e (text_is_printed prints same is) = other_status e.status 0 is (λ n. cc)
+print_not_refused text past e (text_is_not_printed mid fails stops) = other_status e.status 5 stops.status_is (λ is. cc)
 
 register_not_refused : (name : List ℕ) (outcome : FleetOutcome) (past : Past) (e : Ended) → CommandEnds (keep_register name outcome) past e → e.status ≢ 7
 unfolding CommandEnds

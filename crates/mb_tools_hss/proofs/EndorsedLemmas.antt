@@ -1,7 +1,7 @@
 -- What carries out `endorsed`.
 use Rattle.std.proofs.Common.{ℕ, List, [], codes, Result, Err, refl}
 use Rattle.mb_model.specs.declared.key.PublicKey.{PublicKey}
-use Rattle.mb_model.specs.Texts.{ended}
+use Rattle.mb_model.specs.Texts.{line_with_lf}
 use Rattle.mb_model.specs.Outside.{Outside}
 use Rattle.mb_model.specs.Commands.{print, at_first}
 use Rattle.mb_hss.specs.declared.key.HssKey.{HssKey}
@@ -15,7 +15,7 @@ use Rattle.mb_tools_hss.specs.Endorsed.{judge_endorsement}
 
 -- the signature verifies, and that was told
 pub endorsement_accepted : (key : HssKey) (root : PublicKey) (endorsement : List ℕ) (before now : Outside) (result : Result (Unit {0}) End)
-    → HssVerifies key (endorsed_text root) endorsement → CarriesOutAfter (writes [] (print (ended (codes "endorsed")))) before result now
+    → HssVerifies key (endorsed_text root) endorsement → CarriesOutAfter (writes [] (print (line_with_lf (codes "endorsed")))) before result now
     → CarriesOut (judge_endorsement key root endorsement) before result now
 unfolding writes judge_endorsement
 endorsement_accepted key root endorsement before now result verifies carried = λ final.

@@ -1,7 +1,7 @@
 -- What the command `endorsed` does. Is a root key accepted exactly where the maker's HSS key has signed it?
 use Rattle.std.specs.Prelude.{ℕ, List, codes}
 use Rattle.mb_model.specs.declared.key.PublicKey.{PublicKey}
-use Rattle.mb_model.specs.Texts.{ended}
+use Rattle.mb_model.specs.Texts.{line_with_lf}
 use Rattle.mb_model.specs.Commands.{Command, read, either_command, print, refuse}
 use Rattle.mb_model.specs.Inputs.{root_input}
 use Rattle.mb_hss.specs.declared.key.HssKey.{HssKey}
@@ -19,7 +19,7 @@ pub record EndorsedNames : Type 0 where
 unfoldable pub judge_endorsement : HssKey → PublicKey → List ℕ → Command
 judge_endorsement key root endorsement =
     either_command (HssVerifies key (endorsed_text root) endorsement)
-    (print (ended (codes "endorsed"))) (refuse (codes "refused 28"))
+    (print (line_with_lf (codes "endorsed"))) (refuse (codes "refused 28"))
 
 abbrev pub endorsed_root : EndorsedNames → HssKey → PublicKey → Command
 endorsed_root names key root = read (endorsement_input names.endorsement) (judge_endorsement key root)

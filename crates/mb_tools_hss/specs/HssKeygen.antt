@@ -4,7 +4,7 @@ use Rattle.std.specs.Prelude.{ℕ, List, ◌++◌, codes}
 use Rattle.sha2.specs.Sha256.{sha256}
 use Rattle.hex.specs.Hex.{encode_lower}
 use Rattle.mb_model.specs.declared.role.Role.TheVariants as role
-use Rattle.mb_model.specs.Texts.{ended}
+use Rattle.mb_model.specs.Texts.{line_with_lf}
 use Rattle.mb_model.specs.Commands.{Command, read, write, print}
 use Rattle.mb_hss.specs.declared.maker.Maker.{Maker}
 use Rattle.mb_hss.specs.HssKeyFormat.{hss_key_format}
@@ -21,7 +21,7 @@ pub record HsskeygenNames : Type 0 where
 
 -- the line that tells the hash of a maker's public key
 abbrev pub maker_text : List ℕ → List ℕ
-maker_text public = ended (codes "maker " ++ encode_lower (sha256 public))
+maker_text public = line_with_lf (codes "maker " ++ encode_lower (sha256 public))
 
 -- the maker's file is written, then its public key, and the public key's hash is told
 unfoldable pub write_maker_key : HsskeygenNames → Maker → List ℕ → Command

@@ -3,11 +3,11 @@
 use Rattle.std.specs.Prelude.{ℕ, List, ◌++◌, codes}
 use Rattle.std.specs.Fmt.{decimal}
 use Rattle.mb_model.specs.declared.key.PublicKey.{PublicKey}
-use Rattle.mb_model.specs.Texts.{ended}
-use Rattle.mb_model.specs.Acceptance.{Verdict, accepting, refusing, IsVerdict}
+use Rattle.mb_model.specs.Texts.{line_with_lf}
+use Rattle.mb_model.specs.Acceptance.{Verdict, chain_acceptance, chain_rejection, IsVerdict}
 use Rattle.mb_model.specs.Commands.{Command, read, find, print, refuse}
 use Rattle.mb_model.specs.Inputs.{root_input, chain_bytes_input}
-use Rattle.mb_model.specs.VerifyCommand.{refused_line}
+use Rattle.mb_model.specs.VerifyCommand.{chain_refusal_line}
 use Rattle.mb_policy.specs.declared.judging.Judgement.{Judgement}
 use Rattle.mb_policy.specs.declared.judging.Judgement.TheVariants as judgement
 use Rattle.mb_policy.specs.Policies.{PolicyItem}
@@ -27,13 +27,13 @@ denied_line number rule = codes "denied " ++ decimal number ++ codes " " ++ rule
 
 -- what the policy comes to: the key is allowed, or a configuration is denied
 abbrev pub tell_judgement : Judgement → Command
-tell_judgement judgement.Allowed = print (ended (codes "allowed"))
+tell_judgement judgement.Allowed = print (line_with_lf (codes "allowed"))
 tell_judgement (judgement.Denied number rule) = refuse (denied_line number rule)
 
 -- the report of an accepted chain is judged by the policy, or the chain is refused
 abbrev pub judge_verdict : List PolicyItem → Verdict → Command
-judge_verdict items (accepting report) = find (IsJudged items report) tell_judgement
-judge_verdict items (refusing why) = refuse (refused_line why)
+judge_verdict items (chain_acceptance report) = find (IsJudged items report) tell_judgement
+judge_verdict items (chain_rejection why) = refuse (chain_refusal_line why)
 
 abbrev pub trust_by_policy : TrustNames → PublicKey → List ℕ → List PolicyItem → Command
 trust_by_policy names maker bytes items = find (IsVerdict maker bytes names.key) (judge_verdict items)

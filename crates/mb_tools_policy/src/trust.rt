@@ -2,7 +2,7 @@
 
 ghost use Rattle.std.specs.Prelude.{◌≡◌, ◌≤◌, length, map, IfOk};
 ghost use Rattle.mb_model.specs.declared.limits.TheConstants.{FILE_LIMIT};
-ghost use Rattle.mb_model.specs.Acceptance.{accepting};
+ghost use Rattle.mb_model.specs.Acceptance.{chain_acceptance};
 ghost use Rattle.mb_console.specs.Ending.{CarriesOut};
 ghost use Rattle.mb_console.specs.Words.{given_argument};
 ghost use Rattle.mb_policy.specs.Meanings.{policy_items};
@@ -100,7 +100,7 @@ fn trust_by_policy<H: Host>(
 
 /// Judges the report of an accepted chain by a policy.
 fn judge<H: Host>(alloc: Global, policy: &Policy, report: &Report, host: &mut H) -> Result<(), End>
-    ensures { CarriesOut (judge_verdict (policy_items policy.now) (accepting report.now)) (H.outside host.old) result (H.outside host.new) }
+    ensures { CarriesOut (judge_verdict (policy_items policy.now) (chain_acceptance report.now)) (H.outside host.old) result (H.outside host.new) }
 {
     match judge_report(alloc, policy, report) {
         Ok(Judgement::Allowed) => finish(host, &[], b"allowed\n"),

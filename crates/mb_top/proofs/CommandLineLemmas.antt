@@ -3,7 +3,7 @@ use Rattle.std.proofs.Common.{◌≡◌, ℕ, true, false, List, [], ◌∷◌, 
 use Rattle.mb_model.specs.declared.event.Answered.{Answered}
 use Rattle.mb_model.specs.Outside.{Outside, FailsToPrint}
 use Rattle.mb_model.specs.Board.{Held}
-use Rattle.mb_model.specs.Commands.{Ended, PrintEnds, not_printed, SaysLine, at_first}
+use Rattle.mb_model.specs.Commands.{Ended, PrintEnds, text_is_not_printed, SaysLine, at_first}
 use Rattle.mb_top.specs.Top.{Ends}
 use Rattle.mb_console.specs.declared.end.End.TheVariants as end
 use Rattle.mb_console.specs.Ending.{ended_at, end_line, end_status}
@@ -12,7 +12,7 @@ use Rattle.mb_top.specs.Program.{ProgramEnds, helped, versioned, commanded}
 pub text_not_printed : (text : List ℕ) (before mid now : Outside) (final : Held) (status : ℕ) → FailsToPrint text before mid
     → SaysLine (end_line end.NotPrinted) mid now → status ≡ end_status end.NotPrinted → PrintEnds text at_first (ended_at before [] final now status)
 text_not_printed text before mid now final status fails says is =
-    not_printed mid fails (record { says = says; answered = refl; status_is = is })
+    text_is_not_printed mid fails (record { says = says; answered = refl; status_is = is })
 
 -- ---- by the words
 

@@ -34,7 +34,7 @@ status: 0 done, 2 the words are no command, 3 an input is not in its form, 4 an 
 ";
 
 /// The text that `--version` prints.
-pub const VERSION: &[u8] = b"miniboot 0.1.0\n";
+pub const VERSION: &[u8] = b"miniboot 0.2.0\n";
 
 /// Why the words of the command line could not be read.
 #[derive(Clone, Copy, Debug, PartialEq, Eq)]

@@ -139,8 +139,8 @@ pub const COMMANDS: [Row; 20] = [
         "verify",
         &[ROOT, CHAIN, KEYNUMBER],
         "
-      judges the chain under the maker's public key, and lists the configurations in which the key with
-      this number lived",
+      judges the chain under the maker's public key, and lists every configuration of code that could have
+      used the key with this number",
     ),
     (
         Command::Audit,
@@ -154,7 +154,8 @@ pub const COMMANDS: [Row; 20] = [
         "trust",
         &[ROOT, CHAIN, KEYNUMBER, POLICY],
         "
-      judges the chain as verify does, and then by the policy the configurations in which the key lived",
+      judges the chain as verify does, and then by the policy each configuration that could have used the
+      key",
     ),
     (
         Command::Chain,
@@ -168,15 +169,15 @@ pub const COMMANDS: [Row; 20] = [
         "attach",
         &[CHAIN, STATEMENT, OUT],
         "
-      puts a statement on the chain, and prints how many entries are left beside it",
+      attaches a statement to the chain, and prints how many entries that chain has",
     ),
     (
         Command::Fleet,
         "fleet",
         &[ROOT, REGISTER, ITEMS],
         "
-      shows a register of devices the chains among the items under the maker's public key, asks it the
-      questions among them, writes the register, and prints the answers",
+      serves the items, chains and questions, over a register of the maker's devices, writes the register,
+      and prints the answers",
     ),
     (
         Command::Factory,
@@ -238,16 +239,16 @@ pub const COMMANDS: [Row; 20] = [
         "migrate",
         &[IMAGE, OUT],
         "
-      writes an image of the present form for the state of IMAGE, which may have the form before, and
-      prints the new image's hash",
+      writes the image of IMAGE's state in the current form; IMAGE may have the earlier form; prints the
+      new image's hash",
     ),
     (
         Command::App,
         "app",
         &[IMAGE, LAYER, INPUT, STEPS],
         "
-      runs the code of layer 2 or 3 of the device of IMAGE on the bytes of INPUT for 1 to 10,000,000
-      steps, and prints how it ends",
+      runs the code of layer 2 or 3 of the device of IMAGE on the bytes of INPUT for at most STEPS steps,
+      1 to 10,000,000, and prints how it ends",
     ),
     (
         Command::Asm,
@@ -268,7 +269,7 @@ pub const COMMANDS: [Row; 20] = [
         "generate",
         &[NUMBER, ROUNDS, IMAGE, SCRIPT, NOISE],
         "
-      makes the workload of a number with 1 to 24 rounds, writes its files, serves it, and prints a
+      makes the workload of NUMBER with ROUNDS rounds, 1 to 24, writes its files, serves it, and prints a
       summary",
     ),
 ];

@@ -10,8 +10,8 @@ use Rattle.mb_model.specs.declared.layer.Layer.{Layer}
 use Rattle.mb_model.specs.declared.layer.Layers.{Layers}
 use Rattle.mb_model.specs.declared.state.Configuration.{Configuration}
 use Rattle.mb_model.specs.declared.state.Report.{Report}
-use Rattle.mb_model.specs.Texts.{ended}
-use Rattle.mb_model.specs.Lines.{hex_word, spaced, text_of}
+use Rattle.mb_model.specs.Texts.{line_with_lf}
+use Rattle.mb_model.specs.Lines.{hex_word, spaced_words, text_of}
 use Rattle.mb_model.specs.Layers.{are_equal}
 use Rattle.mb_model.specs.Listing.{owner_word, code_words, reliable_word, trust_words, layer_line, configuration_lines, statement_lines, listing}
 use Rattle.mb_model.specs.Drafts.{trust_word}
@@ -19,7 +19,7 @@ use Rattle.mb_verifier.specs.Lines.{key_line, line_upto}
 
 pub text_of-append : (a b : List (List ℕ)) → text_of (a ++ b) ≡ text_of a ++ text_of b
 text_of-append [] b = refl
-text_of-append (line ∷ a) b = ap (λ t. ended line ++ t) (text_of-append a b) ∙ sym (append_assoc (ended line) (text_of a) (text_of b))
+text_of-append (line ∷ a) b = ap (λ t. line_with_lf line ++ t) (text_of-append a b) ∙ sym (append_assoc (line_with_lf line) (text_of a) (text_of b))
 
 take_nil : (n : ℕ) → take {A = List ℕ} n [] ≡ []
 take_nil zero = refl
@@ -58,25 +58,25 @@ lives_more lives i d start before after within was is =
 
 -- the words of a code stand in a line as two words do
 pub layer_words : (front : List ℕ) (code : Option CodeName) (reliable trust : List ℕ) (more : List (List ℕ))
-    → spaced (front ∷ code_words code ++ reliable ∷ trust ∷ more) ≡ front ++ 32 ∷ (spaced (code_words code) ++ 32 ∷ (reliable ++ 32 ∷ spaced (trust ∷ more)))
+    → spaced_words (front ∷ code_words code ++ reliable ∷ trust ∷ more) ≡ front ++ 32 ∷ (spaced_words (code_words code) ++ 32 ∷ (reliable ++ 32 ∷ spaced_words (trust ∷ more)))
 layer_words front None reliable trust more = refl
 layer_words front (Some code) reliable trust more = ap (λ t. front ++ 32 ∷ t) (sym (append_assoc (hex_word code.hash) _ _))
 
 trusted_words : (front : List ℕ) (code : Option CodeName) (reliable one two : List ℕ) (equal : Bool)
-    → spaced (front ∷ code_words code ++ reliable ∷ (if equal then one ∷ [] else one ∷ two ∷ []))
-    ≡ front ++ 32 ∷ (spaced (code_words code) ++ 32 ∷ (reliable ++ 32 ∷ spaced (if equal then one ∷ [] else one ∷ two ∷ [])))
+    → spaced_words (front ∷ code_words code ++ reliable ∷ (if equal then one ∷ [] else one ∷ two ∷ []))
+    ≡ front ++ 32 ∷ (spaced_words (code_words code) ++ 32 ∷ (reliable ++ 32 ∷ spaced_words (if equal then one ∷ [] else one ∷ two ∷ [])))
 trusted_words front code reliable one two true = layer_words front code reliable one []
 trusted_words front code reliable one two false = layer_words front code reliable one (two ∷ [])
 
 -- what is written of a layer is its line
-pub layer_text : (number : ℕ) (layer : Layer) (line owner code reliable trust : List ℕ) → owner ≡ owner_word layer.owner → code ≡ spaced (code_words layer.code)
-    → reliable ≡ reliable_word layer.reliable → trust ≡ spaced (trust_words layer.trust)
+pub layer_text : (number : ℕ) (layer : Layer) (line owner code reliable trust : List ℕ) → owner ≡ owner_word layer.owner → code ≡ spaced_words (code_words layer.code)
+    → reliable ≡ reliable_word layer.reliable → trust ≡ spaced_words (trust_words layer.trust)
     → line ≡ codes "layer " ++ (decimal number ++ 32 ∷ (owner ++ 32 ∷ (code ++ 32 ∷ (reliable ++ 32 ∷ (trust ++ 10 ∷ [])))))
-    → line ≡ ended (layer_line number layer)
+    → line ≡ line_with_lf (layer_line number layer)
 layer_text number layer line owner code reliable trust owner_is code_is reliable_is trust_is is =
     let words = trusted_words (owner_word layer.owner) layer.code (reliable_word layer.reliable) (trust_word layer.trust.one) (trust_word layer.trust.two) (are_equal layer.trust) in
-    let whole : ended (layer_line number layer) ≡ codes "layer " ++ (decimal number ++ 32 ∷ (owner_word layer.owner ++ 32 ∷ (spaced (code_words layer.code) ++ 32 ∷ (reliable_word layer.reliable ++ 32 ∷ (spaced (trust_words layer.trust) ++ 10 ∷ []))))) =
-    ap (λ ws. ended (codes "layer " ++ (decimal number ++ 32 ∷ ws))) words ∙ simp append_assoc in
+    let whole : line_with_lf (layer_line number layer) ≡ codes "layer " ++ (decimal number ++ 32 ∷ (owner_word layer.owner ++ 32 ∷ (spaced_words (code_words layer.code) ++ 32 ∷ (reliable_word layer.reliable ++ 32 ∷ (spaced_words (trust_words layer.trust) ++ 10 ∷ []))))) =
+    ap (λ ws. line_with_lf (codes "layer " ++ (decimal number ++ 32 ∷ ws))) words ∙ simp append_assoc in
     is ∙ rw (owner_is, code_is, reliable_is, trust_is) (sym whole)
 
 -- ---- the whole
@@ -85,11 +85,11 @@ regroup : (a b c d e : List ℕ) → (((a ++ b) ++ c) ++ d) ++ e ≡ a ++ (b ++ 
 regroup a b c d e = simp append_assoc
 
 pub configuration_whole : (item : Configuration) (out start one two three : List ℕ)
-    → start ≡ out ++ ended (spaced (codes "configuration" ∷ decimal item.number ∷ []))
+    → start ≡ out ++ line_with_lf (spaced_words (codes "configuration" ∷ decimal item.number ∷ []))
     → one ≡ start ++ text_of (line_upto item.upto 1 item.layers.one) → two ≡ one ++ text_of (line_upto item.upto 2 item.layers.two)
     → three ≡ two ++ text_of (line_upto item.upto 3 item.layers.three) → three ≡ out ++ text_of (configuration_lines item)
 configuration_whole item out start one two three start_is one_is two_is three_is =
-    let first = ended (spaced (codes "configuration" ∷ decimal item.number ∷ [])) in
+    let first = line_with_lf (spaced_words (codes "configuration" ∷ decimal item.number ∷ [])) in
     let a = line_upto item.upto 1 item.layers.one in
     let b = line_upto item.upto 2 item.layers.two in
     let c = line_upto item.upto 3 item.layers.three in
@@ -100,7 +100,7 @@ configuration_whole item out start one two three start_is one_is two_is three_is
     ∙ regroup out first (text_of a) (text_of b) (text_of c)
     ∙ ap (λ t. out ++ t) (sym lines)
 
-pub listing_whole : (key : ℕ) (report : Report) (first second third : List ℕ) → first ≡ ended (key_line key report)
+pub listing_whole : (key : ℕ) (report : Report) (first second third : List ℕ) → first ≡ line_with_lf (key_line key report)
     → second ≡ first ++ text_of (flat_map configuration_lines report.lives) → third ≡ second ++ text_of (statement_lines report.message)
     → third ≡ text_of (listing key report)
 unfolding listing
@@ -108,5 +108,5 @@ listing_whole key report first second third first_is second_is third_is =
     let lives = flat_map configuration_lines report.lives in
     let stated = statement_lines report.message in
     third_is ∙ ap (λ t. t ++ text_of stated) (second_is ∙ ap (λ t. t ++ text_of lives) first_is)
-    ∙ append_assoc (ended (key_line key report)) (text_of lives) (text_of stated)
-    ∙ ap (λ t. ended (key_line key report) ++ t) (sym (text_of-append lives stated))
+    ∙ append_assoc (line_with_lf (key_line key report)) (text_of lives) (text_of stated)
+    ∙ ap (λ t. line_with_lf (key_line key report) ++ t) (sym (text_of-append lives stated))

@@ -3,14 +3,14 @@ use Rattle.std.specs.Prelude.{ℕ, nat_le, List, [], ◌∷◌, codes, if◌then
 use Rattle.std.specs.Fmt.{decimal}
 use Rattle.mb_model.specs.declared.layer.Layer.{Layer}
 use Rattle.mb_model.specs.declared.state.Report.{Report}
-use Rattle.mb_model.specs.Lines.{spaced}
+use Rattle.mb_model.specs.Lines.{spaced_words}
 use Rattle.mb_model.specs.Drafts.{kind_word}
 use Rattle.mb_model.specs.Listing.{life_word, layer_line}
 
 -- the line of the key
 abbrev pub key_line : ℕ → Report → List ℕ
 key_line key report =
-    spaced (codes "key" ∷ decimal key ∷ kind_word report.kind
+    spaced_words (codes "key" ∷ decimal key ∷ kind_word report.kind
     ∷ codes "layer" ∷ decimal report.layer ∷ life_word report.alive ∷ [])
 
 -- the line of the layer with the number m, where it is one of the layers up to this one

@@ -2,8 +2,8 @@
 
 ghost use Rattle.std.specs.Prelude.{◌≡◌, [], ◌++◌, IfOk, OnOk, flat_map};
 ghost use Rattle.std.specs.String.{string_bytes};
-ghost use Rattle.mb_model.specs.Texts.{ended};
-ghost use Rattle.mb_model.specs.Lines.{spaced, text_of};
+ghost use Rattle.mb_model.specs.Texts.{line_with_lf};
+ghost use Rattle.mb_model.specs.Lines.{spaced_words, text_of};
 ghost use Rattle.mb_model.specs.Drafts.{kind_word, trust_word};
 ghost use Rattle.mb_model.specs.Listing.{trust_words, life_word, reliable_word, owner_word, code_words, layer_line, configuration_lines, statement_lines, listing};
 ghost use Rattle.mb_verifier.specs.Lines.{key_line, line_upto};
@@ -28,7 +28,7 @@ pub fn write_listing(alloc: Global, key: u32, report: &Report) -> Result<Vec<u8>
 
 /// The line of the key, with its LF.
 fn key_line(alloc: Global, key: u32, report: &Report) -> Result<String, NoMemory>
-    ensures { IfOk result (λ line. string_bytes line ≡ ended (key_line key report.now)) }
+    ensures { IfOk result (λ line. string_bytes line ≡ line_with_lf (key_line key report.now)) }
 {
     let kind = kind_word(report.kind);
     let layer = report.layer;
@@ -77,7 +77,7 @@ fn put_layer(
 
 /// The line of layer `number`, with its LF.
 fn layer_line(alloc: Global, number: u8, layer: &Layer) -> Result<String, NoMemory>
-    ensures { IfOk result (λ line. string_bytes line ≡ ended (layer_line number layer.now)) }
+    ensures { IfOk result (λ line. string_bytes line ≡ line_with_lf (layer_line number layer.now)) }
 {
     let owner = owner_word(alloc, &layer.owner)?;
     let code = code_words(alloc, &layer.code)?;
@@ -110,7 +110,7 @@ fn owner_word(alloc: Global, owner: &Option<PublicKey>) -> Result<String, NoMemo
 
 /// The hash and the version of the code, or two dashes.
 fn code_words(alloc: Global, code: &Option<CodeName>) -> Result<String, NoMemory>
-    ensures { IfOk result (λ words. string_bytes words ≡ spaced (code_words code.now)) }
+    ensures { IfOk result (λ words. string_bytes words ≡ spaced_words (code_words code.now)) }
 {
     match code {
         Some(code) => {
@@ -134,7 +134,7 @@ fn kind_word(kind: KeyKind) -> &'static str
 
 /// The words for the trusts of a layer: one word if it trusts changes of layer 1 and of layer 2 alike.
 fn trust_words(alloc: Global, trusts: Trusts) -> Result<String, NoMemory>
-    ensures { IfOk result (λ words. string_bytes words ≡ spaced (trust_words trusts)) }
+    ensures { IfOk result (λ words. string_bytes words ≡ spaced_words (trust_words trusts)) }
 {
     let one = trust_word(trusts.one);
     if trusts.are_equal() {

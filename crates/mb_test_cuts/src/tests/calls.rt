@@ -2,7 +2,7 @@
 
 ghost use Rattle.std.specs.Prelude.{◌≡◌, ◌<◌, ◌≤◌, length, IfOk, false};
 ghost use Rattle.mb_model.specs.Board.{IsLoaded};
-ghost use Rattle.mb_model.specs.Memory.{current};
+ghost use Rattle.mb_model.specs.Memory.{area_of_slot};
 ghost use Rattle.mb_model.specs.RootFormat.{root_format};
 ghost use Rattle.mb_model.specs.RegionFormat.{CanBeWritten};
 ghost use Rattle.mb_region.specs.Regions.{HoldsSomeRegion};
@@ -105,7 +105,7 @@ fn bind_key<P: Named, L: Ledger>(
 ) -> Result<bool, Fail>
     requires off { board.old.power ≡ false }
     requires loaded { IsLoaded board.old.memory }
-    requires held { HoldsSomeRegion (current board.old.memory.bbram P.place) }
+    requires held { HoldsSomeRegion (area_of_slot board.old.memory.bbram P.place) }
     ensures loaded { IsLoaded board.new.memory }
 {
     let mut room = Room::new(alloc)?;

@@ -4,7 +4,7 @@ ghost use Rattle.std.specs.Prelude.{◌≡◌, ◌∷◌, ◌≤◌, [], length,
 ghost use Rattle.mb_model.specs.Memory.{IsBlank};
 ghost use Rattle.mb_model.specs.Pieces.{part};
 ghost use Rattle.mb_model.specs.Script.{IsScriptEvent};
-ghost use Rattle.mb_model.specs.Board.{IsLoaded, erased, image_of, loaded};
+ghost use Rattle.mb_model.specs.Board.{IsLoaded, erased_bytes, image_of, ledger_at_load};
 ghost use Rattle.mb_board.specs.Calls.{power_of, level_of};
 ghost use Rattle.mb_board.specs.Cuts.{is_armed};
 
@@ -27,7 +27,7 @@ fn loaded_board(alloc: Global, image: &[u8], event: Event) -> Result<SimBoard, N
     requires image { length image.now ≡ 1077248 }
     requires event { IsScriptEvent event }
     ensures { IfOk result (λ board. (board.power ≡ false) × IsLoaded board.memory
-        × (image_of board.memory ≡ image.now) × (board.ledger ≡ loaded board.memory (event ∷ []))
+        × (image_of board.memory ≡ image.now) × (board.ledger ≡ ledger_at_load board.memory (event ∷ []))
         × (is_armed board.fuse.cut ≡ false)) }
 {
     let mut events = Events::new(alloc);
@@ -63,11 +63,11 @@ enum Kind {
 }
 
 // Whether the flash is erased where the tests program it.
-#[tactic(auto, unfolding(mb_model::specs::Board::erased))]
+#[tactic(auto, unfolding(mb_model::specs::Board::erased_bytes))]
 fn is_erased(board: &SimBoard) -> bool
     requires on { board.now.power ≡ true }
     requires loaded { IsLoaded board.now.memory }
-    ensures { result ≡ true → part 4096 5 board.now.memory.flash ≡ erased 5 }
+    ensures { result ≡ true → part 4096 5 board.now.memory.flash ≡ erased_bytes 5 }
 {
     let mut bytes = [0; 5];
     board.flash_read(4096, &mut bytes);
@@ -214,7 +214,7 @@ fn answer_off(board: &mut SimBoard) -> bool
     requires loaded { IsLoaded board.old.memory }
     requires unarmed { is_armed board.old.fuse.cut ≡ false }
     requires dead { IsBlank (image_of board.old.memory) }
-    requires waits { board.old.ledger ≡ loaded board.old.memory (Event.Off ∷ []) }
+    requires waits { board.old.ledger ≡ ledger_at_load board.old.memory (Event.Off ∷ []) }
 {
     match board.take() {
         Some(event) => {

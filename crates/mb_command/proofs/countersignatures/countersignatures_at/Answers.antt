@@ -2,7 +2,7 @@ use Rattle.std.proofs.Common.{◌≡◌, ◌-◌, ◌+◌, arith}
 use Rattle.std.proofs.lemmas.Result.{err_from_is_err_and}
 use Rattle.std.specs.Int.{w8}
 use Rattle.mb_format.specs.Combinators.{between}
-use Rattle.mb_model.specs.OrderFormat.{most_countersigned, countersignature_format, climbed, countersignatures_format}
+use Rattle.mb_model.specs.OrderFormat.{countersignature_limit, countersignature_format, climb_after, countersignatures_format}
 use Rattle.mb_model.specs.Rules.{kind_of}
 use Rattle.mb_bytes.proofs.Reading.{led_ok, reading_goes_on, reading_ends, list_fails_at}
 use Rattle.mb_command.specs.Ends.{order_text_at}
@@ -21,7 +21,7 @@ returns-in_err-countersignature c =
     let most = rw c.kind_of.ensures at c.most_countersigned-most.ensures in
     let at = order_text_at c.in_err-countersignature.field-0.0 in
     let body = c.args.body.now in
-    rw (p.1, p.2) (list_fails_at (between w8 0 (most_countersigned (kind_of body.act) body.layer)) countersignature_format climbed (λ n. record { below = body.layer; left = n }) c.countersignature_at.new.cursor at (rw most at c.in_ok-count.ensures.reads) c.loop-i-test.true c.loop-i.invariant.1 c.in_err-countersignature.ensures.reads)
+    rw (p.1, p.2) (list_fails_at (between w8 0 (countersignature_limit (kind_of body.act) body.layer)) countersignature_format climb_after (λ n. record { below = body.layer; left = n }) c.countersignature_at.new.cursor at (rw most at c.in_ok-count.ensures.reads) c.loop-i-test.true c.loop-i.invariant.1 c.in_err-countersignature.ensures.reads)
 
 pub loop-i-preserved : goal.loop-i-preserved
 loop-i-preserved c =

@@ -1,6 +1,6 @@
 use Rattle.std.proofs.Common.{◌∷◌, [], length, codes}
 use Rattle.std.specs.Fmt.{decimal}
-use Rattle.mb_model.specs.Lines.{spaced}
+use Rattle.mb_model.specs.Lines.{spaced_words}
 use Rattle.mb_fleet.specs.Serving.{count_line}
 use Rattle.mb_fleet.proofs.Texts.{lines_more, lines_ended}
 use Rattle.mb_fleet.proofs.answer.put_codes.Goals as goal
@@ -12,5 +12,5 @@ loop-count-preserved c =
 
 pub returns : goal.returns
 returns c =
-    lines_ended count_line c.args.counts.now c.loop-count.count-index (spaced (codes "codes" ∷ decimal (length c.args.counts.now) ∷ [])) c.args.out.now.items c.put_counted.new.out.items c.loop-count.out.items
+    lines_ended count_line c.args.counts.now c.loop-count.count-index (spaced_words (codes "codes" ∷ decimal (length c.args.counts.now) ∷ [])) c.args.out.now.items c.put_counted.new.out.items c.loop-count.out.items
     c.loop-count-test.false c.in_ok-put_counted.ensures.items c.loop-count.invariant

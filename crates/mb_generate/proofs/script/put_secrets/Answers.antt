@@ -1,5 +1,5 @@
 use Rattle.std.proofs.Common.{ℕ, List, ◌++◌, sym, ap, ◌∙◌, append-nil, arith}
-use Rattle.mb_model.specs.Texts.{ended}
+use Rattle.mb_model.specs.Texts.{line_with_lf}
 use Rattle.mb_model.specs.Workload.{put_line}
 use Rattle.mb_generate.proofs.Scripting.{puts_none, secret_put}
 use Rattle.mb_generate.proofs.script.put_secrets.Goals as goal
@@ -16,5 +16,5 @@ loop-value-preserved c = record {
   text =
       secret_put c.args.n c.loop-value.value-index c.loop-value.number c.args.values.now _ c.value-item.result c.args.script.now.items c.loop-value.script.items c.put_secret.new.script.items
       (omega arith) c.value-item.is c.loop-value.invariant.number c.loop-value.invariant.text
-      (c.in_ok-put_secret.ensures ∙ ap (λ (value : List ℕ). c.loop-value.script.items ++ ended (put_line c.loop-value.number value)) c.as_slice.ensures);
+      (c.in_ok-put_secret.ensures ∙ ap (λ (value : List ℕ). c.loop-value.script.items ++ line_with_lf (put_line c.loop-value.number value)) c.as_slice.ensures);
 }

@@ -1,7 +1,7 @@
 use Rattle.std.proofs.Common.{refl}
 use Rattle.std.proofs.lemmas.Result.{err_from_is_err_and}
 use Rattle.mb_model.specs.Inputs.{birth_noise_input}
-use Rattle.mb_model.specs.FactoryCommand.{factory, factory_drawn}
+use Rattle.mb_model.specs.FactoryCommand.{factory, factory_with_noise}
 use Rattle.mb_model.specs.Commands.{at_first}
 use Rattle.mb_tools.specs.Names.{factory_files}
 use Rattle.mb_console.proofs.CommandLemmas.{input_carried_out, read_on}
@@ -18,5 +18,5 @@ pub returns : goal.returns
 unfolding factory
 returns g c = λ final.
     let outside = g.H.Host.outside in
-    read_on (birth_noise_input c.args.names.now.noise.now) (factory_drawn (factory_files c.args.names.now)) at_first _ final (outside c.args.host.now) (outside c.read_as.new.host) (outside c.factory_drawn.new.host) c.in_ok-noise.noise
+    read_on (birth_noise_input c.args.names.now.noise.now) (factory_with_noise (factory_files c.args.names.now)) at_first _ final (outside c.args.host.now) (outside c.read_as.new.host) (outside c.factory_drawn.new.host) c.in_ok-noise.noise
     c.factory_drawn.result c.in_ok-noise.ensures.read (c.factory_drawn.ensures final)

@@ -1,7 +1,7 @@
 use Rattle.std.proofs.Common.{refl}
 use Rattle.std.proofs.lemmas.Result.{err_from_is_err_and}
 use Rattle.mb_model.specs.Inputs.{key_input}
-use Rattle.mb_model.specs.FactoryCommand.{factory_keyed}
+use Rattle.mb_model.specs.FactoryCommand.{factory_with_key}
 use Rattle.mb_model.specs.Commands.{at_first}
 use Rattle.mb_tools.specs.Names.{factory_files}
 use Rattle.mb_console.proofs.CommandLemmas.{input_carried_out, read_on}
@@ -16,5 +16,5 @@ returns-in_err-key g c = λ final.
 pub returns : goal.returns
 returns g c = λ final.
     let outside = g.H.Host.outside in
-    read_on (key_input c.args.names.now.key.now) (factory_keyed (factory_files c.args.names.now) c.args.noise.now) at_first _ final (outside c.args.host.now) (outside c.read_as.new.host) (outside c.factory_keyed.new.host) c.in_ok-key.key
+    read_on (key_input c.args.names.now.key.now) (factory_with_key (factory_files c.args.names.now) c.args.noise.now) at_first _ final (outside c.args.host.now) (outside c.read_as.new.host) (outside c.factory_keyed.new.host) c.in_ok-key.key
     c.factory_keyed.result c.in_ok-key.ensures.read (c.factory_keyed.ensures final)

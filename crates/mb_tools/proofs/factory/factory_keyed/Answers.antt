@@ -1,7 +1,7 @@
 use Rattle.std.proofs.Common.{refl}
 use Rattle.std.proofs.lemmas.Result.{err_from_is_err_and}
 use Rattle.mb_model.specs.Inputs.{owner_input}
-use Rattle.mb_model.specs.FactoryCommand.{factory_owned}
+use Rattle.mb_model.specs.FactoryCommand.{factory_with_owner}
 use Rattle.mb_model.specs.Commands.{at_first}
 use Rattle.mb_tools.specs.Names.{factory_files}
 use Rattle.mb_console.proofs.CommandLemmas.{input_carried_out, read_on}
@@ -16,5 +16,5 @@ returns-in_err-owner g c = λ final.
 pub returns : goal.returns
 returns g c = λ final.
     let outside = g.H.Host.outside in
-    read_on (owner_input c.args.names.now.owner.now) (factory_owned (factory_files c.args.names.now) c.args.noise.now c.args.key) at_first _ final (outside c.args.host.now) (outside c.read_as.new.host) (outside c.factory_owned.new.host) c.in_ok-owner.owner
+    read_on (owner_input c.args.names.now.owner.now) (factory_with_owner (factory_files c.args.names.now) c.args.noise.now c.args.key) at_first _ final (outside c.args.host.now) (outside c.read_as.new.host) (outside c.factory_owned.new.host) c.in_ok-owner.owner
     c.factory_owned.result c.in_ok-owner.ensures.read (c.factory_owned.ensures final)

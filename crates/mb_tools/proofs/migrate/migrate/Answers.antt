@@ -1,6 +1,6 @@
 use Rattle.std.proofs.Common.{refl}
 use Rattle.std.proofs.lemmas.Result.{err_from_is_err_and}
-use Rattle.mb_model.specs.MigrateCommand.{old_image_input, migrate, write_migrated}
+use Rattle.mb_model.specs.MigrateCommand.{old_image_input, migrate, write_migrated_image}
 use Rattle.mb_model.specs.Commands.{at_first}
 use Rattle.mb_tools.specs.Names.{migrate_files}
 use Rattle.mb_console.proofs.CommandLemmas.{input_carried_out}
@@ -12,7 +12,7 @@ unfolding migrate
 returns-in_err-image g c = λ final.
     let p = err_from_is_err_and c.from_residual.result c.from_residual.ensures.1 in
     let outside = g.H.Host.outside in
-    rw (p.1, p.2) (input_carried_out (old_image_input c.args.names.now.image.now) (write_migrated (migrate_files c.args.names.now)) at_first _ final (outside c.args.host.now) (outside c.read_old_image.new.host) c.in_err-image.field-0.0 refl refl c.in_err-image.ensures.err)
+    rw (p.1, p.2) (input_carried_out (old_image_input c.args.names.now.image.now) (write_migrated_image (migrate_files c.args.names.now)) at_first _ final (outside c.args.host.now) (outside c.read_old_image.new.host) c.in_err-image.field-0.0 refl refl c.in_err-image.ensures.err)
 
 pub returns : goal.returns
 returns g c =

@@ -1,6 +1,6 @@
 use Rattle.std.proofs.Common.{◌≡◌, List, inl, inr, refl, sym, ◌∙◌, ap, subst}
 use Rattle.mb_model.specs.declared.event.Event.{Event}
-use Rattle.mb_model.specs.Machine.{opening}
+use Rattle.mb_model.specs.Machine.{opening_world}
 use Rattle.mb_model.specs.Board.{IsLoaded, image_of}
 use Rattle.mb_model.specs.RunCommand.{IsServed}
 use Rattle.mb_console.proofs.CommandLemmas.{memory_unserved, serve_goes}
@@ -34,7 +34,7 @@ serve-device-requires-clause-sound g c =
     let state = c.requires.image.0 in
     let formed = c.requires.image.1 in
     let shown = loaded_shows board.memory board.power board.level board.meter c.args.image.items state c.in-Ok.ensures.sized (c.in-Ok.ensures.image ∙ c.deref.ensures.value) c.load.ensures.power (ap (λ m. m.armed) c.in-Ok.ensures.meter) formed in
-    record { world = opening state; sound = c.start.ensures.started (opening state) shown formed.valid }
+    record { world = opening_world state; sound = c.start.ensures.started (opening_world state) shown formed.valid }
 
 pub returns-clause-stays : goal.returns-clause-stays
 returns-clause-stays g c = λ holds. inl c.serve-device.ensures.between.standing
@@ -46,9 +46,9 @@ returns-clause-carried g c = λ state cut held formed same can left.
     let after = g.B.Board.seen c.serve-device.new.b in
     let old = (g.B.Board.seen c.args.board.now).ledger in
     let shown = loaded_shows board.memory board.power board.level board.meter c.args.image.items state c.in-Ok.ensures.sized (c.in-Ok.ensures.image ∙ c.deref.ensures.value) c.load.ensures.power (ap (λ m. m.armed) c.in-Ok.ensures.meter) formed in
-    let sound = c.start.ensures.started (opening state) shown formed.valid in
+    let sound = c.start.ensures.started (opening_world state) shown formed.valid in
     let served = served_whole c.args.image.items state c.args.events board.memory board.ledger after.ledger _ formed c.requires.events c.in-Ok.ensures.ledger
-    c.serve-device.ensures.between.standing (c.serve-device.ensures.served (opening state) sound) in
+    c.serve-device.ensures.between.standing (c.serve-device.ensures.served (opening_world state) sound) in
     let is = is_cut_served state c.args.names.now.count cut after.ledger.answered after.ledger.standing can
     (subst (λ (l : List Event). IsServed state l after.ledger.answered after.ledger.standing) same served) in
     let same_memory : after.ledger.standing.memory ≡ after.memory = ap (λ h. h.memory) c.serve-device.ensures.between.standing in

@@ -1,6 +1,6 @@
 use Rattle.std.proofs.Common.{◌≡◌, true, false, List, inl, length, refl, sym, ◌∙◌, ap, subst, arith, length-append}
 use Rattle.mb_model.specs.declared.event.Answered.{Answered}
-use Rattle.mb_model.specs.Machine.{opening}
+use Rattle.mb_model.specs.Machine.{opening_world}
 use Rattle.mb_model.specs.Board.{Ledger, IsLoaded, image_of}
 use Rattle.mb_model.specs.Commands.{at_first, serve}
 use Rattle.mb_console.specs.Ending.{CarriesOutRest}
@@ -45,7 +45,7 @@ serve-device-requires-clause-sound g c =
     let state = c.requires.image.0 in
     let formed = c.requires.image.1 in
     let shown = loaded_shows board.memory board.power board.level board.meter c.args.image.items state c.in-Ok-load.ensures.sized (c.in-Ok-load.ensures.image ∙ c.deref-2.ensures.value) c.load.ensures.power (ap (λ m. m.armed) c.in-Ok-load.ensures.meter) formed in
-    record { world = opening state; sound = c.start.ensures.started (opening state) shown formed.valid }
+    record { world = opening_world state; sound = c.start.ensures.started (opening_world state) shown formed.valid }
 
 pub returns-then-wants_memory-clause-carried : goal.returns-then-wants_memory-clause-carried
 returns-then-wants_memory-clause-carried g c = λ state cut formed are.
@@ -53,9 +53,9 @@ returns-then-wants_memory-clause-carried g c = λ state cut formed are.
     let board = g.B.Board.seen c.load.new.self in
     let after = g.B.Board.seen c.serve-device.new.b in
     let shown = loaded_shows board.memory board.power board.level board.meter c.args.image.items state c.in-Ok-load.ensures.sized (c.in-Ok-load.ensures.image ∙ c.deref-2.ensures.value) c.load.ensures.power (ap (λ m. m.armed) c.in-Ok-load.ensures.meter) formed in
-    let sound = c.start.ensures.started (opening state) shown formed.valid in
+    let sound = c.start.ensures.started (opening_world state) shown formed.valid in
     let served = served_whole c.args.image.items state c.args.runs.first board.memory board.ledger after.ledger _ formed c.requires.first_events c.in-Ok-load.ensures.ledger
-    c.serve-device.ensures.between.standing (c.serve-device.ensures.served (opening state) sound) in
+    c.serve-device.ensures.between.standing (c.serve-device.ensures.served (opening_world state) sound) in
     first_lacks (cut_files c.args.names.now) state c.args.runs.first c.args.runs.second cut after.ledger.answered after.ledger.standing (outside c.args.host.now) are served
     (subst (λ (l : List Answered). AnyLacksMemory l) c.answered.ensures (c.wants_memory.ensures.0 c.if-wants_memory.true))
 
@@ -66,9 +66,9 @@ returns-clause-carried g c = λ state cut formed are.
     let after = g.B.Board.seen c.serve-device.new.b in
     let final = g.B.Board.seen c.serve_cut.new.board in
     let shown = loaded_shows board.memory board.power board.level board.meter c.args.image.items state c.in-Ok-load.ensures.sized (c.in-Ok-load.ensures.image ∙ c.deref-2.ensures.value) c.load.ensures.power (ap (λ m. m.armed) c.in-Ok-load.ensures.meter) formed in
-    let sound = c.start.ensures.started (opening state) shown formed.valid in
+    let sound = c.start.ensures.started (opening_world state) shown formed.valid in
     let served = served_whole c.args.image.items state c.args.runs.first board.memory board.ledger after.ledger _ formed c.requires.first_events c.in-Ok-load.ensures.ledger
-    c.serve-device.ensures.between.standing (c.serve-device.ensures.served (opening state) sound) in
+    c.serve-device.ensures.between.standing (c.serve-device.ensures.served (opening_world state) sound) in
     let same_memory : after.ledger.standing.memory ≡ after.memory = ap (λ h. h.memory) c.serve-device.ensures.between.standing in
     let loaded = subst IsLoaded (sym same_memory) c.serve-device.ensures.loaded in
     let sized : c.in-Ok.before.len ≡ length c.copy_image.new.out =

@@ -1,7 +1,7 @@
 use Rattle.std.proofs.Common.{Some, ◌∙◌, sym, ap, subst, length, length-append, arith}
 use Rattle.std.proofs.lemmas.Result.{err_from_is_err_and}
 use Rattle.mb_model.specs.Acknowledged.{Shows}
-use Rattle.mb_model.specs.Machine.{opening}
+use Rattle.mb_model.specs.Machine.{opening_world}
 use Rattle.mb_tools_device.specs.Names.{generate_files}
 use Rattle.mb_tools_device.proofs.RunLemmas.{loaded_shows, loaded_holds, unloaded_holds, served_whole}
 use Rattle.mb_tools_device.proofs.GenerateLemmas.{new_state, new_image, none_made, files_not_written, workload_served}
@@ -35,7 +35,7 @@ serve-device-requires-clause-sound g c =
     let held = new_image names.number names.rounds c.args.files c.requires.generated in
     let shown = loaded_shows (g.B.Board.seen board).memory (g.B.Board.seen board).power (g.B.Board.seen board).level (g.B.Board.seen board).meter c.args.files.image state c.in-Ok.ensures.sized
     (c.in-Ok.ensures.image ∙ c.as_slice.ensures) c.load.ensures.power (ap (λ m. m.armed) c.in-Ok.ensures.meter) held in
-    record { world = opening state; sound = c.start.ensures.started (opening state) shown held.valid }
+    record { world = opening_world state; sound = c.start.ensures.started (opening_world state) shown held.valid }
 
 pub summarise-requires-clause-shown : goal.summarise-requires-clause-shown
 summarise-requires-clause-shown g c =
@@ -45,7 +45,7 @@ summarise-requires-clause-shown g c =
     let held = new_image names.number names.rounds c.args.files c.requires.generated in
     let shown = loaded_shows (g.B.Board.seen board).memory (g.B.Board.seen board).power (g.B.Board.seen board).level (g.B.Board.seen board).meter c.args.files.image state c.in-Ok.ensures.sized
     (c.in-Ok.ensures.image ∙ c.as_slice.ensures) c.load.ensures.power (ap (λ m. m.armed) c.in-Ok.ensures.meter) held in
-    let served = c.serve-device.ensures.served (opening state) (c.start.ensures.started (opening state) shown held.valid) in
+    let served = c.serve-device.ensures.served (opening_world state) (c.start.ensures.started (opening_world state) shown held.valid) in
     (served.last, subst (λ h. Shows h served.last) (sym c.serve-device.ensures.between.standing) served.shown)
 
 pub returns-clause-carried : goal.returns-clause-carried
@@ -57,9 +57,9 @@ returns-clause-carried g c =
     let held = new_image names.number names.rounds c.args.files c.requires.generated in
     let shown = loaded_shows (g.B.Board.seen board).memory (g.B.Board.seen board).power (g.B.Board.seen board).level (g.B.Board.seen board).meter c.args.files.image state c.in-Ok.ensures.sized
     (c.in-Ok.ensures.image ∙ c.as_slice.ensures) c.load.ensures.power (ap (λ m. m.armed) c.in-Ok.ensures.meter) held in
-    let sound = c.start.ensures.started (opening state) shown held.valid in
+    let sound = c.start.ensures.started (opening_world state) shown held.valid in
     let served = served_whole c.args.files.image state c.args.events (g.B.Board.seen board).memory (g.B.Board.seen board).ledger (g.B.Board.seen c.serve-device.new.b).ledger _ held c.requires.each c.in-Ok.ensures.ledger
-    c.serve-device.ensures.between.standing (c.serve-device.ensures.served (opening state) sound) in
+    c.serve-device.ensures.between.standing (c.serve-device.ensures.served (opening_world state) sound) in
     workload_served (generate_files names) c.args.files c.args.events _ _ (outside c.args.host.now) (outside c.write_files.new.host) (outside c.summarise.new.host) c.summarise.result
     c.requires.generated c.requires.events c.in_ok-write_files.ensures.ok served c.summarise.ensures
 

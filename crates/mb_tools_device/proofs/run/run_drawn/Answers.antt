@@ -1,5 +1,5 @@
 use Rattle.std.proofs.Common.{refl, ◌∙◌, ap}
-use Rattle.mb_model.specs.Machine.{opening}
+use Rattle.mb_model.specs.Machine.{opening_world}
 use Rattle.mb_model.specs.Commands.{at_first}
 use Rattle.mb_tools_device.specs.Names.{run_files}
 use Rattle.mb_console.proofs.CommandLemmas.{memory_unserved}
@@ -26,7 +26,7 @@ serve-device-requires-clause-sound g c =
     let held = c.requires.image.1 in
     let shown = loaded_shows (g.B.Board.seen board).memory (g.B.Board.seen board).power (g.B.Board.seen board).level (g.B.Board.seen board).meter c.args.image.items state c.in-Ok.ensures.sized
     (c.in-Ok.ensures.image ∙ c.deref.ensures.value) c.load.ensures.power (ap (λ m. m.armed) c.in-Ok.ensures.meter) held in
-    record { world = opening state; sound = c.start.ensures.started (opening state) shown held.valid }
+    record { world = opening_world state; sound = c.start.ensures.started (opening_world state) shown held.valid }
 
 pub returns-clause-carried : goal.returns-clause-carried
 returns-clause-carried g c = λ state held.
@@ -34,9 +34,9 @@ returns-clause-carried g c = λ state held.
     let board = c.load.new.self in
     let shown = loaded_shows (g.B.Board.seen board).memory (g.B.Board.seen board).power (g.B.Board.seen board).level (g.B.Board.seen board).meter c.args.image.items state c.in-Ok.ensures.sized
     (c.in-Ok.ensures.image ∙ c.deref.ensures.value) c.load.ensures.power (ap (λ m. m.armed) c.in-Ok.ensures.meter) held in
-    let sound = c.start.ensures.started (opening state) shown held.valid in
+    let sound = c.start.ensures.started (opening_world state) shown held.valid in
     let served = served_whole c.args.image.items state c.args.events (g.B.Board.seen board).memory (g.B.Board.seen board).ledger (g.B.Board.seen c.serve-device.new.b).ledger _ held c.requires.events c.in-Ok.ensures.ledger
-    c.serve-device.ensures.between.standing (c.serve-device.ensures.served (opening state) sound) in
+    c.serve-device.ensures.between.standing (c.serve-device.ensures.served (opening_world state) sound) in
     events_served (run_files c.args.names.now) state c.args.events _ _ (outside c.args.host.now) (outside c.write_image.new.host) c.write_image.result served c.write_image.ensures
 
 pub returns-in-Err-clause-stays : goal.returns-in-Err-clause-stays

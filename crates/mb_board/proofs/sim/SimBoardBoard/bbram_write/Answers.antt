@@ -1,5 +1,5 @@
 use Rattle.std.proofs.Common.{ap, refl, ◌∙◌}
-use Rattle.mb_model.specs.Board.{put}
+use Rattle.mb_model.specs.Board.{memory_with_bytes}
 use Rattle.mb_board.specs.Cuts.{torn_by}
 use Rattle.mb_board.specs.Shown.{BankContents, BoardShown}
 use Rattle.mb_board.proofs.Fillings.{length-torn_by}
@@ -18,7 +18,7 @@ returns-in-Ok-clause-torn c = record {
   sized = refl;
   whole =
       ap (λ (bank : BankContents). bank.bytes) c.write.ensures
-      ∙ ap (λ (board : BoardShown). put c.args.at c.args.bytes.now board.memory.bbram) c.self.view_is;
+      ∙ ap (λ (board : BoardShown). memory_with_bytes c.args.at c.args.bytes.now board.memory.bbram) c.self.view_is;
 }
 
 abbrev pub returns-in-Err-clause-torn : goal.returns-in-Err-clause-torn
@@ -27,5 +27,5 @@ returns-in-Err-clause-torn c = record {
   sized = length-torn_by c.in-Err.tear c.args.bytes.now;
   whole =
       ap (λ (bank : BankContents). bank.bytes) c.write_torn.ensures
-      ∙ ap (λ (board : BoardShown). put c.args.at (torn_by c.in-Err.tear c.args.bytes.now) board.memory.bbram) c.self.view_is;
+      ∙ ap (λ (board : BoardShown). memory_with_bytes c.args.at (torn_by c.in-Err.tear c.args.bytes.now) board.memory.bbram) c.self.view_is;
 }

@@ -7,7 +7,7 @@ use Rattle.mb_model.specs.declared.reply.Reply.TheVariants as reply
 use Rattle.mb_model.specs.Memory.{IsBlank}
 use Rattle.mb_model.specs.Board.{Memory, Held, Ledger, IsLoaded, held_at_load, phase_at, power_after, memory_after}
 use Rattle.mb_model.specs.Meaning.{is_dead}
-use Rattle.mb_model.specs.Machine.{World, off, answered}
+use Rattle.mb_model.specs.Machine.{World, off, machine_step}
 use Rattle.mb_model.specs.Acknowledged.{Shows, MayAnswer}
 use Rattle.mb_board.specs.Cuts.{Armed, cut_after, is_armed}
 use Rattle.mb_test_rules.proofs.tests.boards.answer_off.Goals as goal
@@ -32,7 +32,7 @@ may_answer loaded memory standing power level armed given sized blank stood same
       after = dead;
       stood = shows_dead loaded sized blank;
       shown = shows_dead loaded sized blank;
-      step = answered (refl, refl);
+      step = machine_step (refl, refl);
       valid = tt;
       clean = λ has_to_be. (sized.bbram, blank);
       kept = tt;
